@@ -9,5 +9,9 @@ pub mod Passed
 pub mod GrammarRead
 pub mod GrammarMade
 pub mod GrammarLists
+pub mod Encode
+pub mod EncodeCut
+pub mod EncodeWord
+pub mod EncodeRead
 pub mod WriterWords
 pub mod WriterRead

@@ -18,7 +18,7 @@ mailbox_view m = record {
   mailbox = Some (record { display_name = m.display_name.now; local_part = m.local_part.now; domain = m.domain.now });
 }
 
--- what is no address, as an element without members
+-- an element that is not an address, as an element without members
 abbrev pub unknown_view : Unknown → Single
 unknown_view u = record { start = u.start; text = u.text.now; mailbox = None }
 

@@ -2,7 +2,7 @@
 use Rattle.std.specs.Prelude.{ℕ, zero, suc, ◌+◌, Bool, ◌&&◌, ◌||◌, ◌==◌, min, List, [], ◌∷◌, ◌++◌, length, map, take, drop, Option, if◌then◌else◌}
 use Rattle.mail_codec.specs.Ascii.{colon, comma, semicolon}
 use Rattle.mail_codec.specs.Places.{begins, is_empty}
-use Rattle.mail_address.specs.declared.tokens.Span.TheVariants.{White, BeforeComma, BeforeSeparator, BeforeMark, InGroup}
+use Rattle.mail_address.specs.declared.tokens.Span.TheVariants.{White, BeforeComma, BeforeSeparator, BeforeDelimiter, InGroup}
 use Rattle.mail_address.specs.Tokens.{is_all_white, run}
 use Rattle.mail_address.specs.Mailbox.{Parts, is_phrase, mailbox_of}
 
@@ -24,20 +24,20 @@ pub data Element : Type 0 where
   single : Single → Element
   group : Group → Element
 
--- the element that stands before a separator; none where nothing stands there but whitespace and comments
+-- the element before a separator; none if there is only whitespace and comments
 unfoldable pub single_at : ℕ → List ℕ → List Single
 single_at start text =
     if is_all_white text then [] else record { start = start; text = text; mailbox = mailbox_of text } ∷ []
 
--- the bytes of the member at the front and the comma behind it
+-- the length of the member at the front with the comma after it
 unfoldable pub member_len : List ℕ → ℕ
 member_len bytes = min (suc (run BeforeComma bytes)) (length bytes)
 
--- the element that stands before the comma
+-- the element before the comma
 unfoldable pub member_at : ℕ → List ℕ → List Single
 member_at start bytes = single_at start (take (run BeforeComma bytes) bytes)
 
--- what stands one after another in bytes that start there, each as long as it says: no more than so many
+-- the items one after another in bytes that begin at the offset `start`, each with its length: at most `most`
 abbrev pub items_within : {A : Type 0} → (ℕ → List ℕ → List A) → (List ℕ → ℕ) → ℕ → ℕ → List ℕ → List A
 items_within at len zero start bytes = []
 items_within at len (suc most) start bytes =
@@ -46,33 +46,33 @@ items_within at len (suc most) start bytes =
 unfoldable pub items : {A : Type 0} → (ℕ → List ℕ → List A) → (List ℕ → ℕ) → ℕ → List ℕ → List A
 items at len start bytes = items_within at len (length bytes) start bytes
 
--- the elements between the commas of a group, whose bytes start there
+-- the members of a group, from the bytes between its colon and semicolon, which begin at the offset `start`
 abbrev pub members_at : ℕ → List ℕ → List Single
 members_at start bytes = items member_at member_len start bytes
 
--- the bytes of a group's name: those before its colon
+-- the length of a group's name, which ends before its colon
 unfoldable pub name_len : List ℕ → ℕ
-name_len bytes = run BeforeMark bytes
+name_len bytes = run BeforeDelimiter bytes
 
--- what follows a group's name and its colon
+-- the bytes after a group's name and its colon
 abbrev pub after_name : List ℕ → List ℕ
 after_name bytes = drop (suc (name_len bytes)) bytes
 
--- the bytes between a group's colon and its semicolon
+-- the number of bytes between a group's colon and its semicolon
 unfoldable pub inner_len : List ℕ → ℕ
 inner_len bytes = run InGroup (after_name bytes)
 
--- what follows a group's semicolon
+-- the bytes after a group's semicolon
 abbrev pub after_group : List ℕ → List ℕ
 after_group bytes = drop (suc (inner_len bytes)) (after_name bytes)
 
--- a group stands at the front: a phrase, a colon, members without a colon at no depth, and a semicolon
+-- there is a group at the front: a phrase, a colon, members without a colon outside of quotes, comments and brackets, and a semicolon
 unfoldable pub is_group : List ℕ → Bool
 is_group bytes =
     begins (λ b. b == colon) (drop (name_len bytes) bytes) && is_phrase (take (name_len bytes) bytes)
     && begins (λ b. b == semicolon) (drop (inner_len bytes) (after_name bytes))
 
--- the bytes of the group at the front, with the whitespace and comments behind its semicolon
+-- the length of the group at the front, with the whitespace and comments after its semicolon
 unfoldable pub group_len : List ℕ → ℕ
 group_len bytes = name_len bytes + inner_len bytes + 2 + run White (after_group bytes)
 
@@ -89,11 +89,11 @@ group_at start bytes = record {
 abbrev pub is_separator : ℕ → Bool
 is_separator b = b == comma || b == semicolon
 
--- the bytes of the separator at the front: 1, or 0 where none stands there
+-- the length of the separator at the front: 1, or 0 if there is none
 abbrev pub separator_len : List ℕ → ℕ
 separator_len bytes = if begins is_separator bytes then 1 else 0
 
--- the bytes of the element at the front and the separator behind it; behind a group none has to stand
+-- the length of the element at the front with the separator after it; a group needs none
 unfoldable pub element_len : List ℕ → ℕ
 element_len bytes =
     if is_group bytes then group_len bytes + separator_len (drop (group_len bytes) bytes)

@@ -1,6 +1,6 @@
--- The grammar of a mailbox: RFC 5322, sections 3.2, 3.4 and 4.4, over bytes that are not decoded; a byte from 128 on belongs to an atom
--- (RFC 6532). It knows no tokens: each rule says of what its bytes are made up. What may stand within quotes, parentheses and square
--- brackets is in `Enclosed`; a word that is an atom or a quoted string is in `Names`.
+-- The grammar of a mailbox: RFC 5322, sections 3.2, 3.4 and 4.4, over bytes that are not decoded; a byte of 128 or more belongs to an
+-- atom (RFC 6532). It has no tokens: each rule describes bytes. `Enclosed` has the bytes within quotes, parentheses and square
+-- brackets; a word that is an atom or a quoted string is in `Names`.
 use Rattle.std.specs.Prelude.{◌≡◌, ℕ, true, List, [], ◌∷◌, ◌++◌, Some}
 use Rattle.std.specs.List.{list_all}
 use Rattle.mail_codec.specs.Ascii.{closing_parenthesis, colon, comma, greater_than, less_than, opening_parenthesis}
@@ -22,7 +22,7 @@ pub data IsWhite : List ℕ → Type 0 where
   white_comment : {inner rest bytes : List ℕ} → IsCommented inner → IsWhite rest
       → bytes ≡ opening_parenthesis ∷ (inner ++ closing_parenthesis ∷ rest) → IsWhite bytes
 
--- which words stand somewhere: atoms and quoted strings (word), atoms alone, or domain literals
+-- which words a rule has: atoms and quoted strings (word), atoms alone, or domain literals
 pub data Words : Type 0 where
   any_words : Words
   atoms : Words
@@ -48,13 +48,13 @@ pub record IsPadded (words : Words) (bytes : List ℕ) : Type 0 where
   pub white_after : IsWhite after
   pub made : bytes ≡ before ++ (word ++ after)
 
--- dots, with a word behind each
+-- dots, with a word after each
 pub data AreDotWords (words : Words) : List ℕ → Type 0 where
   dots_end : AreDotWords words []
   dot_word : {word rest bytes : List ℕ} → IsPadded words word → AreDotWords words rest → bytes ≡ dot ∷ (word ++ rest)
       → AreDotWords words bytes
 
--- words with dots between them
+-- words separated by dots
 pub record AreDotted (words : Words) (bytes : List ℕ) : Type 0 where
   pub first : List ℕ
   pub rest : List ℕ
@@ -64,18 +64,18 @@ pub record AreDotted (words : Words) (bytes : List ℕ) : Type 0 where
 
 -- ---- Addresses.
 
--- what stands before the `@` (local-part, obs-local-part)
+-- the bytes before the `@` (local-part, obs-local-part)
 abbrev pub IsLocalPart : List ℕ → Type 0
 IsLocalPart bytes = AreDotted any_words bytes
 
--- what follows the `@` (domain, obs-domain): atoms with dots between them, or a domain literal
+-- the bytes after the `@` (domain, obs-domain): atoms separated by dots, or a domain literal
 pub data IsDomain : List ℕ → Type 0 where
   dotted : {bytes : List ℕ} → AreDotted atoms bytes → IsDomain bytes
   in_brackets : {bytes : List ℕ} → IsPadded literals bytes → IsDomain bytes
 
 -- ---- Names.
 
--- what may follow the first word of a phrase (phrase, obs-phrase). The cases:
+-- the bytes after the first word of a phrase (phrase, obs-phrase). The cases:
 pub data IsPhraseRest : List ℕ → Type 0 where
   -- no more
   phrase_ends : IsPhraseRest []
@@ -96,7 +96,7 @@ pub record IsPhrase (bytes : List ℕ) : Type 0 where
   pub is_rest : IsPhraseRest rest
   pub made : bytes ≡ before ++ (first ++ rest)
 
--- what may stand before an address in angle brackets: a phrase or none
+-- the bytes before an address in angle brackets: a phrase or none
 pub data IsName : List ℕ → Type 0 where
   no_name : {bytes : List ℕ} → IsWhite bytes → IsName bytes
   phrase : {bytes : List ℕ} → IsPhrase bytes → IsName bytes
@@ -108,7 +108,7 @@ pub data IsStop : List ℕ → Type 0 where
   no_stop : {bytes : List ℕ} → IsWhite bytes → IsStop bytes
   stop : {white domain bytes : List ℕ} → IsWhite white → IsDomain domain → bytes ≡ white ++ at_sign ∷ domain → IsStop bytes
 
--- stops with commas between them
+-- stops separated by commas
 pub data AreStops : List ℕ → Type 0 where
   last_stop : {bytes : List ℕ} → IsStop bytes → AreStops bytes
   next_stop : {first rest bytes : List ℕ} → IsStop first → AreStops rest → bytes ≡ first ++ comma ∷ rest → AreStops bytes
@@ -131,7 +131,7 @@ pub data IsMailbox : List ℕ → Parts → Type 0 where
   -- an address (addr-spec)
   address : {local domain text : List ℕ} → IsLocalPart local → IsDomain domain → text ≡ local ++ at_sign ∷ domain
       → IsMailbox text (record { display_name = []; local_part = local; domain = domain })
-  -- an address in angle brackets, behind a name or none (name-addr)
+  -- an address in angle brackets, after a name or none (name-addr)
   named_address : {name may_be_route local domain after text : List ℕ} → IsName name → MayBeRoute may_be_route → IsLocalPart local
       → IsDomain domain → IsWhite after
       → text ≡ name ++ less_than ∷ ((may_be_route ++ (local ++ at_sign ∷ domain)) ++ greater_than ∷ after)
@@ -139,7 +139,7 @@ pub data IsMailbox : List ℕ → Parts → Type 0 where
 
 -- ---- Lists.
 
--- an element without members is the mailbox that its text is by the grammar, and none where its text is none
+-- an element without members is the mailbox that its text is by the grammar, and no mailbox if its text is none
 abbrev pub IsByGrammar : Single → Type 0
 IsByGrammar s = (m : Parts) → (s.mailbox ≡ Some m → IsMailbox s.text m) × (IsMailbox s.text m → s.mailbox ≡ Some m)
 
@@ -147,7 +147,7 @@ abbrev pub AreByGrammar : List Single → Type 0
 AreByGrammar [] = Unit {0}
 AreByGrammar (s ∷ ss) = IsByGrammar s × AreByGrammar ss
 
--- so is each element of a list, and each member of a group
+-- so is each element of a list and each member of a group
 abbrev pub FollowGrammar : List Element → Type 0
 FollowGrammar [] = Unit {0}
 FollowGrammar (single s ∷ es) = IsByGrammar s × FollowGrammar es

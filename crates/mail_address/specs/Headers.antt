@@ -9,11 +9,11 @@ use Rattle.mail_address.specs.Addresses.{Element, Single, addresses, single}
 abbrev pub addresses_in : List Header → List Element
 addresses_in headers = flat_map (λ h. addresses h.value) headers
 
--- the elements in all headers with that name, in the order of the mail
+-- the elements in all headers with this name, in the order of the mail
 unfoldable pub addresses_of : List ℕ → List Header → List Element
 addresses_of name headers = addresses_in (all_with_key name headers)
 
--- the only element, where it is a mailbox
+-- the only element, if it is a mailbox
 abbrev pub only_mailbox : List Element → Option Single
 only_mailbox (single s ∷ []) = if is_some s.mailbox then Some s else None
 only_mailbox _ = None

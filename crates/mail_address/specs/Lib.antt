@@ -9,6 +9,8 @@ pub mod Order
 pub mod Enclosed
 pub mod Names
 pub mod Grammar
+pub mod WordTokens
+pub mod Encode
 pub mod Writer
 pub use Rattle.mail_codec.specs.Ascii
 pub use Rattle.mail_codec.specs.Places
@@ -16,4 +18,3 @@ pub use Rattle.mail_codec.specs.Charset
 pub use Rattle.mail_codec.specs.Tables
 pub use Rattle.mailparse.specs.Outcome
 pub use Rattle.mailparse.specs.Value
-pub use Rattle.mail_laws.specs.Encode

@@ -8,14 +8,14 @@ use Rattle.mail_address.specs.declared.tokens.Span.{Span}
 use Rattle.mail_address.specs.declared.tokens.Span.TheVariants.{White, Phrase, Word, Atoms, Literals, BeforeAt, BeforeColon, BeforeComma}
 use Rattle.mail_address.specs.Tokens.{at_sign, dot, far, is_all_white, is_in, run, step, front_token}
 
--- the bytes of a word with the whitespace and comments around it, or 0 where none stands at the front
+-- the length of the word at the front, with the whitespace and comments around it, or 0 if there is none
 unfoldable pub word_len : Span → List ℕ → ℕ
 word_len span text =
     let white = run White text in
     let len = step span (drop white text) in
     if len == 0 then 0 else white + len + run White (drop (white + len) text)
 
--- the bytes of a dot and the word behind it
+-- the length of a dot and the word after it
 unfoldable pub dot_word_len : Span → List ℕ → ℕ
 dot_word_len span text =
     let len = word_len span (drop 1 text) in
@@ -25,7 +25,7 @@ dot_word_len span text =
 unfoldable pub is_word : Span → List ℕ → Bool
 is_word span text = not (word_len span text == 0) && word_len span text == length text
 
--- the bytes are words with dots between them
+-- the bytes are words separated by dots
 unfoldable pub is_dotted : Span → List ℕ → Bool
 is_dotted span text =
     let len = word_len span text in
@@ -39,7 +39,7 @@ is_local_part text = is_dotted Word text
 unfoldable pub is_domain : List ℕ → Bool
 is_domain text = is_dotted Atoms text || is_word Literals text
 
--- what follows the whitespace and comments at the front
+-- the bytes after the whitespace and comments at the front
 unfoldable pub after_white : List ℕ → List ℕ
 after_white text = drop (run White text) text
 
@@ -48,17 +48,17 @@ unfoldable pub is_stop : List ℕ → Bool
 is_stop text =
     is_all_white text || (begins (λ b. b == at_sign) (after_white text) && is_domain (drop 1 (after_white text)))
 
--- the bytes of a stop and the comma behind it
+-- the length of a stop and the comma after it
 unfoldable pub stop_len : List ℕ → ℕ
 stop_len text =
     let len = run BeforeComma text in
     if is_stop (take len text) then min (suc len) (length text) else 0
 
--- the bytes are a route (obs-domain-list): stops with commas between them, the first with a domain
+-- the bytes are a route (obs-domain-list): stops separated by commas, the first with a domain
 unfoldable pub is_route : List ℕ → Bool
 is_route text = begins (λ b. b == at_sign) (after_white text) && far stop_len text == length text
 
--- what follows the route and its colon (obs-route), or the whole where none stands
+-- the bytes after the route and its colon (obs-route), or all bytes if there is no route
 unfoldable pub after_route : List ℕ → List ℕ
 after_route text =
     let len = run BeforeColon text in
@@ -68,7 +68,7 @@ after_route text =
 unfoldable pub is_phrase : List ℕ → Bool
 is_phrase text = is_in Word (front_token (after_white text)).kind && run Phrase text == length text
 
--- the parts of a mailbox: what stands for its display name, its local part and its domain, as they are written
+-- the parts of a mailbox, as they are written: its display name, its local part and its domain
 pub record Parts : Type 0 where
   pub display_name : List ℕ
   pub local_part : List ℕ
@@ -81,12 +81,12 @@ spec_mailbox name text =
     if begins (λ b. b == at_sign) (drop len text) && (is_local_part (take len text) && is_domain (drop (suc len) text))
     then Some (record { display_name = name; local_part = take len text; domain = drop (suc len) text }) else None
 
--- a token in angle brackets
+-- a pair of angle brackets with bytes between them
 abbrev pub is_enclosed : Kind → Bool
 is_enclosed Angle = true
 is_enclosed _ = false
 
--- what stands within the first and the last byte
+-- the bytes without the first and the last one
 abbrev pub within_ends : List ℕ → List ℕ
 within_ends text = take (length text - 2) (drop 1 text)
 

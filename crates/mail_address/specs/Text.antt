@@ -1,5 +1,5 @@
--- The text of names and addresses: what stands in a phrase, a local part or a domain, without quotes, comments and folding
--- (RFC 5322, sections 3.2.2, 3.2.4 and 3.4.1).
+-- The text of names and addresses: a phrase, a local part or a domain without quotes, comments and folding (RFC 5322,
+-- sections 3.2.2, 3.2.4 and 3.4.1).
 use Rattle.std.specs.Prelude.{ℕ, Bool, true, false, not, ◌&&◌, ◌||◌, ◌==◌, List, [], ◌∷◌, ◌++◌, take, flat_map, if◌then◌else◌}
 use Rattle.std.specs.List.{list_all}
 use Rattle.mail_codec.specs.Ascii.{backslash, quote, space}
@@ -10,54 +10,54 @@ use Rattle.mail_address.specs.Tokens.{at_sign, dot, front_token, is_all_white, i
 use Rattle.mail_address.specs.Mailbox.{after_white, is_dotted, within_ends}
 use Rattle.mail_address.specs.Addresses.{items}
 
--- the bytes without each backslash that quotes the byte behind it; the first byte is quoted or not
+-- the bytes without each backslash that quotes the byte after it; the first byte is quoted or not
 abbrev pub unquoted : Bool → List ℕ → List ℕ
 unquoted quoted [] = []
 unquoted quoted (b ∷ rest) =
     if not quoted && b == backslash then unquoted true rest else b ∷ unquoted false rest
 
--- what a token stands for: a quoted string for what is in it, whitespace and comments for nothing, any other for itself
+-- the meaning of a token: of a quoted string its content, of whitespace and comments nothing, of any other the token itself
 abbrev pub meaning : Kind → List ℕ → List ℕ
 meaning Quoted text = unquoted false (within_ends text)
 meaning Blank text = []
 meaning Comment text = []
 meaning _ text = text
 
--- the bytes of the token at the front
+-- the length of the token at the front
 unfoldable pub front_len : List ℕ → ℕ
 front_len bytes = (front_token bytes).len
 
--- what the token at the front stands for
+-- the meaning of the token at the front
 unfoldable pub front_meaning : List ℕ → List ℕ
 front_meaning bytes = meaning (front_token bytes).kind (take (front_len bytes) bytes)
 
--- the same at a place
+-- the same, of an item at an offset
 abbrev pub meaning_at : ℕ → List ℕ → List ℕ
 meaning_at start bytes = front_meaning bytes
 
--- what a local part or a domain stands for
+-- a local part or a domain without quotes, whitespace and comments
 unfoldable pub bare : List ℕ → List ℕ
 bare bytes = items meaning_at front_len 0 bytes
 
--- the bytes of the token at the front, or of the whitespace and comments
+-- the length of the token at the front, or of the whitespace and comments there
 unfoldable pub word_or_white_len : List ℕ → ℕ
 word_or_white_len bytes = if step White bytes == 0 then front_len bytes else run White bytes
 
--- what stands there in a phrase: of whitespace and comments one space, and at the end nothing
+-- the meaning of the front of a phrase: of whitespace and comments one space, and at the end nothing
 unfoldable pub word_or_space : List ℕ → List ℕ
 word_or_space bytes =
     if is_all_white bytes then [] else
     if step White bytes == 0 then front_meaning bytes else space ∷ []
 
--- the same at a place
+-- the same, of an item at an offset
 abbrev pub word_at : ℕ → List ℕ → List ℕ
 word_at start bytes = word_or_space bytes
 
--- what a phrase stands for that begins with a word, before its encoded words are decoded
+-- the text of a phrase that begins with a word, before its encoded words are decoded
 unfoldable pub words_text : List ℕ → List ℕ
 words_text phrase = items word_at word_or_white_len 0 phrase
 
--- what a phrase stands for, before its encoded words are decoded
+-- the text of a phrase, before its encoded words are decoded
 unfoldable pub phrase_text : List ℕ → List ℕ
 phrase_text bytes = words_text (after_white bytes)
 
@@ -73,7 +73,7 @@ escaped_byte b = if b == quote || b == backslash then backslash ∷ b ∷ [] els
 unfoldable pub quoted_text : List ℕ → List ℕ
 quoted_text text = quote ∷ flat_map escaped_byte text ++ quote ∷ []
 
--- a local part in canonical form: with quotes where it needs them
+-- a local part in canonical form: with quotes if it needs them
 unfoldable pub local_text : List ℕ → List ℕ
 local_text bytes = if needs_no_quotes (bare bytes) then bare bytes else quoted_text (bare bytes)
 

@@ -7,7 +7,7 @@ use Rattle.mail_codec.specs.Places.{begins, is_empty}
 use Rattle.mail_address.specs.declared.tokens.Kind.{Kind}
 use Rattle.mail_address.specs.declared.tokens.Kind.TheVariants.{Blank, Comment, Atom, Quoted, Literal, Angle, Dot, At, Comma, Semicolon, Colon, Opening, Closing, Other}
 use Rattle.mail_address.specs.declared.tokens.Span.{Span}
-use Rattle.mail_address.specs.declared.tokens.Span.TheVariants.{White, Phrase, Word, Atoms, Literals, BeforeAt, BeforeColon, BeforeComma, BeforeSeparator, BeforeMark, InGroup}
+use Rattle.mail_address.specs.declared.tokens.Span.TheVariants.{White, Phrase, Word, Atoms, Literals, BeforeAt, BeforeColon, BeforeComma, BeforeSeparator, BeforeDelimiter, InGroup}
 use Rattle.mail_address.specs.declared.tokens.Token.{Token}
 
 -- ---- Bytes.
@@ -27,42 +27,42 @@ closing_bracket = 93
 abbrev pub delete : ℕ
 delete = 127
 
--- a space, a tab or a byte of a line's end
+-- a space, a tab, a CR or a LF
 abbrev pub is_white : ℕ → Bool
 is_white b = b == space || b == tab || b == carriage_return || b == line_feed
 
--- a byte with a meaning of its own (specials in RFC 5322, section 3.2.3)
+-- a special byte (specials in RFC 5322, section 3.2.3)
 abbrev pub is_special : ℕ → Bool
 is_special b =
     b == quote || b == opening_parenthesis || b == closing_parenthesis || b == comma || b == dot || b == colon || b == semicolon
     || b == less_than || b == greater_than || b == at_sign || b == opening_bracket || b == closing_bracket || b == backslash
 
--- a byte of an atom: it is visible and not special
+-- a byte of an atom: visible and not special
 unfoldable pub is_atom_byte : ℕ → Bool
 is_atom_byte b = nat_lt space b && not (b == delete) && not (is_special b)
 
 -- ---- Where something closes.
 
--- how many comments are open after a byte, where so many are open before it: a byte that is quoted opens and closes none
+-- how many comments are open after a byte, if `depth` are open before it: a quoted byte neither opens nor closes one
 abbrev pub depth_after : Bool → ℕ → ℕ → ℕ
 depth_after quoted depth b =
     if quoted then depth else
     if b == opening_parenthesis then suc depth else
     if b == closing_parenthesis then depth - 1 else depth
 
--- a byte closes the comment that was opened first
+-- a byte closes the outermost comment
 abbrev pub closes_comment : Bool → ℕ → ℕ → Bool
 closes_comment quoted depth b = not quoted && (b == closing_parenthesis && depth == 0)
 
--- how many bytes stand before the `)` that closes a comment, or all where none does: so many comments are open within it, and
--- the first byte is quoted or not
+-- the offset of the `)` that closes a comment, or the length if none does: `depth` comments are open within it, and the first
+-- byte is quoted or not
 abbrev pub comment_place : Bool → ℕ → List ℕ → ℕ
 comment_place quoted depth [] = 0
 comment_place quoted depth (b ∷ rest) =
     if closes_comment quoted depth b then 0
     else suc (comment_place (not quoted && b == backslash) (depth_after quoted depth b) rest)
 
--- how many bytes stand before the first that is one of two and not quoted, or all where there is none
+-- the offset of the first unquoted byte that is one of two, or the length if there is none
 abbrev pub unquoted_place : ℕ → ℕ → Bool → List ℕ → ℕ
 unquoted_place one other quoted [] = 0
 unquoted_place one other quoted (b ∷ rest) =
@@ -71,25 +71,25 @@ unquoted_place one other quoted (b ∷ rest) =
 
 -- ---- Tokens.
 
--- the comment that a `(` opens, with what follows it; one that is not closed goes to the end and is none
+-- the comment that a `(` before these bytes opens; an unclosed one extends to the end and is not a comment
 unfoldable pub comment_token : List ℕ → Token
 comment_token rest =
     let n = comment_place false 0 rest in
     if nat_lt n (length rest) then record { kind = Comment; len = n + 2 } else record { kind = Other; len = n + 1 }
 
--- the quoted string that a `"` opens; one that is not closed is the byte alone
+-- the quoted string that a `"` before these bytes opens; if it is not closed, the byte alone
 unfoldable pub quoted_token : List ℕ → Token
 quoted_token rest =
     let n = unquoted_place quote quote false rest in
     if nat_lt n (length rest) then record { kind = Quoted; len = n + 2 } else record { kind = Other; len = 1 }
 
--- the domain literal that a `[` opens; one that is not closed before the next `[` is the byte alone
+-- the domain literal that a `[` before these bytes opens; if it is not closed before the next `[`, the byte alone
 unfoldable pub literal_token : List ℕ → Token
 literal_token rest =
     let n = unquoted_place opening_bracket closing_bracket false rest in
     if begins (λ b. b == closing_bracket) (drop n rest) then record { kind = Literal; len = n + 2 } else record { kind = Other; len = 1 }
 
--- what a byte is that stands for itself
+-- the kind of a token of one byte
 unfoldable pub single_kind : ℕ → Kind
 single_kind b =
     if b == dot then Dot else
@@ -100,7 +100,7 @@ single_kind b =
     if b == less_than then Opening else
     if b == greater_than then Closing else Other
 
--- the token at the front, where angle brackets are tokens of their own; a backslash outside of quotes takes the byte behind it
+-- the token at the front, with each angle bracket as a token of its own; a backslash outside of quotes takes the byte after it
 abbrev pub plain_token : List ℕ → Token
 plain_token [] = record { kind = Other; len = 0 }
 plain_token (b ∷ rest) =
@@ -112,7 +112,7 @@ plain_token (b ∷ rest) =
     if b == backslash then record { kind = Other; len = min 2 (1 + length rest) }
     else record { kind = single_kind b; len = 1 }
 
--- how many bytes are passed at the front by a step that is repeated until it passes none
+-- how many bytes at the front a repeated step takes, until it takes none
 abbrev pub far_within : (List ℕ → ℕ) → ℕ → List ℕ → ℕ
 far_within step zero bytes = 0
 far_within step (suc most) bytes =
@@ -127,15 +127,15 @@ is_angle Opening = true
 is_angle Closing = true
 is_angle _ = false
 
--- the bytes of a token that is no angle bracket
+-- the length of a token that is not an angle bracket
 abbrev pub angle_step : List ℕ → ℕ
 angle_step bytes = if is_angle (plain_token bytes).kind then 0 else (plain_token bytes).len
 
--- how many bytes stand before the first angle bracket
+-- the offset of the first angle bracket
 abbrev pub angle_place : List ℕ → ℕ
 angle_place bytes = far angle_step bytes
 
--- what stands in angle brackets, with them, where the next bracket closes the first
+-- the token that a `<` before these bytes opens: up to its `>`, if that is the next angle bracket
 unfoldable pub angle_token : List ℕ → Token
 angle_token rest =
     let n = angle_place rest in
@@ -147,7 +147,7 @@ front_token bytes = if begins (λ b. b == less_than) bytes then angle_token (dro
 
 -- ---- Runs of tokens.
 
--- the tokens that a run goes over
+-- the kinds of tokens that a run may have
 abbrev pub is_in : Span → Kind → Bool
 is_in White Blank = true
 is_in White Comment = true
@@ -174,22 +174,22 @@ is_in BeforeComma _ = true
 is_in BeforeSeparator Comma = false
 is_in BeforeSeparator Semicolon = false
 is_in BeforeSeparator _ = true
-is_in BeforeMark Comma = false
-is_in BeforeMark Semicolon = false
-is_in BeforeMark Colon = false
-is_in BeforeMark _ = true
+is_in BeforeDelimiter Comma = false
+is_in BeforeDelimiter Semicolon = false
+is_in BeforeDelimiter Colon = false
+is_in BeforeDelimiter _ = true
 is_in InGroup Semicolon = false
 is_in InGroup Colon = false
 is_in InGroup _ = true
 
--- the bytes of the token at the front, if the run goes over it
+-- the length of the token at the front, if the run may have it
 unfoldable pub step : Span → List ℕ → ℕ
 step span bytes = if is_in span (front_token bytes).kind then (front_token bytes).len else 0
 
--- how many bytes a run of such tokens has at the front
+-- the length of the run of such tokens at the front
 abbrev pub run : Span → List ℕ → ℕ
 run span bytes = far (step span) bytes
 
--- the bytes are whitespace and comments (CFWS in RFC 5322, section 3.2.2), or none
+-- the bytes are only whitespace and comments (CFWS in RFC 5322, section 3.2.2), or empty
 unfoldable pub is_all_white : List ℕ → Bool
 is_all_white bytes = run White bytes == length bytes

@@ -1,5 +1,5 @@
--- Lists of addresses that are written so that they read back: RFC 5322, section 3.4, and RFC 2047, section 5, rule (3). Which form a
--- name takes is our own rule.
+-- Lists of addresses, written so that they read back: RFC 5322, section 3.4, and RFC 2047, section 5, rule (3). Which form a name
+-- takes is our own rule.
 use Rattle.std.specs.Prelude.{ℕ, Bool, true, false, not, ◌&&◌, ◌||◌, ◌==◌, nat_lt, List, [], ◌∷◌, ◌++◌, length, map, flat_map, codes, Option, Some, if◌then◌else◌}
 use Rattle.std.specs.List.{list_all}
 use Rattle.std.specs.Option.{option_map}
@@ -8,7 +8,7 @@ use Rattle.mail_codec.specs.Ascii.{carriage_return, colon, comma, line_feed, sem
 use Rattle.mail_codec.specs.Charset.{Charsets}
 use Rattle.mail_codec.specs.Places.{is_empty}
 use Rattle.mailparse.specs.Value.{lenient_value_in}
-use Rattle.mail_laws.specs.Encode.{is_plain_value, letters}
+use Rattle.mail_address.specs.Encode.{is_plain_value, one_word}
 use Rattle.mail_address.specs.declared.tokens.Span.TheVariants.{Literals}
 use Rattle.mail_address.specs.declared.writer.NewAddress.{NewAddress}
 use Rattle.mail_address.specs.declared.writer.NewAddress.TheVariants as new
@@ -27,7 +27,7 @@ use Rattle.mail_address.specs.Tokens.{at_sign, delete, front_token, is_atom_byte
 abbrev pub is_control : ℕ → Bool
 is_control b = nat_lt b space || b == delete
 
--- a domain literal with nothing around it
+-- a domain literal and nothing else
 unfoldable pub is_literal : List ℕ → Bool
 is_literal text = is_in Literals (front_token text).kind && (front_token text).len == length text
 
@@ -35,12 +35,12 @@ is_literal text = is_in Literals (front_token text).kind && (front_token text).l
 abbrev pub has_no_control : List ℕ → Bool
 has_no_control text = list_all (λ b. not (is_control b)) text
 
--- an address that can be written: no control character in it, and its domain a dot-atom or a domain literal
+-- an address that can be written: it contains no control character, and its domain is a dot-atom or a domain literal
 unfoldable pub is_writable : NewMailbox → Bool
 is_writable m =
     has_no_control m.local_part.now && has_no_control m.domain.now && (needs_no_quotes m.domain.now || is_literal m.domain.now)
 
--- an element whose addresses all can be written
+-- an element whose addresses can all be written
 abbrev pub is_element_writable : NewAddress → Bool
 is_element_writable (new.Mailbox m) = is_writable m
 is_element_writable (new.Group g) = list_all is_writable g.members.now
@@ -55,7 +55,7 @@ is_refusal (errors.Memory e) = false
 
 -- ---- What a name is written as.
 
--- words of an atom's bytes, with one space between two of them; a byte of a word stands before them, or none
+-- atoms separated by single spaces; the byte before them is one of an atom or not
 abbrev pub are_atoms_after : Bool → List ℕ → Bool
 are_atoms_after in_word [] = in_word
 are_atoms_after in_word (b ∷ rest) =
@@ -64,11 +64,7 @@ are_atoms_after in_word (b ∷ rest) =
 abbrev pub are_atoms : List ℕ → Bool
 are_atoms text = are_atoms_after false text
 
--- a text as one encoded word
-abbrev pub one_word : List ℕ → List ℕ
-one_word text = codes "=?utf-8?B?" ++ (letters text ++ codes "?=")
-
--- a name: a plain one as words, if it is words, and else as a quoted string; any other as an encoded word
+-- a name: a plain one as atoms, if it is atoms, and else as a quoted string; any other as an encoded word
 unfoldable pub written_phrase : List ℕ → List ℕ
 written_phrase name =
     if is_plain_value name then (if are_atoms name then name else quoted_text name)
@@ -80,7 +76,7 @@ written_name name = if is_empty name then [] else written_phrase name ++ space �
 
 -- ---- What a list is written as.
 
--- a local part: with quotes where it needs them
+-- a local part: with quotes if it needs them
 unfoldable pub written_local : List ℕ → List ℕ
 written_local local = if needs_no_quotes local then local else quoted_text local
 
@@ -88,15 +84,15 @@ written_local local = if needs_no_quotes local then local else quoted_text local
 abbrev pub written_address : NewMailbox → List ℕ
 written_address m = written_local m.local_part.now ++ at_sign ∷ m.domain.now
 
--- a mailbox: its address in angle brackets, behind its name
+-- a mailbox: its address in angle brackets, after its name
 abbrev pub written_mailbox : NewMailbox → List ℕ
 written_mailbox m = written_name m.display_name.now ++ bracketed (written_address m)
 
--- what stands between two elements: a comma and a fold
+-- the separator of two elements: a comma and a fold
 abbrev pub separator : List ℕ
 separator = comma ∷ carriage_return ∷ line_feed ∷ space ∷ []
 
--- texts with a separator between two of them
+-- texts with separators between them
 abbrev pub joined : {A : Type 0} → (A → List ℕ) → List A → List ℕ
 joined written [] = []
 joined written (x ∷ xs) = written x ++ flat_map (λ y. separator ++ written y) xs
@@ -117,7 +113,7 @@ written_element (new.Group g) = written_group g
 abbrev pub next_element : NewAddress → List ℕ
 next_element e = separator ++ written_element e
 
--- a list: its elements, with a separator between two of them
+-- a list: its elements, with separators between them
 unfoldable pub written_list : List NewAddress → List ℕ
 written_list list = joined written_element list
 
@@ -128,7 +124,7 @@ pub record Seen : Type 0 where
   pub name : List ℕ
   pub address : List ℕ
 
--- what is seen of an element: of a group its name and its members; nothing of what is no address
+-- what is seen of an element: of a group its name and its members, and nothing of an element that is not an address
 pub data SeenElement : Type 0 where
   seen_single : Option Seen → SeenElement
   seen_group : List ℕ → List (Option Seen) → SeenElement
@@ -142,13 +138,13 @@ module _ (known : Charsets) where
   element_shows (single s) = seen_single (single_shows s)
   element_shows (group g) = seen_group (lenient_value_in known (phrase_text g.display_name)) (map single_shows g.members)
 
--- what is to be seen of a mailbox that was written
-abbrev pub mailbox_stands_for : NewMailbox → Option Seen
-mailbox_stands_for m = Some (record { name = m.display_name.now; address = written_address m })
+-- what a written mailbox has to show
+abbrev pub mailbox_shown_for : NewMailbox → Option Seen
+mailbox_shown_for m = Some (record { name = m.display_name.now; address = written_address m })
 
-abbrev pub element_stands_for : NewAddress → SeenElement
-element_stands_for (new.Mailbox m) = seen_single (mailbox_stands_for m)
-element_stands_for (new.Group g) = seen_group g.display_name.now (map mailbox_stands_for g.members.now)
+abbrev pub element_shown_for : NewAddress → SeenElement
+element_shown_for (new.Mailbox m) = seen_single (mailbox_shown_for m)
+element_shown_for (new.Group g) = seen_group g.display_name.now (map mailbox_shown_for g.members.now)
 
 -- the names are texts
 abbrev pub AreTexts : List NewMailbox → Type 0

@@ -12,12 +12,12 @@ use std::alloc::{AllocError, Global};
 /// Returns the elements of all headers with this name, as `read_addresses` reads them, in the order
 /// of the mail (RFC 5322, section 3.6.3).
 ///
-/// The name ignores ASCII case. Each element counts its place in the value of its own header. Takes
-/// memory for the list, for that of the headers, and for the members of groups.
+/// The ASCII case of the name is ignored. The offset of an element is counted in the value of its
+/// own header. Allocates the list, that of the headers, and the members of groups.
 ///
 /// # Errors
 ///
-/// `MailParseError::Memory` where it runs out of memory.
+/// `MailParseError::Memory` if memory runs out.
 ///
 /// # Examples
 ///
@@ -62,13 +62,13 @@ fn push_addresses<'a>(
 /// Returns the sender of a mail (RFC 5322, section 3.6.2): the mailbox in its `Sender`, or else the
 /// one in its `From`, or `None`.
 ///
-/// A header of these names counts only where a mailbox is all that such headers hold. So a mail has
-/// no sender that is `From` several mailboxes, or a group, and has no `Sender`. Takes memory as
-/// `addresses_of` does.
+/// The headers of such a name count only if they contain one mailbox and nothing else. So a mail
+/// that is `From` several mailboxes, or from a group, and that has no `Sender`, has no sender.
+/// Allocates as `addresses_of` does.
 ///
 /// # Errors
 ///
-/// `MailParseError::Memory` where it runs out of memory.
+/// `MailParseError::Memory` if memory runs out.
 ///
 /// # Examples
 ///
@@ -97,14 +97,14 @@ pub fn sender_of<'m, M: MailHeaderMap>(
     Ok(only_mailbox(&from))
 }
 
-/// The only element, where it is a mailbox.
+/// Returns the only element, if it is a mailbox.
 fn only_mailbox<'a>(list: &AddressList<'a>) -> Option<Mailbox<'a>>
     ensures { option_map mailbox_view result ≡ only_mailbox (map element_view list.now.items) }
 {
-    if list.len() != 1 {
+    let [only] = list.as_slice() else {
         return None;
-    }
-    match &list[0] {
+    };
+    match only {
         Address::Mailbox(mailbox) => Some(*mailbox),
         _ => None,
     }

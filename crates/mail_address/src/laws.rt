@@ -1,38 +1,38 @@
-//! What holds of every list of addresses. Each function does nothing; its contract is the law.
+//! Laws of all lists of addresses. Each function does nothing; its contract is the law.
 ghost use Rattle.std.specs.Prelude.{[], ◌≡◌, ◌+◌, ◌∷◌, ◌++◌, List, length, map, suc, true, ℕ};
 ghost use Rattle.mail_codec.specs.Ascii.{backslash, comma, space};
 ghost use Rattle.mail_codec.specs.Charset.{Charsets, four_charsets};
 ghost use Rattle.mail_codec.specs.Tables.{charsets_with};
 ghost use Rattle.mail_codec.specs.declared.charset.tables.SingleByteTable.{SingleByteTable};
-ghost use Rattle.mail_laws.specs.Encode.{KnowUtf8};
+ghost use Rattle.mail_address.specs.Encode.{KnowUtf8};
 ghost use Rattle.mail_address.specs.Addresses.{addresses, element_at, element_len, items};
 ghost use Rattle.mail_address.specs.Enclosed.{IsEnclosed, IsInAngles};
 ghost use Rattle.mail_address.specs.Grammar.{FollowGrammar, IsMailbox};
 ghost use Rattle.mail_address.specs.Mailbox.{Parts};
 ghost use Rattle.mail_address.specs.Names.{AreNameWords, bracketed, named};
-ghost use Rattle.mail_address.specs.Order.{MakeUp, StandFrom};
+ghost use Rattle.mail_address.specs.Order.{AreInOrder, MakeUp};
 ghost use Rattle.mail_address.specs.Text.{phrase_text, quoted_text};
 ghost use Rattle.mail_address.specs.Tokens.{is_in, run};
 ghost use Rattle.mail_address.specs.Writer.{HaveTexts, are_writable, element_shows};
-ghost use Rattle.mail_address.specs.Writer.{element_stands_for, written_list};
+ghost use Rattle.mail_address.specs.Writer.{element_shown_for, written_list};
 ghost use Rattle.mail_address.specs.declared.writer.NewAddress.{NewAddress};
 ghost use Rattle.mail_address.specs.declared.tokens.Kind.TheVariants.{Angle};
 ghost use Rattle.mail_address.specs.declared.tokens.Span.{Span};
 
-/// The elements stand in the text in order and apart: each has its bytes at its place.
+/// The elements are disjoint and in order, and the text has the bytes of each at its offset.
 ///
 /// # Examples
 ///
 /// ```rust
-/// mail_address::laws::elements_stand_in_order();
+/// mail_address::laws::elements_are_in_order();
 /// ```
-pub fn elements_stand_in_order()
-    ensures { (raw : List ℕ) → StandFrom 0 raw (addresses raw) }
+pub fn elements_are_in_order()
+    ensures { (raw : List ℕ) → AreInOrder 0 raw (addresses raw) }
 {}
 
-/// The elements and what stands around them make up the text. Before an element stand separators,
-/// each with nothing before it but whitespace and comments. What follows an element at once is a
-/// separator or the end; behind a group it may be anything.
+/// The text consists of the elements and what is around them. Before an element there are only
+/// separators, each with nothing before it but whitespace and comments. An element is followed
+/// directly by a separator or the end, and a group by anything.
 ///
 /// # Examples
 ///
@@ -43,12 +43,12 @@ pub fn elements_make_up_the_text()
     ensures { (raw : List ℕ) → MakeUp 0 raw (addresses raw) }
 {}
 
-/// Nothing within quotes, comments, domain literals and angle brackets separates, however comments
-/// nest and whatever a backslash quotes: the search for a mark goes on behind them. Outside of them
-/// it goes on behind what a backslash quotes.
+/// Nothing within quotes, comments, domain literals and angle brackets is a delimiter, however
+/// comments nest and whatever a backslash quotes: the search for a delimiter continues after them.
+/// Outside of them it continues after the byte that a backslash quotes.
 ///
-/// The marks are those of each run of tokens that goes over angle brackets, so those that separate
-/// elements and members, an `@`, and the colon of a group and of a route.
+/// The delimiters are those of each run of tokens that may contain angle brackets: the separators
+/// of elements and of members, an `@`, and the colon of a group and of a route.
 ///
 /// # Examples
 ///
@@ -62,10 +62,10 @@ pub fn nothing_enclosed_separates()
         run span (backslash ∷ b ∷ rest) ≡ 2 + run span rest }
 {}
 
-/// No display name forges an address. Take a name of quoted strings and atoms, as encoded words
-/// are, with a space behind each, and anything in angle brackets behind it. That is one element,
-/// whatever the name stands for: the mailbox of the address in the brackets, if they hold one. After
-/// a comma the list goes on. Every text is such a name as a quoted string, which stands for it.
+/// No display name forges an address. Take a name of quoted strings and atoms, such as encoded
+/// words, with a space after each, and then anything in angle brackets. That is one element,
+/// whatever the name shows: the mailbox of the address in the brackets, if they contain one. After
+/// a comma the list goes on. Every text is such a name as a quoted string, which shows it.
 ///
 /// # Examples
 ///
@@ -83,11 +83,11 @@ pub fn names_forge_nothing()
     ensures shown { (text : List ℕ) → phrase_text (quoted_text text ++ space ∷ []) ≡ text }
 {}
 
-/// An element of a list, or a member of a group, is read as a mailbox exactly where a grammar of
-/// bytes says that its text is one (RFC 5322, sections 3.4 and 4.4). A text is at most one mailbox.
+/// An element of a list, or a member of a group, is read as a mailbox exactly if its text is one by
+/// a grammar of bytes (RFC 5322, sections 3.4 and 4.4). A text is at most one mailbox.
 ///
-/// The grammar says what a mailbox is made up of, with or without a name. It has routes, dots in
-/// names, comments and folding whitespace, quoted strings and domain literals.
+/// The grammar has mailboxes with and without a name, routes, dots in names, comments and folding
+/// whitespace, quoted strings and domain literals.
 ///
 /// # Examples
 ///
@@ -100,7 +100,7 @@ pub fn mailboxes_are_those_of_the_grammar()
 {}
 
 /// What `write_addresses` writes reads back: as many elements, in order, with the same names,
-/// whatever they hold, and the same addresses in canonical form. This holds in all charsets that
+/// whatever they contain, and the same addresses in canonical form. This holds in all charsets that
 /// know UTF-8 by its label as the four do, so also in those with the tables of a caller.
 ///
 /// # Examples
@@ -111,7 +111,7 @@ pub fn mailboxes_are_those_of_the_grammar()
 pub fn written_addresses_read_back()
     ensures shown { (known : Charsets) (list : List NewAddress) → KnowUtf8 known →
         HaveTexts list → are_writable list ≡ true →
-        map (element_shows known) (addresses (written_list list)) ≡ map element_stands_for list }
+        map (element_shows known) (addresses (written_list list)) ≡ map element_shown_for list }
     ensures four { KnowUtf8 four_charsets }
     ensures tables { (tables : List SingleByteTable) → KnowUtf8 (charsets_with tables) }
 {}

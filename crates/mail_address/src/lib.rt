@@ -1,13 +1,15 @@
 //! The addresses of a mail (RFC 5322, sections 3.4 and 4.4; RFC 6854; RFC 6532): who wrote it, and
-//! to whom. They are read from the raw bytes of a value, before encoded words are decoded, so that
-//! no display name can forge an address. What `write_addresses` writes reads back.
+//! to whom. They are read from the raw bytes of a value, before encoded words are decoded, so no
+//! display name can forge an address. `write_addresses` writes lists of addresses that read back,
+//! and `encode` writes single values of any text.
 //!
-//! The rules of this layer are its own. What takes memory has the argument `alloc` and returns a
-//! `Result`; no call panics, and each takes time linear in its text.
+//! The rules of this layer are its own. A call that allocates has the argument `alloc` and returns
+//! a `Result`. No call panics, and each takes time linear in its text.
 //!
-//! The examples stand in a function that has the runtime `rt` and its allocator `alloc`.
+//! The examples run in a function that has the runtime `rt` and its allocator `alloc`.
 #![tactic(auto)]
 
+pub mod encode;
 mod headers;
 pub mod laws;
 mod list;

@@ -1,4 +1,4 @@
-//! A list of addresses: mailboxes, groups, and what is no address.
+//! A list of addresses: mailboxes, groups, and elements that are not addresses.
 ghost use Rattle.std.specs.Prelude.{◌≡◌, ◌++◌, ◌+◌, ◌<◌, ◌≤◌, ◌^◌, ◌==◌, true, length, map, IfOk, OnOk};
 ghost use Rattle.std.specs.Prelude.{IfSome, MatchOption, ◌∷◌, [], take, option_map, drop};
 ghost use Rattle.std.specs.Prelude.{string_bytes};
@@ -19,33 +19,33 @@ use mail_codec::charset::KnownCharsets;
 use mailparse::MailParseError;
 use std::alloc::{AllocError, Global};
 
-/// A mailbox (RFC 5322, section 3.4). Its parts are the bytes as they are written, with the
-/// whitespace and the comments beside them, with quotes, and with encoded words.
-#[derive(Clone, Copy)]
+/// A mailbox (RFC 5322, section 3.4). Its parts are the bytes as they are written: with whitespace
+/// and comments, with quotes, and with encoded words.
+#[derive(Clone, Copy, Debug)]
 pub struct Mailbox<'a> {
-    /// Where it starts in the value that was read.
+    /// Its offset in the value that was read.
     pub start: usize,
-    /// Its bytes there.
+    /// Its bytes.
     pub text: &'a [u8],
     /// The display name, or nothing.
     pub display_name: &'a [u8],
-    /// What stands before the `@`, without a route (section 4.4).
+    /// The bytes before the `@`, without a route (section 4.4).
     pub local_part: &'a [u8],
-    /// What follows the `@`.
+    /// The bytes after the `@`.
     pub domain: &'a [u8],
 }
 
 impl<'a> Mailbox<'a> {
     /// Returns the display name as text: without quotes and comments, with one space for
-    /// whitespace, and then with its encoded words decoded in the charsets that are given (RFC 5322,
+    /// whitespace, and then with its encoded words decoded in the `known` charsets (RFC 5322,
     /// section 3.4; RFC 2047).
     ///
-    /// The text is empty where there is no name. Whatever it holds, as `<` or a comma, it is a name
-    /// and no address. Takes memory for the text.
+    /// The text is empty if there is no name. It may contain anything, such as `<` or a comma, and
+    /// is never an address. Allocates the text.
     ///
     /// # Errors
     ///
-    /// `MailParseError::Memory` where it runs out of memory.
+    /// `MailParseError::Memory` if memory runs out.
     ///
     /// # Examples
     ///
@@ -81,11 +81,11 @@ impl<'a> Mailbox<'a> {
     /// Returns the address in canonical form, `local@domain`: without comments and whitespace, and
     /// with quotes only where the local part needs them (RFC 5322, section 3.4.1).
     ///
-    /// Bytes that are not UTF-8 are read as Latin-1. Takes memory for the text.
+    /// Bytes that are not UTF-8 are read as Latin-1. Allocates the text.
     ///
     /// # Errors
     ///
-    /// Where it runs out of memory.
+    /// If memory runs out.
     ///
     /// # Examples
     ///
@@ -106,30 +106,30 @@ impl<'a> Mailbox<'a> {
     }
 }
 
-/// What stands between two commas and is no address.
-#[derive(Clone, Copy)]
+/// An element between two separators that is not an address.
+#[derive(Clone, Copy, Debug)]
 pub struct Unknown<'a> {
-    /// Where it starts in the value that was read.
+    /// Its offset in the value that was read.
     pub start: usize,
-    /// Its bytes there.
+    /// Its bytes.
     pub text: &'a [u8],
 }
 
 /// An element of a group.
-#[derive(Clone, Copy)]
+#[derive(Clone, Copy, Debug)]
 pub enum Member<'a> {
     /// A mailbox.
     Mailbox(Mailbox<'a>),
-    /// What is no address.
+    /// An element that is not an address.
     Unknown(Unknown<'a>),
 }
 
 /// A group (RFC 5322, section 3.4).
-#[derive(Drop)]
+#[derive(Debug, Drop)]
 pub struct Group<'a> {
-    /// Where it starts in the value that was read.
+    /// Its offset in the value that was read.
     pub start: usize,
-    /// Its bytes there, with its semicolon.
+    /// Its bytes, with its semicolon.
     pub text: &'a [u8],
     /// Its name, as it is written.
     pub display_name: &'a [u8],
@@ -139,14 +139,14 @@ pub struct Group<'a> {
 
 impl<'a> Group<'a> {
     /// Returns the display name as text: without quotes and comments, with one space for
-    /// whitespace, and then with its encoded words decoded in the charsets that are given (RFC 5322,
+    /// whitespace, and then with its encoded words decoded in the `known` charsets (RFC 5322,
     /// section 3.4; RFC 2047).
     ///
-    /// Takes memory for the text.
+    /// Allocates the text.
     ///
     /// # Errors
     ///
-    /// `MailParseError::Memory` where it runs out of memory.
+    /// `MailParseError::Memory` if memory runs out.
     ///
     /// # Examples
     ///
@@ -172,13 +172,13 @@ impl<'a> Group<'a> {
 }
 
 /// An element of a list of addresses.
-#[derive(Drop)]
+#[derive(Debug, Drop)]
 pub enum Address<'a> {
     /// A mailbox.
     Mailbox(Mailbox<'a>),
     /// A group, perhaps with no members.
     Group(Group<'a>),
-    /// What is no address.
+    /// An element that is not an address.
     Unknown(Unknown<'a>),
 }
 
@@ -189,12 +189,12 @@ pub type AddressList<'a> = Vec<Address<'a>>;
 /// from the raw bytes of a header's value.
 ///
 /// A comma separates elements, and so does a semicolon that ends no group. Inside quotes, comments
-/// and brackets nothing separates. What is no address is an element `Unknown` with its bytes, and
-/// the others are read all the same. Takes memory for the list and for the members of groups.
+/// and brackets nothing separates. An element that is not an address is `Unknown`, with its bytes,
+/// and does not affect the others. Allocates the list and the members of groups.
 ///
 /// # Errors
 ///
-/// Where it runs out of memory.
+/// If memory runs out.
 ///
 /// # Examples
 ///
@@ -213,9 +213,8 @@ pub fn read_addresses(alloc: Global, raw: &[u8]) -> Result<AddressList<'_>, Allo
     'elements: while !rest.is_empty() {
         push_element(alloc, &mut list, start, rest)?;
         let len = element_len(rest);
-        let (_, after) = rest.split_at(len);
         start += len;
-        rest = after;
+        rest = &rest[len..];
     }
     Ok(list)
 }
@@ -237,8 +236,7 @@ fn push_element<'a>(
         list.push(Address::Group(group))?;
         return Ok(());
     }
-    let (text, _) = bytes.split_at(run(Span::BeforeSeparator, bytes));
-    match single_at(start, text) {
+    match single_at(start, &bytes[..run(Span::BeforeSeparator, bytes)]) {
         Some(Member::Mailbox(mailbox)) => list.push(Address::Mailbox(mailbox))?,
         Some(Member::Unknown(unknown)) => list.push(Address::Unknown(unknown))?,
         None => {}
@@ -246,7 +244,7 @@ fn push_element<'a>(
     Ok(())
 }
 
-/// The element that some bytes are, if they are more than whitespace and comments.
+/// Returns the element that the bytes are, if they are more than whitespace and comments.
 #[tactic(auto, unfolding(crate::specs::Addresses::single_at))]
 fn single_at(start: usize, text: &[u8]) -> Option<Member<'_>>
     ensures { MatchOption result (single_at start text.now ≡ [])
@@ -267,7 +265,7 @@ fn single_at(start: usize, text: &[u8]) -> Option<Member<'_>>
     }))
 }
 
-/// The bytes of the element at the front and the separator behind it.
+/// Returns the length of the element at the front with the separator after it.
 #[tactic(auto, unfolding(crate::specs::Addresses::element_len))]
 fn element_len(bytes: &[u8]) -> usize
     ensures value { result ≡ element_len bytes.now }
@@ -276,14 +274,13 @@ fn element_len(bytes: &[u8]) -> usize
 {
     if is_group(bytes) {
         let len = group_len(bytes);
-        let (_, rest) = bytes.split_at(len);
-        len + separator_len(rest)
+        len + separator_len(&bytes[len..])
     } else {
         bytes.len().min(run(Span::BeforeSeparator, bytes) + 1)
     }
 }
 
-/// The bytes of the separator at the front, or 0.
+/// Returns the length of the separator at the front, or 0.
 fn separator_len(bytes: &[u8]) -> usize
     ensures value { result ≡ separator_len bytes.now }
     ensures bounds { result ≤ length bytes.now }
@@ -298,24 +295,23 @@ fn separator_len(bytes: &[u8]) -> usize
     }
 }
 
-/// The bytes of a group's name.
+/// Returns the length of a group's name.
 #[tactic(auto, unfolding(crate::specs::Addresses::name_len))]
 fn name_len(bytes: &[u8]) -> usize
     ensures value { result ≡ name_len bytes.now }
     ensures bounds { result ≤ length bytes.now }
 {
-    run(Span::BeforeMark, bytes)
+    run(Span::BeforeDelimiter, bytes)
 }
 
-/// What follows a group's name and its colon.
+/// Returns the bytes after a group's name and its colon.
 fn after_name(bytes: &[u8]) -> &[u8]
     ensures { result.now ≡ after_name bytes.now }
 {
-    let (_, rest) = bytes.split_at(bytes.len().min(name_len(bytes) + 1));
-    rest
+    &bytes[bytes.len().min(name_len(bytes) + 1)..]
 }
 
-/// The bytes between a group's colon and its semicolon.
+/// Returns the number of bytes between a group's colon and its semicolon.
 #[tactic(auto, unfolding(crate::specs::Addresses::inner_len))]
 fn inner_len(bytes: &[u8]) -> usize
     ensures value { result ≡ inner_len bytes.now }
@@ -324,19 +320,18 @@ fn inner_len(bytes: &[u8]) -> usize
     run(Span::InGroup, after_name(bytes))
 }
 
-/// Whether a group stands at the front.
+/// Returns whether there is a group at the front.
 #[tactic(auto, unfolding(crate::specs::Addresses::is_group))]
 fn is_group(bytes: &[u8]) -> bool
     ensures { result ≡ is_group bytes.now }
 {
     let len = name_len(bytes);
-    let (name, _) = bytes.split_at(len);
     begins_at(bytes, len, b':')
-        && is_phrase(name)
+        && is_phrase(&bytes[..len])
         && begins_at(after_name(bytes), inner_len(bytes), b';')
 }
 
-/// The bytes of the group at the front.
+/// Returns the length of the group at the front.
 #[tactic(auto, unfolding(crate::specs::Addresses::group_len))]
 fn group_len(bytes: &[u8]) -> usize
     requires { is_group bytes.now ≡ true }
@@ -349,27 +344,26 @@ fn group_len(bytes: &[u8]) -> usize
     name_len(bytes) + inner + 2 + run(Span::White, after)
 }
 
-/// The group at the front.
+/// Returns the group at the front.
 #[tactic(auto, unfolding(crate::specs::Addresses::group_at))]
 fn group_at(alloc: Global, start: usize, bytes: &[u8]) -> Result<Group<'_>, AllocError>
     requires group { is_group bytes.now ≡ true }
-    requires room { start + length bytes.now < 2 ^ 64 }
+    requires fits { start + length bytes.now < 2 ^ 64 }
     ensures { IfOk result (λ group. group_view group ≡ group_at start bytes.now) }
 {
     let len = name_len(bytes);
-    let (text, _) = bytes.split_at(group_len(bytes));
-    let (display_name, _) = bytes.split_at(len);
     let (inner, _) = after_name(bytes).split_at(inner_len(bytes));
     let members = members_at(alloc, start + len + 1, inner)?;
     Ok(Group {
         start,
-        text,
-        display_name,
+        text: &bytes[..group_len(bytes)],
+        display_name: &bytes[..len],
         members,
     })
 }
 
-/// The elements between the commas of a group, whose bytes start there.
+/// Returns the members of a group, from the bytes between its colon and semicolon, which start
+/// at this offset.
 fn members_at(alloc: Global, start: usize, bytes: &[u8]) -> Result<Vec<Member<'_>>, AllocError>
     requires { start + length bytes.now < 2 ^ 64 }
     ensures { IfOk result (λ list. map member_view list.items ≡ members_at start bytes.now) }
@@ -380,9 +374,8 @@ fn members_at(alloc: Global, start: usize, bytes: &[u8]) -> Result<Vec<Member<'_
     'members: while !rest.is_empty() {
         push_member(&mut list, start, rest)?;
         let len = member_len(rest);
-        let (_, after) = rest.split_at(len);
         start += len;
-        rest = after;
+        rest = &rest[len..];
     }
     Ok(list)
 }
@@ -397,14 +390,13 @@ fn push_member<'a>(
     ensures { OnOk result (map member_view list.new.items
         ≡ map member_view list.old.items ++ member_at start bytes.now) }
 {
-    let (text, _) = bytes.split_at(run(Span::BeforeComma, bytes));
-    if let Some(member) = single_at(start, text) {
+    if let Some(member) = single_at(start, &bytes[..run(Span::BeforeComma, bytes)]) {
         list.push(member)?;
     }
     Ok(())
 }
 
-/// The bytes of the member at the front and the comma behind it.
+/// Returns the length of the member at the front with the comma after it.
 #[tactic(auto, unfolding(crate::specs::Addresses::member_len))]
 fn member_len(bytes: &[u8]) -> usize
     ensures value { result ≡ member_len bytes.now }

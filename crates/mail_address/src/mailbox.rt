@@ -1,4 +1,4 @@
-//! One mailbox: a local part and a domain, perhaps with a display name.
+//! A mailbox: a local part and a domain, perhaps with a display name.
 ghost use Rattle.std.specs.Prelude.{◌≡◌, ◌+◌, ◌<◌, ◌≤◌, length, option_map};
 ghost use Rattle.mail_address.specs.Mailbox.{after_route, after_white, dot_word_len, is_domain};
 ghost use Rattle.mail_address.specs.Mailbox.{is_dotted, is_enclosed, is_phrase, is_route, is_stop};
@@ -18,23 +18,21 @@ pub(crate) struct Parts<'a> {
     pub domain: &'a [u8],
 }
 
-/// The bytes of a word with the whitespace and comments around it, or 0.
+/// Returns the length of the word at the front, with the whitespace and comments around it, or 0.
 #[tactic(auto, unfolding(crate::specs::Mailbox::word_len))]
 fn word_len(span: Span, text: &[u8]) -> usize
     ensures value { result ≡ word_len span text.now }
     ensures bounds { result ≤ length text.now }
 {
     let white = run(Span::White, text);
-    let (_, rest) = text.split_at(white);
-    let len = step(span, rest);
+    let len = step(span, &text[white..]);
     if len == 0 {
         return 0;
     }
-    let (_, after) = text.split_at(white + len);
-    white + len + run(Span::White, after)
+    white + len + run(Span::White, &text[white + len..])
 }
 
-/// The step over a dot and the word behind it.
+/// The step over a dot and the word after it.
 #[derive(Clone, Copy)]
 struct DotWord(Span);
 
@@ -46,13 +44,12 @@ impl Steps for DotWord {
         if !begins_at(text, 0, b'.') {
             return 0;
         }
-        let (_, rest) = text.split_at(1);
-        let len = word_len(self.0, rest);
+        let len = word_len(self.0, &text[1..]);
         if len == 0 { 0 } else { 1 + len }
     }
 }
 
-/// Whether the bytes are one word.
+/// Returns whether the bytes are one word.
 #[tactic(auto, unfolding(crate::specs::Mailbox::is_word))]
 fn is_word(span: Span, text: &[u8]) -> bool
     ensures { result ≡ is_word span text.now }
@@ -61,17 +58,16 @@ fn is_word(span: Span, text: &[u8]) -> bool
     len != 0 && len == text.len()
 }
 
-/// Whether the bytes are words with dots between them.
+/// Returns whether the bytes are words separated by dots.
 #[tactic(auto, unfolding(crate::specs::Mailbox::is_dotted))]
 pub(crate) fn is_dotted(span: Span, text: &[u8]) -> bool
     ensures { result ≡ is_dotted span text.now }
 {
     let len = word_len(span, text);
-    let (_, rest) = text.split_at(len);
-    len != 0 && len + far(DotWord(span), rest) == text.len()
+    len != 0 && len + far(DotWord(span), &text[len..]) == text.len()
 }
 
-/// Whether the bytes are a domain.
+/// Returns whether the bytes are a domain.
 #[tactic(auto, unfolding(crate::specs::Mailbox::is_domain))]
 fn is_domain(text: &[u8]) -> bool
     ensures { result ≡ is_domain text.now }
@@ -79,16 +75,15 @@ fn is_domain(text: &[u8]) -> bool
     is_dotted(Span::Atoms, text) || is_word(Span::Literals, text)
 }
 
-/// What follows the whitespace and comments at the front.
+/// Returns the bytes after the whitespace and comments at the front.
 #[tactic(auto, unfolding(crate::specs::Mailbox::after_white))]
 pub(crate) fn after_white(text: &[u8]) -> &[u8]
     ensures { result.now ≡ after_white text.now }
 {
-    let (_, rest) = text.split_at(run(Span::White, text));
-    rest
+    &text[run(Span::White, text)..]
 }
 
-/// Whether the bytes are a stop of a route: an `@` and a domain, or nothing.
+/// Returns whether the bytes are a stop of a route: an `@` and a domain, or nothing.
 #[tactic(auto, unfolding(crate::specs::Mailbox::is_stop))]
 fn is_stop(text: &[u8]) -> bool
     ensures { result ≡ is_stop text.now }
@@ -97,14 +92,10 @@ fn is_stop(text: &[u8]) -> bool
         return true;
     }
     let rest = after_white(text);
-    if !begins_at(rest, 0, b'@') {
-        return false;
-    }
-    let (_, domain) = rest.split_at(1);
-    is_domain(domain)
+    begins_at(rest, 0, b'@') && is_domain(&rest[1..])
 }
 
-/// The step over a stop and the comma behind it.
+/// The step over a stop and the comma after it.
 #[derive(Clone, Copy)]
 struct Stop;
 
@@ -114,8 +105,7 @@ impl Steps for Stop {
     #[tactic(auto, unfolding(crate::specs::Mailbox::stop_len))]
     fn pass(self, text: &[u8]) -> usize {
         let len = run(Span::BeforeComma, text);
-        let (stop, _) = text.split_at(len);
-        if is_stop(stop) {
+        if is_stop(&text[..len]) {
             text.len().min(len + 1)
         } else {
             0
@@ -123,7 +113,7 @@ impl Steps for Stop {
     }
 }
 
-/// Whether the bytes are a route.
+/// Returns whether the bytes are a route.
 #[tactic(auto, unfolding(crate::specs::Mailbox::is_route))]
 fn is_route(text: &[u8]) -> bool
     ensures { result ≡ is_route text.now }
@@ -131,21 +121,20 @@ fn is_route(text: &[u8]) -> bool
     begins_at(after_white(text), 0, b'@') && far(Stop, text) == text.len()
 }
 
-/// What follows the route and its colon, or the whole where none stands.
+/// Returns the bytes after the route and its colon, or all bytes if there is no route.
 #[tactic(auto, unfolding(crate::specs::Mailbox::after_route))]
 fn after_route(text: &[u8]) -> &[u8]
     ensures { result.now ≡ after_route text.now }
 {
     let len = run(Span::BeforeColon, text);
-    let (route, _) = text.split_at(len);
-    if begins_at(text, len, b':') && is_route(route) {
-        let (_, rest) = text.split_at(len + 1);
-        return rest;
+    if begins_at(text, len, b':') && is_route(&text[..len]) {
+        &text[len + 1..]
+    } else {
+        text
     }
-    text
 }
 
-/// Whether the bytes are a phrase.
+/// Returns whether the bytes are a phrase.
 #[tactic(auto, unfolding(crate::specs::Mailbox::is_phrase))]
 pub(crate) fn is_phrase(text: &[u8]) -> bool
     ensures { result ≡ is_phrase text.now }
@@ -153,7 +142,7 @@ pub(crate) fn is_phrase(text: &[u8]) -> bool
     is_in(Span::Word, front_token(after_white(text)).kind) && run(Span::Phrase, text) == text.len()
 }
 
-/// The mailbox of a name and the bytes of an address, if they are one.
+/// Returns the mailbox with this name and this address, if the bytes are an address.
 #[tactic(auto, unfolding(crate::specs::Mailbox::spec_mailbox))]
 fn spec_mailbox<'a>(name: &'a [u8], text: &'a [u8]) -> Option<Parts<'a>>
     ensures { option_map parts result ≡ spec_mailbox name.now text.now }
@@ -162,8 +151,8 @@ fn spec_mailbox<'a>(name: &'a [u8], text: &'a [u8]) -> Option<Parts<'a>>
     if !begins_at(text, len, b'@') {
         return None;
     }
-    let (local_part, _) = text.split_at(len);
-    let (_, domain) = text.split_at(len + 1);
+    let local_part = &text[..len];
+    let domain = &text[len + 1..];
     if is_dotted(Span::Word, local_part) && is_domain(domain) {
         Some(Parts {
             display_name: name,
@@ -175,26 +164,25 @@ fn spec_mailbox<'a>(name: &'a [u8], text: &'a [u8]) -> Option<Parts<'a>>
     }
 }
 
-/// Whether a token stands in angle brackets.
+/// Returns whether a token is a pair of angle brackets with bytes between them.
 fn is_enclosed(kind: Kind) -> bool
     ensures { result ≡ is_enclosed kind }
 {
     matches!(kind, Kind::Angle)
 }
 
-/// What stands within the first and the last byte.
+/// Returns the bytes without the first and the last one.
 pub(crate) fn within_ends(text: &[u8]) -> &[u8]
     ensures { result.now ≡ within_ends text.now }
 {
     if text.len() < 2 {
-        return &text[..0];
+        &text[..0]
+    } else {
+        &text[1..text.len() - 1]
     }
-    let (_, rest) = text.split_at(1);
-    let (inner, _) = rest.split_at(text.len() - 2);
-    inner
 }
 
-/// The mailbox of a name and an address in angle brackets, if they are one.
+/// Returns the mailbox of a name and an address in angle brackets, if they are one.
 #[tactic(auto, unfolding(crate::specs::Mailbox::named_mailbox))]
 fn named_mailbox<'a>(name: &'a [u8], rest: &'a [u8]) -> Option<Parts<'a>>
     ensures { option_map parts result ≡ named_mailbox name.now rest.now }
@@ -207,7 +195,7 @@ fn named_mailbox<'a>(name: &'a [u8], rest: &'a [u8]) -> Option<Parts<'a>>
     }
 }
 
-/// The mailbox that a text is, if it is one.
+/// Returns the mailbox that a text is, if it is one.
 #[tactic(auto, unfolding(crate::specs::Mailbox::mailbox_of))]
 pub(crate) fn mailbox_of(text: &[u8]) -> Option<Parts<'_>>
     ensures { option_map parts result ≡ mailbox_of text.now }

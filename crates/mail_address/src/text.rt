@@ -16,7 +16,7 @@ use mailparse::{MailParseError, value_text_in};
 use std::alloc::{AllocError, Global};
 use std::str;
 
-/// Appends the bytes without each backslash that quotes the byte behind it.
+/// Appends the bytes without each backslash that quotes the byte after it.
 fn push_unquoted(text: &mut Vec<u8>, bytes: &[u8]) -> Result<(), AllocError>
     ensures { OnOk result (text.new.items ≡ text.old.items ++ unquoted false bytes.now) }
 {
@@ -33,7 +33,7 @@ fn push_unquoted(text: &mut Vec<u8>, bytes: &[u8]) -> Result<(), AllocError>
     Ok(())
 }
 
-/// Appends what a token stands for.
+/// Appends the meaning of a token.
 fn push_meaning(text: &mut Vec<u8>, kind: Kind, bytes: &[u8]) -> Result<(), AllocError>
     ensures { OnOk result (text.new.items ≡ text.old.items ++ meaning kind bytes.now) }
 {
@@ -44,7 +44,7 @@ fn push_meaning(text: &mut Vec<u8>, kind: Kind, bytes: &[u8]) -> Result<(), Allo
     }
 }
 
-/// The bytes of the token at the front.
+/// Returns the length of the token at the front.
 #[tactic(auto, unfolding(crate::specs::Text::front_len))]
 fn front_len(bytes: &[u8]) -> usize
     ensures value { result ≡ front_len bytes.now }
@@ -54,16 +54,16 @@ fn front_len(bytes: &[u8]) -> usize
     front_token(bytes).len
 }
 
-/// Appends what the token at the front stands for.
-#[tactic(auto, unfolding(crate::specs::Text::front_meaning))]
+/// Appends the meaning of the token at the front.
+#[tactic(auto, unfolding(crate::specs::Text::front_len, crate::specs::Text::front_meaning))]
 fn push_front(text: &mut Vec<u8>, bytes: &[u8]) -> Result<(), AllocError>
     ensures { OnOk result (text.new.items ≡ text.old.items ++ front_meaning bytes.now) }
 {
-    let (front, _) = bytes.split_at(front_len(bytes));
-    push_meaning(text, front_token(bytes).kind, front)
+    let token = front_token(bytes);
+    push_meaning(text, token.kind, &bytes[..token.len])
 }
 
-/// What a local part or a domain stands for.
+/// Returns a local part or a domain without quotes, whitespace and comments.
 #[tactic(auto, unfolding(crate::specs::Text::bare))]
 fn bare(alloc: Global, bytes: &[u8]) -> Result<Vec<u8>, AllocError>
     ensures { IfOk result (λ text. text.items ≡ bare bytes.now) }
@@ -72,14 +72,12 @@ fn bare(alloc: Global, bytes: &[u8]) -> Result<Vec<u8>, AllocError>
     let mut rest = bytes;
     'tokens: while !rest.is_empty() {
         push_front(&mut text, rest)?;
-        let len = front_len(rest);
-        let (_, after) = rest.split_at(len);
-        rest = after;
+        rest = &rest[front_len(rest)..];
     }
     Ok(text)
 }
 
-/// The bytes of the token at the front, or of the whitespace and comments.
+/// Returns the length of the token at the front, or of the whitespace and comments there.
 #[tactic(auto, unfolding(crate::specs::Text::word_or_white_len))]
 fn word_or_white_len(bytes: &[u8]) -> usize
     ensures value { result ≡ word_or_white_len bytes.now }
@@ -92,7 +90,7 @@ fn word_or_white_len(bytes: &[u8]) -> usize
     }
 }
 
-/// Appends what stands at the front of a phrase: a space for whitespace and comments, except at the
+/// Appends the meaning of the front of a phrase: a space for whitespace and comments, except at the
 /// end.
 #[tactic(auto, unfolding(crate::specs::Text::word_or_space))]
 fn push_word(text: &mut Vec<u8>, bytes: &[u8]) -> Result<(), AllocError>
@@ -108,7 +106,7 @@ fn push_word(text: &mut Vec<u8>, bytes: &[u8]) -> Result<(), AllocError>
     Ok(())
 }
 
-/// What a phrase stands for, before its encoded words are decoded.
+/// Returns the text of a phrase, before its encoded words are decoded.
 #[tactic(auto, unfolding(crate::specs::Text::phrase_text))]
 fn phrase_text(alloc: Global, bytes: &[u8]) -> Result<Vec<u8>, AllocError>
     ensures { IfOk result (λ text. text.items ≡ phrase_text bytes.now) }
@@ -116,7 +114,7 @@ fn phrase_text(alloc: Global, bytes: &[u8]) -> Result<Vec<u8>, AllocError>
     words_text(alloc, after_white(bytes))
 }
 
-/// What a phrase stands for that begins with a word.
+/// Returns the text of a phrase that begins with a word.
 fn words_text(alloc: Global, phrase: &[u8]) -> Result<Vec<u8>, AllocError>
     ensures { IfOk result (λ text. text.items ≡ words_text phrase.now) }
 {
@@ -124,29 +122,27 @@ fn words_text(alloc: Global, phrase: &[u8]) -> Result<Vec<u8>, AllocError>
     let mut rest = phrase;
     'words: while !rest.is_empty() {
         push_word(&mut text, rest)?;
-        let len = word_or_white_len(rest);
-        let (_, after) = rest.split_at(len);
-        rest = after;
+        rest = &rest[word_or_white_len(rest)..];
     }
     Ok(text)
 }
 
-/// Whether a local part needs no quotes.
+/// Returns whether a local part needs no quotes.
 #[tactic(auto, unfolding(crate::specs::Text::needs_no_quotes))]
 pub(crate) fn needs_no_quotes(text: &[u8]) -> bool
     ensures { result ≡ needs_no_quotes text.now }
 {
-    is_plain(text) && is_dotted(Span::Atoms, text)
+    has_atoms_and_dots(text) && is_dotted(Span::Atoms, text)
 }
 
-/// Whether all bytes are those of atoms, or dots.
-fn is_plain(text: &[u8]) -> bool
+/// Returns whether all bytes are bytes of atoms or dots.
+fn has_atoms_and_dots(text: &[u8]) -> bool
     ensures { result ≡ list_all (λ b. is_atom_byte b || b == dot) text.now }
 {
     text.iter().all(|byte| is_atom_byte(*byte) || *byte == b'.')
 }
 
-/// Appends a text as it is written within quotes.
+/// Appends a text with its quotes and backslashes escaped.
 pub(crate) fn push_escaped(out: &mut Vec<u8>, text: &[u8]) -> Result<(), AllocError>
     ensures { OnOk result (out.new.items ≡ out.old.items ++ flat_map escaped_byte text.now) }
 {
@@ -176,7 +172,7 @@ fn push_local(alloc: Global, out: &mut Vec<u8>, local_part: &[u8]) -> Result<(),
     Ok(())
 }
 
-/// An address in canonical form, as bytes.
+/// Returns an address in canonical form, as bytes.
 #[tactic(auto, unfolding(crate::specs::Text::address_bytes))]
 fn address_bytes(alloc: Global, local_part: &[u8], domain: &[u8]) -> Result<Vec<u8>, AllocError>
     ensures { IfOk result (λ out. out.items ≡ address_bytes local_part.now domain.now) }
@@ -189,7 +185,7 @@ fn address_bytes(alloc: Global, local_part: &[u8], domain: &[u8]) -> Result<Vec<
     Ok(out)
 }
 
-/// The text of some bytes: UTF-8, or Latin-1 where they are not that.
+/// Returns bytes as text: as UTF-8, or as Latin-1 if they are not valid UTF-8.
 fn bytes_text(alloc: Global, bytes: &[u8]) -> Result<String, AllocError>
     ensures { IfOk result (λ text. string_bytes text ≡ value_text bytes.now) }
 {
@@ -199,7 +195,7 @@ fn bytes_text(alloc: Global, bytes: &[u8]) -> Result<String, AllocError>
     }
 }
 
-/// The text of an address in canonical form.
+/// Returns an address in canonical form, as text.
 pub(crate) fn address_text(
     alloc: Global,
     local_part: &[u8],
@@ -212,7 +208,7 @@ pub(crate) fn address_text(
     Ok(bytes_text(alloc, bytes.as_slice())?)
 }
 
-/// The text of a phrase: its encoded words are decoded last, in the charsets that are known.
+/// Returns the text of a phrase. Its encoded words are decoded last, in the known charsets.
 pub(crate) fn name_text<K: KnownCharsets>(
     alloc: Global,
     phrase: &[u8],

@@ -1,4 +1,4 @@
-//! The tokens of addresses: words, comments, brackets and marks, over bytes that are not decoded.
+//! The tokens of addresses: words, comments, brackets and delimiters, in bytes not yet decoded.
 ghost use Rattle.std.specs.Prelude.{◌≡◌, ◌+◌, ◌<◌, ◌≤◌, ◌^◌, ◌==◌, false, List, ℕ, drop, length, IsTrue};
 ghost use Rattle.std.specs.List.{prefix_len};
 ghost use Rattle.mail_codec.specs.Places.{begins};
@@ -9,42 +9,42 @@ ghost use Rattle.mail_address.specs.Tokens.{is_special, is_white, literal_token,
 ghost use Rattle.mail_address.specs.Tokens.{quoted_token, run, single_kind, step, front_token};
 ghost use Rattle.mail_address.specs.Tokens.{unquoted_place};
 
-/// What a token is.
+/// The kind of a token.
 #[derive(Clone, Copy)]
 pub(crate) enum Kind {
     /// Whitespace.
     Blank,
-    /// A comment, closed.
+    /// A closed comment.
     Comment,
-    /// Visible bytes that are not special.
+    /// Visible bytes without specials.
     Atom,
-    /// A quoted string, closed.
+    /// A closed quoted string.
     Quoted,
-    /// A domain literal, closed.
+    /// A closed domain literal.
     Literal,
-    /// What stands in angle brackets, closed.
+    /// A pair of angle brackets and the bytes between them.
     Angle,
     Dot,
     At,
     Comma,
     Semicolon,
     Colon,
-    /// A `<` that no `>` closes.
+    /// A `<` without its `>`.
     Opening,
-    /// A `>` that closes nothing.
+    /// A `>` without its `<`.
     Closing,
     /// Anything else.
     Other,
 }
 
-/// A token: what it is, and how many bytes it has.
+/// A token: its kind, and how many bytes it has.
 #[derive(Clone, Copy)]
 pub(crate) struct Token {
     pub kind: Kind,
     pub len: usize,
 }
 
-/// The tokens that a run goes over.
+/// A set of kinds of tokens, which a run of tokens may have.
 #[derive(Clone, Copy)]
 pub(crate) enum Span {
     /// Whitespace and comments.
@@ -55,30 +55,30 @@ pub(crate) enum Span {
     Word,
     Atoms,
     Literals,
-    /// All before an `@`.
+    /// Anything but an `@`.
     BeforeAt,
     BeforeColon,
     BeforeComma,
-    /// All before a comma or semicolon.
+    /// Anything but a comma or a semicolon.
     BeforeSeparator,
-    /// All before a comma, semicolon or colon.
-    BeforeMark,
-    /// All before a semicolon or colon.
+    /// Anything but a comma, a semicolon or a colon.
+    BeforeDelimiter,
+    /// Anything but a semicolon or a colon.
     InGroup,
 }
 
-/// Steps over bytes, to be repeated until one passes none.
+/// A step over some bytes, which is repeated until it takes none.
 pub(crate) trait Steps: Copy {
-    // How many bytes a step passes at the front.
+    // How many bytes at the front the step takes.
     ghost passes: { Self → List ℕ → ℕ };
 
-    /// How many bytes a step passes at the front.
+    /// Returns how many bytes at the front the step takes.
     fn pass(self, bytes: &[u8]) -> usize
         ensures value { result ≡ passes self bytes.now }
         ensures bounds { result ≤ length bytes.now };
 }
 
-/// How many bytes steps pass until one passes none.
+/// Returns how many bytes the repeated step takes.
 pub(crate) fn far<S: Steps>(step: S, bytes: &[u8]) -> usize
     ensures value { result ≡ far (S.passes step) bytes.now }
     ensures bounds { result ≤ length bytes.now }
@@ -89,38 +89,28 @@ pub(crate) fn far<S: Steps>(step: S, bytes: &[u8]) -> usize
         if len == 0 {
             return bytes.len() - rest.len();
         }
-        let (_, after) = rest.split_at(len);
-        rest = after;
+        rest = &rest[len..];
     }
 }
 
-/// Whether a byte is whitespace: a space, a tab or a byte of a line's end.
+/// Returns whether a byte is whitespace: a space, a tab, a CR or a LF.
 fn is_white(byte: u8) -> bool
     ensures { result ≡ is_white byte }
 {
     byte == b' ' || byte == b'\t' || byte == b'\r' || byte == b'\n'
 }
 
-/// Whether a byte has a meaning of its own.
+/// Returns whether a byte is special (RFC 5322, section 3.2.3).
 fn is_special(byte: u8) -> bool
     ensures { result ≡ is_special byte }
 {
-    byte == b'"'
-        || byte == b'('
-        || byte == b')'
-        || byte == b','
-        || byte == b'.'
-        || byte == b':'
-        || byte == b';'
-        || byte == b'<'
-        || byte == b'>'
-        || byte == b'@'
-        || byte == b'['
-        || byte == b']'
-        || byte == b'\\'
+    matches!(
+        byte,
+        b'"' | b'(' | b')' | b',' | b'.' | b':' | b';' | b'<' | b'>' | b'@' | b'[' | b']' | b'\\'
+    )
 }
 
-/// Whether a byte may be in an atom.
+/// Returns whether a byte may be in an atom.
 #[tactic(auto, unfolding(crate::specs::Tokens::is_atom_byte))]
 pub(crate) fn is_atom_byte(byte: u8) -> bool
     ensures { result ≡ is_atom_byte byte }
@@ -128,14 +118,14 @@ pub(crate) fn is_atom_byte(byte: u8) -> bool
     b' ' < byte && byte != 127 && !is_special(byte)
 }
 
-/// Whether a byte closes the comment that was opened first.
+/// Returns whether a byte closes the outermost comment.
 fn closes_comment(is_quoted: bool, depth: usize, byte: u8) -> bool
     ensures { result ≡ closes_comment is_quoted depth byte }
 {
     !is_quoted && (byte == b')' && depth == 0)
 }
 
-/// How many comments are open after a byte.
+/// Returns how many comments are open after a byte.
 fn depth_after(is_quoted: bool, depth: usize, byte: u8) -> usize
     requires { depth < 2 ^ 63 }
     ensures value { result ≡ depth_after is_quoted depth byte }
@@ -153,7 +143,7 @@ fn depth_after(is_quoted: bool, depth: usize, byte: u8) -> usize
     depth
 }
 
-/// How many bytes stand before the `)` that closes a comment, or all where none does.
+/// Returns the offset of the `)` that closes a comment, or the length if none does.
 fn comment_place(bytes: &[u8]) -> usize
     ensures value { result ≡ comment_place false 0 bytes.now }
     ensures bounds { result ≤ length bytes.now }
@@ -171,7 +161,7 @@ fn comment_place(bytes: &[u8]) -> usize
     bytes.len()
 }
 
-/// How many bytes stand before the first of two bytes that is not quoted, or all where none is.
+/// Returns the offset of the first unquoted byte that is one of two, or the length if there is none.
 fn unquoted_place(one: u8, other: u8, bytes: &[u8]) -> usize
     ensures value { result ≡ unquoted_place one other false bytes.now }
     ensures bounds { result ≤ length bytes.now }
@@ -187,7 +177,7 @@ fn unquoted_place(one: u8, other: u8, bytes: &[u8]) -> usize
     bytes.len()
 }
 
-/// The comment that a `(` opens, with what follows it.
+/// Returns the comment that a `(` before these bytes opens.
 #[tactic(auto, unfolding(crate::specs::Tokens::comment_token))]
 fn comment_token(rest: &[u8]) -> Token
     ensures value { result ≡ comment_token rest.now }
@@ -208,7 +198,7 @@ fn comment_token(rest: &[u8]) -> Token
     }
 }
 
-/// The quoted string that a `"` opens.
+/// Returns the quoted string that a `"` before these bytes opens.
 #[tactic(auto, unfolding(crate::specs::Tokens::quoted_token))]
 fn quoted_token(rest: &[u8]) -> Token
     ensures value { result ≡ quoted_token rest.now }
@@ -229,7 +219,7 @@ fn quoted_token(rest: &[u8]) -> Token
     }
 }
 
-/// The domain literal that a `[` opens.
+/// Returns the domain literal that a `[` before these bytes opens.
 #[tactic(auto, unfolding(crate::specs::Tokens::literal_token))]
 fn literal_token(rest: &[u8]) -> Token
     ensures value { result ≡ literal_token rest.now }
@@ -250,7 +240,7 @@ fn literal_token(rest: &[u8]) -> Token
     }
 }
 
-/// Whether a byte stands at a place.
+/// Returns whether a byte is at an offset.
 pub(crate) fn begins_at(bytes: &[u8], place: usize, byte: u8) -> bool
     ensures value { result ≡ begins (λ b. b == byte) (drop place bytes.now) }
     ensures within { IsTrue result → place < length bytes.now }
@@ -258,7 +248,7 @@ pub(crate) fn begins_at(bytes: &[u8], place: usize, byte: u8) -> bool
     place < bytes.len() && bytes[place] == byte
 }
 
-/// What a byte is that stands for itself.
+/// Returns the kind of a token of one byte.
 #[tactic(auto, unfolding(crate::specs::Tokens::single_kind))]
 fn single_kind(byte: u8) -> Kind
     ensures { result ≡ single_kind byte }
@@ -275,7 +265,7 @@ fn single_kind(byte: u8) -> Kind
     }
 }
 
-/// How many whitespace bytes stand at the front.
+/// Returns how many bytes of whitespace are at the front.
 fn white_len(bytes: &[u8]) -> usize
     ensures value { result ≡ prefix_len is_white bytes.now }
     ensures bounds { result ≤ length bytes.now }
@@ -283,7 +273,7 @@ fn white_len(bytes: &[u8]) -> usize
     bytes.iter().take_while(|byte| is_white(**byte)).count()
 }
 
-/// How many bytes of an atom stand at the front.
+/// Returns how many bytes of an atom are at the front.
 fn atom_len(bytes: &[u8]) -> usize
     ensures value { result ≡ prefix_len is_atom_byte bytes.now }
     ensures bounds { result ≤ length bytes.now }
@@ -291,7 +281,7 @@ fn atom_len(bytes: &[u8]) -> usize
     bytes.iter().take_while(|byte| is_atom_byte(**byte)).count()
 }
 
-/// The token at the front, where angle brackets are tokens of their own.
+/// Returns the token at the front, with each angle bracket as a token of its own.
 fn plain_token(bytes: &[u8]) -> Token
     ensures value { result ≡ plain_token bytes.now }
     ensures bounds { result.len ≤ length bytes.now }
@@ -337,14 +327,14 @@ fn plain_token(bytes: &[u8]) -> Token
     }
 }
 
-/// Whether a token is an angle bracket.
+/// Returns whether a token is an angle bracket.
 fn is_angle(kind: Kind) -> bool
     ensures { result ≡ is_angle kind }
 {
     matches!(kind, Kind::Opening | Kind::Closing)
 }
 
-/// The step over a token that is no angle bracket.
+/// The step over a token that is not an angle bracket.
 #[derive(Clone, Copy)]
 struct NoAngle;
 
@@ -357,7 +347,8 @@ impl Steps for NoAngle {
     }
 }
 
-/// What stands in angle brackets, with them, where the next bracket closes the first.
+/// Returns the token that a `<` before these bytes opens: up to its `>`, if that is the next angle
+/// bracket.
 #[tactic(auto, unfolding(crate::specs::Tokens::angle_token))]
 fn angle_token(rest: &[u8]) -> Token
     ensures value { result ≡ angle_token rest.now }
@@ -378,7 +369,7 @@ fn angle_token(rest: &[u8]) -> Token
     }
 }
 
-/// The token at the front.
+/// Returns the token at the front.
 #[tactic(auto, unfolding(crate::specs::Tokens::front_token))]
 pub(crate) fn front_token(bytes: &[u8]) -> Token
     ensures value { result ≡ front_token bytes.now }
@@ -386,14 +377,13 @@ pub(crate) fn front_token(bytes: &[u8]) -> Token
     ensures some { 0 < length bytes.now → 0 < result.len }
 {
     if begins_at(bytes, 0, b'<') {
-        let (_, rest) = bytes.split_at(1);
-        angle_token(rest)
+        angle_token(&bytes[1..])
     } else {
         plain_token(bytes)
     }
 }
 
-/// Whether a run goes over a token.
+/// Returns whether a set contains a kind of token.
 pub(crate) fn is_in(span: Span, kind: Kind) -> bool
     ensures { result ≡ is_in span kind }
 {
@@ -410,12 +400,12 @@ pub(crate) fn is_in(span: Span, kind: Kind) -> bool
         Span::BeforeColon => !matches!(kind, Kind::Colon),
         Span::BeforeComma => !matches!(kind, Kind::Comma),
         Span::BeforeSeparator => !matches!(kind, Kind::Comma | Kind::Semicolon),
-        Span::BeforeMark => !matches!(kind, Kind::Comma | Kind::Semicolon | Kind::Colon),
+        Span::BeforeDelimiter => !matches!(kind, Kind::Comma | Kind::Semicolon | Kind::Colon),
         Span::InGroup => !matches!(kind, Kind::Semicolon | Kind::Colon),
     }
 }
 
-/// The bytes of the token at the front, if the run goes over it.
+/// Returns the length of the token at the front, or 0 if the set does not contain its kind.
 #[tactic(auto, unfolding(crate::specs::Tokens::step))]
 pub(crate) fn step(span: Span, bytes: &[u8]) -> usize
     ensures value { result ≡ step span bytes.now }
@@ -437,7 +427,7 @@ impl Steps for Span {
     }
 }
 
-/// How many bytes a run of such tokens has at the front.
+/// Returns the length of the run of such tokens at the front.
 pub(crate) fn run(span: Span, bytes: &[u8]) -> usize
     ensures value { result ≡ run span bytes.now }
     ensures bounds { result ≤ length bytes.now }
@@ -445,7 +435,7 @@ pub(crate) fn run(span: Span, bytes: &[u8]) -> usize
     far(span, bytes)
 }
 
-/// Whether the bytes are whitespace and comments, or none.
+/// Returns whether the bytes are only whitespace and comments, or empty.
 #[tactic(auto, unfolding(crate::specs::Tokens::is_all_white))]
 pub(crate) fn is_all_white(bytes: &[u8]) -> bool
     ensures { result ≡ is_all_white bytes.now }

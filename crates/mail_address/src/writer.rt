@@ -1,37 +1,36 @@
-//! Lists of addresses that are written so that they read back.
+//! Lists of addresses, written so that they read back.
 ghost use Rattle.std.specs.Prelude.{◌≡◌, ◌++◌, IfErr, IfOk, OnOk, flat_map, not, string_bytes};
 ghost use Rattle.std.specs.Prelude.{true};
 ghost use Rattle.std.specs.List.{list_all};
-ghost use Rattle.mail_laws.specs.Encode.{letters};
+ghost use Rattle.mail_address.specs.Encode.{one_word};
 ghost use Rattle.mail_address.specs.Text.{quoted_text};
 ghost use Rattle.mail_address.specs.Writer.{are_atoms, are_writable, has_no_control, is_control};
 ghost use Rattle.mail_address.specs.Writer.{is_element_writable, is_literal, is_refusal};
 ghost use Rattle.mail_address.specs.Writer.{is_writable};
-ghost use Rattle.mail_address.specs.Writer.{joined, next_element, next_mailbox, one_word};
+ghost use Rattle.mail_address.specs.Writer.{joined, next_element, next_mailbox};
 ghost use Rattle.mail_address.specs.Writer.{written_element, written_group};
 ghost use Rattle.mail_address.specs.Writer.{written_list, written_local, written_mailbox};
 ghost use Rattle.mail_address.specs.Writer.{written_name, written_phrase};
 
+use crate::encode::{is_plain, push_word};
 use crate::text::{needs_no_quotes, push_escaped};
 use crate::tokens::{Span, front_token, is_atom_byte, is_in};
-use base64::engine::general_purpose::STANDARD;
-use mail_laws::render::is_plain;
 use std::alloc::{AllocError, Global};
 use thiserror::Error;
 
 /// A mailbox to write.
-#[derive(Clone, Copy)]
+#[derive(Clone, Copy, Debug)]
 pub struct NewMailbox<'a> {
     /// The display name: any text, or nothing.
     pub display_name: &'a str,
-    /// What stands before the `@`, without the quotes that it may need.
+    /// The local part, before the `@`, without the quotes that it may need.
     pub local_part: &'a str,
-    /// What follows the `@`: a domain, or a domain literal with its brackets.
+    /// The domain, after the `@`, or a domain literal with its brackets.
     pub domain: &'a str,
 }
 
 /// A group to write.
-#[derive(Clone, Copy)]
+#[derive(Clone, Copy, Debug)]
 pub struct NewGroup<'a> {
     /// The name: any text.
     pub display_name: &'a str,
@@ -40,7 +39,7 @@ pub struct NewGroup<'a> {
 }
 
 /// An element of a list to write.
-#[derive(Clone, Copy)]
+#[derive(Clone, Copy, Debug)]
 pub enum NewAddress<'a> {
     /// A mailbox.
     Mailbox(NewMailbox<'a>),
@@ -51,11 +50,11 @@ pub enum NewAddress<'a> {
 /// Why a list of addresses is not written.
 #[derive(Debug, Drop, Error)]
 pub enum WriteError {
-    /// A local part or a domain holds a control character, or a domain is neither atoms with dots
-    /// between them nor a domain literal.
+    /// A local part or a domain contains a control character, or a domain is neither a dot-atom nor
+    /// a domain literal.
     #[error("no address has such a local part or domain")]
     Address,
-    /// The call runs out of memory.
+    /// Memory ran out.
     #[error("out of memory")]
     Memory(AllocError),
 }
@@ -73,18 +72,17 @@ impl From<AllocError> for WriteError {
 /// Returns the value of an address header, such as `From`, that is read back as these elements (RFC
 /// 5322, section 3.4; RFC 2047, section 5).
 ///
-/// A name is written as it is where it is words of an atom's bytes with one space between them.
-/// Otherwise it is a quoted string where it is printable ASCII that does not begin with a space and
-/// holds no `=?`, and any other name is one encoded word. Such a word is longer than the 75
-/// characters that RFC 2047 allows where the name has more than 45 bytes. An address stands in
-/// angle brackets, its local part in quotes where it needs them. Between two elements stand a
-/// comma, CR LF and a space, so no line has more than one address. Takes memory for the value, and
-/// for the letters of one encoded word at a time.
+/// A name of atoms separated by single spaces is written as it is. Any other name that is plain,
+/// as `encode::is_plain` says, becomes a quoted string, and all others become one encoded word.
+/// Such a word is longer than the 75 characters that RFC 2047 allows if the name has more than 45
+/// bytes. An address is written in angle brackets, with its local part in quotes if it needs them.
+/// Elements are separated by a comma, CR LF and a space, so no line has more than one address.
+/// Allocates the value, and one encoded word at a time.
 ///
 /// # Errors
 ///
-/// `WriteError::Address` where a local part or a domain holds a control character, or a domain is
-/// neither a dot-atom nor a domain literal; `WriteError::Memory` where it runs out of memory.
+/// `WriteError::Address` if a local part or a domain contains a control character, or a domain is
+/// neither a dot-atom nor a domain literal; `WriteError::Memory` if memory runs out.
 ///
 /// # Examples
 ///
@@ -108,19 +106,14 @@ pub fn write_addresses(alloc: Global, addresses: &[NewAddress<'_>]) -> Result<Ve
     Ok(out)
 }
 
-/// Whether all elements can be written.
+/// Returns whether all elements can be written.
 fn are_writable(addresses: &[NewAddress<'_>]) -> bool
     ensures { result ≡ are_writable addresses.now }
 {
-    for address in addresses {
-        if !is_element_writable(address) {
-            return false;
-        }
-    }
-    true
+    addresses.iter().all(|address| is_element_writable(address))
 }
 
-/// Whether all addresses of an element can be written.
+/// Returns whether all addresses of an element can be written.
 fn is_element_writable(address: &NewAddress<'_>) -> bool
     ensures { result ≡ is_element_writable address.now }
 {
@@ -130,19 +123,14 @@ fn is_element_writable(address: &NewAddress<'_>) -> bool
     }
 }
 
-/// Whether all members of a group can be written.
+/// Returns whether all members of a group can be written.
 fn are_members_writable(members: &[NewMailbox<'_>]) -> bool
     ensures { result ≡ list_all is_writable members.now }
 {
-    for member in members {
-        if !is_writable(member) {
-            return false;
-        }
-    }
-    true
+    members.iter().all(|member| is_writable(member))
 }
 
-/// Whether an address can be written.
+/// Returns whether an address can be written.
 #[tactic(auto, unfolding(crate::specs::Writer::is_writable))]
 fn is_writable(mailbox: &NewMailbox<'_>) -> bool
     ensures { result ≡ is_writable mailbox.now }
@@ -153,21 +141,21 @@ fn is_writable(mailbox: &NewMailbox<'_>) -> bool
         && (needs_no_quotes(domain) || is_literal(domain))
 }
 
-/// Whether a text holds no control character.
+/// Returns whether a text contains no control character.
 fn has_no_control(text: &[u8]) -> bool
     ensures { result ≡ has_no_control text.now }
 {
     text.iter().all(|byte| !is_control(*byte))
 }
 
-/// Whether a byte is a control character.
+/// Returns whether a byte is a control character.
 fn is_control(byte: u8) -> bool
     ensures { result ≡ is_control byte }
 {
     byte < b' ' || byte == 127
 }
 
-/// Whether a text is a domain literal.
+/// Returns whether a text is a domain literal.
 #[tactic(auto, unfolding(crate::specs::Writer::is_literal))]
 fn is_literal(text: &[u8]) -> bool
     ensures { result ≡ is_literal text.now }
@@ -176,7 +164,7 @@ fn is_literal(text: &[u8]) -> bool
     is_in(Span::Literals, token.kind) && token.len == text.len()
 }
 
-/// Whether a text is words of an atom's bytes, with one space between two of them.
+/// Returns whether a text is atoms separated by single spaces.
 fn are_atoms(text: &[u8]) -> bool
     ensures { result ≡ are_atoms text.now }
 {
@@ -198,7 +186,7 @@ fn are_atoms(text: &[u8]) -> bool
     in_word
 }
 
-/// Adds the elements, with a comma and a fold between two of them.
+/// Appends elements, separated by a comma and a fold.
 #[tactic(auto, unfolding(crate::specs::Writer::written_list))]
 fn push_list(
     alloc: Global,
@@ -214,7 +202,7 @@ fn push_list(
     push_elements(alloc, out, rest)
 }
 
-/// Adds elements, with a comma and a fold before each.
+/// Appends elements, with a comma and a fold before each.
 fn push_elements(
     alloc: Global,
     out: &mut Vec<u8>,
@@ -229,7 +217,7 @@ fn push_elements(
     Ok(())
 }
 
-/// Adds an element.
+/// Appends an element.
 fn push_element(
     alloc: Global,
     out: &mut Vec<u8>,
@@ -243,7 +231,7 @@ fn push_element(
     }
 }
 
-/// Adds a group: its name, a colon, its members and a semicolon.
+/// Appends a group: its name, a colon, its members and a semicolon.
 fn push_group(alloc: Global, out: &mut Vec<u8>, group: &NewGroup<'_>) -> Result<(), AllocError>
     ensures { OnOk result (out.new.items ≡ out.old.items ++ written_group group.now) }
 {
@@ -254,7 +242,7 @@ fn push_group(alloc: Global, out: &mut Vec<u8>, group: &NewGroup<'_>) -> Result<
     Ok(())
 }
 
-/// Adds the members of a group, with a comma and a fold between two of them.
+/// Appends the members of a group, separated by a comma and a fold.
 fn push_members(
     alloc: Global,
     out: &mut Vec<u8>,
@@ -269,7 +257,7 @@ fn push_members(
     push_mailboxes(alloc, out, rest)
 }
 
-/// Adds mailboxes, with a comma and a fold before each.
+/// Appends mailboxes, with a comma and a fold before each.
 fn push_mailboxes(
     alloc: Global,
     out: &mut Vec<u8>,
@@ -284,7 +272,7 @@ fn push_mailboxes(
     Ok(())
 }
 
-/// Adds a mailbox: its name, and its address in angle brackets.
+/// Appends a mailbox: its name, and its address in angle brackets.
 fn push_mailbox(
     alloc: Global,
     out: &mut Vec<u8>,
@@ -301,7 +289,7 @@ fn push_mailbox(
     Ok(())
 }
 
-/// Adds a name and a space, or nothing where the name is empty.
+/// Appends a name and a space, or nothing if the name is empty.
 #[tactic(auto, unfolding(crate::specs::Writer::written_name))]
 fn push_name(alloc: Global, out: &mut Vec<u8>, name: &str) -> Result<(), AllocError>
     ensures { OnOk result (out.new.items ≡ out.old.items ++ written_name name.now) }
@@ -314,14 +302,14 @@ fn push_name(alloc: Global, out: &mut Vec<u8>, name: &str) -> Result<(), AllocEr
     Ok(())
 }
 
-/// Adds a name as words, as a quoted string or as an encoded word.
+/// Appends a name as atoms, as a quoted string or as an encoded word.
 #[tactic(auto, unfolding(crate::specs::Writer::written_phrase))]
 fn push_phrase(alloc: Global, out: &mut Vec<u8>, name: &str) -> Result<(), AllocError>
     ensures { OnOk result (out.new.items ≡ out.old.items ++ written_phrase name.now) }
 {
     let bytes = name.as_bytes();
     if !is_plain(bytes) {
-        return push_word(alloc, out, bytes);
+        return push_encoded(alloc, out, name);
     }
     if are_atoms(bytes) {
         out.extend_from_slice(bytes)?;
@@ -330,27 +318,16 @@ fn push_phrase(alloc: Global, out: &mut Vec<u8>, name: &str) -> Result<(), Alloc
     push_quoted(out, bytes)
 }
 
-/// Adds a text as an encoded word.
-fn push_word(alloc: Global, out: &mut Vec<u8>, text: &[u8]) -> Result<(), AllocError>
+/// Appends a text as an encoded word.
+fn push_encoded(alloc: Global, out: &mut Vec<u8>, text: &str) -> Result<(), AllocError>
     ensures { OnOk result (out.new.items ≡ out.old.items ++ one_word text.now) }
 {
-    let encoded = letters(alloc, text)?;
-    out.extend_from_slice(b"=?utf-8?B?")?;
-    out.extend_from_slice(encoded.as_bytes())?;
-    out.extend_from_slice(b"?=")?;
-    Ok(())
+    let mut word = String::new(alloc);
+    push_word(&mut word, text)?;
+    out.extend_from_slice(word.as_bytes())
 }
 
-/// The letters of bytes, in Base64 with padding.
-fn letters(alloc: Global, text: &[u8]) -> Result<String, AllocError>
-    ensures { IfOk result (λ made. string_bytes made ≡ letters text.now) }
-{
-    let mut made = String::new(alloc);
-    STANDARD.encode_string(text, &mut made)?;
-    Ok(made)
-}
-
-/// Adds a text as a quoted string.
+/// Appends a text as a quoted string.
 #[tactic(auto, unfolding(crate::specs::Text::quoted_text))]
 fn push_quoted(out: &mut Vec<u8>, text: &[u8]) -> Result<(), AllocError>
     ensures { OnOk result (out.new.items ≡ out.old.items ++ quoted_text text.now) }
@@ -361,7 +338,7 @@ fn push_quoted(out: &mut Vec<u8>, text: &[u8]) -> Result<(), AllocError>
     Ok(())
 }
 
-/// Adds a local part, in quotes where it needs them.
+/// Appends a local part, in quotes if it needs them.
 #[tactic(auto, unfolding(crate::specs::Writer::written_local))]
 fn push_written_local(out: &mut Vec<u8>, text: &[u8]) -> Result<(), AllocError>
     ensures { OnOk result (out.new.items ≡ out.old.items ++ written_local text.now) }

@@ -9,7 +9,7 @@ use Rattle.mail_address.specs.Tokens.{run}
 use Rattle.mail_address.specs.Mailbox.{is_phrase}
 use Rattle.mail_address.specs.Addresses.{after_name, element_len, group_len, inner_len, is_group, items, items_within, member_len, name_len, separator_len}
 
--- ---- what stands one after another
+-- ---- items one after another
 
 items-enough : {A : Type 0} (at : ℕ → List ℕ → List A) (len : List ℕ → ℕ) → ((b : List ℕ) → 0 < length b → 0 < len b) → (m n start : ℕ) (bytes : List ℕ)
     → length bytes ≤ m → length bytes ≤ n → items_within at len m start bytes ≡ items_within at len n start bytes
@@ -73,7 +73,7 @@ begins-within test (suc n) [] h = absurd (cc)
 begins-within test zero (b ∷ bytes) h = omega arith
 begins-within test (suc n) (b ∷ bytes) h = let low = begins-within test n bytes h in omega arith
 
--- a group's colon and semicolon stand within the bytes
+-- a group's colon and semicolon are within the bytes
 pub is_group-within : (bytes : List ℕ) → is_group bytes ≡ true → (name_len bytes < length bytes) × (inner_len bytes < length (after_name bytes))
 unfolding is_group
 is_group-within bytes h =

@@ -101,7 +101,7 @@ pub far-within : (pass : List ℕ → ℕ) → ((bytes : List ℕ) → pass byte
 unfolding far
 far-within pass within bytes = far_within-within pass within (length bytes) bytes
 
--- where a run is over, the step passes none
+-- at the end of a run the step takes no byte
 pub far-over : (pass : List ℕ → ℕ) → ((bytes : List ℕ) → pass bytes ≤ length bytes) → (most : ℕ) (bytes : List ℕ) → length bytes ≤ most
     → far pass bytes < length bytes → pass (drop (far pass bytes) bytes) ≡ 0
 far-over pass within zero bytes short low = absurd (omega arith)

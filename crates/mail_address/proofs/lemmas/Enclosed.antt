@@ -8,14 +8,14 @@ use Rattle.mail_codec.specs.Places.{begins}
 use Rattle.mail_address.specs.declared.tokens.Kind.{Kind}
 use Rattle.mail_address.specs.declared.tokens.Kind.TheVariants.{Angle, At, Colon, Comma, Comment, Dot, Literal, Other, Quoted, Semicolon}
 use Rattle.mail_address.specs.declared.tokens.Span.{Span}
-use Rattle.mail_address.specs.declared.tokens.Span.TheVariants.{BeforeAt, BeforeColon, BeforeComma, BeforeSeparator, BeforeMark, InGroup}
+use Rattle.mail_address.specs.declared.tokens.Span.TheVariants.{BeforeAt, BeforeColon, BeforeComma, BeforeSeparator, BeforeDelimiter, InGroup}
 use Rattle.mail_address.specs.Enclosed.{IsBetween, no_bytes, quoted_pair, plain_byte, IsCommented, comment_ends, comment_pair, comment_byte, comment_within, IsClosed, in_quotes, in_comment, in_literal, IsInAngles, angles_end, angles_pair, angles_byte, angles_closed, IsEnclosed, closed, in_angles, is_opener}
 use Rattle.mail_address.specs.Tokens.{angle_place, angle_step, angle_token, comment_place, comment_token, far, front_token, is_angle, is_atom_byte, is_in, is_white, literal_token, plain_token, quoted_token, run, single_kind, step, unquoted_place}
 use Rattle.mail_address.proofs.lemmas.Tokens.{atom_byte-visible, far-more, far-stop}
 
--- ---- where marks close
+-- ---- closing delimiters
 
--- of bytes between two marks the second mark is found right behind them
+-- the closing delimiter of enclosed bytes is found directly after them
 module _ (one other : ℕ) (first : eqb 92 one ≡ false) (second : eqb 92 other ≡ false) where
   between-place : {text : List ℕ} → IsBetween one other text → (rest : List ℕ) → unquoted_place one other false (text ++ other ∷ rest) ≡ length text
   between-place no_bytes rest = rw (eq-eqb other other refl) (go (eqb other one))
@@ -28,7 +28,7 @@ module _ (one other : ℕ) (first : eqb 92 one ≡ false) (second : eqb 92 other
       let later = between-place between rest in
       rw (ne_eqb b one not_one, ne_eqb b other not_other, ne_eqb b 92 no_backslash) (ap suc later)
 
--- a comment is passed over at any depth
+-- a comment is skipped at any depth
 comment-passed : {text : List ℕ} → IsCommented text → (depth : ℕ) (rest : List ℕ) → comment_place false depth (text ++ rest) ≡ length text + comment_place false depth rest
 comment-passed comment_ends depth rest = omega arith
 comment-passed (comment_pair inner) depth rest = let later = comment-passed inner depth rest in omega (arith, later)
@@ -52,7 +52,7 @@ comment-passed (comment_within {inner = inner} {rest = more} one two e) depth re
 
 -- ---- the tokens
 
--- what stands between marks, and then what follows
+-- enclosed bytes, and then what follows
 pub marked : (first last : ℕ) (inner rest : List ℕ) → (first ∷ (inner ++ last ∷ [])) ++ rest ≡ first ∷ (inner ++ last ∷ rest)
 marked first last inner rest = ap (λ (l : List ℕ). first ∷ l) (append_assoc inner (last ∷ []) rest)
 
@@ -60,7 +60,7 @@ marked first last inner rest = ap (λ (l : List ℕ). first ∷ l) (append_assoc
 pub marked-length : (first last : ℕ) (inner : List ℕ) → length (first ∷ (inner ++ last ∷ [])) ≡ length inner + 2
 marked-length first last inner = let len = length-append inner (last ∷ []) in omega arith
 
--- the place of the closing mark is within
+-- the closing delimiter is within the bytes
 closes-within : (place last : ℕ) (inner rest : List ℕ) → place ≡ length inner → nat_lt place (length (inner ++ last ∷ rest)) ≡ true
 closes-within place last inner rest at = let len = length-append inner (last ∷ rest) in lt-ltb place (length (inner ++ last ∷ rest)) (omega (arith, at, len))
 
@@ -77,24 +77,24 @@ comment-is inner rest commented =
     let passed = comment-passed commented 0 (41 ∷ rest) in omega (arith, passed) in
     rw (closes-within (comment_place false 0 (inner ++ 41 ∷ rest)) 41 inner rest at) (ap (λ n. record { kind = Comment; len = n + 2 }) at)
 
--- the byte behind some bytes
-behind : (place last : ℕ) (inner rest : List ℕ) → place ≡ length inner → begins (λ b. eqb b last) (drop place (inner ++ last ∷ rest)) ≡ true
-behind place last inner rest at = ap (begins (λ b. eqb b last)) (drop_at inner (last ∷ rest) place (sym at)) ∙ eq-eqb last last refl
+-- the byte after some bytes
+byte-after : (place last : ℕ) (inner rest : List ℕ) → place ≡ length inner → begins (λ b. eqb b last) (drop place (inner ++ last ∷ rest)) ≡ true
+byte-after place last inner rest at = ap (begins (λ b. eqb b last)) (drop_at inner (last ∷ rest) place (sym at)) ∙ eq-eqb last last refl
 
 literal-is : (inner rest : List ℕ) → IsBetween 91 93 inner → literal_token (inner ++ 93 ∷ rest) ≡ record { kind = Literal; len = length inner + 2 }
 unfolding literal_token
 literal-is inner rest between =
     let at = between-place 91 93 refl refl between rest in
-    rw (behind (unquoted_place 91 93 false (inner ++ 93 ∷ rest)) 93 inner rest at) (ap (λ n. record { kind = Literal; len = n + 2 }) at)
+    rw (byte-after (unquoted_place 91 93 false (inner ++ 93 ∷ rest)) 93 inner rest at) (ap (λ n. record { kind = Literal; len = n + 2 }) at)
 
--- a run that goes over angle brackets goes over such a token
-like_angle : (kind : Kind) → is_in BeforeAt kind ≡ true → is_in BeforeColon kind ≡ true → is_in BeforeComma kind ≡ true → is_in BeforeSeparator kind ≡ true → is_in BeforeMark kind ≡ true
+-- a run that may have angle brackets may have such a token
+like_angle : (kind : Kind) → is_in BeforeAt kind ≡ true → is_in BeforeColon kind ≡ true → is_in BeforeComma kind ≡ true → is_in BeforeSeparator kind ≡ true → is_in BeforeDelimiter kind ≡ true
     → is_in InGroup kind ≡ true → (span : Span) → is_in span Angle ≡ true → is_in span kind ≡ true
 like_angle kind at colon comma separator mark group BeforeAt h = at
 like_angle kind at colon comma separator mark group BeforeColon h = colon
 like_angle kind at colon comma separator mark group BeforeComma h = comma
 like_angle kind at colon comma separator mark group BeforeSeparator h = separator
-like_angle kind at colon comma separator mark group BeforeMark h = mark
+like_angle kind at colon comma separator mark group BeforeDelimiter h = mark
 like_angle kind at colon comma separator mark group InGroup h = group
 like_angle kind at colon comma separator mark group _ h = absurd (false≢true h)
 
@@ -139,9 +139,9 @@ closed-token (in_quotes between e) = (Quoted, quoted-closed between e)
 closed-token (in_comment commented e) = (Comment, comment-closed commented e)
 closed-token (in_literal between e) = (Literal, literal-closed between e)
 
--- ---- what a step passes
+-- ---- the bytes of a step
 
--- a token at the front that a step passes, and then the rest
+-- a step over a token at the front, and then the rest
 pub far-token : (pass : List ℕ → ℕ) (bytes rest : List ℕ) → 0 < length bytes → pass (bytes ++ rest) ≡ length bytes → far pass (bytes ++ rest) ≡ length bytes + far pass rest
 far-token pass bytes rest some is =
     let len = length-append bytes rest in
@@ -151,7 +151,7 @@ far-token pass bytes rest some is =
 
 -- ---- within angle brackets
 
--- the first of a run of such bytes is passed like the rest of the run
+-- the first of a run of such bytes is taken like the rest of the run
 pub far-run : (pass : List ℕ → ℕ) (test : ℕ → Bool) → ((c : ℕ) (cs : List ℕ) → test c ≡ true → pass (c ∷ cs) ≡ suc (prefix_len test cs))
     → (b : ℕ) (bytes : List ℕ) → test b ≡ true → far pass (b ∷ bytes) ≡ suc (far pass bytes)
 far-run pass test is b bytes h =
@@ -196,7 +196,7 @@ single-is_no_angle b opening closing = rw (opening, closing) (go (eqb b 46) (eqb
 not_opener : (b mark : ℕ) → is_opener b ≡ false → is_opener mark ≡ true → eqb b mark ≡ false
 not_opener b mark h opens = ne_eqb b mark (λ e. false≢true (sym h ∙ ap is_opener e ∙ opens))
 
--- a byte that opens nothing is passed by itself
+-- a byte that opens nothing is a step of its own
 angle-byte : (b : ℕ) (bytes : List ℕ) → is_opener b ≡ false → far angle_step (b ∷ bytes) ≡ suc (far angle_step bytes)
 angle-byte b bytes h = by_white (is_white b) refl
   where
@@ -213,7 +213,7 @@ angle-byte b bytes h = by_white (is_white b) refl
     by_white true e = far-run angle_step is_white white-step b bytes e
     by_white false e = by_atom (is_atom_byte b) e refl
 
--- a backslash takes the byte behind it
+-- a backslash takes the byte after it
 pair-step : (b : ℕ) (bytes : List ℕ) → angle_step (92 ∷ b ∷ bytes) ≡ 2
 unfolding is_atom_byte
 pair-step b bytes = omega arith
@@ -251,7 +251,7 @@ angle-is inner rest inside =
     let passed = angles-passed inside (62 ∷ rest) in
     let stops = far-stop angle_step (62 ∷ rest) (closing-step rest) in
     omega (arith, passed, stops) in
-    rw (behind (angle_place (inner ++ 62 ∷ rest)) 62 inner rest at) (ap (λ n. record { kind = Angle; len = n + 2 }) at)
+    rw (byte-after (angle_place (inner ++ 62 ∷ rest)) 62 inner rest at) (ap (λ n. record { kind = Angle; len = n + 2 }) at)
 
 pub angle-front : (inner rest : List ℕ) → IsInAngles inner → front_token (60 ∷ (inner ++ 62 ∷ rest)) ≡ record { kind = Angle; len = length inner + 2 }
 unfolding front_token
@@ -263,7 +263,7 @@ pub step-token : (span : Span) (bytes : List ℕ) (len : ℕ) (kind : Kind) → 
 unfolding step
 step-token span bytes len kind is goes = rw is (rw goes refl)
 
--- a token that a run goes over, and then the rest
+-- a token of a run, and then the rest
 pub run-token : (span : Span) (bytes rest : List ℕ) (kind : Kind) → 0 < length bytes → front_token (bytes ++ rest) ≡ record { kind = kind; len = length bytes }
     → is_in span kind ≡ true → run span (bytes ++ rest) ≡ length bytes + run span rest
 run-token span bytes rest kind some is goes = far-token (step span) bytes rest some (step-token span (bytes ++ rest) (length bytes) kind is goes)
@@ -287,6 +287,6 @@ pair-front b rest = ap (λ n. record { kind = Other; len = n }) (two rest)
     two : (rest : List ℕ) → min 2 (1 + suc (length rest)) ≡ 2
     two rest = omega arith
 
--- outside of all of them a backslash takes the byte behind it
+-- outside of all of them a backslash takes the byte after it
 pub pair-passed : (span : Span) (b : ℕ) (rest : List ℕ) → is_in span Angle ≡ true → run span (92 ∷ b ∷ rest) ≡ 2 + run span rest
 pair-passed span b rest goes = run-token span (92 ∷ b ∷ []) rest Other (omega arith) (pair-front b rest) (like_angle Other refl refl refl refl refl refl span goes)

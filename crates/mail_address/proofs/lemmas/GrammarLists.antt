@@ -8,7 +8,7 @@ use Rattle.mail_address.specs.Tokens.{is_all_white, run}
 use Rattle.mail_address.proofs.lemmas.GrammarMade.{mailbox-made}
 use Rattle.mail_address.proofs.lemmas.GrammarRead.{mailbox-read}
 
--- what holds of nothing, of what two lists make up, and of each piece, holds of all pieces
+-- a property of the empty list, of the join of two lists with it, and of each piece is one of all pieces
 items_within-hold : {A : Type 0} (at : ℕ → List ℕ → List A) (len : List ℕ → ℕ) (P : List A → Type 0) → P [] → ((xs ys : List A) → P xs → P ys → P (xs ++ ys))
     → ((start : ℕ) (bytes : List ℕ) → P (at start bytes)) → (most start : ℕ) (bytes : List ℕ) → P (items_within at len most start bytes)
 items_within-hold at len P none both each zero start bytes = none

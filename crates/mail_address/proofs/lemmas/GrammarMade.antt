@@ -25,20 +25,20 @@ use Rattle.mail_address.proofs.lemmas.Passed.{comma-front, passed-up_to, run-sto
 
 -- ---- cuts
 
--- up to a byte that stands there, and it
+-- up to a byte at that offset, with it
 cut-at : (last n : ℕ) (bytes : List ℕ) → begins (λ b. eqb b last) (drop n bytes) ≡ true → take (suc n) bytes ≡ take n bytes ++ last ∷ []
 cut-at last zero [] h = absurd (false≢true h)
 cut-at last zero (b ∷ bytes) h = ap (λ (c : ℕ). c ∷ []) (eqb-true b last h)
 cut-at last (suc n) [] h = absurd (false≢true h)
 cut-at last (suc n) (b ∷ bytes) h = ap (λ (r : List ℕ). b ∷ r) (cut-at last n bytes h)
 
--- what such bytes are made of: what stands before that byte, it, and what follows it
+-- such bytes are those before that byte, it, and those after it
 cut-around : (last n : ℕ) (bytes : List ℕ) → begins (λ b. eqb b last) (drop n bytes) ≡ true → bytes ≡ take n bytes ++ last ∷ drop (suc n) bytes
 cut-around last n bytes h =
     sym (take-append-drop (suc n) bytes) ∙ ap (λ b. b ++ drop (suc n) bytes) (cut-at last n bytes h)
     ∙ append_assoc (take n bytes) (last ∷ []) (drop (suc n) bytes)
 
--- what stands between two marks, with them
+-- the bytes between two delimiters, with them
 cut-closed : (first last n : ℕ) (bytes : List ℕ) → begins (λ b. eqb b last) (drop n bytes) ≡ true → take (n + 2) (first ∷ bytes) ≡ first ∷ (take n bytes ++ last ∷ [])
 cut-closed first last n bytes h =
     let two : n + 2 ≡ suc (suc n) = omega arith in
@@ -48,9 +48,9 @@ begins-cut : (last : ℕ) (bytes : List ℕ) → begins (λ b. eqb b last) bytes
 begins-cut last [] h = absurd (false≢true h)
 begins-cut last (b ∷ bytes) h = ap (λ (c : ℕ). c ∷ bytes) (eqb-true b last h)
 
--- ---- what stands between two marks
+-- ---- the bytes between two delimiters
 
--- the bytes before a mark; the first of them may be quoted
+-- the bytes before a delimiter; the first of them may be quoted
 abbrev BetweenFrom : ℕ → ℕ → Bool → List ℕ → Type 0
 BetweenFrom one other false text = IsBetween one other text
 BetweenFrom one other true text = (c : ℕ) × (rest : List ℕ) × (text ≡ c ∷ rest) × IsBetween one other rest
@@ -90,7 +90,7 @@ between-mark one other quoted (b ∷ rest) low =
 
 -- ---- comments
 
--- bytes in which so many comments are closed, and then those of one more
+-- bytes in which `depth` comments are closed, and then those of one more
 data ClosesTo : ℕ → List ℕ → Type 0 where
   closes_here : {text : List ℕ} → IsCommented text → ClosesTo zero text
   closes_later : {depth : ℕ} {inner rest text : List ℕ} → IsCommented inner → ClosesTo depth rest → text ≡ inner ++ 41 ∷ rest → ClosesTo (suc depth) text
@@ -277,17 +277,17 @@ front-meets (b ∷ rest) =
 
 -- ---- steps and runs
 
--- a length that stands under a test, and is not 0
+-- a length under a test, if it is not 0
 under_test : (t : Bool) (n : ℕ) → cond t n 0 ≢ 0 → (t ≡ true) × (cond t n 0 ≡ n)
 under_test true n some = (refl, refl)
 under_test false n some = absurd (some refl)
 
--- a step that passes something passes a token of the span
+-- a step that takes bytes takes a token of the span
 step-token : (span : Span) (bytes : List ℕ) → step span bytes ≢ 0 → (is_in span (front_token bytes).kind ≡ true) × (step span bytes ≡ (front_token bytes).len)
 unfolding step
 step-token span bytes some = under_test (is_in span (front_token bytes).kind) (front_token bytes).len some
 
--- what it passes is what such tokens are
+-- the bytes that it takes are such a token
 step-meets : (span : Span) (P : List ℕ → Type 0) → ((kind : Kind) (text : List ℕ) → is_in span kind ≡ true → Meets kind text → P text)
     → (bytes : List ℕ) → step span bytes ≢ 0 → P (take (step span bytes) bytes)
 step-meets span P meets bytes some =
@@ -311,11 +311,11 @@ module _ (pass : List ℕ → ℕ) (P : List ℕ → Type 0) (none : P [])
   unfolding far
   far-made bytes = far_within-made (length bytes) bytes
 
-  -- the whole, where it is repeated over all
+  -- all bytes, if it is repeated over them
   far-whole : (bytes : List ℕ) → far pass bytes ≡ length bytes → P bytes
   far-whole bytes all = subst P (take_all (far pass bytes) bytes (omega (arith, all))) (far-made bytes)
 
--- where a run ends before the bytes do, a token stands that it does not go over
+-- a run that ends before the bytes do is followed by a token that it may not have
 module _ (span : Span) (test : ℕ → Bool) (meets : (kind : Kind) (text : List ℕ) → is_in span kind ≡ false → Meets kind text → begins test text ≡ true) where
   stop-first : (bytes : List ℕ) → 0 < length bytes → step span bytes ≡ 0 → begins test bytes ≡ true
   unfolding step
@@ -333,8 +333,8 @@ module _ (span : Span) (test : ℕ → Bool) (meets : (kind : Kind) (text : List
       go true e none = let low = some in absurd (omega (arith, low, none))
       go false e none = first (front_token (b ∷ rest)).len some (meets (front_token (b ∷ rest)).kind _ e (front-meets (b ∷ rest)))
 
-  stop-behind : (bytes : List ℕ) → run span bytes < length bytes → begins test (drop (run span bytes) bytes) ≡ true
-  stop-behind bytes low =
+  stop-after : (bytes : List ℕ) → run span bytes < length bytes → begins test (drop (run span bytes) bytes) ≡ true
+  stop-after bytes low =
       let len = length-drop (run span bytes) bytes in
       stop-first (drop (run span bytes) bytes) (omega (arith, low, len)) (far-over (step span) (step-within span) (length bytes) bytes (omega arith) low)
 
@@ -343,9 +343,9 @@ separator-meets Comma text h m = ap (begins is_separator) m
 separator-meets Semicolon text h m = ap (begins is_separator) m
 separator-meets _ text h m = absurd (false≢true (sym h))
 
--- behind a run up to a separator stands one, or nothing
+-- a run up to a separator is followed by one, or by nothing
 pub run-separates : (bytes : List ℕ) → run BeforeSeparator bytes < length bytes → begins is_separator (drop (run BeforeSeparator bytes) bytes) ≡ true
-run-separates = stop-behind BeforeSeparator is_separator separator-meets
+run-separates = stop-after BeforeSeparator is_separator separator-meets
 
 -- ---- folding whitespace and comments
 
@@ -577,8 +577,8 @@ comma-meets : (kind : Kind) (text : List ℕ) → is_in BeforeComma kind ≡ fal
 comma-meets Comma text h m = ap (begins (λ b. eqb b 44)) m
 comma-meets _ text h m = absurd (false≢true (sym h))
 
-comma-behind : (bytes : List ℕ) → run BeforeComma bytes < length bytes → begins (λ b. eqb b 44) (drop (run BeforeComma bytes) bytes) ≡ true
-comma-behind = stop-behind BeforeComma (λ b. eqb b 44) comma-meets
+comma-after : (bytes : List ℕ) → run BeforeComma bytes < length bytes → begins (λ b. eqb b 44) (drop (run BeforeComma bytes) bytes) ≡ true
+comma-after = stop-after BeforeComma (λ b. eqb b 44) comma-meets
 
 stop_len-is : (bytes : List ℕ) → stop_len bytes ≢ 0 → (is_stop (take (run BeforeComma bytes) bytes) ≡ true) × (stop_len bytes ≡ min (suc (run BeforeComma bytes)) (length bytes))
 unfolding stop_len
@@ -595,7 +595,7 @@ stops-more bytes k some later = by (cases_lt (run BeforeComma bytes) (length byt
         let len = is.1 in
         let next : stop_len bytes ≡ suc (run BeforeComma bytes) = omega (arith, len, low) in
         next_stop {first = take (run BeforeComma bytes) bytes} {rest = take k (drop (stop_len bytes) bytes)} (stop-made (take (run BeforeComma bytes) bytes) is.0) later
-        (ap (λ b. b ++ take k (drop (stop_len bytes) bytes)) (ap (λ n. take n bytes) next ∙ cut-at 44 (run BeforeComma bytes) bytes (comma-behind bytes low))
+        (ap (λ b. b ++ take k (drop (stop_len bytes) bytes)) (ap (λ n. take n bytes) next ∙ cut-at 44 (run BeforeComma bytes) bytes (comma-after bytes low))
         ∙ append_assoc (take (run BeforeComma bytes) bytes) (44 ∷ []) (take k (drop (stop_len bytes) bytes)))
     by (inr high) =
         let len = is.1 in
@@ -708,12 +708,12 @@ named-made name rest m angle h = go ((is_all_white name || is_phrase name) && is
         let inner : List ℕ = is_angle.0 in
         let within : within_ends (take (front_token rest).len rest) ≡ inner = within-made inner (take (front_token rest).len rest) is_angle.1 in
         let spec = spec-made name (after_route inner) m (ap (λ b. spec_mailbox name (after_route b)) (sym within) ∙ h) in
-        let behind = after_route-made inner in
-        let whole : inner ≡ behind.may_be_route ++ (spec.local ++ 64 ∷ spec.domain) = behind.cut ∙ ap (λ r. behind.may_be_route ++ r) spec.cut in
+        let routed = after_route-made inner in
+        let whole : inner ≡ routed.may_be_route ++ (spec.local ++ 64 ∷ spec.domain) = routed.cut ∙ ap (λ r. routed.may_be_route ++ r) spec.cut in
         let cut : rest ≡ 60 ∷ (inner ++ 62 ∷ drop (front_token rest).len rest) =
         sym (take-append-drop (front_token rest).len rest) ∙ ap (λ b. b ++ drop (front_token rest).len rest) is_angle.1 ∙ marked 60 62 inner (drop (front_token rest).len rest) in
         subst (IsMailbox (name ++ rest)) spec.same
-        (named_address {name = name} {may_be_route = behind.may_be_route} {local = spec.local} {domain = spec.domain} {after = drop (front_token rest).len rest} (name-made name both.0) behind.is spec.is_local spec.domain_is
+        (named_address {name = name} {may_be_route = routed.may_be_route} {local = spec.local} {domain = spec.domain} {after = drop (front_token rest).len rest} (name-made name both.0) routed.is spec.is_local spec.domain_is
         (all_white-made (drop (front_token rest).len rest) both.1)
         (ap (λ r. name ++ r) cut ∙ ap (λ i. name ++ 60 ∷ (i ++ 62 ∷ drop (front_token rest).len rest)) whole))
     go false e h = absurd (none-some h)

@@ -95,24 +95,24 @@ word_len-is span text w l a first second some third =
 -- a word with what is around it has the length that the reader finds
 padded-len : {words : Words} {bytes : List ℕ} → IsPadded words bytes → (rest : List ℕ) → Follows rest → word_len (span_of words) (bytes ++ rest) ≡ length bytes
 padded-len {words} {bytes} is rest follows =
-    let behind : List ℕ = is.after ++ rest in
-    let front = word-front is.is_word behind in
+    let later : List ℕ = is.after ++ rest in
+    let front = word-front is.is_word later in
     let ends = white-no_atom is.white_after rest follows.no_atom in
     let whole = front.whole ends in
-    let cut : bytes ++ rest ≡ is.before ++ (is.word ++ behind) =
+    let cut : bytes ++ rest ≡ is.before ++ (is.word ++ later) =
     ap (λ b. b ++ rest) is.made ∙ append_assoc is.before (is.word ++ is.after) rest ∙ ap (λ b. is.before ++ b) (append_assoc is.word is.after rest) in
     let len : length bytes ≡ length is.before + (length is.word + length is.after) =
     ap length is.made ∙ length-append is.before (is.word ++ is.after) ∙ ap (λ n. length is.before + n) (length-append is.word is.after) in
-    let white = passed-up_to White is.before (is.word ++ behind) (white-passed White refl refl is.white_before) (run-stops White (is.word ++ behind) front.len front.kind front.front front.no_white) in
-    let word : step (span_of words) (is.word ++ behind) ≡ length is.word = step-token (span_of words) (is.word ++ behind) front.len front.kind front.front front.goes ∙ whole in
+    let white = passed-up_to White is.before (is.word ++ later) (white-passed White refl refl is.white_before) (run-stops White (is.word ++ later) front.len front.kind front.front front.no_white) in
+    let word : step (span_of words) (is.word ++ later) ≡ length is.word = step-token (span_of words) (is.word ++ later) front.len front.kind front.front front.goes ∙ whole in
     let after = passed-up_to White is.after rest (white-passed White refl refl is.white_after) follows.no_white in
-    let both : drop (length is.before + length is.word) (is.before ++ (is.word ++ behind)) ≡ behind =
-    ap (drop (length is.before + length is.word)) (sym (append_assoc is.before is.word behind))
-    ∙ drop_at (is.before ++ is.word) behind (length is.before + length is.word) (length-append is.before is.word) in
+    let both : drop (length is.before + length is.word) (is.before ++ (is.word ++ later)) ≡ later =
+    ap (drop (length is.before + length is.word)) (sym (append_assoc is.before is.word later))
+    ∙ drop_at (is.before ++ is.word) later (length is.before + length is.word) (length-append is.before is.word) in
     let low = front.some in
     ap (word_len (span_of words)) cut
-    ∙ word_len-is (span_of words) (is.before ++ (is.word ++ behind)) (length is.before) (length is.word) (length is.after) white
-    (ap (step (span_of words)) (drop_at is.before (is.word ++ behind) (length is.before) refl) ∙ word) low (ap (run White) both ∙ after)
+    ∙ word_len-is (span_of words) (is.before ++ (is.word ++ later)) (length is.before) (length is.word) (length is.after) white
+    (ap (step (span_of words)) (drop_at is.before (is.word ++ later) (length is.before) refl) ∙ word) low (ap (run White) both ∙ after)
     ∙ omega (arith, len)
 
 padded-some : {words : Words} {bytes : List ℕ} → IsPadded words bytes → 0 < length bytes
@@ -185,11 +185,11 @@ at-behind_white white rest is =
 pub phrase-read : {bytes : List ℕ} → IsPhrase bytes → is_phrase bytes ≡ true
 unfolding is_phrase after_white
 phrase-read {bytes} is =
-    let behind : List ℕ = is.first ++ is.rest in
+    let later : List ℕ = is.first ++ is.rest in
     let front = word-front (any_word is.is_first) is.rest in
     let white : run White bytes ≡ length is.before =
-    ap (run White) is.made ∙ passed-up_to White is.before behind (white-passed White refl refl is.white_before) (run-stops White behind front.len front.kind front.front front.no_white) in
-    let cut : drop (run White bytes) bytes ≡ behind = ap (λ n. drop n bytes) white ∙ ap (drop (length is.before)) is.made ∙ drop_at is.before behind (length is.before) refl in
+    ap (run White) is.made ∙ passed-up_to White is.before later (white-passed White refl refl is.white_before) (run-stops White later front.len front.kind front.front front.no_white) in
+    let cut : drop (run White bytes) bytes ≡ later = ap (λ n. drop n bytes) white ∙ ap (drop (length is.before)) is.made ∙ drop_at is.before later (length is.before) refl in
     and_from _ _ (ap (λ b. is_in Word (front_token b).kind) cut ∙ ap (λ t. is_in Word t.kind) front.front ∙ front.goes)
     (eq-eqb (run Phrase bytes) (length bytes) (passed-whole Phrase bytes (phrase-passed (over-words Phrase refl refl refl refl refl) is)))
 
@@ -271,7 +271,7 @@ module _ (local domain : List ℕ) (is_local : AreDotted any_words local) (domai
       ∙ drop_at (local ++ 64 ∷ []) domain (suc (length local)) (let n = length-append local (64 ∷ []) in omega (arith, n)) in
       rw (len, at, front, back) (rw (dotted-read is_local, domain-read domain_is) refl)
 
-  -- a run up to a colon goes over an address
+  -- a run up to a colon contains an address
   over-spec : IsPassed BeforeColon (local ++ 64 ∷ domain)
   over-spec =
       passed-append BeforeColon local (64 ∷ domain) (dotted-passed (over-words BeforeColon refl refl refl refl refl) is_local)
@@ -314,7 +314,7 @@ module _ (local domain : List ℕ) (is_local : AreDotted any_words local) (domai
       let at : drop (length local) (local ++ 64 ∷ domain) ≡ 64 ∷ domain = drop_at local (64 ∷ domain) (length local) refl in
       rw (len, at, at-front domain) (spec-read [])
 
--- a name, and what stands in angle brackets
+-- a name, and the bytes in angle brackets
 module _ (name inner after : List ℕ) (is_name : IsName name) (inside : IsInAngles inner) (is_white : IsWhite after) where
   abbrev bracket : List ℕ
   bracket = 60 ∷ (inner ++ 62 ∷ after)
@@ -328,13 +328,13 @@ module _ (name inner after : List ℕ) (is_name : IsName name) (inside : IsInAng
       ap within_ends (ap (take n) (sym (marked 60 62 inner after)) ∙ take_at (60 ∷ (inner ++ 62 ∷ [])) after n (len ∙ sym is))
       ∙ take_at inner (62 ∷ []) (length (60 ∷ (inner ++ 62 ∷ [])) - 2) (omega (arith, len))
 
-  behind : (n : ℕ) → n ≡ length inner + 2 → drop n bracket ≡ after
-  behind n is =
+  later : (n : ℕ) → n ≡ length inner + 2 → drop n bracket ≡ after
+  later n is =
       ap (drop n) (sym (marked 60 62 inner after)) ∙ drop_at (60 ∷ (inner ++ 62 ∷ [])) after n (marked-length 60 62 inner ∙ sym is)
 
   named-read : named_mailbox name bracket ≡ spec_mailbox name (after_route inner)
   unfolding named_mailbox
-  named-read = rw (angle) (rw (name-read is_name, behind (length inner + 2) refl, white-whole is_white, within (length inner + 2) refl) refl)
+  named-read = rw (angle) (rw (name-read is_name, later (length inner + 2) refl, white-whole is_white, within (length inner + 2) refl) refl)
 
   pub bracket-read : mailbox_of (name ++ bracket) ≡ spec_mailbox name (after_route inner)
   unfolding mailbox_of

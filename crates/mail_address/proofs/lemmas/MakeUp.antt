@@ -1,4 +1,4 @@
--- Lemmas on where the elements of a list of addresses stand, and on what stands between them.
+-- Lemmas on the order of the elements of a list of addresses, and on what is between them.
 use Rattle.std.proofs.Common.{◌≡◌, ℕ, zero, suc, ◌+◌, ◌<◌, ◌≤◌, ◌⊎◌, inl, inr, Bool, true, false, cond, List, [], ◌∷◌, ◌++◌, length, take, drop, map, refl, sym, ap, subst, ◌∙◌, arith, length-drop, append_assoc, length-append}
 use Rattle.std.specs.Prelude.{min}
 use Rattle.std.proofs.lemmas.Bool.{cases_lt, cond-true, cond-false, false≢true}
@@ -9,7 +9,7 @@ use Rattle.mail_address.specs.Tokens.{is_all_white, run}
 use Rattle.mail_address.specs.Mailbox.{mailbox_of}
 use Rattle.mail_address.specs.Addresses.{addresses, after_group, after_name, Element, element_at, element_len, group, group_at, group_len, inner_len, is_group, is_separator, items, items_within, name_len, separator_len, single, single_at, Single}
 use Rattle.mail_address.specs.Grammar.{white_ends}
-use Rattle.mail_address.specs.Order.{no_separators, next_separator, MayFollow, MakeUp, no_elements, next_element, StandFrom, start_of, text_of}
+use Rattle.mail_address.specs.Order.{no_separators, next_separator, MayFollow, MakeUp, no_elements, next_element, AreInOrder, start_of, text_of}
 use Rattle.mail_address.proofs.lemmas.Addresses.{element_len-some, is_group-within}
 use Rattle.mail_address.proofs.lemmas.Bounds.{run-within}
 use Rattle.mail_address.proofs.lemmas.GrammarMade.{run-separates}
@@ -51,7 +51,7 @@ group_len-within bytes h =
     let second = low.1 in
     omega (arith, name, inner, white, first, second)
 
--- what follows a group, and a separator, if one stands there
+-- the bytes after a group, and after a separator if there is one
 after_group_made : (place : ℕ) (rest : List ℕ) (es : List Element) → MakeUp (place + separator_len rest) (drop (separator_len rest) rest) es → MakeUp place rest es
 after_group_made place [] es later = subst (λ p. MakeUp p [] es) (omega arith) later
 after_group_made place (b ∷ rest) es later = go (is_separator b) refl later
@@ -62,7 +62,7 @@ after_group_made place (b ∷ rest) es later = go (is_separator b) refl later
 
 -- ---- an element without members
 
--- behind so many bytes stand a separator and the rest
+-- after these bytes come a separator and the rest
 pub record Ended (bytes : List ℕ) (n : ℕ) : Type 0 where
   pub mark : ℕ
   pub separates : is_separator mark ≡ true
@@ -146,7 +146,7 @@ single_made place bytes es alone later none w is = by_end (cases_lt (run BeforeS
 group_made : (place : ℕ) (bytes : List ℕ) (es : List Element) → is_group bytes ≡ true → MakeUp (place + element_len bytes) (drop (element_len bytes) bytes) es
     → MakeUp place bytes (group (group_at place bytes) ∷ es)
 unfolding group_at
-group_made place bytes es stands later =
+group_made place bytes es is later =
     element_first (group (group_at place bytes)) (drop (group_len bytes) bytes) bytes es tt
     (after_group_made (place + length (take (group_len bytes) bytes)) (drop (group_len bytes) bytes) es
     (subst (λ p. MakeUp p (drop (separator_len (drop (group_len bytes) bytes)) (drop (group_len bytes) bytes)) es) (omega (arith, len, whole))
@@ -154,10 +154,10 @@ group_made place bytes es stands later =
     (sym (take-append-drop (group_len bytes) bytes))
   where
     len : length (take (group_len bytes) bytes) ≡ group_len bytes
-    len = length-take-le (group_len bytes) bytes (group_len-within bytes stands)
+    len = length-take-le (group_len bytes) bytes (group_len-within bytes is)
 
     whole : element_len bytes ≡ group_len bytes + separator_len (drop (group_len bytes) bytes)
-    whole = group_element_len bytes stands
+    whole = group_element_len bytes is
 
 -- ---- all of them
 
@@ -165,7 +165,7 @@ none_left : (most start : ℕ) (bytes : List ℕ) → bytes ≡ [] → items_wit
 none_left zero start bytes e = refl
 none_left (suc most) start bytes e = ap (items_within element_at element_len (suc most) start) e
 
--- those behind the first bytes
+-- the elements after the first bytes
 abbrev left : ℕ → ℕ → List ℕ → List Element
 left most start bytes = items_within element_at element_len most (start + element_len bytes) (drop (element_len bytes) bytes)
 
@@ -190,18 +190,18 @@ pub elements-make_up : (raw : List ℕ) → MakeUp 0 raw (addresses raw)
 unfolding items
 elements-make_up raw = made (length raw) 0 raw (omega arith)
 
--- ---- where the elements stand
+-- ---- the order of the elements
 
--- in what is made up of elements each stands at its place
-made-stand : (raw : List ℕ) {place : ℕ} {bytes : List ℕ} {es : List Element} → MakeUp place bytes es → bytes ≡ drop place raw → StandFrom place raw es
-made-stand raw (no_elements white empties is e) at = tt
-made-stand raw {place} (next_element {empty = empty} {rest = rest} {e = element} empties starts follows later cut) at =
+-- in bytes that consist of elements, each is at its offset
+made-in_order : (raw : List ℕ) {place : ℕ} {bytes : List ℕ} {es : List Element} → MakeUp place bytes es → bytes ≡ drop place raw → AreInOrder place raw es
+made-in_order raw (no_elements white empties is e) at = tt
+made-in_order raw {place} (next_element {empty = empty} {rest = rest} {e = element} empties starts follows later cut) at =
     let text : List ℕ = text_of element in
     let here : drop (start_of element) raw ≡ text ++ rest =
     ap (λ n. drop n raw) starts ∙ sym (drop-drop (length empty) place raw) ∙ ap (drop (length empty)) (sym at ∙ cut) ∙ drop_at empty (text ++ rest) (length empty) refl in
-    let behind : rest ≡ drop (start_of element + length text) raw =
+    let next : rest ≡ drop (start_of element + length text) raw =
     sym (drop_at text rest (length text) refl) ∙ ap (drop (length text)) (sym here) ∙ drop-drop (length text) (start_of element) raw in
-    (omega (arith, starts), ap (take (length text)) here ∙ take_at text rest (length text) refl, made-stand raw later behind)
+    (omega (arith, starts), ap (take (length text)) here ∙ take_at text rest (length text) refl, made-in_order raw later next)
 
-pub elements-stand : (raw : List ℕ) → StandFrom 0 raw (addresses raw)
-elements-stand raw = made-stand raw (elements-make_up raw) refl
+pub elements-in_order : (raw : List ℕ) → AreInOrder 0 raw (addresses raw)
+elements-in_order raw = made-in_order raw (elements-make_up raw) refl

@@ -1,4 +1,4 @@
--- Lemmas on mailboxes whose names may stand for anything.
+-- Lemmas on mailboxes whose names may show anything.
 use Rattle.std.proofs.Common.{◌≡◌, ℕ, suc, ◌+◌, ◌-◌, ◌<◌, Bool, true, false, cond, eqb, ◌&&◌, ◌||◌, List, [], ◌∷◌, ◌++◌, length, take, drop, map, refl, sym, ap, ◌∙◌, arith, append_assoc, length-append}
 use Rattle.std.specs.Prelude.{min}
 use Rattle.std.specs.List.{flat_map}
@@ -8,7 +8,7 @@ use Rattle.mail_codec.specs.Places.{begins}
 use Rattle.mail_address.specs.declared.tokens.Kind.{Kind}
 use Rattle.mail_address.specs.declared.tokens.Kind.TheVariants.{Angle, Comma, Quoted, At}
 use Rattle.mail_address.specs.declared.tokens.Span.{Span}
-use Rattle.mail_address.specs.declared.tokens.Span.TheVariants.{BeforeMark, BeforeSeparator, White, Word, BeforeComma, InGroup}
+use Rattle.mail_address.specs.declared.tokens.Span.TheVariants.{BeforeDelimiter, BeforeSeparator, White, Word, BeforeComma, InGroup}
 use Rattle.mail_address.specs.Addresses.{after_name, element_at, element_len, inner_len, is_group, items, name_len, single, single_at, Single, member_at, member_len}
 use Rattle.mail_address.specs.Enclosed.{IsBetween, no_bytes, quoted_pair, plain_byte, IsInAngles, in_angles}
 use Rattle.mail_address.specs.Mailbox.{after_white, is_phrase, mailbox_of, within_ends}
@@ -22,7 +22,7 @@ use Rattle.mail_address.proofs.lemmas.Tokens.{far-stop, far-nothing}
 use Rattle.mail_address.proofs.lemmas.Passed.{comma-front, GoesOver, IsPassed, over-atoms, over-literals, over-words, passed-append, passed-up_to, phrase-passed, run-stops, white-whole}
 use Rattle.mail_address.proofs.lemmas.GrammarRead.{bracket-read, word-front}
 
--- ---- words with a space behind each are a phrase
+-- ---- words with a space after each are a phrase
 
 pub one_space : IsWhite (32 ∷ [])
 one_space = white_byte refl white_ends
@@ -34,7 +34,7 @@ names-rest : {bytes : List ℕ} → AreNameWords bytes → IsPhraseRest bytes
 names-rest (last_word {word = word} is e) = phrase_word {word = word} {rest = 32 ∷ []} is (space-rest phrase_ends) e
 names-rest (next_word {word = word} {rest = rest} is more e) = phrase_word {word = word} {rest = 32 ∷ rest} is (space-rest (names-rest more)) e
 
--- the first word, and what stands behind its space
+-- the first word, and the bytes after its space
 record FirstWord (bytes : List ℕ) : Type 0 where
   pub word : List ℕ
   pub rest : List ℕ
@@ -82,7 +82,7 @@ step-white : (bytes : List ℕ) → Front bytes → step White bytes ≡ 0
 unfolding step
 step-white bytes front = rw (front.token) (rw (front.no_white) refl)
 
--- no whitespace and no comment stands before a word
+-- there is no whitespace or comment before a word
 pub no_white-front : (bytes : List ℕ) → Front bytes → run White bytes ≡ 0
 no_white-front bytes front = far-stop (step White) bytes (step-white bytes front)
 
@@ -100,7 +100,7 @@ pub no_items : (start : ℕ) → items element_at element_len start [] ≡ []
 unfolding items
 no_items start = refl
 
--- what a run goes over that a comma or another mark stops
+-- the contents of a run that a comma or another delimiter ends
 pub record Crosses (span : Span) : Type 0 where
   pub over_words : GoesOver any_words (IsPassed span)
   pub over_atoms : GoesOver atoms (IsPassed span)
@@ -108,8 +108,8 @@ pub record Crosses (span : Span) : Type 0 where
   pub at : is_in span At ≡ true
   pub angle : is_in span Angle ≡ true
 
-pub crosses-mark : Crosses BeforeMark
-crosses-mark = record { over_words = over-words BeforeMark refl refl refl refl refl; over_atoms = over-atoms BeforeMark refl refl refl refl; over_literals = over-literals BeforeMark refl refl refl refl; at = refl; angle = refl }
+pub crosses-delimiter : Crosses BeforeDelimiter
+crosses-delimiter = record { over_words = over-words BeforeDelimiter refl refl refl refl refl; over_atoms = over-atoms BeforeDelimiter refl refl refl refl; over_literals = over-literals BeforeDelimiter refl refl refl refl; at = refl; angle = refl }
 
 crosses-separator : Crosses BeforeSeparator
 crosses-separator = record { over_words = over-words BeforeSeparator refl refl refl refl refl; over_atoms = over-atoms BeforeSeparator refl refl refl refl; over_literals = over-literals BeforeSeparator refl refl refl refl; at = refl; angle = refl }
@@ -133,7 +133,7 @@ end-no_colon : {after left : List ℕ} → IsEnd after left → begins (λ b. eq
 end-no_colon at_end = refl
 end-no_colon (at_comma rest) = refl
 
--- the bytes up to and with the comma, and what is left behind them
+-- the bytes up to the comma, with it, and the bytes after it
 end-left : (text : List ℕ) {after left : List ℕ} → IsEnd after left → drop (min (suc (length text)) (length (text ++ after))) (text ++ after) ≡ left
 end-left text at_end =
     let same = append-nil text in
@@ -163,7 +163,7 @@ module _ (text after left : List ℕ) (end : IsEnd after left) (over : (span : S
   unfolding is_group name_len
   no_group =
       ap (λ n. begins (λ b. eqb b 58) (drop n (text ++ after)) && is_phrase (take n (text ++ after)) && begins (λ b. eqb b 59) (drop (inner_len (text ++ after)) (after_name (text ++ after))))
-      (up_to BeforeMark crosses-mark refl)
+      (up_to BeforeDelimiter crosses-delimiter refl)
       ∙ ap (λ r. begins (λ b. eqb b 58) r && is_phrase (take (length text) (text ++ after)) && begins (λ b. eqb b 59) (drop (inner_len (text ++ after)) (after_name (text ++ after))))
       (drop_at text after (length text) refl)
       ∙ rw (end-no_colon end) refl
@@ -252,7 +252,7 @@ names-first start name inner rest words inside =
     let short : min (suc (length text)) (length (text ++ 44 ∷ rest)) ≡ suc (length text) = omega (arith, len) in
     named-first name inner words inside (at_comma rest) start ∙ ap (λ n. named start name inner ∷ items element_at element_len (start + n) rest) short
 
--- ---- a quoted name may hold anything
+-- ---- a quoted name may contain anything
 
 escaped-between : (text : List ℕ) → IsBetween 34 34 (flat_map escaped_byte text)
 escaped-between [] = no_bytes
@@ -291,7 +291,7 @@ quoted-within text =
     let len = marked-length 34 34 (flat_map escaped_byte text) in
     take_at (flat_map escaped_byte text) (34 ∷ []) (length (quoted_text text) - 2) (omega (arith, len))
 
--- what the quoted string stands for
+-- the text of the quoted string
 pub quoted-meaning : (text rest : List ℕ) → front_meaning (quoted_text text ++ rest) ≡ text
 unfolding front_meaning front_len
 quoted-meaning text rest =

@@ -1,4 +1,4 @@
--- Lemmas on runs over what the grammar of a mailbox is made of.
+-- Lemmas on runs over the parts of the grammar of a mailbox.
 use Rattle.std.proofs.Common.{◌≡◌, ℕ, suc, ◌+◌, Bool, true, false, List, [], ◌∷◌, ◌++◌, length, refl, sym, ap, subst, ◌∙◌, arith, append_assoc, length-append}
 use Rattle.std.specs.List.{list_all, prefix_len}
 use Rattle.std.proofs.lemmas.Bool.{and_parts, cond-false, eq-eqb}
@@ -14,9 +14,9 @@ use Rattle.mail_address.specs.Tokens.{front_token, is_all_white, is_atom_byte, i
 use Rattle.mail_address.proofs.lemmas.Enclosed.{closed-passed, comment-closed, far-run, literal-closed, marked, quoted-closed, run-token, step-token}
 use Rattle.mail_address.proofs.lemmas.Tokens.{atom_byte-visible, byte-other, far-nothing, far-stop, no_atom_bytes}
 
--- ---- what a run goes over
+-- ---- texts within a run
 
--- a run goes over the text, whatever follows it
+-- a run contains the text, whatever follows it
 abbrev pub IsPassed : Span → List ℕ → Type 0
 IsPassed span text = (rest : List ℕ) → run span (text ++ rest) ≡ length text + run span rest
 
@@ -42,7 +42,7 @@ passed-whole span text passed =
     let same = ap (run span) (append-nil text) in
     omega (arith, all, none, same)
 
--- a run up to what stops it
+-- a run up to the token that ends it
 pub passed-up_to : (span : Span) (text rest : List ℕ) → IsPassed span text → run span rest ≡ 0 → run span (text ++ rest) ≡ length text
 passed-up_to span text rest passed none = let all = passed rest in omega (arith, all, none)
 
@@ -76,7 +76,7 @@ pub semicolon-front : (rest : List ℕ) → front_token (59 ∷ rest) ≡ record
 unfolding front_token is_atom_byte single_kind
 semicolon-front rest = refl
 
--- a token that a run does not go over stops it
+-- a token that a run may not have ends it
 pub step-stops : (span : Span) (bytes : List ℕ) (len : ℕ) (kind : Kind) → front_token bytes ≡ record { kind = kind; len = len } → is_in span kind ≡ false → step span bytes ≡ 0
 unfolding step
 step-stops span bytes len kind is stops = rw is (rw stops refl)
@@ -131,7 +131,7 @@ at-passed span goes rest = run-token span (64 ∷ []) rest At (omega arith) (at-
 pub comma-passed : (span : Span) → is_in span Comma ≡ true → IsPassed span (44 ∷ [])
 comma-passed span goes rest = run-token span (44 ∷ []) rest Comma (omega arith) (comma-front rest) goes
 
--- what holds of such words and of what stands between them, as that a run goes over it
+-- a property of such words and of what is between them, such as that a run contains it
 pub record GoesOver (words : Words) (P : List ℕ → Type 0) : Type 0 where
   pub none : P []
   pub both : (one two : List ℕ) → P one → P two → P (one ++ two)
@@ -282,7 +282,7 @@ may_be_route-angles no_route = angles_end
 may_be_route-angles (route is e) =
     angles-same e (angles-append (route-passed (over-angles atoms) (over-angles literals) (angles_byte refl angles_end) (angles_byte refl angles_end) is) (angles_byte refl angles_end))
 
--- an address, perhaps behind a route
+-- an address, perhaps after a route
 pub spec-angles : {may_be_route local domain : List ℕ} → MayBeRoute may_be_route → AreDotted any_words local → IsDomain domain
     → IsInAngles (may_be_route ++ (local ++ 64 ∷ domain))
 spec-angles is local domain = angles-append (may_be_route-angles is) (angles-append (dotted-passed (over-angles any_words) local) (angles_byte refl (domain-passed (over-angles atoms) (over-angles literals) domain)))

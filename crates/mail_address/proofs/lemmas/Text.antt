@@ -32,7 +32,7 @@ word_or_white-some bytes low = go (step White bytes) refl
         by_test true some = front_len-some bytes low
         by_test false some = some
 
--- ---- a loop over tokens, whose place is told by what is left
+-- ---- a loop over tokens, whose position is known from the bytes left
 
 abbrev pub MadeOf : (ℕ → List ℕ → List ℕ) → (List ℕ → ℕ) → List ℕ → List ℕ → List ℕ → Type 0
 MadeOf at len bytes made rest = MadeTo at len 0 bytes made (length bytes - length rest) rest

@@ -3,9 +3,9 @@ use Rattle.std.proofs.Common.{◌≡◌, ℕ, zero, suc, ◌+◌, ◌-◌, ◌<�
 use Rattle.std.proofs.lemmas.Bool.{false≢true, ne_eqb}
 use Rattle.mail_address.specs.Tokens.{far, far_within, is_atom_byte, is_white}
 
--- ---- a step that is repeated until it passes none
+-- ---- a step that is repeated until it takes no byte
 
--- where none is passed, the run is over
+-- if it takes none, the run ends
 pub far-stop : (step : List ℕ → ℕ) (bytes : List ℕ) → step bytes ≡ 0 → far step bytes ≡ 0
 unfolding far
 far-stop step [] h = refl
@@ -26,7 +26,7 @@ far-enough step (suc m) (suc n) (x ∷ bytes) a b = go (step (x ∷ bytes)) (far
     go zero later = refl
     go (suc k) later = let len = length-drop k bytes in ap (λ i. cond (eqb (suc k) 0) 0 (suc k + i)) (later (drop k bytes) (omega arith) (omega arith))
 
--- what one step passes, and then the rest
+-- one step, and then the rest of the run
 pub far-more : (step : List ℕ → ℕ) (bytes : List ℕ) → 0 < length bytes → step bytes ≢ 0 → far step bytes ≡ step bytes + far step (drop (step bytes) bytes)
 unfolding far
 far-more step [] low some = absurd (omega arith)
@@ -39,7 +39,7 @@ pub far-nothing : (step : List ℕ → ℕ) → far step [] ≡ 0
 unfolding far
 far-nothing step = refl
 
--- what a run over the bytes passes, once it has come to this rest
+-- the length of a run over the bytes, when this rest is left
 pub record RunsTo (step : List ℕ → ℕ) (bytes rest : List ℕ) : Type 0 where
   pub within : length rest ≤ length bytes
   pub same : far step bytes + length rest ≡ length bytes + far step rest

@@ -9,11 +9,11 @@ use Rattle.std.proofs.Math.Seq.{drop-append-add}
 use Rattle.mail_codec.specs.Charset.{Charsets}
 use Rattle.mail_codec.specs.Places.{begins}
 use Rattle.mailparse.specs.Value.{lenient_value_in}
-use Rattle.mail_laws.specs.Encode.{KnowUtf8}
-use Rattle.mail_laws.proofs.lemmas.EncodeRead.{words_read}
+use Rattle.mail_address.specs.Encode.{KnowUtf8}
+use Rattle.mail_address.proofs.lemmas.EncodeRead.{words_read}
 use Rattle.mail_address.specs.declared.tokens.Kind.TheVariants.{Angle, Colon, Semicolon}
 use Rattle.mail_address.specs.declared.tokens.Span.{Span}
-use Rattle.mail_address.specs.declared.tokens.Span.TheVariants.{BeforeAt, BeforeMark, BeforeSeparator, InGroup, Phrase, White}
+use Rattle.mail_address.specs.declared.tokens.Span.TheVariants.{BeforeAt, BeforeDelimiter, BeforeSeparator, InGroup, Phrase, White}
 use Rattle.mail_address.specs.declared.writer.NewAddress.{NewAddress}
 use Rattle.mail_address.specs.declared.writer.NewAddress.TheVariants as new
 use Rattle.mail_address.specs.declared.writer.NewGroup.{NewGroup}
@@ -25,14 +25,14 @@ use Rattle.mail_address.specs.Mailbox.{is_phrase, mailbox_of, Parts, spec_mailbo
 use Rattle.mail_address.specs.Names.{bracketed}
 use Rattle.mail_address.specs.Text.{address_bytes, phrase_text}
 use Rattle.mail_address.specs.Tokens.{front_token, is_all_white, is_in, run}
-use Rattle.mail_address.specs.Writer.{are_writable, AreTexts, element_shows, element_stands_for, HasTexts, HaveTexts, is_element_writable, is_writable, joined, mailbox_stands_for, seen_group, seen_single, single_shows, written_address, written_element, written_list, written_local, written_mailbox, written_name, written_phrase}
+use Rattle.mail_address.specs.Writer.{are_writable, AreTexts, element_shows, element_shown_for, HasTexts, HaveTexts, is_element_writable, is_writable, joined, mailbox_shown_for, seen_group, seen_single, single_shows, written_address, written_element, written_list, written_local, written_mailbox, written_name, written_phrase}
 use Rattle.mail_address.proofs.lemmas.Addresses.{element_len-some, items-more}
 use Rattle.mail_address.proofs.lemmas.Enclosed.{enclosed-passed, marked}
 use Rattle.mail_address.proofs.lemmas.GrammarMade.{all_white-made}
 use Rattle.mail_address.proofs.lemmas.GrammarRead.{mailbox-read, phrase-read}
-use Rattle.mail_address.proofs.lemmas.Names.{no_items, Crosses, IsEnd, at_comma, at_end, crosses-group, crosses-mark, end-stops, member-first, single-first}
+use Rattle.mail_address.proofs.lemmas.Names.{no_items, Crosses, IsEnd, at_comma, at_end, crosses-group, crosses-delimiter, end-stops, member-first, single-first}
 use Rattle.mail_address.proofs.lemmas.Passed.{at_domain-passed, at-passed, colon-front, comma-passed, dotted-passed, IsPassed, name-passed, passed-append, passed-same, passed-up_to, passed-whole, phrase-passed, run-stops, semicolon-front, spec-angles, white-passed}
-use Rattle.mail_address.proofs.lemmas.WriterWords.{address-shows, domain-stands, local-stands, phrase-nothing, phrase-written}
+use Rattle.mail_address.proofs.lemmas.WriterWords.{address-shows, domain-is_domain, local-is_local, phrase-nothing, phrase-written}
 
 -- ---- runs over a mailbox
 
@@ -73,7 +73,7 @@ mailbox-not_white {text} {m} is = go (is_all_white text) refl
 
 -- ---- a mailbox at the front of a list
 
--- what is left behind a group, and a comma if one follows
+-- the bytes after a group, and after a comma if one follows it
 separator-left : (text : List ℕ) {after left : List ℕ} → IsEnd after left → drop (length text + separator_len after) (text ++ after) ≡ left
 separator-left text at_end = drop-append-add text [] 0
 separator-left text (at_comma rest) = drop-append-add text (44 ∷ rest) 1
@@ -123,18 +123,18 @@ module _ (known : Charsets) (knows : KnowUtf8 known) where
   name-is before (b ∷ name) white utf8 =
       let written = phrase-written known knows (b ∷ name) utf8 in
       record {
-        is = phrase (written.stands before (32 ∷ []) white (white_byte refl white_ends));
+        is = phrase (written.phrase_is before (32 ∷ []) white (white_byte refl white_ends));
         shows = written.shows before (32 ∷ []) white (white_byte refl white_ends);
       }
 
-  mailbox-stands : (before : List ℕ) (m : NewMailbox) → IsWhite before → IsUtf8 m.display_name.now → is_writable m ≡ true → IsMailbox (before ++ written_mailbox m) (parts_of before m)
-  mailbox-stands before m white utf8 able =
+  mailbox-written : (before : List ℕ) (m : NewMailbox) → IsWhite before → IsUtf8 m.display_name.now → is_writable m ≡ true → IsMailbox (before ++ written_mailbox m) (parts_of before m)
+  mailbox-written before m white utf8 able =
       named_address {name = before ++ written_name m.display_name.now} {may_be_route = []} {local = written_local m.local_part.now} {domain = m.domain.now} {after = []}
-      (name-is before m.display_name.now white utf8).is no_route (local-stands m.local_part.now) (domain-stands m able).0 white_ends
+      (name-is before m.display_name.now white utf8).is no_route (local-is_local m.local_part.now) (domain-is_domain m able).0 white_ends
       (sym (append_assoc before (written_name m.display_name.now) (bracketed (written_address m))))
 
   mailbox-shows : (before : List ℕ) (m : NewMailbox) (start : ℕ) (text : List ℕ) → IsWhite before → IsUtf8 m.display_name.now → is_writable m ≡ true
-      → single_shows known (record { start = start; text = text; mailbox = Some (parts_of before m) }) ≡ mailbox_stands_for m
+      → single_shows known (record { start = start; text = text; mailbox = Some (parts_of before m) }) ≡ mailbox_shown_for m
   mailbox-shows before m start text white utf8 able =
       ap (λ n. Some (record { name = n; address = address_bytes (written_local m.local_part.now) m.domain.now })) (name-is before m.display_name.now white utf8).shows
       ∙ ap (λ a. Some (record { name = m.display_name.now; address = a })) (address-shows m able)
@@ -145,13 +145,13 @@ module _ (known : Charsets) (knows : KnowUtf8 known) where
   fold_white = white_byte refl (white_byte refl (white_byte refl white_ends))
 
   members-read : (before : List ℕ) (m : NewMailbox) (ms : List NewMailbox) (start : ℕ) → IsWhite before → AreTexts (m ∷ ms) → list_all is_writable (m ∷ ms) ≡ true
-      → map (single_shows known) (items member_at member_len start (before ++ joined written_mailbox (m ∷ ms))) ≡ map mailbox_stands_for (m ∷ ms)
+      → map (single_shows known) (items member_at member_len start (before ++ joined written_mailbox (m ∷ ms))) ≡ map mailbox_shown_for (m ∷ ms)
   members-read before m [] start white texts able =
       let text : List ℕ = before ++ written_mailbox m in
       let both = and_parts (is_writable m) true able in
       let n : ℕ = min (suc (length text)) (length (text ++ [])) in
       ap (λ b. map (single_shows known) (items member_at member_len start b)) (sym (append_assoc before (written_mailbox m) []))
-      ∙ ap (map (single_shows known)) (mailbox_member-first text [] [] (parts_of before m) (mailbox-stands before m white texts.0 both.0) at_end start)
+      ∙ ap (map (single_shows known)) (mailbox_member-first text [] [] (parts_of before m) (mailbox-written before m white texts.0 both.0) at_end start)
       ∙ ap (λ ms. single_shows known (record { start = start; text = text; mailbox = Some (parts_of before m) }) ∷ map (single_shows known) ms) (no_members (start + n))
       ∙ ap (λ s. s ∷ []) (mailbox-shows before m start text white texts.0 both.0)
   members-read before m (next ∷ ms) start white texts able =
@@ -160,22 +160,22 @@ module _ (known : Charsets) (knows : KnowUtf8 known) where
       let both = and_parts (is_writable m) (list_all is_writable (next ∷ ms)) able in
       let n : ℕ = min (suc (length text)) (length (text ++ 44 ∷ left)) in
       ap (λ b. map (single_shows known) (items member_at member_len start b)) (sym (append_assoc before (written_mailbox m) (44 ∷ left)))
-      ∙ ap (map (single_shows known)) (mailbox_member-first text (44 ∷ left) left (parts_of before m) (mailbox-stands before m white texts.0 both.0) (at_comma left) start)
+      ∙ ap (map (single_shows known)) (mailbox_member-first text (44 ∷ left) left (parts_of before m) (mailbox-written before m white texts.0 both.0) (at_comma left) start)
       ∙ ap (λ ms. single_shows known (record { start = start; text = text; mailbox = Some (parts_of before m) }) ∷ ms)
       (members-read (13 ∷ 10 ∷ 32 ∷ []) next ms (start + n) fold_white texts.1 both.1)
-      ∙ ap (λ s. s ∷ map mailbox_stands_for (next ∷ ms)) (mailbox-shows before m start text white texts.0 both.0)
+      ∙ ap (λ s. s ∷ map mailbox_shown_for (next ∷ ms)) (mailbox-shows before m start text white texts.0 both.0)
 
   members-passed : (before : List ℕ) (m : NewMailbox) (ms : List NewMailbox) → IsWhite before → AreTexts (m ∷ ms) → list_all is_writable (m ∷ ms) ≡ true
       → IsPassed InGroup (before ++ joined written_mailbox (m ∷ ms))
   members-passed before m [] white texts able =
       let both = and_parts (is_writable m) true able in
-      passed-same InGroup (ap (λ b. before ++ b) (append-nil (written_mailbox m))) (mailbox-passed crosses-group (mailbox-stands before m white texts.0 both.0))
+      passed-same InGroup (ap (λ b. before ++ b) (append-nil (written_mailbox m))) (mailbox-passed crosses-group (mailbox-written before m white texts.0 both.0))
   members-passed before m (next ∷ ms) white texts able =
       let text : List ℕ = before ++ written_mailbox m in
       let left : List ℕ = (13 ∷ 10 ∷ 32 ∷ []) ++ joined written_mailbox (next ∷ ms) in
       let both = and_parts (is_writable m) (list_all is_writable (next ∷ ms)) able in
       passed-same InGroup (sym (append_assoc before (written_mailbox m) (44 ∷ left)))
-      (passed-append InGroup text (44 ∷ left) (mailbox-passed crosses-group (mailbox-stands before m white texts.0 both.0))
+      (passed-append InGroup text (44 ∷ left) (mailbox-passed crosses-group (mailbox-written before m white texts.0 both.0))
       (passed-append InGroup (44 ∷ []) left (comma-passed InGroup refl) (members-passed (13 ∷ 10 ∷ 32 ∷ []) next ms fold_white texts.1 both.1)))
 
   all-passed : (ms : List NewMailbox) → AreTexts ms → list_all is_writable ms ≡ true → IsPassed InGroup (joined written_mailbox ms)
@@ -183,7 +183,7 @@ module _ (known : Charsets) (knows : KnowUtf8 known) where
   all-passed (m ∷ ms) texts able rest = members-passed [] m ms white_ends texts able rest
 
   all-read : (ms : List NewMailbox) (start : ℕ) → AreTexts ms → list_all is_writable ms ≡ true
-      → map (single_shows known) (members_at start (joined written_mailbox ms)) ≡ map mailbox_stands_for ms
+      → map (single_shows known) (members_at start (joined written_mailbox ms)) ≡ map mailbox_shown_for ms
   unfolding items
   all-read [] start texts able = refl
   all-read (m ∷ ms) start texts able = members-read [] m ms start white_ends texts able
@@ -194,13 +194,13 @@ module _ (known : Charsets) (knows : KnowUtf8 known) where
   record ReadFirst (before : List ℕ) (e : NewAddress) (after left : List ℕ) (start : ℕ) : Type 0 where
     pub next : ℕ
     pub first : map (element_shows known) (items element_at element_len start ((before ++ written_element e) ++ after))
-        ≡ element_stands_for e ∷ map (element_shows known) (items element_at element_len next left)
+        ≡ element_shown_for e ∷ map (element_shows known) (items element_at element_len next left)
 
   phrase-alone : (before name : List ℕ) → IsWhite before → IsUtf8 name → IsPhrase (before ++ written_phrase name) × (lenient_value_in known (phrase_text (before ++ written_phrase name)) ≡ name)
   phrase-alone before name white utf8 =
       let written = phrase-written known knows name utf8 in
       let same : before ++ (written_phrase name ++ []) ≡ before ++ written_phrase name = ap (λ b. before ++ b) (append-nil (written_phrase name)) in
-      (subst IsPhrase same (written.stands before [] white white_ends), ap (λ b. lenient_value_in known (phrase_text b)) (sym same) ∙ written.shows before [] white white_ends)
+      (subst IsPhrase same (written.phrase_is before [] white white_ends), ap (λ b. lenient_value_in known (phrase_text b)) (sym same) ∙ written.shows before [] white white_ends)
 
   module _ (before after left : List ℕ) (g : NewGroup) (white : IsWhite before) (utf8 : IsUtf8 g.display_name.now) (texts : AreTexts g.members.now)
       (able : list_all is_writable g.members.now ≡ true) (end : IsEnd after left) where
@@ -219,8 +219,8 @@ module _ (known : Charsets) (knows : KnowUtf8 known) where
     name_len-is : name_len bytes ≡ length name
     unfolding name_len
     name_len-is =
-        passed-up_to BeforeMark name (58 ∷ (inner ++ 59 ∷ after)) (phrase-passed crosses-mark.over_words is_name.0)
-        (run-stops BeforeMark (58 ∷ (inner ++ 59 ∷ after)) 1 Colon (colon-front (inner ++ 59 ∷ after)) refl)
+        passed-up_to BeforeDelimiter name (58 ∷ (inner ++ 59 ∷ after)) (phrase-passed crosses-delimiter.over_words is_name.0)
+        (run-stops BeforeDelimiter (58 ∷ (inner ++ 59 ∷ after)) 1 Colon (colon-front (inner ++ 59 ∷ after)) refl)
 
     after_name-is : after_name bytes ≡ inner ++ 59 ∷ after
     after_name-is =
@@ -280,16 +280,16 @@ module _ (known : Charsets) (knows : KnowUtf8 known) where
     unfolding element_len
     left-is =
         ap (λ t. drop (cond t (group_len bytes + separator_len (drop (group_len bytes) bytes)) (min (suc (run BeforeSeparator bytes)) (length bytes))) bytes) group-is
-        ∙ ap (λ b. drop (group_len bytes + separator_len b) bytes) behind
+        ∙ ap (λ b. drop (group_len bytes + separator_len b) bytes) then
         ∙ ap (λ n. drop (n + separator_len after) bytes) group_len-is
         ∙ ap (drop (length text + separator_len after)) text-whole
         ∙ separator-left text end
       where
-        behind : drop (group_len bytes) bytes ≡ after
-        behind = ap (drop (group_len bytes)) text-whole ∙ drop_at text after (group_len bytes) (sym group_len-is)
+        then : drop (group_len bytes) bytes ≡ after
+        then = ap (drop (group_len bytes)) text-whole ∙ drop_at text after (group_len bytes) (sym group_len-is)
 
     group-first : (start : ℕ) → map (element_shows known) (items element_at element_len start bytes)
-        ≡ element_stands_for (new.Group g) ∷ map (element_shows known) (items element_at element_len (start + element_len bytes) left)
+        ≡ element_shown_for (new.Group g) ∷ map (element_shows known) (items element_at element_len (start + element_len bytes) left)
     unfolding element_at group_at
     group-first start =
         let len = length-append name (58 ∷ (inner ++ 59 ∷ after)) in
@@ -325,28 +325,28 @@ module _ (known : Charsets) (knows : KnowUtf8 known) where
       record {
         next = start + n;
         first =
-            ap (map (element_shows known)) (mailbox-first text after left (parts_of before m) (mailbox-stands before m white texts able) end start)
+            ap (map (element_shows known)) (mailbox-first text after left (parts_of before m) (mailbox-written before m white texts able) end start)
             ∙ ap (λ s. seen_single s ∷ map (element_shows known) (items element_at element_len (start + n) left)) (mailbox-shows before m start text white texts able);
       }
   element-first before (new.Group g) after left start white texts able end = group-read before after left g white texts.0 texts.1 able end start
 
   list-read : (before : List ℕ) (e : NewAddress) (es : List NewAddress) (start : ℕ) → IsWhite before → HaveTexts (e ∷ es) → are_writable (e ∷ es) ≡ true
-      → map (element_shows known) (items element_at element_len start (before ++ joined written_element (e ∷ es))) ≡ map element_stands_for (e ∷ es)
+      → map (element_shows known) (items element_at element_len start (before ++ joined written_element (e ∷ es))) ≡ map element_shown_for (e ∷ es)
   list-read before e [] start white texts able =
       let both = and_parts (is_element_writable e) true able in
       let read = element-first before e [] [] start white texts.0 both.0 at_end in
       ap (λ b. map (element_shows known) (items element_at element_len start b)) (sym (append_assoc before (written_element e) []))
       ∙ read.first
-      ∙ ap (λ es. element_stands_for e ∷ map (element_shows known) es) (no_items read.next)
+      ∙ ap (λ es. element_shown_for e ∷ map (element_shows known) es) (no_items read.next)
   list-read before e (next ∷ es) start white texts able =
       let left : List ℕ = (13 ∷ 10 ∷ 32 ∷ []) ++ joined written_element (next ∷ es) in
       let both = and_parts (is_element_writable e) (are_writable (next ∷ es)) able in
       let read = element-first before e (44 ∷ left) left start white texts.0 both.0 (at_comma left) in
       ap (λ b. map (element_shows known) (items element_at element_len start b)) (sym (append_assoc before (written_element e) (44 ∷ left)))
       ∙ read.first
-      ∙ ap (λ ss. element_stands_for e ∷ ss) (list-read (13 ∷ 10 ∷ 32 ∷ []) next es read.next fold_white texts.1 both.1)
+      ∙ ap (λ ss. element_shown_for e ∷ ss) (list-read (13 ∷ 10 ∷ 32 ∷ []) next es read.next fold_white texts.1 both.1)
 
-  pub written-reads : (list : List NewAddress) → HaveTexts list → are_writable list ≡ true → map (element_shows known) (addresses (written_list list)) ≡ map element_stands_for list
+  pub written-reads : (list : List NewAddress) → HaveTexts list → are_writable list ≡ true → map (element_shows known) (addresses (written_list list)) ≡ map element_shown_for list
   unfolding written_list
   written-reads [] texts able = ap (map (element_shows known)) (no_items 0)
   written-reads (e ∷ es) texts able = list-read [] e es 0 white_ends texts able

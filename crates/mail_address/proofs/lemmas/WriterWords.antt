@@ -14,9 +14,9 @@ use Rattle.mail_codec.specs.Base64.{letter}
 use Rattle.mail_codec.specs.Charset.{Charsets}
 use Rattle.mail_codec.specs.Places.{begins}
 use Rattle.mailparse.specs.Value.{lenient_value_in}
-use Rattle.mail_laws.specs.Encode.{is_plain_value, KnowUtf8, letters}
-use Rattle.mail_laws.proofs.lemmas.EncodeRead.{plain_reads, word_bytes_are, words_read}
-use Rattle.mail_laws.proofs.lemmas.EncodeWord.{letters_pass}
+use Rattle.mail_address.specs.Encode.{is_plain_value, KnowUtf8, letters, one_word}
+use Rattle.mail_address.proofs.lemmas.EncodeRead.{plain_reads, word_bytes_are, words_read}
+use Rattle.mail_address.proofs.lemmas.EncodeWord.{letters_pass}
 use Rattle.mail_address.specs.declared.tokens.Kind.{Kind}
 use Rattle.mail_address.specs.declared.tokens.Kind.TheVariants.{Atom, Literal, Quoted}
 use Rattle.mail_address.specs.declared.tokens.Span.TheVariants.{Atoms, Literals, White}
@@ -27,7 +27,7 @@ use Rattle.mail_address.specs.Mailbox.{after_white, is_dotted}
 use Rattle.mail_address.specs.Names.{IsNameWord, atom_word}
 use Rattle.mail_address.specs.Text.{address_bytes, bare, front_len, front_meaning, local_text, meaning, meaning_at, needs_no_quotes, phrase_text, quoted_text, word_at, word_or_space, word_or_white_len, words_text}
 use Rattle.mail_address.specs.Tokens.{front_token, is_all_white, is_atom_byte, is_in, run, step}
-use Rattle.mail_address.specs.Writer.{are_atoms, are_atoms_after, has_no_control, is_literal, is_writable, one_word, written_address, written_local, written_phrase}
+use Rattle.mail_address.specs.Writer.{are_atoms, are_atoms_after, has_no_control, is_literal, is_writable, written_address, written_local, written_phrase}
 use Rattle.mail_address.proofs.lemmas.Addresses.{items-more}
 use Rattle.mail_address.proofs.lemmas.GrammarMade.{dotted-made, front-meets, Meets, word-meets}
 use Rattle.mail_address.proofs.lemmas.GrammarRead.{prefix-whole, white-no_atom}
@@ -127,9 +127,9 @@ quoted-shows text {white} is =
     phrase-starts (quoted_text text ++ white) (quoted-front text white) ∙ quoted-then text white 0
     ∙ ap (λ r. text ++ r) (white-shows white is (0 + length (quoted_text text))) ∙ append-nil text
 
-not_white-behind : (rest : List ℕ) → run White (32 ∷ rest) ≡ 1 → 0 < length rest → is_all_white (32 ∷ rest) ≡ false
+not_white-after : (rest : List ℕ) → run White (32 ∷ rest) ≡ 1 → 0 < length rest → is_all_white (32 ∷ rest) ≡ false
 unfolding is_all_white
-not_white-behind rest one some = ne_eqb (run White (32 ∷ rest)) (length (32 ∷ rest)) (λ e. absurd (omega (arith, e, one, some)))
+not_white-after rest one some = ne_eqb (run White (32 ∷ rest)) (length (32 ∷ rest)) (λ e. absurd (omega (arith, e, one, some)))
 
 space-word : (rest : List ℕ) → step White (32 ∷ rest) ≢ 0 → is_all_white (32 ∷ rest) ≡ false → word_or_space (32 ∷ rest) ≡ 32 ∷ []
 unfolding word_or_space
@@ -144,7 +144,7 @@ space-then rest front some start =
     let steps : step White (32 ∷ rest) ≢ 0 = λ stops. let over = far-stop (step White) (32 ∷ rest) stops in absurd (omega (arith, over, one)) in
     items-more word_at word_or_white_len word_or_white-some start (32 ∷ rest) (omega arith)
     ∙ ap (λ s. s ++ items word_at word_or_white_len (start + word_or_white_len (32 ∷ rest)) (drop (word_or_white_len (32 ∷ rest)) (32 ∷ rest)))
-    (space-word rest steps (not_white-behind rest one some))
+    (space-word rest steps (not_white-after rest one some))
     ∙ ap (λ n. 32 ∷ items word_at word_or_white_len (start + n) (drop n (32 ∷ rest))) (white-len (32 ∷ rest) steps ∙ one)
 
 -- ---- names that are words
@@ -247,19 +247,19 @@ atoms-phrase (next_atom {word = word} {rest = rest} is more e) before white b w 
 
 -- a phrase that is written for a name: with whitespace around it, it is a phrase and shows the name
 pub record IsWritten (known : Charsets) (name phrase : List ℕ) : Type 0 where
-  pub stands : (before white : List ℕ) → IsWhite before → IsWhite white → IsPhrase (before ++ (phrase ++ white))
+  pub phrase_is : (before white : List ℕ) → IsWhite before → IsWhite white → IsPhrase (before ++ (phrase ++ white))
   pub shows : (before white : List ℕ) → IsWhite before → IsWhite white → lenient_value_in known (phrase_text (before ++ (phrase ++ white))) ≡ name
 
 atoms-written : (known : Charsets) (name text : List ℕ) → AreAtoms text → lenient_value_in known text ≡ name → IsWritten known name text
 atoms-written known name text are reads = record {
-  stands = atoms-phrase are;
+  phrase_is = atoms-phrase are;
   shows = λ before white b w.
       ap (lenient_value_in known) (phrase-skipped b (text ++ white) ∙ phrase-starts (text ++ white) (atoms-front are white w) ∙ atoms-show are white w 0) ∙ reads;
 }
 
 quoted-written : (known : Charsets) (name : List ℕ) → lenient_value_in known name ≡ name → IsWritten known name (quoted_text name)
 quoted-written known name reads = record {
-  stands = λ before white b w. record {
+  phrase_is = λ before white b w. record {
     before = before;
     first = quoted_text name;
     rest = white;
@@ -380,9 +380,9 @@ dot_atom-parts : (text : List ℕ) → needs_no_quotes text ≡ true → (list_a
 unfolding needs_no_quotes
 dot_atom-parts text h = and_parts (list_all is_dot_atom text) (is_dotted Atoms text) h
 
-pub local-stands : (text : List ℕ) → AreDotted any_words (written_local text)
+pub local-is_local : (text : List ℕ) → AreDotted any_words (written_local text)
 unfolding written_local
-local-stands text = go (needs_no_quotes text) refl
+local-is_local text = go (needs_no_quotes text) refl
   where
     go : (t : Bool) → needs_no_quotes text ≡ t → AreDotted any_words (cond t text (quoted_text text))
     go true e = any-dotted (dotted-made atoms text (dot_atom-parts text e).1)
@@ -459,9 +459,9 @@ domain-from text h = go (needs_no_quotes text) refl h
       literal-bare text h,
     )
 
-pub domain-stands : (m : NewMailbox) → is_writable m ≡ true → IsDomain m.domain.now × (bare m.domain.now ≡ m.domain.now)
+pub domain-is_domain : (m : NewMailbox) → is_writable m ≡ true → IsDomain m.domain.now × (bare m.domain.now ≡ m.domain.now)
 unfolding is_writable
-domain-stands m h =
+domain-is_domain m h =
     domain-from m.domain.now
     (and_parts (has_no_control m.local_part.now && has_no_control m.domain.now) (needs_no_quotes m.domain.now || is_literal m.domain.now) h).1
 
@@ -474,7 +474,7 @@ pub address-shows : (m : NewMailbox) → is_writable m ≡ true → address_byte
 unfolding address_bytes local_text
 address-shows m h =
     let local = local-bare m.local_part.now in
-    let domain = (domain-stands m h).1 in
+    let domain = (domain-is_domain m h).1 in
     ap (λ l. cond (needs_no_quotes l) l (quoted_text l) ++ 64 ∷ bare m.domain.now) local
     ∙ ap (λ d. cond (needs_no_quotes m.local_part.now) m.local_part.now (quoted_text m.local_part.now) ++ 64 ∷ d) domain
     ∙ ap (λ l. l ++ 64 ∷ m.domain.now) (local-same m.local_part.now)

@@ -1,5 +1,5 @@
 use Rattle.std.proofs.Common.{refl}
-use Rattle.mail_laws.proofs.lemmas.EncodeRead.{caller_knows}
+use Rattle.mail_address.proofs.lemmas.EncodeRead.{caller_knows}
 use Rattle.mail_address.proofs.lemmas.WriterRead.{written-reads}
 use Rattle.mail_address.proofs.laws.written_addresses_read_back.Goals as goal
 

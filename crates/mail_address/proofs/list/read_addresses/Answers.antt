@@ -1,11 +1,12 @@
 use Rattle.std.proofs.Common.{refl}
+use Rattle.std.proofs.lemmas.List.{take_rest}
 use Rattle.mail_address.proofs.lemmas.Addresses.{MadeTo-more, MadeTo-end, element_len-some, some_bytes, no_bytes}
 use Rattle.mail_address.proofs.list.read_addresses.Goals as goal
 
 pub elements-preserved : goal.elements-preserved
 elements-preserved c =
     MadeTo-more element_len-some c.elements.invariant (some_bytes c.elements.rest.now c.is_empty.ensures c.elements-test.true) c.in_ok-push_element.ensures c.element_len-len.ensures.value
-    c.element_len-len.ensures.bounds c.split_at.ensures.back refl
+    c.element_len-len.ensures.bounds (take_rest c.elements.rest.now c.element_len-len.result) refl
 
 pub returns : goal.returns
 returns c = MadeTo-end c.elements.invariant (no_bytes c.elements.rest.now c.is_empty.ensures c.elements-test.false)

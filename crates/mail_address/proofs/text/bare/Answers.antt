@@ -1,3 +1,4 @@
+use Rattle.std.proofs.lemmas.List.{take_rest}
 use Rattle.mail_address.specs.Text.{bare}
 use Rattle.mail_address.proofs.lemmas.Addresses.{MadeTo-end, no_bytes, some_bytes}
 use Rattle.mail_address.proofs.lemmas.Text.{front_len-some, MadeOf-more}
@@ -5,8 +6,8 @@ use Rattle.mail_address.proofs.text.bare.Goals as goal
 
 pub tokens-preserved : goal.tokens-preserved
 tokens-preserved c =
-    MadeOf-more front_len-some c.tokens.invariant (some_bytes c.tokens.rest.now c.is_empty.ensures c.tokens-test.true) c.in_ok-push_front.ensures c.front_len-len.ensures.value
-    c.front_len-len.ensures.bounds c.split_at.ensures.back
+    MadeOf-more front_len-some c.tokens.invariant (some_bytes c.tokens.rest.now c.is_empty.ensures c.tokens-test.true) c.in_ok-push_front.ensures c.front_len.ensures.value
+    c.front_len.ensures.bounds (take_rest c.tokens.rest.now c.front_len.result)
 
 pub returns : goal.returns
 unfolding bare

@@ -1,4 +1,4 @@
--- The text so far, and then what the rest stands for, is the whole text.
+-- The text so far and the text of the rest are the whole text.
 use Rattle.std.proofs.Common.{◌≡◌, ◌++◌, false, drop}
 use Rattle.mail_address.specs.Text.{unquoted}
 use Rattle.mail_address.proofs.text.push_unquoted.Given as goal

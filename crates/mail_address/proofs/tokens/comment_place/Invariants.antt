@@ -1,4 +1,4 @@
--- The place in the rest, behind what was passed, is the place in the bytes.
+-- The offset found in the rest, after the bytes seen so far, is the offset in the bytes.
 use Rattle.std.proofs.Common.{◌≡◌, ◌≤◌, ◌+◌, false, drop}
 use Rattle.mail_address.specs.Tokens.{comment_place}
 use Rattle.mail_address.proofs.tokens.comment_place.Given as goal

@@ -1,4 +1,4 @@
--- What is passed so far, and then what the rest passes, is all.
+-- The bytes taken so far and those that the run takes of the rest are the whole run.
 use Rattle.std.proofs.Common.{length}
 use Rattle.mail_address.proofs.lemmas.Tokens.{RunsTo}
 use Rattle.mail_address.proofs.tokens.far.Given as goal
