@@ -21,7 +21,3 @@ pub mod RenderValues
 pub mod RenderParts
 pub mod RenderTypes
 pub mod RenderReadings
-pub mod Encode
-pub mod EncodeCut
-pub mod EncodeWord
-pub mod EncodeRead

@@ -1,5 +1,5 @@
--- The delimiters of a body, and the ranges that they cut it into, in words of places (RFC 2046, section 5.1.1). A dash-boundary may hold any
--- bytes, and the body may start at any place.
+-- The delimiters of a body, and the ranges that they cut it into, by their places (RFC 2046, section 5.1.1). A dash-boundary may contain
+-- any bytes, and the body may start at any place.
 use Rattle.std.specs.Prelude.{◌≡◌, ℕ, suc, ◌+◌, ◌-◌, ◌<◌, ◌≤◌, ◌⊎◌, List, [], ◌∷◌, length, take, drop, map, filter_map, codes}
 use Rattle.mail_codec.specs.Ascii.{line_feed, carriage_return}
 use Rattle.mail_codec.specs.Places.{HasByteAt, HasTextAt}
@@ -10,25 +10,25 @@ use Rattle.mailparse.specs.Ranges.{Range}
 abbrev pub range : ℕ → ℕ → Range
 range start end = record { start = start; end = end }
 
--- where what starts at s ends that runs up to q: before the line end that stands before q
+-- the end e of a range that starts at s and extends to q: without the line end before q
 pub data EndsBefore (bytes : List ℕ) (s q e : ℕ) : Type 0 where
-  -- at its start, where nothing stands between them
+  -- at its start, if q is the start
   nothing_between : e ≡ s → q ≡ s → EndsBefore bytes s q e
-  -- before a LF, where nothing stands between s and the LF, or something other than a CR before the LF
+  -- before a LF that is at s, or that follows a byte other than a CR
   line_feed_before : suc e ≡ q → s ≤ e → HasByteAt bytes line_feed e → ((e ≡ s) ⊎ (¬ HasByteAt bytes carriage_return (e - 1))) → EndsBefore bytes s q e
   -- before a CR and a LF
   both_before : suc (suc e) ≡ q → s ≤ e → HasByteAt bytes carriage_return e → HasByteAt bytes line_feed (suc e) → EndsBefore bytes s q e
 
 -- Of some bytes with a body that starts at a place and ends with them.
 module _ (dash_boundary bytes : List ℕ) (body : ℕ) where
-  -- a delimiter stands at p: a line starts there, at the body's start or after a LF, and begins with the dash-boundary
+  -- there is a delimiter at p: a line starts there, at the body's start or after a LF, and begins with the dash-boundary
   pub record HasDelimiterAt (p : ℕ) : Type 0 where
     pub in_body : body ≤ p
     pub within : p < length bytes
     pub line : (p ≡ body) ⊎ HasByteAt bytes line_feed (p - 1)
     pub begins : take (length dash_boundary) (drop p bytes) ≡ dash_boundary
 
-  -- no delimiter stands at or after one place and before another
+  -- there is no delimiter at or after one place and before another
   abbrev pub NoneBetween : ℕ → ℕ → Type 0
   NoneBetween from to = (k : ℕ) → from ≤ k → k < to → ¬ HasDelimiterAt k
 
@@ -54,25 +54,25 @@ module _ (dash_boundary bytes : List ℕ) (body : ℕ) where
 
   -- the delimiters after the one at p, and the parts after it, in order
   pub data Follow : ℕ → List ℕ → List Range → Type 0 where
-    -- neither, where its line has no end
+    -- neither, if its line has no end
     line_never_ends : {p : ℕ} → NeverEnds p → Follow p [] []
-    -- no delimiter, where none stands on a later line: then one part takes all that is left
+    -- no delimiter, if there is none on a later line: then one part takes the rest
     last_delimiter : {p l : ℕ} → EndsLine p l → NoneBetween (suc l) (length bytes) → Follow p [] (range (suc l) (length bytes) ∷ [])
-    -- the next delimiter on a later line, where it is the close-delimiter, and the part before it
+    -- the next delimiter on a later line, if it is the close-delimiter, and the part before it
     close_delimiter : {p l q e : ℕ} → EndsLine p l → IsFirstFrom (suc l) q → Closes q → EndsBefore bytes (suc l) q e
         → Follow p (q ∷ []) (range (suc l) e ∷ [])
-    -- the same where it is not, and what follows it
+    -- the same if it is not, and what follows it
     next_delimiter : {p l q e : ℕ} {places : List ℕ} {parts : List Range} → EndsLine p l → IsFirstFrom (suc l) q → ¬ Closes q
         → EndsBefore bytes (suc l) q e → Follow q places parts → Follow p (q ∷ places) (range (suc l) e ∷ parts)
 
   -- the delimiters of the body, and what they cut it into
   pub data IsCutAt : List ℕ → Cut → Type 0 where
-    -- where there is no delimiter, there is no part, and the preamble is empty
+    -- without a delimiter there is no part, and the preamble is empty
     no_delimiter : NoneBetween body (length bytes) → IsCutAt [] (record { body = range body body; parts = [] })
-    -- the preamble stands before the first delimiter, which may look like a close-delimiter
+    -- the preamble ends at the first delimiter, which may look like a close-delimiter
     first_delimiter : {p e : ℕ} {places : List ℕ} {parts : List Range} → IsFirstFrom body p → EndsBefore bytes body p e → Follow p places parts
         → IsCutAt (p ∷ places) (record { body = range body e; parts = parts })
 
-  -- the delimiters as they are computed: the first in the body, and the first after the start of each part
+  -- the computed delimiters: the first in the body, and the first after the start of each part
   abbrev pub delimiters : List ℕ
   delimiters = filter_map (delimiter_from dash_boundary bytes) (body ∷ map (λ part. part.start) (cut_parts dash_boundary bytes body).parts)

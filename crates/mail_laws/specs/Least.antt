@@ -1,7 +1,7 @@
--- The least number that passes a test; the project's own words.
+-- The least number that passes a test.
 use Rattle.std.specs.Prelude.{◌≡◌, ℕ, ◌<◌, ◌≤◌, Bool, true, false}
 
--- n is the least number that passes the test, or the bound where no number below it passes
+-- n is the least number that passes the test, or the bound if no number below it passes
 pub record IsLeast (test : ℕ → Bool) (bound n : ℕ) : Type 0 where
   pub within : n ≤ bound
   pub passes : n < bound → test n ≡ true

@@ -1,5 +1,4 @@
 pub mod Spans
-pub mod WordTokens
 pub mod StarFree
 pub mod Boundaries
 pub mod Percent
@@ -23,7 +22,6 @@ pub use Rattle.mailparse.specs.Disposition
 pub mod Ids
 pub mod CharsetSources
 pub mod Escapes
-pub mod Encode
 pub mod IdGrammar
 pub use Rattle.mailparse.specs.Delimiters
 pub use Rattle.mailparse.specs.Mail
@@ -35,5 +33,7 @@ pub use Rattle.mail_codec.specs.Ascii
 pub use Rattle.mail_codec.specs.Calendar
 pub use Rattle.mail_codec.specs.Charset
 pub use Rattle.mail_codec.specs.Places
+pub use Rattle.mail_address.specs.Encode
+pub use Rattle.mail_address.specs.WordTokens
 pub mod Render
 pub mod RenderViews

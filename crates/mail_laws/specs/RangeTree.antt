@@ -1,5 +1,5 @@
--- The tree of a message as ranges of the mail: where the message and each of its parts stand, and in each its header block with the blank line,
--- the keys and values of its headers, and its body. All places are counted from the first byte of the mail; the project's own words.
+-- The tree of a message as ranges of the mail: those of the message and of each of its parts, and in each those of its header block with the
+-- blank line, of the keys and values of its headers, and of its body. All places are counted from the first byte of the mail.
 use Rattle.std.specs.Prelude.{◌≡◌, ℕ, zero, suc, ◌<◌, ◌≤◌, Bool, false, List, [], ◌∷◌, ◌++◌, length, map, Ok, Err}
 use Rattle.std.specs.List.{flat_map}
 use Rattle.mail_codec.specs.Charset.{Charsets}
@@ -14,12 +14,12 @@ use Rattle.mailparse.specs.Placement.{Placement}
 use Rattle.mailparse.specs.Ranges.{Range, Apart, moved, slice}
 use Rattle.mail_laws.specs.Spans.{key_range, value_range}
 
--- where the key and the value of a header stand
+-- the ranges of the key and the value of a header
 pub record HeaderRanges : Type 0 where
   pub key : Range
   pub value : Range
 
--- one message by itself: where it stands, with its block, its headers, its type and its body
+-- one message without its parts: its range, with its block, its headers, its type and its body
 pub record RangeNode : Type 0 where
   pub whole : Range
   pub block : Range
@@ -40,15 +40,15 @@ mutual
 abbrev pub range_root : RangeTree → RangeNode
 range_root (range_tree node parts) = node
 
--- ---- what stands there
+-- ---- the bytes of the ranges
 
 -- In a mail.
 module _ (mail : List ℕ) where
-  -- the header that stands there
+  -- the header at these ranges
   abbrev pub header_there : HeaderRanges → Header
   header_there header = record { key = slice mail header.key; value = slice mail header.value }
 
-  -- the message that stands there, without its parts
+  -- the message at these ranges, without its parts
   abbrev pub node_there : RangeNode → Node
   node_there node = record {
     bytes = slice mail node.whole;
@@ -68,7 +68,7 @@ module _ (mail : List ℕ) where
     forest_there no_ranges = no_parts
     forest_there (ranges_and t ts) = part_and (tree_there t) (forest_there ts)
 
--- the tree that stands at the ranges, where they were read
+-- the tree at the ranges, if they were read
 abbrev pub read_there : List ℕ → Reads RangeTree → Reads Tree
 read_there mail ranges = do
   t ← ranges
@@ -76,12 +76,12 @@ read_there mail ranges = do
 
 -- ---- the reading
 
--- where the headers of a block stand, whose bytes are those of the mail from a place on
+-- the ranges of the headers of a block whose bytes begin at this place of the mail
 abbrev pub headers_at : ℕ → List ℕ → List HeaderRanges
 headers_at place bytes =
     values_below (header_count bytes) (λ j. record { key = moved place (key_range bytes j); value = moved place (value_range bytes j) })
 
--- the message with this block and this type that is cut so, and stands at this range with these bytes
+-- the message at this range, with these bytes, this block, this type and this cut
 abbrev pub range_node : Range → List ℕ → HeaderList → ContentType → Cut → RangeNode
 range_node whole bytes block ctype cut = record {
   whole = whole;
@@ -101,31 +101,31 @@ range_each read (part ∷ parts) = do
 
 -- Of a mail, under the charsets that are known.
 module _ (known : Charsets) (mail : List ℕ) where
-  -- the message of this type that has this block, and stands at this range
+  -- the message at this range, with this block and this type
   abbrev pub range_parts : (Bool → Range → Reads RangeTree) → Range → HeaderList → ContentType → Reads RangeTree
   range_parts read whole block ctype = do
     let cut = cut_of ctype (slice mail whole) block.index
     parts ← range_each (read (is_digest ctype)) (map (moved whole.start) cut.parts)
     Ok (range_tree (range_node whole (slice mail whole) block ctype cut) parts)
 
-  -- the message that stands at a range, where so many levels may stand, its own among them
+  -- the message at a range, with at most `levels` levels, its own included
   unfoldable pub range_levels : ℕ → Bool → Range → Reads RangeTree
   range_levels zero in_digest whole = Err recursion_limit
   range_levels (suc levels) in_digest whole = do
     block ← read_headers (slice mail whole)
     range_parts (range_levels levels) whole block (node_type known in_digest block.headers)
 
-  -- the tree of ranges of the mail, where parts may stand down to a greatest level
+  -- the tree of ranges of the mail, whose parts may be down to a greatest level
   unfoldable pub ranges_in : ℕ → Reads RangeTree
   ranges_in greatest = range_levels (suc greatest) false (record { start = 0; end = length mail })
 
 -- ---- how the ranges of a tree lie
 
--- where the keys and the values of headers stand, in order
+-- the ranges of the keys and the values of headers, in order
 abbrev pub header_fields : List HeaderRanges → List Range
 header_fields headers = flat_map (λ header. header.key ∷ header.value ∷ []) headers
 
--- where each of some parts stands
+-- the range of each of some parts
 abbrev pub wholes : RangeForest → List Range
 wholes no_ranges = []
 wholes (ranges_and t ts) = (range_root t).whole ∷ wholes ts
@@ -134,12 +134,12 @@ wholes (ranges_and t ts) = (range_root t).whole ∷ wholes ts
 pub record LieInOrder (node : RangeNode) (ranges : List Range) : Type 0 where
   -- the block starts where the message does
   pub front : node.block.start ≡ node.whole.start
-  -- keys and values stand one after another within the block
+  -- keys and values follow one another within the block
   pub fields : Apart 0 node.block.start (header_fields node.headers) node.block.end
   -- the body follows the block
   pub next : node.body.start ≡ node.block.end
   pub body : node.body.start ≤ node.body.end
-  -- the parts follow the body one after another within the message, three bytes or more before each
+  -- the parts follow the body one after another within the message, with three bytes or more before each
   pub parts : Apart 3 node.body.end ranges node.whole.end
 
 abbrev mutual
@@ -163,7 +163,7 @@ abbrev mutual
   blocks_and_bodies_in (ranges_and t ts) = blocks_and_bodies t ++ blocks_and_bodies_in ts
 
 abbrev mutual
-  -- where a message and its body stand, then its parts and theirs, each before its own parts (preorder)
+  -- the ranges of a message and its body, then those of its parts, each before its own parts (preorder)
   pub wholes_and_bodies : RangeTree → List Placement
   wholes_and_bodies (range_tree node parts) = record { whole = node.whole; body = node.body } ∷ wholes_and_bodies_in parts
 
@@ -173,5 +173,5 @@ abbrev mutual
   wholes_and_bodies_in (ranges_and t ts) = wholes_and_bodies t ++ wholes_and_bodies_in ts
 
 -- the place is in the range
-abbrev pub Holds : Range → ℕ → Type 0
-Holds range place = (range.start ≤ place) × (place < range.end)
+abbrev pub IsInRange : Range → ℕ → Type 0
+IsInRange range place = (range.start ≤ place) × (place < range.end)

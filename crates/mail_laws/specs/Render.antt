@@ -1,6 +1,6 @@
--- Outlines of messages: the bytes that they are written as, when they are well formed, and the messages that they stand for. The form
--- is that of RFC 5322, section 2.1 (headers, a blank line, a body), and of RFC 2046, section 5.1.1 (a delimiter before each part, and the
--- close-delimiter); which outlines are well formed is the project's own rule.
+-- Outlines of messages: their written bytes, when they are well formed, and the messages that they represent. The form is that of RFC
+-- 5322, section 2.1 (headers, a blank line, a body), and of RFC 2046, section 5.1.1 (a delimiter before each part, and the close-delimiter);
+-- which outlines are well formed is the project's own rule.
 use Rattle.std.specs.Prelude.{◌≡◌, ◌⊎◌, ℕ, suc, max, Bool, true, false, ◌&&◌, not, ◌||◌, ◌==◌, nat_le, List, [], ◌∷◌, ◌++◌, map, Option, is_some, codes, find, flat_map, if◌then◌else◌}
 use Rattle.std.specs.Char.{is_ascii_alphanumeric, is_ascii_graphic}
 use Rattle.std.specs.List.{list_all}
@@ -16,7 +16,7 @@ use Rattle.mailparse.specs.Mail.{Node, Tree, tree, Forest, no_parts, part_and}
 use Rattle.mailparse.specs.Pairs.{value_of}
 use Rattle.mailparse.specs.Value.{lenient_value_in}
 use Rattle.mail_laws.specs.Boundaries.{boundary_type}
-use Rattle.mail_laws.specs.Encode.{KnowUtf8, is_plain_value, written_value}
+use Rattle.mail_address.specs.Encode.{KnowUtf8, is_plain_value, written_value}
 
 -- an outline of a message: its headers, each a key and the text of a value, and its body; or its headers, the boundary of its parts, and the
 -- parts, each an outline of its own
@@ -39,9 +39,9 @@ abbrev pub headers_of : OutlineTree → List Header
 headers_of (leaf headers body) = headers
 headers_of (branch headers boundary parts) = headers
 
--- ---- what an outline is written as
+-- ---- the written bytes of an outline
 
--- a value: a text as `written_value` says, and bytes that are not UTF-8 as they are
+-- a value: a text by `written_value`, and bytes that are not UTF-8 as they are
 abbrev pub written_bytes : List ℕ → List ℕ
 written_bytes value = if is_utf8 value then written_value value else value
 
@@ -53,7 +53,7 @@ written_header h = record { key = h.key; value = written_bytes h.value }
 abbrev pub written_headers : List Header → List Header
 written_headers headers = map written_header headers
 
--- a header whose value is written: its key, `: `, its value and CR LF
+-- a header with its written value: its key, `: `, its value and CR LF
 abbrev pub header_line : Header → List ℕ
 header_line h = h.key ++ (codes ": " ++ (h.value ++ cr_lf))
 
@@ -103,7 +103,7 @@ has_type_key h = str_eq_ignore_ascii_case h.key (codes "Content-Type")
 abbrev pub type_header : List Header → Option Header
 type_header headers = find has_type_key headers
 
--- 3. where there are parts, that header is there, and its value is exactly `multipart/mixed; boundary=` and the boundary
+-- 3. a branch has that header, and its value is exactly `multipart/mixed; boundary=` and the boundary
 abbrev pub names_its_boundary : OutlineTree → Bool
 names_its_boundary (leaf headers body) = true
 names_its_boundary (branch headers boundary parts) =
@@ -114,39 +114,39 @@ abbrev pub has_plain_boundary : OutlineTree → Bool
 has_plain_boundary (leaf headers body) = true
 has_plain_boundary (branch headers boundary parts) = list_all is_ascii_alphanumeric boundary && not (is_empty boundary)
 
--- the mimetype that a text names: what stands before its first semicolon outside of quotes, without whitespace around it, in lower case
+-- the mimetype that a text names: the text before its first semicolon outside of quotes, without whitespace around it, in lower case
 abbrev pub mimetype_of : List ℕ → List ℕ
 mimetype_of text = str_to_ascii_lowercase (value_of text)
 
--- 5. where there is a body, the mimetype of the first `Content-Type`, if there is one, does not begin with `multipart`
+-- 5. in a leaf, the mimetype of the first `Content-Type`, if there is one, does not begin with `multipart`
 abbrev pub is_not_multipart : OutlineTree → Bool
 is_not_multipart (leaf headers body) =
     option_map_or (λ h. not (has_prefix (codes "multipart") (mimetype_of h.value))) (type_header headers) true
 is_not_multipart (branch headers boundary parts) = true
 
--- 6. where there are parts, there is one or more
+-- 6. a branch has one part or more
 abbrev pub has_some_part : OutlineTree → Bool
 has_some_part (leaf headers body) = true
 has_some_part (branch headers boundary no_outlines) = false
 has_some_part (branch headers boundary (outline_and part parts)) = true
 
--- the dash-boundary stands at the start of the bytes or after a LF in them
-abbrev pub holds_delimiter : List ℕ → List ℕ → Bool
-holds_delimiter boundary bytes =
+-- the dash-boundary is at the start of the bytes or after a LF in them
+abbrev pub contains_delimiter : List ℕ → List ℕ → Bool
+contains_delimiter boundary bytes =
     has_prefix (dash_boundary boundary) bytes || is_some (text_place bytes (line_feed ∷ dash_boundary boundary))
 
--- no part, as it is written, holds a delimiter
-abbrev pub hold_no_delimiter : List ℕ → OutlineForest → Bool
-hold_no_delimiter boundary no_outlines = true
-hold_no_delimiter boundary (outline_and part parts) =
-    not (holds_delimiter boundary (rendered part)) && hold_no_delimiter boundary parts
+-- no part, as it is written, contains a delimiter
+abbrev pub contain_no_delimiter : List ℕ → OutlineForest → Bool
+contain_no_delimiter boundary no_outlines = true
+contain_no_delimiter boundary (outline_and part parts) =
+    not (contains_delimiter boundary (rendered part)) && contain_no_delimiter boundary parts
 
--- 7. where there are parts, none of them holds a delimiter
+-- 7. no part of a branch contains a delimiter
 abbrev pub has_clear_parts : OutlineTree → Bool
 has_clear_parts (leaf headers body) = true
-has_clear_parts (branch headers boundary parts) = hold_no_delimiter boundary parts
+has_clear_parts (branch headers boundary parts) = contain_no_delimiter boundary parts
 
--- the greatest level at which an outline stands: this one at level 0, its parts at level 1, and so on
+-- the greatest level of an outline: this one is at level 0, its parts at level 1, and so on
 abbrev mutual
   pub depth : OutlineTree → ℕ
   depth (leaf headers body) = 0
@@ -157,7 +157,7 @@ abbrev mutual
   depth_of_parts no_outlines = 0
   depth_of_parts (outline_and part parts) = max (suc (depth part)) (depth_of_parts parts)
 
--- 8. no outline stands at a level above 100
+-- 8. no outline is at a level above 100
 abbrev pub is_within_levels : OutlineTree → Bool
 is_within_levels outline = nat_le (depth outline) 100
 
@@ -186,9 +186,9 @@ well_formed outline = is_well_formed_within outline && is_within_levels outline
 abbrev pub IsWellFormed : OutlineTree → Type 0
 IsWellFormed outline = well_formed outline ≡ true
 
--- ---- the message that an outline stands for
+-- ---- the message that an outline represents
 
--- the type: what the value of the first `Content-Type` names, and without one plain text
+-- the type: that of the first `Content-Type`, and without one plain text
 abbrev pub type_of : Charsets → List Header → ContentType
 type_of known headers = option_map_or (λ h. content_type_in known h.value) (type_header headers) default_type
 
@@ -202,14 +202,14 @@ node_of known bytes headers body = record {
   body = body;
 }
 
--- the message that an outline stands for: its headers, its body, which is empty where there are parts, and its parts in order
+-- the message that an outline represents: its headers, its body, which is empty in a branch, and its parts in order
 abbrev mutual
   pub stands_for : Charsets → OutlineTree → Tree
   stands_for known (leaf headers body) = tree (node_of known (rendered (leaf headers body)) headers body) no_parts
   stands_for known (branch headers boundary parts) =
       tree (node_of known (rendered (branch headers boundary parts)) headers []) (stand_for known parts)
 
-  -- the messages that the parts stand for
+  -- the messages that the parts represent
   pub stand_for : Charsets → OutlineForest → Forest
   stand_for known no_outlines = no_parts
   stand_for known (outline_and part parts) = part_and (stands_for known part) (stand_for known parts)

@@ -15,7 +15,7 @@ header_seen pair = record { key = pair.0.items; value = pair.1.items }
 abbrev pub headers_seen : Vec (Vec ℕ × Vec ℕ) → List Header
 headers_seen pairs = map header_seen pairs.items
 
--- what follows the headers makes an outline of them
+-- the body or the parts make an outline of the headers
 abbrev pub kind_step : OutlineKind-F (List Header → OutlineTree) OutlineTree → List Header → OutlineTree
 kind_step (OutlineKind-F.Leaf body) headers = leaf headers body.items
 kind_step (OutlineKind-F.Branch boundary parts) headers = branch headers boundary.items (forest_of parts.items)

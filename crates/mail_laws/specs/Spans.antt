@@ -1,4 +1,4 @@
--- Where the headers of a block, their keys and their values stand in the bytes; the project's own words.
+-- The ranges of the headers of a block, of their keys and of their values in the bytes.
 use Rattle.std.specs.Prelude.{ℕ, ◌+◌, ◌≤◌, List, take}
 use Rattle.std.specs.List.{flat_map}
 use Rattle.mail_codec.specs.Places.{values_below}
@@ -6,7 +6,7 @@ use Rattle.mailparse.specs.Header.{Header, header_length, key_end, value_start, 
 use Rattle.mailparse.specs.Block.{blank_line, header_place, rest_at, header_count}
 use Rattle.mailparse.specs.Ranges.{Range, slice}
 
--- the bytes of the header with this number, its line end among them
+-- the bytes of the header with this number, with its line end
 abbrev pub header_span : List ℕ → ℕ → List ℕ
 header_span raw j = take (header_length (rest_at raw j)) (rest_at raw j)
 
@@ -18,11 +18,11 @@ header_spans raw = flat_map (λ span. span) (values_below (header_count raw) (he
 abbrev pub blank_span : List ℕ → List ℕ
 blank_span raw = take (blank_line (rest_at raw (header_count raw))) (rest_at raw (header_count raw))
 
--- where the key of the header with this number stands
+-- the range of the key of the header with this number
 abbrev pub key_range : List ℕ → ℕ → Range
 key_range raw j = record { start = header_place raw j; end = header_place raw j + key_end (rest_at raw j) }
 
--- where its value stands
+-- the range of its value
 abbrev pub value_range : List ℕ → ℕ → Range
 value_range raw j = record {
   start = header_place raw j + value_start (rest_at raw j);
@@ -34,7 +34,7 @@ abbrev pub header_at : List ℕ → ℕ → Header
 header_at raw j = record { key = slice raw (key_range raw j); value = slice raw (value_range raw j) }
 
 -- two ranges, the second after the first, and both before a place
-pub record StandBefore (first second : Range) (place : ℕ) : Type 0 where
+pub record AreOrderedBefore (first second : Range) (place : ℕ) : Type 0 where
   pub first_is_range : first.start ≤ first.end
   pub apart : first.end ≤ second.start
   pub second_is_range : second.start ≤ second.end

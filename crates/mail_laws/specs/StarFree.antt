@@ -1,4 +1,4 @@
--- Pairs none of whose keys holds a star: none of them is extended or numbered.
+-- Pairs without a star in their keys: none of them is extended or numbered.
 use Rattle.std.specs.Prelude.{◌≡◌, ℕ, false, ◌==◌, List, All}
 use Rattle.std.specs.List.{list_any}
 use Rattle.mail_codec.specs.Ascii.{asterisk}

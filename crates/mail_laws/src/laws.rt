@@ -8,15 +8,15 @@ mod values;
 mod writing;
 
 pub use dates::{days_follow_each_other, leap_days_are_counted};
-pub use headers::{block_covers, header_consumes, keys_and_values_stand_apart, least_is_least};
+pub use headers::{block_covers, header_consumes, keys_and_values_are_disjoint, least_is_least};
 pub use ids::{message_ids_have_a_form, message_ids_read_back};
 pub use mails::{
-    levels_agree, nodes_bounded, one_list_of_delimiters_fits, parts_apart, ranges_apart,
-    ranges_give_tree,
+    levels_agree, nodes_bounded, one_list_of_delimiters_fits, parts_apart, placements_are_exact,
+    ranges_apart, ranges_give_tree,
 };
 pub use parameters::{
     candidates_have_a_form, charset_source_is_the_greatest, dispositions_equal_by_kind,
-    nothing_stands_elsewhere, odd_backslashes_go, one_list_of_segments_fits,
+    odd_backslashes_go, one_list_of_segments_fits, only_possible_names_have_sections,
     pairs_without_stars_are_parameters, percent_free, plain_boundary_is_read, runs_are_read_once,
 };
 pub use values::{

@@ -1,4 +1,4 @@
-//! Outlines of messages: what they are written as, and whether they read back.
+//! Outlines of messages: how they are written, and whether they read back.
 //!
 //! An outline is the headers of a message and its body, or its parts, each an outline of its own.
 //! A program that sends mail writes a well-formed one with `render`; `mailparse::parse_mail` then
@@ -7,30 +7,30 @@
 //!
 //! Each value is written as unstructured text, whatever its key is. So the value of a structured
 //! field, such as `From`, `To` or `Content-Type`, has to be plain ASCII; `encode_value` says why.
+//! `mail_address::write_addresses` writes the value of a field with addresses.
 ghost use Rattle.std.specs.Prelude.{◌≡◌, ◌++◌, OnOk, Ok, not};
 ghost use Rattle.mailparse.specs.Outcome.{AnswersOrMemory, ReadsBytes};
-ghost use Rattle.mail_laws.specs.Render.{dash_boundary, header_block, header_line, holds_delimiter, is_well_formed_within, rendered, well_formed, written_bytes, written_headers};
+ghost use Rattle.mail_laws.specs.Render.{dash_boundary, header_block, header_line, contains_delimiter, is_well_formed_within, rendered, well_formed, written_bytes, written_headers};
 ghost use Rattle.mail_laws.specs.RenderViews.{headers_seen, outline_tree};
 
 mod conditions;
-mod encode;
 
 use conditions::{
-    has_boundary, has_good_headers, holds_delimiter, is_not_multipart, is_within_levels,
+    contains_delimiter, has_boundary, has_good_headers, is_not_multipart, is_within_levels,
 };
-use encode::push_value;
-pub use encode::{encode_value, is_plain};
+pub use mail_address::encode::{encode_value, is_plain};
 use mailparse::{MAX_LEVELS, MailParseError};
 use std::alloc::{AllocError, Global};
+use std::str::from_utf8;
 
 /// An outline of a message: its headers, and its body or its parts.
 ///
 /// A value is one text. There is no form for addresses, phrases and parameters, so the value of a
 /// structured field has to be plain, as `encode_value` explains.
 ///
-/// Outlines may be nested to any depth. `render`, `Debug` and the drop of an outline take stack for
-/// each level: 8 MB are enough for 40,000 levels, and not for 60,000. `is_well_formed` takes stack
-/// for 100 levels at most.
+/// Outlines may be nested to any depth. `render`, `Debug` and dropping an outline use stack for each
+/// level: 8 MB are enough for 40,000 levels, and not for 60,000. `is_well_formed` uses stack for 100
+/// levels at most.
 ///
 /// # Examples
 ///
@@ -52,11 +52,11 @@ use std::alloc::{AllocError, Global};
 pub struct Outline {
     /// The headers in order, each its key and the text of its value, in UTF-8.
     pub headers: Vec<(Vec<u8>, Vec<u8>)>,
-    /// What follows the headers.
+    /// The body or the parts.
     pub kind: OutlineKind,
 }
 
-/// What follows the headers of an outline.
+/// The body or the parts of an outline.
 ///
 /// # Examples
 ///
@@ -71,7 +71,7 @@ pub struct Outline {
 pub enum OutlineKind {
     /// A body, which may be any bytes.
     Leaf(Vec<u8>),
-    /// Parts, between delimiters.
+    /// Parts, separated by delimiters.
     Branch {
         /// The boundary, which the first `Content-Type` names.
         boundary: Vec<u8>,
@@ -80,22 +80,21 @@ pub enum OutlineKind {
     },
 }
 
-/// Returns the bytes that an outline is written as (RFC 5322, section 2.1; RFC 2046, section
-/// 5.1.1).
+/// Writes an outline as the bytes of a message (RFC 5322, section 2.1; RFC 2046, section 5.1.1).
 ///
 /// For each header they are its key, `: `, its value and CR LF; then CR LF; and then the body, or
 /// for each part `--`, the boundary, CR LF, the part and CR LF, and at the end `--`, the boundary,
-/// `--` and CR LF. A value is written as `encode_value` says; one whose bytes are not UTF-8 is
-/// written as it is. Every outline is written so, well formed or not. Takes memory for the bytes
-/// and for one value at a time, and stack for each level, as `Outline` says.
+/// `--` and CR LF. A value is written as `encode_value` writes it, and one that is not valid UTF-8
+/// as it is. Every outline can be written, well formed or not. Allocates the bytes and one value at
+/// a time, and uses stack for each level, as `Outline` says.
 ///
-/// This is not for values with a structure, such as those of `From`, `To` and `Content-Type`,
-/// unless they are plain. Lines may also be longer than the standards allow. `encode_value` says
-/// more about both.
+/// This is not for structured values, such as those of `From`, `To` and `Content-Type`, unless they
+/// are plain. Lines may also be longer than the standards allow. `encode_value` says more about
+/// both.
 ///
 /// # Errors
 ///
-/// `MailParseError::Memory` where it runs out of memory.
+/// `MailParseError::Memory` if memory runs out.
 ///
 /// # Examples
 ///
@@ -119,7 +118,7 @@ pub fn render(alloc: Global, outline: &Outline) -> Result<Vec<u8>, MailParseErro
     Ok(bytes)
 }
 
-/// Adds an outline: its header block, and then its body or its parts.
+/// Appends an outline: its header block, and then its body or its parts.
 fn push_outline(alloc: Global, outline: &Outline, bytes: &mut Vec<u8>) -> Result<(), AllocError>
     ensures written { OnOk result (bytes.new.items
         ≡ bytes.old.items ++ rendered (outline_tree outline.now)) }
@@ -138,7 +137,7 @@ fn push_outline(alloc: Global, outline: &Outline, bytes: &mut Vec<u8>) -> Result
     }
 }
 
-/// Adds a header block: each header in order, and the blank line.
+/// Appends a header block: each header in order, and the blank line.
 fn push_header_block(
     alloc: Global,
     headers: &Vec<(Vec<u8>, Vec<u8>)>,
@@ -153,7 +152,7 @@ fn push_header_block(
     bytes.extend_from_slice(b"\r\n")
 }
 
-/// Adds a header: its key, `: `, its value as it is written and CR LF.
+/// Appends a header: its key, `: `, its written value and CR LF.
 fn push_header(
     alloc: Global,
     key: &[u8],
@@ -169,7 +168,19 @@ fn push_header(
     bytes.extend_from_slice(b"\r\n")
 }
 
-/// Adds a dash-boundary, and what follows it on its line.
+/// Appends the written value of a header: bytes that are not UTF-8 as they are.
+fn push_value(alloc: Global, value: &[u8], bytes: &mut Vec<u8>) -> Result<(), AllocError>
+    ensures written { OnOk result (bytes.new.items
+        ≡ bytes.old.items ++ written_bytes value.now) }
+{
+    let Ok(text) = from_utf8(value) else {
+        return bytes.extend_from_slice(value);
+    };
+    let written = encode_value(alloc, text)?;
+    bytes.extend_from_slice(written.as_bytes())
+}
+
+/// Appends a dash-boundary and the rest of its line.
 fn push_delimiter(boundary: &[u8], rest: &[u8], bytes: &mut Vec<u8>) -> Result<(), AllocError>
     ensures written { OnOk result (bytes.new.items
         ≡ bytes.old.items ++ (dash_boundary boundary.now ++ rest.now)) }
@@ -179,27 +190,28 @@ fn push_delimiter(boundary: &[u8], rest: &[u8], bytes: &mut Vec<u8>) -> Result<(
     bytes.extend_from_slice(rest)
 }
 
-/// Returns whether an outline is well formed, so that what `render` writes is read back as it.
+/// Returns whether an outline is well formed, so that the bytes that `render` writes read back as
+/// this outline.
 ///
-/// All of these have to hold, for the outline and for every outline inside it:
+/// The outline, and every outline inside it, has to meet these conditions:
 ///
 /// 1. Each key is one or more printable bytes of ASCII other than the space and the colon.
 /// 2. Each value is UTF-8.
-/// 3. Where there are parts, a header has the key `Content-Type`, ignoring ASCII case, and the
-///    value of the first such header is exactly `multipart/mixed; boundary=` and the boundary.
+/// 3. In a branch, a header has the key `Content-Type`, ignoring ASCII case, and the value of the
+///    first such header is exactly `multipart/mixed; boundary=` and the boundary.
 /// 4. A boundary is one or more letters and digits of ASCII.
-/// 5. Where there is a body, the mimetype that the text of the first `Content-Type` names, if there
-///    is one, does not begin with `multipart`.
-/// 6. Where there are parts, there is at least one.
+/// 5. In a leaf, the mimetype that the text of the first `Content-Type` names, if there is one, does
+///    not begin with `multipart`.
+/// 6. A branch has at least one part.
 /// 7. No part, as it is written, has `--` and the boundary at its start or after a LF.
-/// 8. No outline stands more than 100 levels below the whole.
+/// 8. No outline is more than 100 levels below the whole.
 ///
-/// Bodies may be any bytes. The depth is looked at first, so an outline of any depth takes no more
-/// stack than one of 100 levels. Takes memory for the bytes of parts and for a type.
+/// Bodies may be any bytes. The depth is checked first, so an outline of any depth uses no more
+/// stack than one of 100 levels. Allocates the bytes of parts and a type.
 ///
 /// # Errors
 ///
-/// `MailParseError::Memory` where it runs out of memory.
+/// `MailParseError::Memory` if memory runs out.
 ///
 /// # Examples
 ///
@@ -223,7 +235,7 @@ pub fn is_well_formed(alloc: Global, outline: &Outline) -> Result<bool, MailPars
     is_well_formed_within(alloc, outline)
 }
 
-/// Whether an outline is well formed, whatever its depth.
+/// Returns whether an outline is well formed, whatever its depth.
 fn is_well_formed_within(alloc: Global, outline: &Outline) -> Result<bool, MailParseError>
     ensures { AnswersOrMemory (λ answer. answer) result
         (Ok (is_well_formed_within (outline_tree outline.now))) }
@@ -253,11 +265,11 @@ fn is_well_formed_within(alloc: Global, outline: &Outline) -> Result<bool, MailP
     }
 }
 
-/// Whether a part, as it is written, holds no delimiter.
+/// Returns whether a part, as it is written, contains no delimiter.
 fn is_clear(alloc: Global, boundary: &[u8], part: &Outline) -> Result<bool, MailParseError>
     ensures { AnswersOrMemory (λ answer. answer) result
-        (Ok (not (holds_delimiter boundary.now (rendered (outline_tree part.now))))) }
+        (Ok (not (contains_delimiter boundary.now (rendered (outline_tree part.now))))) }
 {
     let bytes = render(alloc, part)?;
-    Ok(!holds_delimiter(alloc, boundary, bytes.as_slice())?)
+    Ok(!contains_delimiter(alloc, boundary, bytes.as_slice())?)
 }

@@ -1,4 +1,4 @@
--- The candidates for a charset source, the greatest of them, and the names at which something stands.
+-- The candidates for a charset source, the greatest of them, and the names that have sections.
 use Rattle.std.proofs.Common.{◌≡◌, ◌↔◌, ℕ, suc, Bool, true, false, not, cond, List, [], ◌∷◌, Contains, map, Option, Some, None, is_some, refl, sym, ap, subst, ◌∙◌, append_assoc, arith, ⊎_elim}
 use Rattle.std.proofs.lemmas.Bool.{and_from, and_parts, not-true}
 use Rattle.std.proofs.lemmas.Cmp.{nat_list_cmp_total}
@@ -118,7 +118,7 @@ own keys name none =
     let empty = none_in (candidates keys name) (λ w i. none w (formed keys name w i)) in
     ap (λ zs. unwrap_or (last_starred zs) name) empty
 
--- ---- where something stands
+-- ---- the names that have sections
 
 contained : (names : List (List ℕ)) (q : List ℕ) → holds_name names q ≡ true → Contains names q
 contained [] q h = absurd (cc)

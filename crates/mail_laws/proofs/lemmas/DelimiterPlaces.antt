@@ -1,4 +1,4 @@
--- The delimiters of a body and its parts that are computed are those in words of places, and no others are.
+-- The computed delimiters and parts of a body are those by places, and no others are.
 use Rattle.std.proofs.Common.{◌≡◌, ℕ, zero, suc, ◌+◌, ◌-◌, ◌<◌, ◌≤◌, Bool, true, false, ◌&&◌, ◌||◌, List, [], ◌∷◌, length, map, take, drop, Option, Some, None, option_map, refl, sym, ap, ◌∙◌, subst, ⊎_elim, inl, inr, ◌⊎◌, arith, length-drop, get_or-drop}
 use Rattle.std.specs.Prelude.{nat_lt, ◌==◌, filter_map, option_and_then, codes, if◌then◌else◌}
 use Rattle.std.specs.List.{cons_option}
@@ -31,14 +31,14 @@ has_prefix-there text bytes e = (slice_eq-Decides Decides-eqb text (take (length
 has_prefix-from : (text bytes : List ℕ) → has_prefix text bytes ≡ true → take (length text) bytes ≡ text
 has_prefix-from text bytes h = sym ((slice_eq-Decides Decides-eqb text (take (length text) bytes) (has_prefix text bytes) refl).0 h)
 
--- a byte of the rest from a place on
+-- a byte of the rest after a place
 rest-byte : (bytes : List ℕ) (b q k : ℕ) → HasByteAt (drop q bytes) b k → HasByteAt bytes b (q + k)
 rest-byte bytes b q k has = let len = length-drop q bytes in (omega (arith, has.0), sym (get_or-drop q bytes k 0) ∙ has.1)
 
 byte-rest : (bytes : List ℕ) (b q k : ℕ) → HasByteAt bytes b (q + k) → HasByteAt (drop q bytes) b k
 byte-rest bytes b q k has = let len = length-drop q bytes in (omega (arith, has.0), get_or-drop q bytes k 0 ∙ has.1)
 
--- ---- what runs up to a place, less the line end before it
+-- ---- a range up to a place, without the line end before it
 
 pub before_byte-start : (b : ℕ) (bytes : List ℕ) (start p : ℕ) → p ≤ start → before_byte b bytes start p ≡ p
 before_byte-start b bytes start p low =
@@ -169,7 +169,7 @@ module _ (d bytes : List ℕ) (body : ℕ) where
   none-is : (s : ℕ) → LineStarts s → NoneBetween d bytes body s (length bytes) → delimiter_from d bytes s ≡ None
   none-is s start none = sym (delimiter_from-none d bytes s (λ k low high. not-delimiter s k start low high (none k low high)))
 
-  -- a delimiter that is the first from a start of a line on has nothing or a LF before it
+  -- the first delimiter at or after the start of a line has nothing or a LF before it
   line-before : (s q : ℕ) → LineStarts s → IsFirstFrom d bytes body s q → (q ≡ s) ⊎ ((s < q) × HasByteAt bytes 10 (q - 1))
   line-before s q start first = by_place (cases_eq q s) first.is_delimiter.line
     where
@@ -239,13 +239,13 @@ module _ (d bytes : List ℕ) (body : ℕ) where
   open-is : (p : ℕ) → ¬ Closes d bytes body p → is_close_delimiter d bytes p ≡ false
   open-is p not = ⊎_elim (λ h. absurd (not (closes-out p h))) (λ h. h) (cases_Bool (is_close_delimiter d bytes p))
 
-  -- ---- the delimiters and parts from one on
+  -- ---- the delimiters and parts after a delimiter
 
   -- the delimiters after the starts of parts
   abbrev found : List Range → List ℕ
   found parts = filter_map (delimiter_from d bytes) (map (λ part. part.start) parts)
 
-  -- where the part after the delimiter starts, if there is one, where it is not the first
+  -- the start of the part after a delimiter that is not the first, if there is one
   abbrev next_from : Option ℕ → Option ℕ
   next_from o = option_and_then (λ q. if is_close_delimiter d bytes q then None else part_after d bytes q) o
 
@@ -296,7 +296,7 @@ module _ (d bytes : List ℕ) (body : ℕ) where
           (subst (λ rs. Follow d bytes body p (found rs) rs) (sym (part_ranges-some d bytes (suc there.0)))
           (by_delimiter there.0 there.2 (delimiter_from d bytes (suc there.0)) refl ih))
 
-  -- the parts from one on, by the delimiter after its start
+  -- the parts after a delimiter, by the delimiter after the start of the first
   ranges-by : (s : ℕ) (o next : Option ℕ) → delimiter_from d bytes s ≡ o → next_from o ≡ next
       → (found (part_ranges d bytes (Some s)) ≡ cons_option o (found (part_ranges d bytes next)))
       × (part_ranges d bytes (Some s) ≡ part_to s o ∷ part_ranges d bytes next)

@@ -1,4 +1,4 @@
--- Exactly the backslashes at odd places of their runs go.
+-- Exactly the backslashes at odd positions of their runs are removed.
 use Rattle.std.proofs.Common.{◌≡◌, ℕ, zero, suc, ◌+◌, ◌/◌, Bool, true, false, not, ◌||◌, cond, eqb, List, [], ◌∷◌, ◌++◌, length, map, replicate, drop, slice_index, refl, sym, ap, ◌∙◌, arith}
 use Rattle.std.proofs.lemmas.Bool.{cond-true, cond-false}
 use Rattle.std.proofs.lemmas.List.{drop-drop}
@@ -33,7 +33,7 @@ next a = omega arith
 rest_is : (text : List ℕ) (a c : ℕ) (cs : List ℕ) → drop a text ≡ c ∷ cs → drop (suc a) text ≡ cs
 rest_is text a c cs h = ap (λ k. drop k text) (sym (next a)) ∙ sym (drop-drop 1 a text) ∙ ap (drop 1) h
 
--- the characters that stay from a place on
+-- the characters that stay after a place
 abbrev staying_from : List ℕ → ℕ → ℕ → List ℕ
 staying_from text a n = map (slice_index text) (filter (stays text) (range_with_len a n))
 
@@ -49,7 +49,7 @@ from text (c ∷ cs) a h =
 pub odd_backslashes_go : (text : List ℕ) → without_escapes 0 text ≡ staying text
 odd_backslashes_go text = from text text 0 refl
 
--- how many backslashes stood before does not matter where none follows
+-- how many backslashes came before does not matter if none follows
 anew : (r : ℕ) (rest : List ℕ) → begins (λ b. eqb b backslash) rest ≡ false → without_escapes r rest ≡ without_escapes 0 rest
 anew r [] h = refl
 anew r (c ∷ cs) h = cond-false _ _ _ h ∙ sym (cond-false _ _ _ h)
@@ -57,7 +57,7 @@ anew r (c ∷ cs) h = cond-false _ _ _ h ∙ sym (cond-false _ _ _ h)
 half_more : (n : ℕ) → suc (suc n) / 2 ≡ suc (n / 2)
 half_more n = omega arith
 
--- a run of backslashes, of which an even number stood before
+-- a run of backslashes after an even number of them
 pub half_stays : (n r : ℕ) (rest : List ℕ) → begins (λ b. eqb b backslash) rest ≡ false → is_odd r ≡ false
     → without_escapes r (replicate n backslash ++ rest) ≡ replicate (n / 2) backslash ++ without_escapes 0 rest
 half_stays zero r rest h even = anew r rest h

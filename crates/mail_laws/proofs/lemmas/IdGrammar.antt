@@ -7,7 +7,7 @@ use Rattle.mail_codec.specs.Places.{is_empty, has_prefix}
 use Rattle.mailparse.specs.MessageIds.{id_not_closed, id_not_opened, id_of_piece, ids_at_end, ids_of_pieces, is_closing, message_ids, opens_id, with_id}
 use Rattle.mailparse.specs.Refusal.{Refusal}
 use Rattle.mailparse.proofs.lemmas.MessageIds.{pieces_step, split_none}
-use Rattle.mail_laws.specs.Ids.{HoldsNoClosing}
+use Rattle.mail_laws.specs.Ids.{ContainsNoClosing}
 use Rattle.mail_laws.specs.IdGrammar.{AreIds, no_ids, one_more, Breaks, not_opened, not_opened_before, not_closed, later}
 use Rattle.mail_laws.proofs.lemmas.Ids.{split_at}
 
@@ -17,20 +17,20 @@ Ids = Result (List (List ℕ)) Refusal
 -- ---- from the form to the function
 
 -- a text without `>`
-read_last : (text : List ℕ) → HoldsNoClosing text → message_ids text ≡ ids_at_end text
+read_last : (text : List ℕ) → ContainsNoClosing text → message_ids text ≡ ids_at_end text
 unfolding message_ids
 read_last text free = ap ids_of_pieces (split_none text free)
 
 -- a text with a `>`
-read_piece : (piece rest : List ℕ) → HoldsNoClosing piece
+read_piece : (piece rest : List ℕ) → ContainsNoClosing piece
     → message_ids (piece ++ 62 ∷ rest) ≡ cond (opens_id piece) (with_id (id_of_piece piece) (message_ids rest)) (Err id_not_opened)
 unfolding message_ids
 read_piece piece rest free = ap ids_of_pieces (split_at piece rest free) ∙ pieces_step piece rest
 
-read_opened : (piece rest : List ℕ) → HoldsNoClosing piece → opens_id piece ≡ true → message_ids (piece ++ 62 ∷ rest) ≡ with_id (id_of_piece piece) (message_ids rest)
+read_opened : (piece rest : List ℕ) → ContainsNoClosing piece → opens_id piece ≡ true → message_ids (piece ++ 62 ∷ rest) ≡ with_id (id_of_piece piece) (message_ids rest)
 read_opened piece rest free opens = read_piece piece rest free ∙ ap (λ t. cond t (with_id (id_of_piece piece) (message_ids rest)) (Err id_not_opened)) opens
 
-read_not_opened : (piece rest : List ℕ) → HoldsNoClosing piece → opens_id piece ≡ false → message_ids (piece ++ 62 ∷ rest) ≡ Err id_not_opened
+read_not_opened : (piece rest : List ℕ) → ContainsNoClosing piece → opens_id piece ≡ false → message_ids (piece ++ 62 ∷ rest) ≡ Err id_not_opened
 read_not_opened piece rest free shut = read_piece piece rest free ∙ ap (λ t. cond t (with_id (id_of_piece piece) (message_ids rest)) (Err id_not_opened)) shut
 
 at_end_whitespace : (text : List ℕ) → trim_start text ≡ [] → ids_at_end text ≡ Ok []
@@ -47,7 +47,7 @@ filled : (text : List ℕ) → text ≢ [] → is_empty text ≡ false
 filled [] some = absurd (some refl)
 filled (b ∷ text) some = refl
 
--- what stands after the last `>`
+-- the text after the last `>`
 at_end_shut : (text : List ℕ) → trim_start text ≢ [] → opens_id text ≡ false → ids_at_end text ≡ Err id_not_opened
 at_end_shut text some shut = rw (filled (trim_start text) some, shut) refl
 
@@ -76,7 +76,7 @@ err_same e = cc
 abbrev Form : List ℕ → Type 0
 Form text = ((ids : List (List ℕ)) × AreIds text ids) ⊎ ((refusal : Refusal) × Breaks text refusal)
 
-append_free : (piece : List ℕ) (b : ℕ) → HoldsNoClosing piece → is_closing b ≡ false → HoldsNoClosing (piece ++ b ∷ [])
+append_free : (piece : List ℕ) (b : ℕ) → ContainsNoClosing piece → is_closing b ≡ false → ContainsNoClosing (piece ++ b ∷ [])
 append_free piece b h e = list_any-append is_closing piece (b ∷ []) ∙ ap (λ t. t || (is_closing b || false)) h ∙ ap (λ t. t || false) e
 
 opened_is : (t : List ℕ) → has_prefix (60 ∷ []) t ≡ true → t ≡ 60 ∷ drop 1 t
@@ -88,7 +88,7 @@ opened_is (b ∷ t) h = go (eqb 60 b) refl
     go false e = absurd (false≢true (sym (ap (λ v. v && true) e) ∙ h))
 
 -- the text without `>` that is left
-form-last : (text : List ℕ) → HoldsNoClosing text → Form text
+form-last : (text : List ℕ) → ContainsNoClosing text → Form text
 form-last text free = by_whitespace (trim_start text) refl
   where
     by_open : (v : Bool) → opens_id text ≡ v → trim_start text ≢ [] → Form text
@@ -99,8 +99,8 @@ form-last text free = by_whitespace (trim_start text) refl
     by_whitespace [] e = inl ([], no_ids free e)
     by_whitespace (b ∷ t) e = by_open (opens_id text) refl (λ none. let f : b ∷ t ≡ [] = sym e ∙ none in absurd (cc))
 
--- a piece up to a `>`, and the form of what stands after that
-form-piece : (piece rest : List ℕ) → HoldsNoClosing piece → Form rest → Form (piece ++ 62 ∷ rest)
+-- a piece up to a `>`, and the form of the text after it
+form-piece : (piece rest : List ℕ) → ContainsNoClosing piece → Form rest → Form (piece ++ 62 ∷ rest)
 form-piece piece rest free after = by_open (opens_id piece) refl after
   where
     by_open : (v : Bool) → opens_id piece ≡ v → Form rest → Form (piece ++ 62 ∷ rest)
@@ -108,13 +108,13 @@ form-piece piece rest free after = by_open (opens_id piece) refl after
     by_open true e (inr broken) = inr (broken.0, later piece rest refl free e broken.1)
     by_open false e after = inr (id_not_opened, not_opened_before piece rest refl free e)
 
--- byte by byte, after a piece that holds no `>`
-form-after : (text piece : List ℕ) → HoldsNoClosing piece → Form (piece ++ text)
-form-after [] piece free = form-last (piece ++ []) (subst HoldsNoClosing (sym (append-nil piece)) free)
+-- byte by byte, after a piece that contains no `>`
+form-after : (text piece : List ℕ) → ContainsNoClosing piece → Form (piece ++ text)
+form-after [] piece free = form-last (piece ++ []) (subst ContainsNoClosing (sym (append-nil piece)) free)
 form-after (b ∷ text) piece free =
     by_byte (form-after text [] refl) (λ more. subst Form (append_assoc piece (b ∷ []) text) (form-after text (piece ++ b ∷ []) more)) (is_closing b) refl
   where
-    by_byte : Form text → (HoldsNoClosing (piece ++ b ∷ []) → Form (piece ++ b ∷ text)) → (v : Bool) → is_closing b ≡ v → Form (piece ++ b ∷ text)
+    by_byte : Form text → (ContainsNoClosing (piece ++ b ∷ []) → Form (piece ++ b ∷ text)) → (v : Bool) → is_closing b ≡ v → Form (piece ++ b ∷ text)
     by_byte after more true e = subst (λ x. Form (piece ++ x ∷ text)) (sym (eqb-true b 62 e)) (form-piece piece text free after)
     by_byte after more false e = more (append_free piece b free e)
 

@@ -14,10 +14,10 @@ use Rattle.mailparse.specs.MessageIds.{id_not_closed, id_not_opened, id_of_piece
 use Rattle.mailparse.specs.Refusal.{Refusal}
 use Rattle.mailparse.proofs.lemmas.EncodedWord.{any_from_place}
 use Rattle.mailparse.proofs.lemmas.MessageIds.{pieces_step}
-use Rattle.mail_laws.specs.Ids.{HoldsNoClosing}
+use Rattle.mail_laws.specs.Ids.{ContainsNoClosing}
 use lib.Utf8.{scalars}
 
--- a `<` in front is not whitespace, and a space before it goes
+-- a `<` in front is not whitespace, and a space before it is removed
 encoded_after : (b : ℕ) (cs : List ℕ) (id : List ℕ) → b < 128 → encode_utf8_all cs ≡ id → encode_utf8_all (b ∷ cs) ≡ b ∷ id
 encoded_after b cs id lt e = ap (λ front. front ++ encode_utf8_all cs) (encode_ascii b lt) ∙ ap (λ r. b ∷ r) e
 
@@ -45,7 +45,7 @@ split_at (b ∷ piece) rest h =
     let parts = or_parts (is_closing b) (list_any is_closing piece) h in
     cond-false _ _ _ parts.0 ∙ ap (onto_first b) (split_at piece rest parts.1)
 
-front_free : (s : Bool) (id : List ℕ) → HoldsNoClosing id → list_any is_closing (front s (60 ∷ id)) ≡ false
+front_free : (s : Bool) (id : List ℕ) → ContainsNoClosing id → list_any is_closing (front s (60 ∷ id)) ≡ false
 front_free true id h = h
 front_free false id h = h
 
@@ -53,8 +53,8 @@ front_append : (s : Bool) (id rest : List ℕ) → front s (60 ∷ id) ++ rest �
 front_append true id rest = refl
 front_append false id rest = refl
 
--- an id without a `>`, and what stands after its `>`
-one_id : (s : Bool) (id rest : List ℕ) → IsUtf8 id → HoldsNoClosing id
+-- an id without a `>`, and the text after its `>`
+one_id : (s : Bool) (id rest : List ℕ) → IsUtf8 id → ContainsNoClosing id
     → ids_of_pieces (slice_split is_closing (front s (60 ∷ (id ++ 62 ∷ rest)))) ≡ with_id id (ids_of_pieces (slice_split is_closing rest))
 one_id s id rest utf8 free =
     let trimmed = opened_both s id utf8 in
@@ -66,7 +66,7 @@ one_id s id rest utf8 free =
     ∙ ap (λ t. cond t (with_id (id_of_piece (front s (60 ∷ id))) (ids_of_pieces (slice_split is_closing rest))) (Err id_not_opened)) opens
     ∙ ap (λ i. with_id i (ids_of_pieces (slice_split is_closing rest))) is
 
--- what stands after the first id of a list
+-- the text after the first id of a list
 abbrev after_id : List (List ℕ) → List ℕ
 after_id [] = []
 after_id (id ∷ ids) = front true (written_ids (id ∷ ids))
@@ -82,19 +82,19 @@ empty_ends = ap (λ k. ending (encode_utf8_all (skip_leading_whitespace k))) cha
     ending : List ℕ → Result (List (List ℕ)) Refusal
     ending trimmed = cond (is_empty trimmed) (Ok []) (cond (has_prefix (60 ∷ []) trimmed) (Err id_not_closed) (Err id_not_opened))
 
-reads_from : (ids : List (List ℕ)) (id : List ℕ) (s : Bool) → All IsUtf8 (id ∷ ids) → All HoldsNoClosing (id ∷ ids)
+reads_from : (ids : List (List ℕ)) (id : List ℕ) (s : Bool) → All IsUtf8 (id ∷ ids) → All ContainsNoClosing (id ∷ ids)
     → ids_of_pieces (slice_split is_closing (front s (written_ids (id ∷ ids)))) ≡ Ok (id ∷ ids)
 reads_from [] id s utf8 free =
     ap (λ t. ids_of_pieces (slice_split is_closing (front s t))) (written_first id [])
-    ∙ one_id s id [] (All-head IsUtf8 id [] utf8) (All-head HoldsNoClosing id [] free)
+    ∙ one_id s id [] (All-head IsUtf8 id [] utf8) (All-head ContainsNoClosing id [] free)
     ∙ ap (with_id id) empty_ends
 reads_from (next ∷ ids) id s utf8 free =
-    let later = reads_from ids next true (All-tail IsUtf8 id (next ∷ ids) utf8) (All-tail HoldsNoClosing id (next ∷ ids) free) in
+    let later = reads_from ids next true (All-tail IsUtf8 id (next ∷ ids) utf8) (All-tail ContainsNoClosing id (next ∷ ids) free) in
     ap (λ t. ids_of_pieces (slice_split is_closing (front s t))) (written_first id (next ∷ ids))
-    ∙ one_id s id (after_id (next ∷ ids)) (All-head IsUtf8 id (next ∷ ids) utf8) (All-head HoldsNoClosing id (next ∷ ids) free)
+    ∙ one_id s id (after_id (next ∷ ids)) (All-head IsUtf8 id (next ∷ ids) utf8) (All-head ContainsNoClosing id (next ∷ ids) free)
     ∙ ap (with_id id) later
 
-pub reads_back : (ids : List (List ℕ)) → All IsUtf8 ids → All HoldsNoClosing ids → message_ids (written_ids ids) ≡ Ok ids
+pub reads_back : (ids : List (List ℕ)) → All IsUtf8 ids → All ContainsNoClosing ids → message_ids (written_ids ids) ≡ Ok ids
 unfolding message_ids
 reads_back [] utf8 free = empty_ends
 reads_back (id ∷ ids) utf8 free = reads_from ids id false utf8 free
@@ -129,7 +129,7 @@ cut_id s id rest utf8 closing =
     ap (λ t. ids_of_pieces (slice_split is_closing (front s (60 ∷ t)))) whole
     ∙ one_id s (before_first is_closing id) (after_first is_closing id ++ rest) (before_utf8 id utf8 closing) (free_before id)
 
--- an id that reads back holds no `>`
+-- an id that reads back contains no `>`
 cons_same : (a b : List ℕ) (later : Result (List (List ℕ)) Refusal) (ids : List (List ℕ)) → with_id a later ≡ Ok (b ∷ ids) → (a ≡ b) × (later ≡ Ok ids)
 cons_same a b (Err refusal) ids h = absurd (cc)
 cons_same a b (Ok found) ids h =
@@ -137,7 +137,7 @@ cons_same a b (Ok found) ids h =
     ((cc), (cc))
 
 not_cut : (s : Bool) (id : List ℕ) (ids : List (List ℕ)) → IsUtf8 id
-    → ids_of_pieces (slice_split is_closing (front s (written_ids (id ∷ ids)))) ≡ Ok (id ∷ ids) → HoldsNoClosing id
+    → ids_of_pieces (slice_split is_closing (front s (written_ids (id ∷ ids)))) ≡ Ok (id ∷ ids) → ContainsNoClosing id
 not_cut s id ids utf8 h = go (list_any is_closing id) refl
   where
     go : (t : Bool) → list_any is_closing id ≡ t → list_any is_closing id ≡ false
@@ -148,21 +148,21 @@ not_cut s id ids utf8 h = go (list_any is_closing id) refl
         let lt = closing_place id e in
         absurd (omega (arith, ap length same.0, length-take (position_or_len is_closing id) id))
 
-later_same : (s : Bool) (id : List ℕ) (ids : List (List ℕ)) → IsUtf8 id → HoldsNoClosing id
+later_same : (s : Bool) (id : List ℕ) (ids : List (List ℕ)) → IsUtf8 id → ContainsNoClosing id
     → ids_of_pieces (slice_split is_closing (front s (written_ids (id ∷ ids)))) ≡ Ok (id ∷ ids) → ids_of_pieces (slice_split is_closing (after_id ids)) ≡ Ok ids
 later_same s id ids utf8 free h =
     (cons_same id id (ids_of_pieces (slice_split is_closing (after_id ids))) ids
     (sym (one_id s id (after_id ids) utf8 free) ∙ sym (ap (λ t. ids_of_pieces (slice_split is_closing (front s t))) (written_first id ids)) ∙ h)).1
 
 only_from : (ids : List (List ℕ)) (id : List ℕ) (s : Bool) → All IsUtf8 (id ∷ ids)
-    → ids_of_pieces (slice_split is_closing (front s (written_ids (id ∷ ids)))) ≡ Ok (id ∷ ids) → All HoldsNoClosing (id ∷ ids)
-only_from [] id s utf8 h = All-cons HoldsNoClosing id [] (not_cut s id [] (All-head IsUtf8 id [] utf8) h) (λ k d lt. absurd (omega arith))
+    → ids_of_pieces (slice_split is_closing (front s (written_ids (id ∷ ids)))) ≡ Ok (id ∷ ids) → All ContainsNoClosing (id ∷ ids)
+only_from [] id s utf8 h = All-cons ContainsNoClosing id [] (not_cut s id [] (All-head IsUtf8 id [] utf8) h) (λ k d lt. absurd (omega arith))
 only_from (next ∷ ids) id s utf8 h =
     let first = All-head IsUtf8 id (next ∷ ids) utf8 in
     let free = not_cut s id (next ∷ ids) first h in
-    All-cons HoldsNoClosing id (next ∷ ids) free (only_from ids next true (All-tail IsUtf8 id (next ∷ ids) utf8) (later_same s id (next ∷ ids) first free h))
+    All-cons ContainsNoClosing id (next ∷ ids) free (only_from ids next true (All-tail IsUtf8 id (next ∷ ids) utf8) (later_same s id (next ∷ ids) first free h))
 
-pub reads_only : (ids : List (List ℕ)) → All IsUtf8 ids → message_ids (written_ids ids) ≡ Ok ids → All HoldsNoClosing ids
+pub reads_only : (ids : List (List ℕ)) → All IsUtf8 ids → message_ids (written_ids ids) ≡ Ok ids → All ContainsNoClosing ids
 unfolding message_ids
 reads_only [] utf8 h = λ k d lt. absurd (omega arith)
 reads_only (id ∷ ids) utf8 h = only_from ids id false utf8 h

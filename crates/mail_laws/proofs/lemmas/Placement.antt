@@ -1,4 +1,4 @@
--- Where a message and its parts stand are the ranges of its tree, and the bytes that stand there are theirs.
+-- The recorded ranges of a message and its parts are those of its tree, and the bytes there are theirs.
 use Rattle.std.proofs.Common.{◌≡◌, ℕ, suc, ◌+◌, ◌-◌, ◌≤◌, Bool, false, List, [], ◌∷◌, ◌++◌, length, map, drop, Ok, Err, refl, sym, ap, ◌∙◌, arith}
 use Rattle.std.proofs.lemmas.List.{length-take, length-drop, map-append}
 use Rattle.mail_codec.specs.Charset.{Charsets}
@@ -15,7 +15,7 @@ use Rattle.mail_laws.proofs.lemmas.RangeTree.{Apart-order, FitEach, block-there,
 
 -- ---- the places are the ranges
 
--- a message that is read at a range stands where its ranges say
+-- a message that is read at a range is recorded at that range
 abbrev IsPlaced : List ℕ → Range → RangeTree → Type 0
 IsPlaced mail whole t = whole.start ≤ whole.end → whole.end ≤ length mail → placements whole.start (tree_there mail t) ≡ wholes_and_bodies t
 
@@ -37,7 +37,7 @@ slice-whole mail whole order fits =
     let rest = length-drop whole.start mail in
     omega (arith, front, rest, order, fits)
 
--- a message between two places that is cut so
+-- a message between two places with this cut
 abbrev placed_there : List ℕ → ℕ → ℕ → Cut → RangeForest → List Placement
 placed_there mail start end cut parts =
     record { whole = record { start = start; end = end }; body = moved start cut.body } ∷ placements_in start cut.parts (forest_there mail parts)
@@ -58,22 +58,22 @@ levels-placed known mail = levels-fit known mail (IsPlaced mail) (λ whole block
     ∙ ap (λ n. placed_there mail whole.start n cut parts) ends
     ∙ ap (λ (places : List Placement). record { whole = whole; body = node.body } ∷ places) all)
 
--- ---- what stands there
+-- ---- the bytes there
 
 module _ (mail : List ℕ) (at : Placement → List ℕ) (of : Node → List ℕ)
     (here : (node : RangeNode) → at (record { whole = node.whole; body = node.body }) ≡ of (node_there mail node)) where
   mutual
-    tree-standing : (t : RangeTree) → map at (wholes_and_bodies t) ≡ map of (nodes (tree_there mail t))
-    tree-standing (range_tree node parts) =
+    tree-bytes : (t : RangeTree) → map at (wholes_and_bodies t) ≡ map of (nodes (tree_there mail t))
+    tree-bytes (range_tree node parts) =
         ap (λ (text : List ℕ). text ∷ map at (wholes_and_bodies_in parts)) (here node)
-        ∙ ap (λ (texts : List (List ℕ)). of (node_there mail node) ∷ texts) (forest-standing parts)
+        ∙ ap (λ (texts : List (List ℕ)). of (node_there mail node) ∷ texts) (forest-bytes parts)
 
-    forest-standing : (ts : RangeForest) → map at (wholes_and_bodies_in ts) ≡ map of (map root (trees_in (forest_there mail ts)))
-    forest-standing no_ranges = refl
-    forest-standing (ranges_and t ts) =
+    forest-bytes : (ts : RangeForest) → map at (wholes_and_bodies_in ts) ≡ map of (map root (trees_in (forest_there mail ts)))
+    forest-bytes no_ranges = refl
+    forest-bytes (ranges_and t ts) =
         map-append at (wholes_and_bodies t) (wholes_and_bodies_in ts)
-        ∙ ap (λ (texts : List (List ℕ)). texts ++ map at (wholes_and_bodies_in ts)) (tree-standing t)
-        ∙ ap (λ (texts : List (List ℕ)). map of (nodes (tree_there mail t)) ++ texts) (forest-standing ts)
+        ∙ ap (λ (texts : List (List ℕ)). texts ++ map at (wholes_and_bodies_in ts)) (tree-bytes t)
+        ∙ ap (λ (texts : List (List ℕ)). map of (nodes (tree_there mail t)) ++ texts) (forest-bytes ts)
         ∙ sym (map-append of (nodes (tree_there mail t)) (map root (trees_in (forest_there mail ts))))
         ∙ ap (map of) (sym (map-append root (trees_within (tree_there mail t)) (trees_in (forest_there mail ts))))
 
@@ -92,19 +92,19 @@ module _ (known : Charsets) (greatest : ℕ) (mail : List ℕ) (parsed : Tree) (
       ap (placements 0) (sym (parsed-there ranges e))
       ∙ levels-placed known mail (suc greatest) false (record { start = 0; end = length mail }) ranges e (omega arith) (omega arith)
 
-  -- whatever stands there, if it does of each message
-  standing : (at : Placement → List ℕ) (of : Node → List ℕ) → ((node : RangeNode) → at (record { whole = node.whole; body = node.body }) ≡ of (node_there mail node))
+  -- bytes of all messages, if they are those of each message
+  nodes-bytes : (at : Placement → List ℕ) (of : Node → List ℕ) → ((node : RangeNode) → at (record { whole = node.whole; body = node.body }) ≡ of (node_there mail node))
       → map at (placements 0 parsed) ≡ map of (nodes parsed)
-  standing at of here = by_ranges (ranges_in known mail greatest) refl (ranges_in-there known mail greatest ∙ read)
+  nodes-bytes at of here = by_ranges (ranges_in known mail greatest) refl (ranges_in-there known mail greatest ∙ read)
     where
       by_ranges : (found : Reads RangeTree) → ranges_in known mail greatest ≡ found → read_map (tree_there mail) found ≡ Ok parsed
           → map at (placements 0 parsed) ≡ map of (nodes parsed)
       by_ranges (Err refusal) e there = absurd (cc)
       by_ranges (Ok ranges) e there =
-          ap (map at) (placements-ranges ranges e) ∙ tree-standing mail at of here ranges ∙ ap (λ (t : Tree). map of (nodes t)) (parsed-there ranges e)
+          ap (map at) (placements-ranges ranges e) ∙ tree-bytes mail at of here ranges ∙ ap (λ (t : Tree). map of (nodes t)) (parsed-there ranges e)
 
   pub placements-bytes : map (λ place. slice mail place.whole) (placements 0 parsed) ≡ map (λ node. node.bytes) (nodes parsed)
-  placements-bytes = standing (λ place. slice mail place.whole) (λ node. node.bytes) (λ node. refl)
+  placements-bytes = nodes-bytes (λ place. slice mail place.whole) (λ node. node.bytes) (λ node. refl)
 
   pub placements-bodies : map (λ place. slice mail place.body) (placements 0 parsed) ≡ map (λ node. node.body) (nodes parsed)
-  placements-bodies = standing (λ place. slice mail place.body) (λ node. node.body) (λ node. refl)
+  placements-bodies = nodes-bytes (λ place. slice mail place.body) (λ node. node.body) (λ node. refl)

@@ -1,4 +1,4 @@
--- The ranges of a message give its tree, and lie apart in the mail.
+-- The ranges of a message give its tree, and are disjoint in the mail.
 use Rattle.std.proofs.Common.{◌≡◌, ℕ, zero, suc, ◌+◌, ◌-◌, ◌<◌, ◌≤◌, Bool, false, List, [], ◌∷◌, ◌++◌, length, map, take, drop, get_or, Ok, Err, refl, sym, ap, ◌∙◌, subst, arith}
 use Rattle.std.proofs.lemmas.List.{length-take, take_all, take-take, drop-take, drop-drop}
 use Rattle.mail_codec.specs.Charset.{Charsets}
@@ -13,7 +13,7 @@ use Rattle.mailparse.proofs.lemmas.Block.{header_place-≤, header_place-first, 
 use Rattle.mailparse.proofs.lemmas.Ranges.{cut_of-apart}
 use Rattle.mailparse.proofs.lemmas.Refusal.{read_map}
 use Rattle.mail_laws.specs.Spans.{header_at, key_range, value_range}
-use Rattle.mail_laws.specs.RangeTree.{HeaderRanges, RangeNode, RangeTree, range_tree, RangeForest, no_ranges, ranges_and, range_root, header_there, node_there, tree_there, forest_there, headers_at, range_node, range_each, range_parts, range_levels, ranges_in, header_fields, wholes, LieInOrder, AreNested, AllNested, blocks_and_bodies, blocks_and_bodies_in, Holds}
+use Rattle.mail_laws.specs.RangeTree.{HeaderRanges, RangeNode, RangeTree, range_tree, RangeForest, no_ranges, ranges_and, range_root, header_there, node_there, tree_there, forest_there, headers_at, range_node, range_each, range_parts, range_levels, ranges_in, header_fields, wholes, LieInOrder, AreNested, AllNested, blocks_and_bodies, blocks_and_bodies_in, IsInRange}
 use Rattle.mail_laws.proofs.lemmas.Spans.{headers-at_ranges, ranges-in_order}
 
 -- ---- slices of slices
@@ -32,13 +32,13 @@ slice-of_front mail place size from to order within =
     ∙ ap (take (to - from)) (drop-drop from place mail)
     ∙ ap (λ n. take n (drop (place + from) mail)) same
 
--- what stands at a range of a slice stands at the moved range of the mail
+-- the bytes of a range of a slice are those of the moved range of the mail
 slice-moved : (mail : List ℕ) (whole r : Range) → r.start ≤ r.end → r.end ≤ length (slice mail whole) → slice (slice mail whole) r ≡ slice mail (moved whole.start r)
 slice-moved mail whole r order within =
     let size = slice-length mail whole in
     slice-of_front mail whole.start (whole.end - whole.start) r.start r.end order (omega arith)
 
--- ---- the message that stands at a range
+-- ---- the message at a range
 
 header_from : List ℕ → List ℕ → Header
 header_from key value = record { key = key; value = value }
@@ -74,7 +74,7 @@ module _ (mail : List ℕ) (whole : Range) where
       let same : index - 0 ≡ index = omega arith in
       sym (slice-moved mail whole (record { start = 0; end = index }) (omega arith) within) ∙ ap (λ n. take n (slice mail whole)) same
 
--- ---- the tree that stands at the ranges
+-- ---- the tree at the ranges
 
 pub Apart-order : (gap from : ℕ) (rs : List Range) (to : ℕ) → Apart gap from rs to → from ≤ to
 Apart-order gap from [] to h = h
@@ -101,7 +101,7 @@ node-there mail whole block ctype read =
     ∙ ap (λ (x : List ℕ). node_of raw (take block.index raw) block.headers ctype x)
     (sym (slice-moved mail whole cut.body order (Apart-order 3 cut.body.end cut.parts (length raw) apart.2)))
 
--- a message and its parts, where they were read
+-- a message and its parts, if they were read
 tree-there : (mail : List ℕ) (node : RangeNode) (n : Node) → node_there mail node ≡ n → (parts : Reads RangeForest)
     → read_map (tree_there mail) (read_map (range_tree node) parts) ≡ read_map (tree n) (read_map (forest_there mail) parts)
 tree-there mail node n e (Ok parts) = ap (λ (x : Node). Ok (tree x (forest_there mail parts))) e
@@ -115,7 +115,7 @@ first-there mail (Ok t) (Ok rest) = refl
 first-there mail (Ok t) (Err refusal) = refl
 first-there mail (Err refusal) rest = refl
 
--- what is read at a range is read of the bytes that stand there
+-- a message read at a range is read from the bytes there
 abbrev Gives : List ℕ → (Range → Reads RangeTree) → (List ℕ → Reads Tree) → Type 0
 Gives mail ranges read = (whole : Range) → read_map (tree_there mail) (ranges whole) ≡ read (slice mail whole)
 
@@ -165,7 +165,7 @@ module _ (known : Charsets) (mail : List ℕ) where
   unfolding ranges_in read_mail_in
   ranges_in-there greatest = levels-there (suc greatest) false (record { start = 0; end = length mail }) ∙ ap (read_levels known (suc greatest) false) whole-all
 
--- ---- the ranges lie apart
+-- ---- the ranges are disjoint
 
 -- the same between wider places
 Apart-wider : (gap from : ℕ) (rs : List Range) (to less more : ℕ) → less ≤ from → to ≤ more → Apart gap from rs to → Apart gap less rs more
@@ -241,7 +241,7 @@ module _ (mail : List ℕ) (whole : Range) (block : HeaderList) (read : read_hea
             (omega arith) (omega arith) (Apart-moved whole.start 3 cut.body.end cut.parts (length raw) apart.2);
       }
 
--- what holds of each message that is read, if it does wherever it does of the parts
+-- a property of each message that is read, if a message has it whenever its parts do
 abbrev pub FitEach : (Range → RangeTree → Type 0) → List Range → RangeForest → Type 0
 FitEach Fits [] no_ranges = Unit {0}
 FitEach Fits (r ∷ rs) (ranges_and t ts) = Fits r t × FitEach Fits rs ts
@@ -283,7 +283,7 @@ module _ (known : Charsets) (mail : List ℕ) (Fits : Range → RangeTree → Ty
             let ctype = node_type known in_digest block.headers in
             by_parts block ctype read _ h (each-fits (range_levels known mail levels (is_digest ctype)) (ih (is_digest ctype)) _)
 
--- a message stands where it was read, and the ranges within it lie in order
+-- a message is at the range where it was read, and the ranges within it are in order
 abbrev IsNested : Range → RangeTree → Type 0
 IsNested whole t = whole.start ≤ whole.end → ((range_root t).whole ≡ whole) × AreNested t
 
@@ -306,7 +306,7 @@ module _ (known : Charsets) (mail : List ℕ) where
       (refl, (subst (LieInOrder node) (sym all.0) lie, all.1)))
 
 mutual
-  -- so the blocks and the bodies lie apart
+  -- so the blocks and the bodies are disjoint
   tree-apart : (t : RangeTree) → AreNested t → Apart 0 (range_root t).whole.start (blocks_and_bodies t) (range_root t).whole.end
   tree-apart (range_tree node parts) nested =
       let lie = nested.0 in
@@ -333,7 +333,7 @@ later-start from (r ∷ rs) to (suc j) d apart low =
 
 -- no place is in two of them
 held-once : (from : ℕ) (rs : List Range) (to place i j : ℕ) (d : Range) → Apart 0 from rs to → i < length rs → j < length rs
-    → Holds (get_or rs i d) place → Holds (get_or rs j d) place → i ≡ j
+    → IsInRange (get_or rs i d) place → IsInRange (get_or rs j d) place → i ≡ j
 held-once from [] to place i j d apart low high here there = absurd (omega arith)
 held-once from (r ∷ rs) to place zero zero d apart low high here there = refl
 held-once from (r ∷ rs) to place zero (suc j) d apart low high here there =
@@ -356,5 +356,5 @@ module _ (known : Charsets) (mail : List ℕ) (greatest : ℕ) (t : RangeTree) (
       subst (λ (whole : Range). Apart 0 whole.start (blocks_and_bodies t) whole.end) nested.0 (tree-apart t nested.1)
 
   pub ranges_in-once : (place i j : ℕ) (d : Range) → i < length (blocks_and_bodies t) → j < length (blocks_and_bodies t)
-      → Holds (get_or (blocks_and_bodies t) i d) place → Holds (get_or (blocks_and_bodies t) j d) place → i ≡ j
+      → IsInRange (get_or (blocks_and_bodies t) i d) place → IsInRange (get_or (blocks_and_bodies t) j d) place → i ≡ j
   ranges_in-once place i j d low high here there = held-once 0 (blocks_and_bodies t) (length mail) place i j d ranges_in-apart low high here there

@@ -1,4 +1,4 @@
--- Lemmas on the conditions of a well-formed outline, and on how they are looked at one after another.
+-- Lemmas on the conditions of a well-formed outline, which are checked one after another.
 use Rattle.std.proofs.Common.{◌≡◌, inl, inr, ℕ, suc, ◌-◌, ◌<◌, max, Bool, true, false, not, cond, ◌&&◌, List, [], ◌∷◌, ◌++◌, length, take, drop, Option, Some, None, Result, Ok, Err, is_ok, refl, sym, ap, subst, ◌∙◌, arith}
 use Rattle.std.specs.Prelude.{MatchResult, nat_eq, nat_le, option_map}
 use Rattle.std.specs.Char.{is_ascii_alphanumeric}
@@ -12,7 +12,7 @@ use Rattle.mailparse.specs.Header.{Header}
 use Rattle.mailparse.specs.ContentType.{ContentType, content_type_in, content_type_of}
 use Rattle.mailparse.specs.Refusal.{Refusal}
 use Rattle.mail_laws.specs.Boundaries.{boundary_type}
-use Rattle.mail_laws.specs.Render.{OutlineTree, branch, forest_of, rendered, is_key, has_keys, has_texts, has_type_key, type_header, names_its_boundary, has_plain_boundary, mimetype_of, has_some_part, holds_delimiter, hold_no_delimiter, depth, depth_of_parts, is_well_formed_within, are_well_formed_within}
+use Rattle.mail_laws.specs.Render.{OutlineTree, branch, forest_of, rendered, is_key, has_keys, has_texts, has_type_key, type_header, names_its_boundary, has_plain_boundary, mimetype_of, has_some_part, contains_delimiter, contain_no_delimiter, depth, depth_of_parts, is_well_formed_within, are_well_formed_within}
 use lib.Pointwise.{pointwise}
 
 -- ---- the first `Content-Type`
@@ -41,7 +41,7 @@ not_prefixed (p ∷ prefix) (t ∷ text) rest h = elim (cases_Bool (nat_eq t p))
   | inr e ↦ ap (λ v. v && bytes_eq text (prefix ++ rest)) (sym e)
 ]
 
--- what a call says of UTF-8 by whether it succeeds
+-- UTF-8 by whether a call succeeds
 pub utf8_told : {T E : Type 0} (P : T → Type 0) (Q : E → Type 0) (result : Result T E) (bytes : List ℕ)
     → MatchResult result (λ x. P x × IsUtf8 bytes) (λ e. (IsUtf8 bytes → ⊥) × Q e) → is_ok result ≡ is_utf8 bytes
 utf8_told P Q (Ok x) bytes cases = sym (is_utf8-from_IsUtf8 bytes cases.1)
@@ -79,7 +79,7 @@ pub mimetype_named : (text : List ℕ) → (content_type_of text).mimetype ≡ m
 unfolding content_type_in
 mimetype_named text = refl
 
--- ---- what is left to look at
+-- ---- the conditions left to check
 
 pub ok_bool : (a b : Bool) → ◌≡◌ {A = Result Bool Refusal} (Ok a) (Ok b) → a ≡ b
 ok_bool a b e = cc
@@ -93,16 +93,16 @@ abbrev pub good_boundary : List Header → List ℕ → Bool
 good_boundary headers boundary =
     option_map_or (λ h. bytes_eq h.value (boundary_type boundary)) (type_header headers) false && (list_all is_ascii_alphanumeric boundary && not (is_empty boundary))
 
--- so are the parts, and none holds a delimiter
+-- so are the parts, and none contains a delimiter
 abbrev pub good_parts : List ℕ → List OutlineTree → Bool
-good_parts boundary parts = hold_no_delimiter boundary (forest_of parts) && are_well_formed_within (forest_of parts)
+good_parts boundary parts = contain_no_delimiter boundary (forest_of parts) && are_well_formed_within (forest_of parts)
 
 -- an outline with parts is well formed if its headers, its boundary and its parts are, and there is a part
 branch_well : (headers : List Header) (boundary : List ℕ) (parts : List OutlineTree) → is_well_formed_within (branch headers boundary (forest_of parts))
     ≡ good_headers headers && (good_boundary headers boundary && (has_some_part (branch headers boundary (forest_of parts)) && good_parts boundary parts))
 branch_well headers boundary parts =
     let t = branch headers boundary (forest_of parts) in
-    by_tests (has_keys t) (has_texts t) (names_its_boundary t) (has_plain_boundary t) (has_some_part t) (hold_no_delimiter boundary (forest_of parts))
+    by_tests (has_keys t) (has_texts t) (names_its_boundary t) (has_plain_boundary t) (has_some_part t) (contain_no_delimiter boundary (forest_of parts))
     (are_well_formed_within (forest_of parts))
   where
     by_tests : (a b n p s c w : Bool) → (a && (b && (n && (p && (true && (s && c)))))) && w ≡ (a && b) && ((n && p) && (s && (c && w)))
@@ -128,12 +128,12 @@ some_part headers boundary (part ∷ parts) v e =
     ap not (sym (ne_eqb (length (part ∷ parts)) 0 (λ (z : length (part ∷ parts) ≡ 0). absurd (omega arith))) ∙ e)
 
 -- a part, and then the others
-pub part_and_others : (boundary : List ℕ) (part : OutlineTree) (parts : List OutlineTree) (v : Bool) → not (holds_delimiter boundary (rendered part)) ≡ true
+pub part_and_others : (boundary : List ℕ) (part : OutlineTree) (parts : List OutlineTree) (v : Bool) → not (contains_delimiter boundary (rendered part)) ≡ true
     → is_well_formed_within part ≡ v → good_parts boundary (part ∷ parts) ≡ v && good_parts boundary parts
 part_and_others boundary part parts v clear e =
-    ap (λ c. (c && hold_no_delimiter boundary (forest_of parts)) && are_well_formed_within (forest_of (part ∷ parts))) clear
-    ∙ ap (λ w. hold_no_delimiter boundary (forest_of parts) && (w && are_well_formed_within (forest_of parts))) e
-    ∙ by_tests (hold_no_delimiter boundary (forest_of parts)) v
+    ap (λ c. (c && contain_no_delimiter boundary (forest_of parts)) && are_well_formed_within (forest_of (part ∷ parts))) clear
+    ∙ ap (λ w. contain_no_delimiter boundary (forest_of parts) && (w && are_well_formed_within (forest_of parts))) e
+    ∙ by_tests (contain_no_delimiter boundary (forest_of parts)) v
   where
     by_tests : (c v : Bool) → c && (v && are_well_formed_within (forest_of parts)) ≡ v && (c && are_well_formed_within (forest_of parts))
     by_tests true v = refl
@@ -142,7 +142,7 @@ part_and_others boundary part parts v clear e =
 
 -- ---- the levels
 
--- parts stand no more than so many levels below their outline
+-- parts are at most `levels` levels below their outline
 abbrev pub parts_within : List OutlineTree → ℕ → Bool
 parts_within parts levels = nat_le (depth_of_parts (forest_of parts)) levels
 
@@ -160,7 +160,7 @@ part_within part parts levels v h e = le_max (suc (depth part)) (depth_of_parts 
     le_below d levels true h e = le-leb (suc d) levels (omega (arith, h, leb-true d (levels - 1) e))
     le_below d levels false h e = lt-leb (suc d) levels (omega (arith, h, leb-false d (levels - 1) e))
 
--- below the last level stands no part
+-- below the last level there is no part
 pub none_within : (parts : List OutlineTree) → parts_within parts 0 ≡ nat_eq (length parts) 0
 none_within [] = refl
 none_within (part ∷ parts) =

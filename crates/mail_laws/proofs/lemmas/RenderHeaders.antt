@@ -1,4 +1,4 @@
--- The header block of an outline, as it is written, reads as its headers.
+-- The written header block of an outline reads as its headers.
 use Rattle.std.proofs.Common.{◌≡◌, ℕ, suc, ◌+◌, ◌-◌, ◌≤◌, Bool, true, false, eqb, not, ◌&&◌, ◌||◌, List, [], ◌∷◌, ◌++◌, length, take, drop, Ok, codes, refl, sym, ap, ◌∙◌, arith, append_assoc, length-append, flat_map}
 use Rattle.std.specs.List.{list_all}
 use Rattle.std.proofs.lemmas.Bool.{false≢true, and_parts, and_left, eq-eqb, ne_eqb, not-true}
@@ -12,13 +12,13 @@ use Rattle.mailparse.specs.Header.{Header, ends_key, ends_header, is_line_end, k
 use Rattle.mailparse.specs.Block.{blank_line, headers_end, has_header, read_headers}
 use Rattle.mailparse.proofs.lemmas.Header.{header_of-value, is_line_end-false}
 use Rattle.mailparse.proofs.lemmas.Block.{with_front, read_headers-more, read_headers-none}
-use Rattle.mail_laws.specs.Encode.{is_plain_byte, is_plain_value}
-use Rattle.mail_laws.proofs.lemmas.Encode.{plain_byte, plain_no_feed}
+use Rattle.mail_address.specs.Encode.{is_plain_byte, is_plain_value}
+use Rattle.mail_address.proofs.lemmas.Encode.{plain_byte, plain_no_feed}
 use Rattle.mail_laws.specs.Render.{header_line, header_block, is_key_byte, is_key}
 
 -- ---- lists of bytes that pass a test
 
--- bytes at which a test fails whatever follows are passed over
+-- bytes at which a test fails whatever follows are passed
 pub first_place-over : (test : List ℕ → Bool) (over : ℕ → Bool) → ((b : ℕ) (bs : List ℕ) → over b ≡ true → test (b ∷ bs) ≡ false)
     → (front rest : List ℕ) → list_all over front ≡ true → first_place test (front ++ rest) ≡ length front + first_place test rest
 first_place-over test over fails [] rest all = omega arith
@@ -28,7 +28,7 @@ first_place-over test over fails (b ∷ front) rest all =
     let more = first_place-over test over fails front rest parts.1 in
     omega arith
 
--- what stands after a list and one more byte
+-- the bytes after a list and one more byte
 pub drop_past : (front : List ℕ) (b : ℕ) (rest : List ℕ) → drop (suc (length front)) (front ++ b ∷ rest) ≡ rest
 drop_past [] b rest = refl
 drop_past (x ∷ front) b rest = drop_past front b rest
@@ -58,14 +58,14 @@ value_begins (v ∷ value) rest h =
 
 -- ---- one header, as it is written, and what follows it
 
--- what stands after its colon
+-- the bytes after its colon
 abbrev after_colon : List ℕ → List ℕ → List ℕ
 after_colon value rest = 32 ∷ (value ++ 13 ∷ 10 ∷ rest)
 
 abbrev line : List ℕ → List ℕ → List ℕ → List ℕ
 line key value rest = key ++ 58 ∷ after_colon value rest
 
--- what stands between its colon and its LF
+-- the bytes between its colon and its LF
 abbrev between : List ℕ → List ℕ
 between value = 32 ∷ (value ++ 13 ∷ [])
 
@@ -81,7 +81,7 @@ length-line key value rest =
     let b = length-append value (13 ∷ 10 ∷ rest) in
     omega arith
 
--- the LF ends the header where no blank follows
+-- the LF ends the header if no blank follows
 pub last_feed : (rest : List ℕ) → begins is_blank rest ≡ false → first_place ends_header (13 ∷ 10 ∷ rest) ≡ 1
 last_feed rest no_blank = ap suc (first_place-here ends_header (10 ∷ rest) (ap not no_blank))
 
@@ -91,7 +91,7 @@ pub record IsValue (value : List ℕ) : Type 0 where
   pub ends : (rest : List ℕ) → begins is_blank rest ≡ false → first_place ends_header (value ++ 13 ∷ 10 ∷ rest) ≡ length value + 1
   pub whole : first_place (list_all is_line_end) (value ++ 13 ∷ []) ≡ length value
 
--- the values of headers are that
+-- the values of headers are such values
 abbrev pub AreValues : List Header → Type 0
 AreValues [] = Unit {0}
 AreValues (h ∷ headers) = IsValue h.value × AreValues headers

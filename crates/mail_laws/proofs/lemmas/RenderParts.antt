@@ -1,4 +1,4 @@
--- The parts of an outline, as they are written, are the parts that its delimiters cut.
+-- The written parts of an outline are the parts that its delimiters cut.
 use Rattle.std.proofs.Common.{◌≡◌, ℕ, suc, ◌+◌, ◌-◌, ◌≤◌, ⊎_elim, Bool, true, false, eqb, not, ◌&&◌, ◌||◌, List, [], ◌∷◌, ◌++◌, length, map, take, drop, Option, Some, None, is_some, option_map, codes, refl, sym, ap, ◌∙◌, subst, arith, length-append, length-drop}
 use Rattle.std.specs.Prelude.{nat_lt, option_and_then, if◌then◌else◌}
 use Rattle.std.specs.List.{list_all}
@@ -15,13 +15,13 @@ use Rattle.mailparse.proofs.lemmas.Places.{not_some}
 use Rattle.mail_laws.proofs.lemmas.DelimiterPlaces.{before_line_end-crlf, before_line_end-start}
 use Rattle.mail_laws.proofs.lemmas.RenderHeaders.{drop_past}
 
--- ---- a text that stands
+-- ---- a text within bytes
 
--- a byte that is no CR
+-- a byte other than a CR
 abbrev pub no_return : ℕ → Bool
 no_return b = not (eqb b 13)
 
--- a text without CR stands before a CR only where it stands by itself
+-- a text without CR that is found before a CR is found without what follows
 has_prefix-before : (text front rest : List ℕ) → list_all no_return text ≡ true → has_prefix text (front ++ 13 ∷ rest) ≡ has_prefix text front
 has_prefix-before [] front rest free = refl
 has_prefix-before (x ∷ text) [] rest free =
@@ -33,14 +33,14 @@ has_prefix-self : (text rest : List ℕ) → has_prefix text (text ++ rest) ≡ 
 has_prefix-self [] rest = refl
 has_prefix-self (x ∷ text) rest = and_from (eqb x x) (has_prefix text (text ++ rest)) (eq-eqb x x refl) (has_prefix-self text rest)
 
--- a search that finds nothing passes over all places
+-- a search that finds nothing passes all places
 pub has_prefix-nowhere : (x : ℕ) (text bytes : List ℕ) → is_some (place (has_prefix (x ∷ text)) bytes) ≡ false → (k : ℕ) → has_prefix (x ∷ text) (drop k bytes) ≡ false
 has_prefix-nowhere x text bytes none k =
     let whole = place_none (has_prefix (x ∷ text)) bytes (not_some (place (has_prefix (x ∷ text)) bytes) none) in
     ⊎_elim (λ low. first_place-before (has_prefix (x ∷ text)) bytes k (omega (arith, low, whole)))
     (λ high. ap (has_prefix (x ∷ text)) (drop_all k bytes high)) (cases_lt k (length bytes))
 
--- ---- what follows a delimiter
+-- ---- the bytes after a delimiter
 
 -- a place further on
 further : (bytes text : List ℕ) (s k n : ℕ) → drop s bytes ≡ text → s + k ≡ n → drop n bytes ≡ drop k text
@@ -60,7 +60,7 @@ abbrev pub written : List ℕ → List (List ℕ) → List ℕ
 written d [] = d ++ 45 ∷ 45 ∷ 13 ∷ 10 ∷ []
 written d (p ∷ ps) = d ++ 13 ∷ 10 ∷ (p ++ 13 ∷ 10 ∷ written d ps)
 
--- what stands after the first of its delimiters
+-- the bytes after the first of its delimiters
 abbrev after_delimiter : List ℕ → List (List ℕ) → List ℕ
 after_delimiter d [] = 45 ∷ 45 ∷ 13 ∷ 10 ∷ []
 after_delimiter d (p ∷ ps) = 13 ∷ 10 ∷ (p ++ 13 ∷ 10 ∷ written d ps)
@@ -69,7 +69,7 @@ written-after_delimiter : (d : List ℕ) (ps : List (List ℕ)) → written d ps
 written-after_delimiter d [] = refl
 written-after_delimiter d (p ∷ ps) = refl
 
--- a part that holds no delimiter
+-- a part that contains no delimiter
 pub record IsClear (d part : List ℕ) : Type 0 where
   pub first : has_prefix d part ≡ false
   pub later : (k : ℕ) → has_prefix (10 ∷ d) (drop k part) ≡ false
@@ -80,7 +80,7 @@ AreClear d (p ∷ ps) = IsClear d p × AreClear d ps
 
 -- the dash-boundary: not empty, and without CR
 module _ (x : ℕ) (text : List ℕ) (free : list_all no_return (x ∷ text) ≡ true) where
-  -- a part that stands at a place, and then CR LF and the next delimiter
+  -- a part at a place, and then CR LF and the next delimiter
   module _ (bytes part more : List ℕ) (s : ℕ) (clear : IsClear (x ∷ text) part) (there : drop s bytes ≡ part ++ 13 ∷ 10 ∷ ((x ∷ text) ++ more)) where
     abbrev rest : List ℕ
     rest = 10 ∷ ((x ∷ text) ++ more)
@@ -186,7 +186,7 @@ module _ (x : ℕ) (text : List ℕ) (free : list_all no_return (x ∷ text) ≡
       ∙ ap (λ (o : Option ℕ). part ∷ map (slice bytes) (part_ranges (x ∷ text) bytes o)) next
       ∙ ap (λ (ps : List (List ℕ)). part ∷ ps) (ranges-written ps bytes p (q + 2) all.0 all.1 drop_past_it)
 
-  -- what is written is cut into its parts, and nothing stands before them
+  -- the written bytes are cut into the parts, and the preamble is empty
   module _ (bytes : List ℕ) (i : ℕ) (part : List ℕ) (ps : List (List ℕ)) (all : AreClear (x ∷ text) (part ∷ ps)) (there : drop i bytes ≡ written (x ∷ text) (part ∷ ps)) where
     first_delimiter : delimiter_from (x ∷ text) bytes i ≡ Some i
     first_delimiter = sym (starts_delimiter (x ∷ text) bytes i (omega arith) (ap (has_prefix (x ∷ text)) there ∙ has_prefix-self (x ∷ text) (13 ∷ 10 ∷ (part ++ 13 ∷ 10 ∷ written (x ∷ text) ps))))

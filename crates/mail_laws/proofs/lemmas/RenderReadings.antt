@@ -1,4 +1,4 @@
--- What is written of an outline reads as the message that it stands for.
+-- A written outline reads as the message that it represents.
 use Rattle.std.proofs.Common.{◌≡◌, ◌⊎◌, inl, ℕ, zero, suc, ◌+◌, ◌-◌, ◌<◌, ◌≤◌, ⊎_elim, true, false, eqb, not, List, [], ◌∷◌, ◌++◌, length, map, take, drop, Option, Some, None, is_some, Ok, Err, codes, refl, sym, ap, ◌∙◌, subst, arith, length-append}
 use Rattle.std.specs.Char.{is_ascii_alphanumeric}
 use Rattle.std.specs.List.{list_all}
@@ -18,10 +18,10 @@ use Rattle.mailparse.specs.Ranges.{slice}
 use Rattle.mailparse.specs.Delimiters.{Cut, cut_parts}
 use Rattle.mailparse.specs.Mail.{Node, Tree, tree, Forest, no_parts, part_and, root, parts_of, nodes, trees_in, trees_within, is_digest, cut_of, node_with, read_each, node_type, read_levels, read_mail_in, read_mail}
 use Rattle.mail_laws.specs.Boundaries.{boundary_type}
-use Rattle.mail_laws.specs.Encode.{KnowUtf8}
-use Rattle.mail_laws.specs.Render.{OutlineTree, OutlineForest, leaf, branch, no_outlines, outline_and, header_block, dash_boundary, rendered, rendered_parts, is_key, has_keys, has_texts, type_header, names_its_boundary, has_plain_boundary, is_not_multipart, has_some_part, holds_delimiter, hold_no_delimiter, has_clear_parts, depth, depth_of_parts, is_well_formed_here, is_well_formed_within, are_well_formed_within, type_of, node_of, stands_for, stand_for, is_within_levels, IsWellFormed, written_headers, has_plain_values, is_plain_within, are_plain_within, KnowItsWords, shown_header, headers_within, headers_in}
+use Rattle.mail_address.specs.Encode.{KnowUtf8}
+use Rattle.mail_laws.specs.Render.{OutlineTree, OutlineForest, leaf, branch, no_outlines, outline_and, header_block, dash_boundary, rendered, rendered_parts, is_key, has_keys, has_texts, type_header, names_its_boundary, has_plain_boundary, is_not_multipart, has_some_part, contains_delimiter, contain_no_delimiter, has_clear_parts, depth, depth_of_parts, is_well_formed_here, is_well_formed_within, are_well_formed_within, type_of, node_of, stands_for, stand_for, is_within_levels, IsWellFormed, written_headers, has_plain_values, is_plain_within, are_plain_within, KnowItsWords, shown_header, headers_within, headers_in}
 use Rattle.mail_laws.proofs.lemmas.RenderHeaders.{read_headers-written}
-use Rattle.mail_laws.proofs.lemmas.Encode.{list_all-weaker}
+use Rattle.mail_address.proofs.lemmas.Encode.{list_all-weaker}
 use Rattle.mail_laws.proofs.lemmas.RenderValues.{AreShown, headers_again, known_first, known_others, same_headers, written_are_shown, written_are_values, written_keys}
 use Rattle.mail_laws.proofs.lemmas.RenderParts.{no_return, has_prefix-nowhere, written, IsClear, AreClear, body-written, parts-written}
 use Rattle.mail_laws.proofs.lemmas.RenderTypes.{node_type-written, no_parts-leaf, type-branch}
@@ -37,7 +37,7 @@ rendered_parts-written boundary no_outlines = refl
 rendered_parts-written boundary (outline_and part parts) =
     ap (λ (x : List ℕ). dash_boundary boundary ++ 13 ∷ 10 ∷ (rendered part ++ 13 ∷ 10 ∷ x)) (rendered_parts-written boundary parts)
 
-IsClear-from : (boundary bytes : List ℕ) → holds_delimiter boundary bytes ≡ false → IsClear (dash_boundary boundary) bytes
+IsClear-from : (boundary bytes : List ℕ) → contains_delimiter boundary bytes ≡ false → IsClear (dash_boundary boundary) bytes
 IsClear-from boundary bytes none =
     let parts = or_parts (has_prefix (dash_boundary boundary) bytes) (is_some (text_place bytes (10 ∷ dash_boundary boundary))) none in
     let some : eqb (length (10 ∷ dash_boundary boundary)) 0 ≡ false = ne_eqb _ 0 (λ e. absurd (omega arith)) in
@@ -45,13 +45,13 @@ IsClear-from boundary bytes none =
     ap (λ (o : Option ℕ). is_some o) (sym (cond-false (eqb (length (10 ∷ dash_boundary boundary)) 0) None (place (has_prefix (10 ∷ dash_boundary boundary)) bytes) some)) ∙ parts.1 in
     record { first = parts.0; later = has_prefix-nowhere 10 (dash_boundary boundary) bytes nowhere }
 
-AreClear-from : (boundary : List ℕ) (parts : OutlineForest) → hold_no_delimiter boundary parts ≡ true → AreClear (dash_boundary boundary) (renderings parts)
+AreClear-from : (boundary : List ℕ) (parts : OutlineForest) → contain_no_delimiter boundary parts ≡ true → AreClear (dash_boundary boundary) (renderings parts)
 AreClear-from boundary no_outlines none = tt
 AreClear-from boundary (outline_and part parts) none =
-    let both = and_parts (not (holds_delimiter boundary (rendered part))) (hold_no_delimiter boundary parts) none in
+    let both = and_parts (not (contains_delimiter boundary (rendered part))) (contain_no_delimiter boundary parts) none in
     (IsClear-from boundary (rendered part) (not-true _ both.0), AreClear-from boundary parts both.1)
 
--- letters and digits are no CR
+-- letters and digits are not CR
 no_return-alphanumeric : (b : ℕ) → is_ascii_alphanumeric b ≡ true → no_return b ≡ true
 no_return-alphanumeric b h = grind (arith, nat_tests)
 
@@ -235,17 +235,17 @@ module _ (known : Charsets) where
   unfolding read_mail_in
   outline_is_refused greatest outline able formed deep = refuses outline greatest able formed deep
 
-  -- ---- the message that an outline stands for tells the outline
+  -- ---- the message that an outline represents determines the outline
 
   same_parts : (t u : Tree) (ts us : Forest) → part_and t ts ≡ part_and u us → (t ≡ u) × (ts ≡ us)
   same_parts t u ts us e = ((cc), (cc))
 
-  -- an outline with parts stands for a message with parts
+  -- an outline with parts represents a message with parts
   some_parts : (headers : List Header) (boundary : List ℕ) (parts : OutlineForest) → has_some_part (branch headers boundary parts) ≡ true → no_parts ≡ stand_for known parts → ⊥
   some_parts headers boundary no_outlines some e = false≢true some
   some_parts headers boundary (outline_and part parts) some e = let f : no_parts ≡ part_and (stands_for known part) (stand_for known parts) = e in cc
 
-  -- its first `Content-Type` tells its boundary
+  -- its first `Content-Type` determines its boundary
   same_boundary : (found : Option Header) (one two : List ℕ) → option_map_or (λ h. bytes_eq h.value (boundary_type one)) found false ≡ true
       → option_map_or (λ h. bytes_eq h.value (boundary_type two)) found false ≡ true → one ≡ two
   same_boundary None one two e f = absurd (false≢true e)
@@ -254,16 +254,16 @@ module _ (known : Charsets) where
       (sym ((bytes_decides h.value (boundary_type one)).0 e) ∙ (bytes_decides h.value (boundary_type two)).0 f)
 
   mutual
-    tells : (one two : OutlineTree) → is_well_formed_within one ≡ true → is_well_formed_within two ≡ true → stands_for known one ≡ stands_for known two → one ≡ two
-    tells (leaf headers body) (leaf others rest) formed also e =
+    tree-is : (one two : OutlineTree) → is_well_formed_within one ≡ true → is_well_formed_within two ≡ true → stands_for known one ≡ stands_for known two → one ≡ two
+    tree-is (leaf headers body) (leaf others rest) formed also e =
         let same : headers ≡ others =
         same_headers headers others (IsFormed-from (leaf headers body) formed).values (IsFormed-from (leaf others rest) also).values (ap (λ (t : Tree). (root t).headers) e) in
         ap (λ (x : List Header). leaf x body) same ∙ ap (leaf others) (ap (λ (t : Tree). (root t).body) e)
-    tells (leaf headers body) (branch others boundary parts) formed also e =
+    tree-is (leaf headers body) (branch others boundary parts) formed also e =
         absurd (some_parts others boundary parts (branch-formed others boundary parts also).some (ap parts_of e))
-    tells (branch headers boundary parts) (leaf others rest) formed also e =
+    tree-is (branch headers boundary parts) (leaf others rest) formed also e =
         absurd (some_parts headers boundary parts (branch-formed headers boundary parts formed).some (sym (ap parts_of e)))
-    tells (branch headers boundary parts) (branch others limit rest) formed also e =
+    tree-is (branch headers boundary parts) (branch others limit rest) formed also e =
         let one = branch-formed headers boundary parts formed in
         let two = branch-formed others limit rest also in
         let same : headers ≡ others = same_headers headers others one.values two.values (ap (λ (t : Tree). (root t).headers) e) in
@@ -271,24 +271,24 @@ module _ (known : Charsets) where
         subst (λ (hs : List Header). option_map_or (λ h. bytes_eq h.value (boundary_type boundary)) (type_header hs) false ≡ true) same one.names in
         ap (λ (x : List Header). branch x boundary parts) same
         ∙ ap (λ (x : List ℕ). branch others x parts) (same_boundary (type_header others) boundary limit named two.names)
-        ∙ ap (branch others limit) (tell parts rest (and_parts (is_well_formed_here (branch headers boundary parts)) (are_well_formed_within parts) formed).1
+        ∙ ap (branch others limit) (forest-is parts rest (and_parts (is_well_formed_here (branch headers boundary parts)) (are_well_formed_within parts) formed).1
         (and_parts (is_well_formed_here (branch others limit rest)) (are_well_formed_within rest) also).1 (ap parts_of e))
 
-    tell : (one two : OutlineForest) → are_well_formed_within one ≡ true → are_well_formed_within two ≡ true → stand_for known one ≡ stand_for known two → one ≡ two
-    tell no_outlines no_outlines formed also e = refl
-    tell no_outlines (outline_and part parts) formed also e = let f : no_parts ≡ part_and (stands_for known part) (stand_for known parts) = e in absurd (cc)
-    tell (outline_and part parts) no_outlines formed also e = let f : part_and (stands_for known part) (stand_for known parts) ≡ no_parts = e in absurd (cc)
-    tell (outline_and part parts) (outline_and other others) formed also e =
+    forest-is : (one two : OutlineForest) → are_well_formed_within one ≡ true → are_well_formed_within two ≡ true → stand_for known one ≡ stand_for known two → one ≡ two
+    forest-is no_outlines no_outlines formed also e = refl
+    forest-is no_outlines (outline_and part parts) formed also e = let f : no_parts ≡ part_and (stands_for known part) (stand_for known parts) = e in absurd (cc)
+    forest-is (outline_and part parts) no_outlines formed also e = let f : part_and (stands_for known part) (stand_for known parts) ≡ no_parts = e in absurd (cc)
+    forest-is (outline_and part parts) (outline_and other others) formed also e =
         let one = and_parts (is_well_formed_within part) (are_well_formed_within parts) formed in
         let two = and_parts (is_well_formed_within other) (are_well_formed_within others) also in
         let same = same_parts (stands_for known part) (stands_for known other) (stand_for known parts) (stand_for known others) e in
-        ap (λ (x : OutlineTree). outline_and x parts) (tells part other one.0 two.0 same.0) ∙ ap (outline_and other) (tell parts others one.1 two.1 same.1)
+        ap (λ (x : OutlineTree). outline_and x parts) (tree-is part other one.0 two.0 same.0) ∙ ap (outline_and other) (forest-is parts others one.1 two.1 same.1)
 
 -- outlines that are written as the same bytes are one
 pub outlines_are_one : (one two : OutlineTree) → is_well_formed_within one ≡ true → is_well_formed_within two ≡ true → rendered one ≡ rendered two → one ≡ two
 outlines_are_one one two formed also same =
     let n = depth one + depth two in
-    tells four_charsets one two formed also
+    tree-is four_charsets one two formed also
     (unwrap (stands_for four_charsets one) (stands_for four_charsets two)
     (sym (outline_is_read four_charsets n one (inl refl) formed (omega arith)) ∙ ap (read_mail_in four_charsets n) same
     ∙ outline_is_read four_charsets n two (inl refl) also (omega arith)))

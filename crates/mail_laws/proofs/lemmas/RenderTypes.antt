@@ -1,4 +1,4 @@
--- The type of an outline, as it is written, is the type that its first `Content-Type` names.
+-- The type of a written outline is the type that its first `Content-Type` names.
 use Rattle.std.proofs.Common.{◌≡◌, ◌⊎◌, inl, inr, ⊎_elim, ℕ, ◌≤◌, ◌<◌, Bool, true, false, cond, leb, not, ◌&&◌, ◌||◌, List, [], ◌∷◌, find, Option, Some, None, codes, refl, ap, ◌∙◌, arith}
 use Rattle.std.specs.Char.{is_ascii_alphanumeric}
 use Rattle.std.specs.List.{list_all}
@@ -18,7 +18,7 @@ use Rattle.mailparse.specs.Mail.{node_type, dash_boundary_of, is_digest}
 use Rattle.mail_laws.specs.Boundaries.{IsAlphanumeric, boundary_type}
 use Rattle.mail_laws.specs.Render.{dash_boundary, is_key_byte, is_key, has_type_key, type_header, mimetype_of, type_of, written_bytes, written_header, written_headers}
 use Rattle.mail_laws.proofs.lemmas.Boundaries.{boundary_content_type}
-use Rattle.mail_laws.proofs.lemmas.Encode.{each}
+use Rattle.mail_address.proofs.lemmas.Encode.{each}
 use Rattle.mail_laws.proofs.lemmas.RenderHeaders.{key_byte}
 use Rattle.mail_laws.proofs.lemmas.RenderValues.{AreShown}
 

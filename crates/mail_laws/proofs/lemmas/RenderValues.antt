@@ -1,4 +1,4 @@
--- The values of an outline, as they are written: a header can carry each, and each shows its text.
+-- The written values of an outline: a header can carry each, and each shows its text.
 use Rattle.std.proofs.Common.{◌≡◌, ◌⊎◌, inl, inr, ℕ, ◌+◌, Bool, true, false, cond, ◌&&◌, List, [], ◌∷◌, ◌++◌, length, map, refl, sym, ap, subst, ◌∙◌, arith, append_assoc, length-append}
 use Rattle.std.specs.Prelude.{codes}
 use Rattle.std.specs.List.{list_all}
@@ -11,9 +11,9 @@ use Rattle.mail_codec.specs.Places.{first_place, begins, has_prefix}
 use Rattle.mail_codec.proofs.lemmas.Places.{first_place-past}
 use Rattle.mailparse.specs.Header.{Header, ends_header, is_line_end}
 use Rattle.mailparse.specs.Value.{lenient_value_in}
-use Rattle.mail_laws.specs.Encode.{KnowUtf8, encoded_word, is_plain_byte, is_plain_value, word_lines, words_of, written_value}
+use Rattle.mail_address.specs.Encode.{KnowUtf8, encoded_word, is_plain_byte, is_plain_value, word_lines, words_of, written_value}
 use Rattle.mail_laws.specs.Render.{is_key, shown_header, written_bytes, written_headers}
-use Rattle.mail_laws.proofs.lemmas.EncodeRead.{AreTexts, text_words, word_plain, written_reads}
+use Rattle.mail_address.proofs.lemmas.EncodeRead.{AreTexts, text_words, word_plain, written_reads}
 use Rattle.mail_laws.proofs.lemmas.RenderHeaders.{IsValue, AreValues, first_place-over, last_feed, plain_is_value, plain_passed, value_passed}
 
 -- ---- the lines of encoded words
@@ -130,7 +130,7 @@ written_are_shown known (h ∷ headers) able texts =
       written_are_shown known headers (known_others plain others able) both.1,
     )
 
--- headers that show their texts are had again from what is written
+-- headers that show their texts are determined by their written form
 pub headers_again : (known : Charsets) (headers : List Header) → AreShown known headers → map (shown_header known) (written_headers headers) ≡ headers
 headers_again known [] shown = refl
 headers_again known (h ∷ headers) shown =

@@ -1,4 +1,4 @@
--- Lemmas on what a contract sees of an outline, and on what it is written as.
+-- Lemmas on what a contract sees of an outline, and on its written bytes.
 use Rattle.std.proofs.Common.{◌≡◌, ℕ, List, [], ◌∷◌, ◌++◌, map, Result, Ok, Err, OnOk, is_ok, refl, sym, ap, ◌∙◌, append_assoc}
 use Rattle.std.specs.Global.{Vec}
 use Rattle.std.specs.Prelude.{codes, flat_map, if◌then◌else◌}
@@ -13,7 +13,7 @@ use Rattle.mail_laws.specs.declared.render.OutlineKind.TheOpen.{OutlineKind-F}
 use Rattle.mail_laws.specs.declared.render.OutlineKind.TheViews.{out-Outline}
 use Rattle.mail_laws.specs.declared.render.OutlineKind.TheFolds.{fold-OutlineKind, fold-roll-OutlineKind, fold_out-Outline}
 
--- what follows the headers makes an outline of them
+-- the body or the parts make an outline of the headers
 abbrev pub kind_tree : OutlineKind → List Header → OutlineTree
 kind_tree = fold-OutlineKind (List Header → OutlineTree) OutlineTree kind_step outline_step
 
@@ -32,7 +32,7 @@ pub tree_branch : (o : Outline) (boundary : Vec ℕ) (parts : Vec Outline) → o
 tree_branch o boundary parts e =
     tree_out o ∙ ap (λ k. kind_tree k (headers_seen o.headers)) e ∙ kind_tree-Branch boundary parts (headers_seen o.headers)
 
--- ---- what it is written as
+-- ---- its written bytes
 
 -- the lines of headers, one after another
 pub lines_seen : (pairs : List (Vec ℕ × Vec ℕ))
@@ -57,14 +57,10 @@ parts_text boundary (o ∷ parts) =
     ∙ ap (λ x. here ++ x) (parts_text boundary parts)
     ∙ sym (append_assoc here (flat_map (λ (o : Outline). part_text boundary (outline_tree o)) parts) (dash_boundary boundary ++ (codes "--" ++ cr_lf)))
 
--- what is said of a call where it returned a value follows from what it left then
+-- a claim on a successful call follows from what the call left
 pub on_ok : {T E P : Type 0} (r : Result T E) (new whole old : List ℕ) → new ≡ (if is_ok r then whole else old) → (new ≡ whole → P) → OnOk r P
 on_ok (Ok x) new whole old e done = done e
 on_ok (Err x) new whole old e done = _
-
-pub on_ok_then : {T E P Q : Type 0} (r : Result T E) → OnOk r P → (P → Q) → OnOk r Q
-on_ok_then (Ok x) p done = done p
-on_ok_then (Err x) p done = _
 
 -- all headers and the blank line
 pub block_written : (old before new : List ℕ) (pairs : List (Vec ℕ × Vec ℕ)) → before ≡ old ++ flat_map (λ p. header_line (written_header (header_seen p))) pairs → new ≡ before ++ cr_lf

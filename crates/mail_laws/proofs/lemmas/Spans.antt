@@ -1,4 +1,4 @@
--- Lemmas on where the headers of a block, their keys and their values stand.
+-- Lemmas on the ranges of the headers of a block, of their keys and of their values.
 use Rattle.std.proofs.Common.{◌≡◌, ℕ, zero, suc, ◌+◌, ◌-◌, ◌<◌, ◌≤◌, inl, inr, List, ◌++◌, take, drop, slice_range, Ok, refl, sym, ap, ◌∙◌, arith, take-add}
 use Rattle.std.specs.List.{flat_map}
 use Rattle.std.proofs.lemmas.Bool.{cases_lt}
@@ -9,9 +9,9 @@ use Rattle.mailparse.specs.Block.{HeaderList, blank_line, header_place, rest_at,
 use Rattle.mailparse.specs.Ranges.{slice}
 use Rattle.mailparse.proofs.lemmas.Header.{value-in_order}
 use Rattle.mailparse.proofs.lemmas.Block.{rest_at-first, rest_at-more, header_place-more, header_place-first, read_headers-index, read_headers-list, values_below-same}
-use Rattle.mail_laws.specs.Spans.{header_span, header_spans, blank_span, key_range, value_range, header_at, StandBefore}
+use Rattle.mail_laws.specs.Spans.{header_span, header_spans, blank_span, key_range, value_range, header_at, AreOrderedBefore}
 
--- the first headers take the bytes up to where the next one starts
+-- the first headers take the bytes up to the start of the next one
 spans-below : (n : ℕ) (raw : List ℕ) → flat_map (λ (span : List ℕ). span) (values_below n (header_span raw)) ≡ take (header_place raw n) raw
 spans-below zero raw = sym (ap (λ k. take k raw) (header_place-first raw))
 spans-below (suc n) raw =
@@ -30,13 +30,13 @@ spans-cover raw block e =
     ∙ sym (take-add (header_place raw (header_count raw)) (blank_line (rest_at raw (header_count raw))) raw)
     ∙ ap (λ k. take k raw) (sym (read_headers-index raw block e))
 
--- a range of what follows a place is a range of the whole
+-- a range of the bytes after a place is a range of the whole
 slice-after : (raw : List ℕ) (place from to : ℕ) → slice_range (drop place raw) from to ≡ slice_range raw (place + from) (place + to)
 slice-after raw place from to =
     let size : to - from ≡ (place + to) - (place + from) = omega arith in
     ap (take (to - from)) (drop-drop from place raw) ∙ ap (λ n. take n (drop (place + from) raw)) size
 
--- the front of what follows a place is a range of the whole
+-- the front of the bytes after a place is a range of the whole
 front-after : (raw : List ℕ) (place to : ℕ) → take to (drop place raw) ≡ slice_range raw place (place + to)
 front-after raw place to = let size : to ≡ (place + to) - place = omega arith in ap (λ n. take n (drop place raw)) size
 
@@ -58,13 +58,13 @@ place-next : (raw : List ℕ) (j : ℕ) → header_place raw (suc j) ≡ header_
 unfolding header_place
 place-next raw j = refl
 
-pub ranges-in_order : (raw : List ℕ) (j : ℕ) → StandBefore (key_range raw j) (value_range raw j) (header_place raw (suc j))
+pub ranges-in_order : (raw : List ℕ) (j : ℕ) → AreOrderedBefore (key_range raw j) (value_range raw j) (header_place raw (suc j))
 ranges-in_order raw j =
     let order = value-in_order (rest_at raw j) in
     let next = place-next raw j in
     record { first_is_range = omega arith; apart = omega arith; second_is_range = omega arith; ends = omega arith }
 
--- the places go on
+-- the places increase
 place-later : (raw : List ℕ) (j n : ℕ) → j ≤ n → header_place raw j ≤ header_place raw n
 place-later raw j zero low = let e : j ≡ 0 = omega arith in rw e (omega arith)
 place-later raw j (suc n) low = elim (cases_lt n j) [

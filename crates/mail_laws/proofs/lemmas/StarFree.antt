@@ -1,4 +1,4 @@
--- Where no key holds a star, the parameters are the pairs.
+-- If no key contains a star, the parameters are the pairs.
 use Rattle.std.proofs.Common.{◌≡◌, ℕ, true, false, List, [], ◌∷◌, Some, refl, ◌∙◌}
 use Rattle.std.proofs.lemmas.Bool.{cond-false}
 use Rattle.std.proofs.lemmas.List.Elements.{All-head, All-tail}

@@ -3,9 +3,9 @@ use Rattle.std.proofs.Common.{◌≡◌, ℕ, cond, not, ◌||◌, List, [], ◌
 use Rattle.std.proofs.lemmas.List.{map-append}
 use Rattle.mailparse.specs.Tokens.{TokenKind, plain_text, whitespace, line_end, decoded_word}
 use Rattle.mailparse.specs.Value.{Token, is_released, is_held, kinds, newline, shown_after, shown_tokens, shows, whitespace_token}
-use Rattle.mail_laws.specs.WordTokens.{word}
+use Rattle.mail_address.specs.WordTokens.{word}
 
--- what stands after a decoded word releases nothing that stands before it
+-- the tokens after a decoded word release nothing before it
 released-same : (kind : TokenKind) (front a b : List TokenKind) → is_released kind (front ++ decoded_word ∷ a) ≡ is_released kind (front ++ decoded_word ∷ b)
 released-same plain_text [] a b = refl
 released-same whitespace [] a b = refl
@@ -29,7 +29,7 @@ released-same whitespace (line_end ∷ whitespace ∷ front) a b = refl
 released-same whitespace (line_end ∷ line_end ∷ front) a b = refl
 released-same whitespace (line_end ∷ decoded_word ∷ front) a b = refl
 
--- what stood before a decoded word holds nothing after it
+-- the tokens before a decoded word hold nothing after it
 held-same : (e f : Option TokenKind) (kind : TokenKind) → is_held e (Some decoded_word) kind ≡ is_held f (Some decoded_word) kind
 held-same e f plain_text = refl
 held-same e f whitespace = refl
@@ -41,7 +41,7 @@ shown-after_word e f [] = refl
 shown-after_word e f (token ∷ rest) =
     ap (λ held. cond (not held || is_released token.kind (kinds rest)) token.shown [] ++ shown_after (Some decoded_word) (Some token.kind) rest) (held-same e f token.kind)
 
--- so what shows is the same if it is the same from the first word on
+-- so the shown text is the same if it is the same from the first word onwards
 shown-same : (e b : Option TokenKind) (front : List Token) (text : List ℕ) (rest other : List Token)
     → ((f : Option TokenKind) → shown_after f (Some decoded_word) rest ≡ shown_after f (Some decoded_word) other)
     → shown_after e b (front ++ word text ∷ rest) ≡ shown_after e b (front ++ word text ∷ other)

@@ -1,4 +1,4 @@
-//! Days and their seconds.
+//! Days, in seconds.
 ghost use Rattle.std.specs.Prelude.{◌*◌, ◌+◌, ◌-◌, ◌/◌, ◌<◌, ◌≡◌, ◌≤◌, ℕ, slice_index};
 ghost use Rattle.mail_codec.specs.Calendar.{day_number, days_of_years, month_lengths};
 

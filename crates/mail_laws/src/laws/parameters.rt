@@ -1,4 +1,4 @@
-//! The parameters of a value: its segments, its pairs and what they stand for.
+//! The parameters of a value: its segments, its pairs and their meaning.
 ghost use Rattle.std.specs.Prelude.{[], ◌++◌, ◌/◌, ◌==◌, ◌↔◌, ◌∷◌, ◌≡◌, ℕ, Contains, Decides, IsSome, List, codes, false, map, replicate};
 ghost use Rattle.std.specs.Cmp.Lexicographic.{slice_cmp};
 ghost use Rattle.std.specs.List.{list_any};
@@ -22,15 +22,15 @@ ghost use Rattle.mail_laws.specs.Escapes.{staying};
 ghost use Rattle.mail_laws.specs.Percent.{is_percent};
 ghost use Rattle.mail_laws.specs.StarFree.{AreStarFree};
 
-/// Exactly one list of segments fits a text, the one that is computed.
+/// Exactly one list of segments fits a text: the computed one.
 pub fn one_list_of_segments_fits()
     ensures fits { (text : List ℕ) → AreSegments text (segments text) }
     ensures only { (text : List ℕ) (found : List (List ℕ)) → AreSegments text found →
         found ≡ segments text }
 {}
 
-/// Between quotes, a character is removed exactly if it is a backslash at an odd place of its run,
-/// that is, with no backslash or an even number of them directly before it; all others stay, in
+/// Between quotes, a character is removed exactly if it is a backslash at an odd position of its
+/// run, that is, with no backslash or an even number of them directly before it; all others stay, in
 /// order. So n / 2 backslashes, rounded down, stay of a run of n.
 pub fn odd_backslashes_go()
     ensures places { (text : List ℕ) → without_escapes 0 text ≡ staying text }
@@ -44,7 +44,7 @@ pub fn percent_free()
     ensures { (text : List ℕ) → list_any is_percent text ≡ false → percent_decode text ≡ text }
 {}
 
-/// Where no key holds a star, the parameters are the pairs, with the last one of equal keys,
+/// If no key contains a star, the parameters are the pairs, with the last one of equal keys,
 /// whatever charsets are known.
 pub fn pairs_without_stars_are_parameters()
     ensures { (known : Charsets) (pairs : List (List ℕ × List ℕ)) → AreStarFree pairs →
@@ -76,9 +76,9 @@ pub fn charset_source_is_the_greatest()
         charset_source keys name ≡ name }
 {}
 
-/// Whatever charsets are known, something stands only at the names that are looked at for bases:
-/// the keys, and the keys without their last byte.
-pub fn nothing_stands_elsewhere()
+/// Whatever charsets are known, only the possible names have sections: the keys, and the keys
+/// without their last byte.
+pub fn only_possible_names_have_sections()
     ensures { (known : Charsets) (pairs : List (List ℕ × List ℕ)) (name : List ℕ) →
         IsSome (section_at known (last_of pairs) name) →
         Contains (possible_names (map (λ pair. pair.0) pairs)) name }

@@ -1,4 +1,4 @@
-//! What is written: values of any text, and outlines of messages. Both read back.
+//! Written values of any text, and written outlines of messages. Both read back.
 ghost use Rattle.std.specs.Prelude.{◌<◌, ◌≡◌, ◌≤◌, ℕ, Err, List, Ok, map, true};
 ghost use Rattle.std.specs.Str.{IsUtf8};
 ghost use Rattle.mail_codec.specs.Charset.{Charsets, four_charsets};
@@ -7,18 +7,18 @@ ghost use Rattle.mail_codec.specs.declared.charset.tables.SingleByteTable.{Singl
 ghost use Rattle.mailparse.specs.Mail.{Node, nodes, read_mail, read_mail_in};
 ghost use Rattle.mailparse.specs.Refusal.{recursion_limit};
 ghost use Rattle.mailparse.specs.Value.{lenient_value, lenient_value_in};
-ghost use Rattle.mail_laws.specs.Encode.{AreWords, KnowUtf8, words_of, written_value};
+ghost use Rattle.mail_address.specs.Encode.{AreWords, KnowUtf8, words_of, written_value};
 ghost use Rattle.mail_laws.specs.Render.{IsWellFormed, KnowItsWords, OutlineTree, depth, headers_within, is_well_formed_within, rendered, shown_header, stands_for};
 
-/// Exactly one list of words fits the characters of a text, the one that is computed: each word is
-/// not empty, has at most 45 bytes, and would have more with the next character.
+/// Exactly one list of words fits the characters of a text: the computed one. Each word is not
+/// empty, has at most 45 bytes, and would have more with the next character.
 pub fn one_list_of_words_fits()
     ensures fits { (characters : List ℕ) → AreWords characters (words_of characters) }
     ensures only { (characters : List ℕ) (words : List (List ℕ)) → AreWords characters words →
         words ≡ words_of characters }
 {}
 
-/// What any text is written as, as a value, shows the text, whatever tables a caller has.
+/// Any text that is written as a value is shown by that value, whatever tables a caller has.
 pub fn written_values_read_back()
     ensures shown { (text : List ℕ) → IsUtf8 text → lenient_value (written_value text) ≡ text }
     ensures tables { (tables : List SingleByteTable) (text : List ℕ) → IsUtf8 text →
@@ -26,7 +26,7 @@ pub fn written_values_read_back()
 {}
 
 /// Take an outline that is well formed except perhaps for its depth. Under every limit on levels
-/// that is at least its depth, its written form is read as the message that it stands for; under
+/// that is at least its depth, its written form is read as the message that it represents; under
 /// every lower limit, it is refused because of the limit. So a well-formed outline is read back.
 /// The headers show the keys and the texts of the outline. If no value is written as encoded words,
 /// all this holds whatever charsets are known; otherwise it holds for charsets that know UTF-8 by

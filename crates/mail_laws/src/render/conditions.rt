@@ -1,4 +1,4 @@
-//! What a well-formed outline keeps to, one condition a function.
+//! The conditions of a well-formed outline, one for each function.
 ghost use Rattle.std.specs.Prelude.{◌≡◌, ◌&&◌, IfOk, Ok, codes, false, nat_le, not, option_map, true};
 ghost use Rattle.std.specs.Char.{is_ascii_alphanumeric};
 ghost use Rattle.std.specs.List.{list_all};
@@ -7,7 +7,7 @@ ghost use Rattle.std.specs.Str.{bytes_eq, is_utf8, str_eq_ignore_ascii_case};
 ghost use Rattle.mail_codec.specs.Places.{is_empty, has_prefix};
 ghost use Rattle.mailparse.specs.Outcome.{AnswersOrMemory};
 ghost use Rattle.mail_laws.specs.Boundaries.{boundary_type};
-ghost use Rattle.mail_laws.specs.Render.{depth, holds_delimiter, is_key, mimetype_of, type_header};
+ghost use Rattle.mail_laws.specs.Render.{contains_delimiter, depth, is_key, mimetype_of, type_header};
 ghost use Rattle.mail_laws.specs.RenderViews.{headers_seen, outline_tree};
 
 use super::{Outline, OutlineKind};
@@ -16,7 +16,7 @@ use mailparse::{MailParseError, parse_content_type};
 use std::alloc::{AllocError, Global};
 use std::str::from_utf8;
 
-/// Whether each key is one, and each value is UTF-8.
+/// Returns whether each key is a valid key and each value is UTF-8.
 pub(super) fn has_good_headers(headers: &Vec<(Vec<u8>, Vec<u8>)>) -> bool
     ensures { result ≡ (list_all (λ h. is_key h.key) (headers_seen headers.now)
         && list_all (λ h. is_utf8 h.value) (headers_seen headers.now)) }
@@ -24,7 +24,8 @@ pub(super) fn has_good_headers(headers: &Vec<(Vec<u8>, Vec<u8>)>) -> bool
     has_keys(headers) && has_texts(headers)
 }
 
-/// Whether each key is one or more printable bytes of ASCII, without a space and a colon.
+/// Returns whether each key is one or more printable bytes of ASCII other than the space and the
+/// colon.
 fn has_keys(headers: &Vec<(Vec<u8>, Vec<u8>)>) -> bool
     ensures { result ≡ list_all (λ h. is_key h.key) (headers_seen headers.now) }
 {
@@ -36,7 +37,7 @@ fn has_keys(headers: &Vec<(Vec<u8>, Vec<u8>)>) -> bool
     true
 }
 
-/// Whether a key is one or more printable bytes of ASCII, without a space and a colon.
+/// Returns whether a key is one or more printable bytes of ASCII other than the space and the colon.
 fn is_key(key: &[u8]) -> bool
     ensures { result ≡ is_key key.now }
 {
@@ -48,7 +49,7 @@ fn is_key(key: &[u8]) -> bool
     !key.is_empty()
 }
 
-/// Whether each value is UTF-8.
+/// Returns whether each value is UTF-8.
 fn has_texts(headers: &Vec<(Vec<u8>, Vec<u8>)>) -> bool
     ensures { result ≡ list_all (λ h. is_utf8 h.value) (headers_seen headers.now) }
 {
@@ -60,14 +61,14 @@ fn has_texts(headers: &Vec<(Vec<u8>, Vec<u8>)>) -> bool
     true
 }
 
-/// Whether bytes are UTF-8.
+/// Returns whether bytes are UTF-8.
 fn is_text(bytes: &[u8]) -> bool
     ensures { result ≡ is_utf8 bytes.now }
 {
     from_utf8(bytes).is_ok()
 }
 
-/// The value of the first header whose key is `Content-Type`, ignoring ASCII case.
+/// Returns the value of the first header whose key is `Content-Type`, ignoring ASCII case.
 fn type_value<'o>(headers: &'o Vec<(Vec<u8>, Vec<u8>)>) -> Option<&'o [u8]>
     ensures { option_map (λ value. value.now) result
         ≡ option_map (λ h. h.value) (type_header (headers_seen headers.now)) }
@@ -80,14 +81,14 @@ fn type_value<'o>(headers: &'o Vec<(Vec<u8>, Vec<u8>)>) -> Option<&'o [u8]>
     None
 }
 
-/// Whether a key is `Content-Type`, ignoring ASCII case.
+/// Returns whether a key is `Content-Type`, ignoring ASCII case.
 fn is_type_key(key: &[u8]) -> bool
     ensures { result ≡ str_eq_ignore_ascii_case key.now (codes "Content-Type") }
 {
     key.eq_ignore_ascii_case(b"Content-Type")
 }
 
-/// Whether the first `Content-Type` names the boundary, and the boundary is plain.
+/// Returns whether the first `Content-Type` names the boundary, and the boundary is plain.
 pub(super) fn has_boundary(headers: &Vec<(Vec<u8>, Vec<u8>)>, boundary: &[u8]) -> bool
     ensures { result ≡ (option_map_or (λ h. bytes_eq h.value (boundary_type boundary.now))
         (type_header (headers_seen headers.now)) false
@@ -96,7 +97,7 @@ pub(super) fn has_boundary(headers: &Vec<(Vec<u8>, Vec<u8>)>, boundary: &[u8]) -
     names_boundary(headers, boundary) && is_plain_boundary(boundary)
 }
 
-/// Whether the first `Content-Type` is exactly `multipart/mixed; boundary=` and the boundary.
+/// Returns whether the first `Content-Type` is exactly `multipart/mixed; boundary=` and the boundary.
 fn names_boundary(headers: &Vec<(Vec<u8>, Vec<u8>)>, boundary: &[u8]) -> bool
     ensures { result ≡ option_map_or (λ h. bytes_eq h.value (boundary_type boundary.now))
         (type_header (headers_seen headers.now)) false }
@@ -110,7 +111,7 @@ fn names_boundary(headers: &Vec<(Vec<u8>, Vec<u8>)>, boundary: &[u8]) -> bool
     named == boundary
 }
 
-/// Whether a boundary is one or more letters and digits of ASCII.
+/// Returns whether a boundary is one or more letters and digits of ASCII.
 fn is_plain_boundary(boundary: &[u8]) -> bool
     ensures { result ≡ (list_all is_ascii_alphanumeric boundary.now
         && not (is_empty boundary.now)) }
@@ -123,7 +124,7 @@ fn is_plain_boundary(boundary: &[u8]) -> bool
     !boundary.is_empty()
 }
 
-/// Whether the mimetype of the first `Content-Type`, if there is one, does not begin with
+/// Returns whether the mimetype of the first `Content-Type`, if there is one, does not begin with
 /// `multipart`. The values are UTF-8.
 pub(super) fn is_not_multipart(
     alloc: Global,
@@ -144,13 +145,13 @@ pub(super) fn is_not_multipart(
     Ok(!ctype.mimetype.starts_with("multipart"))
 }
 
-/// Whether a dash-boundary stands at the start of the bytes or after a LF in them.
-pub(super) fn holds_delimiter(
+/// Returns whether there is a dash-boundary at the start of the bytes or after a LF.
+pub(super) fn contains_delimiter(
     alloc: Global,
     boundary: &[u8],
     bytes: &[u8],
 ) -> Result<bool, AllocError>
-    ensures { IfOk result (λ answer. answer ≡ holds_delimiter boundary.now bytes.now) }
+    ensures { IfOk result (λ answer. answer ≡ contains_delimiter boundary.now bytes.now) }
 {
     let mut line = Vec::with_capacity(alloc, 3 + boundary.len())?;
     line.extend_from_slice(b"\n--")?;
@@ -158,7 +159,7 @@ pub(super) fn holds_delimiter(
     Ok(bytes.starts_with(&line[1..]) || find(bytes, line.as_slice()).is_some())
 }
 
-/// Whether no outline stands more than so many levels below the whole.
+/// Returns whether no outline is more than `levels` levels below the whole.
 pub(super) fn is_within_levels(outline: &Outline, levels: u8) -> bool
     ensures { result ≡ nat_le (depth (outline_tree outline.now)) levels }
 {

@@ -1,6 +1,6 @@
 use Rattle.std.proofs.Common.{◌≡◌, ◌+◌, true, false, ◌&&◌, not, nat_eq, List, ◌∷◌, map, drop, Ok, ap, sym, ◌∙◌}
 use Rattle.std.proofs.lemmas.List.{drop_more, length-map}
-use Rattle.mail_laws.specs.Render.{holds_delimiter, is_well_formed_within, rendered}
+use Rattle.mail_laws.specs.Render.{contains_delimiter, is_well_formed_within, rendered}
 use Rattle.mail_laws.specs.RenderViews.{headers_seen, outline_tree}
 use Rattle.mail_laws.specs.declared.render.Outline.{Outline}
 use Rattle.mail_laws.proofs.lemmas.RenderViews.{tree_branch}
@@ -52,7 +52,7 @@ returns-then-not-branch-2 t c =
     drop_more items c.loop-part.part-index c.part-item.result c.loop-part-test.true
     ∙ ap (λ (o : Outline). o ∷ drop (c.loop-part.part-index + 1) items) (sym c.part-item.is) in
     let clear =
-    ap (λ bs. not (holds_delimiter bs (rendered part))) (sym c.as_slice-in-loop-part.ensures.value)
+    ap (λ bs. not (contains_delimiter bs (rendered part))) (sym c.as_slice-in-loop-part.ensures.value)
     ∙ ok_bool _ _ c.in_ok-is_clear-in-Branch.ensures ∙ c.if-not-branch.false in
     let fails = ok_bool _ _ c.in_ok-is_well_formed_within-in-Branch.ensures ∙ c.if-not-branch-2.true in
     ap (λ b. Ok b)

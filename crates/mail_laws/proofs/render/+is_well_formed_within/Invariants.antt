@@ -1,4 +1,4 @@
--- The parts that are left decide.
+-- The answer depends on the remaining parts.
 use Rattle.std.proofs.Common.{◌≡◌, drop, map}
 use Rattle.mail_laws.specs.Render.{is_well_formed_within}
 use Rattle.mail_laws.specs.RenderViews.{outline_tree}

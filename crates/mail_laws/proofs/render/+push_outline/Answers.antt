@@ -4,7 +4,8 @@ use Rattle.mail_codec.specs.QuotedPrintable.{cr_lf}
 use Rattle.mail_laws.specs.Render.{dash_boundary, header_block, rendered, written_headers}
 use Rattle.mail_laws.specs.RenderViews.{headers_seen, outline_tree}
 use Rattle.mail_laws.specs.declared.render.Outline.{Outline}
-use Rattle.mail_laws.proofs.lemmas.RenderViews.{on_ok_then, part_text, parts_written, tree_branch}
+use Rattle.mail_address.proofs.lemmas.EncodeCut.{on_ok_then}
+use Rattle.mail_laws.proofs.lemmas.RenderViews.{part_text, parts_written, tree_branch}
 use Rattle.mail_laws.proofs.render.+push_outline.Goals as goal
 
 pub returns-after-loop-part : goal.returns-after-loop-part

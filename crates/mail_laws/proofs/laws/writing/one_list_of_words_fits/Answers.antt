@@ -1,4 +1,4 @@
-use Rattle.mail_laws.proofs.lemmas.Encode.{words_fit, words_only}
+use Rattle.mail_address.proofs.lemmas.Encode.{words_fit, words_only}
 use Rattle.mail_laws.proofs.laws.writing.one_list_of_words_fits.Goals as goal
 
 pub returns : goal.returns

@@ -1,4 +1,4 @@
-use Rattle.mail_laws.proofs.lemmas.EncodeRead.{caller_knows}
+use Rattle.mail_address.proofs.lemmas.EncodeRead.{caller_knows}
 use Rattle.mail_laws.proofs.lemmas.RenderReadings.{outline_is_read, outline_is_refused, outline_is_mail, headers_show, outlines_are_one}
 use Rattle.mail_laws.proofs.laws.writing.outline_reads_back.Goals as goal
 

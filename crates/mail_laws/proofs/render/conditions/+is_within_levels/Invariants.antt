@@ -1,4 +1,4 @@
--- The parts that are left decide.
+-- The answer depends on the remaining parts.
 use Rattle.std.proofs.Common.{◌≡◌, drop, map}
 use Rattle.std.specs.Prelude.{nat_le}
 use Rattle.mail_laws.specs.Render.{depth}

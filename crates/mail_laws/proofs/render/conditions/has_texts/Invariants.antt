@@ -1,4 +1,4 @@
--- The headers that are left decide.
+-- The answer depends on the remaining headers.
 use Rattle.std.proofs.Common.{◌≡◌, drop, map}
 use Rattle.std.specs.List.{list_all}
 use Rattle.std.specs.Str.{is_utf8}

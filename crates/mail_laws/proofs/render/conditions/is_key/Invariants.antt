@@ -1,4 +1,4 @@
--- The bytes that are left decide.
+-- The answer depends on the remaining bytes.
 use Rattle.std.proofs.Common.{◌≡◌, drop}
 use Rattle.std.specs.List.{list_all}
 use Rattle.mail_laws.specs.Render.{is_key_byte}

@@ -1,6 +1,6 @@
 use Rattle.std.proofs.Common.{arith}
 use Rattle.mail_laws.proofs.lemmas.Spans.{headers-at_ranges, ranges-in_order, place-within}
-use Rattle.mail_laws.proofs.laws.headers.keys_and_values_stand_apart.Goals as goal
+use Rattle.mail_laws.proofs.laws.headers.keys_and_values_are_disjoint.Goals as goal
 
 pub returns : goal.returns
 returns c = record {

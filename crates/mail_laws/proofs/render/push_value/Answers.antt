@@ -1,7 +1,7 @@
 use Rattle.std.proofs.Common.{◌++◌, ap, ◌∙◌}
 use Rattle.mail_laws.proofs.lemmas.RenderValues.{bytes_written, text_written}
 use Rattle.mail_laws.proofs.lemmas.RenderViews.{on_ok}
-use Rattle.mail_laws.proofs.render.encode.push_value.Goals as goal
+use Rattle.mail_laws.proofs.render.push_value.Goals as goal
 
 pub returns-in_default : goal.returns-in_default
 returns-in_default c = record {
