@@ -53,12 +53,12 @@ comment-passed (comment_within {inner = inner} {rest = more} one two e) depth re
 -- ---- the tokens
 
 -- enclosed bytes, and then what follows
-pub marked : (first last : ℕ) (inner rest : List ℕ) → (first ∷ (inner ++ last ∷ [])) ++ rest ≡ first ∷ (inner ++ last ∷ rest)
-marked first last inner rest = ap (λ (l : List ℕ). first ∷ l) (append_assoc inner (last ∷ []) rest)
+pub delimited : (first last : ℕ) (inner rest : List ℕ) → (first ∷ (inner ++ last ∷ [])) ++ rest ≡ first ∷ (inner ++ last ∷ rest)
+delimited first last inner rest = ap (λ (l : List ℕ). first ∷ l) (append_assoc inner (last ∷ []) rest)
 
 -- its length
-pub marked-length : (first last : ℕ) (inner : List ℕ) → length (first ∷ (inner ++ last ∷ [])) ≡ length inner + 2
-marked-length first last inner = let len = length-append inner (last ∷ []) in omega arith
+pub delimited-length : (first last : ℕ) (inner : List ℕ) → length (first ∷ (inner ++ last ∷ [])) ≡ length inner + 2
+delimited-length first last inner = let len = length-append inner (last ∷ []) in omega arith
 
 -- the closing delimiter is within the bytes
 closes-within : (place last : ℕ) (inner rest : List ℕ) → place ≡ length inner → nat_lt place (length (inner ++ last ∷ rest)) ≡ true
@@ -90,13 +90,13 @@ literal-is inner rest between =
 -- a run that may have angle brackets may have such a token
 like_angle : (kind : Kind) → is_in BeforeAt kind ≡ true → is_in BeforeColon kind ≡ true → is_in BeforeComma kind ≡ true → is_in BeforeSeparator kind ≡ true → is_in BeforeDelimiter kind ≡ true
     → is_in InGroup kind ≡ true → (span : Span) → is_in span Angle ≡ true → is_in span kind ≡ true
-like_angle kind at colon comma separator mark group BeforeAt h = at
-like_angle kind at colon comma separator mark group BeforeColon h = colon
-like_angle kind at colon comma separator mark group BeforeComma h = comma
-like_angle kind at colon comma separator mark group BeforeSeparator h = separator
-like_angle kind at colon comma separator mark group BeforeDelimiter h = mark
-like_angle kind at colon comma separator mark group InGroup h = group
-like_angle kind at colon comma separator mark group _ h = absurd (false≢true h)
+like_angle kind at colon comma separator delimiter group BeforeAt h = at
+like_angle kind at colon comma separator delimiter group BeforeColon h = colon
+like_angle kind at colon comma separator delimiter group BeforeComma h = comma
+like_angle kind at colon comma separator delimiter group BeforeSeparator h = separator
+like_angle kind at colon comma separator delimiter group BeforeDelimiter h = delimiter
+like_angle kind at colon comma separator delimiter group InGroup h = group
+like_angle kind at colon comma separator delimiter group _ h = absurd (false≢true h)
 
 -- a token of the kinds that are closed
 pub record ClosedToken (kind : Kind) (bytes : List ℕ) : Type 0 where
@@ -110,12 +110,12 @@ closed-by : (kind : Kind) (first last : ℕ) (inner : List ℕ) {bytes : List �
     → bytes ≡ first ∷ (inner ++ last ∷ []) → ((rest : List ℕ) → plain_token (first ∷ (inner ++ last ∷ rest)) ≡ record { kind = kind; len = length inner + 2 }) → ClosedToken kind bytes
 unfolding front_token
 closed-by kind first last inner {bytes} no_opening no_angle passed e is =
-    let len : length bytes ≡ length inner + 2 = ap length e ∙ marked-length first last inner in
+    let len : length bytes ≡ length inner + 2 = ap length e ∙ delimited-length first last inner in
     let plain : (rest : List ℕ) → front_token (first ∷ (inner ++ last ∷ rest)) ≡ plain_token (first ∷ (inner ++ last ∷ rest)) = λ rest. cond-false _ _ _ no_opening in
     record {
-      token = λ rest. ap (λ b. plain_token (b ++ rest)) e ∙ ap plain_token (marked first last inner rest) ∙ is rest ∙ ap (λ n. record { kind = kind; len = n }) (sym len);
+      token = λ rest. ap (λ b. plain_token (b ++ rest)) e ∙ ap plain_token (delimited first last inner rest) ∙ is rest ∙ ap (λ n. record { kind = kind; len = n }) (sym len);
       front = λ rest.
-          ap (λ b. front_token (b ++ rest)) e ∙ ap front_token (marked first last inner rest) ∙ plain rest ∙ is rest
+          ap (λ b. front_token (b ++ rest)) e ∙ ap front_token (delimited first last inner rest) ∙ plain rest ∙ is rest
           ∙ ap (λ n. record { kind = kind; len = n }) (sym len);
       no_angle = no_angle;
       passed = passed;
@@ -193,8 +193,8 @@ single-is_no_angle b opening closing = rw (opening, closing) (go (eqb b 46) (eqb
     go false false false false true = refl
     go false false false false false = refl
 
-not_opener : (b mark : ℕ) → is_opener b ≡ false → is_opener mark ≡ true → eqb b mark ≡ false
-not_opener b mark h opens = ne_eqb b mark (λ e. false≢true (sym h ∙ ap is_opener e ∙ opens))
+not_opener : (b delimiter : ℕ) → is_opener b ≡ false → is_opener delimiter ≡ true → eqb b delimiter ≡ false
+not_opener b delimiter h opens = ne_eqb b delimiter (λ e. false≢true (sym h ∙ ap is_opener e ∙ opens))
 
 -- a byte that opens nothing is a step of its own
 angle-byte : (b : ℕ) (bytes : List ℕ) → is_opener b ≡ false → far angle_step (b ∷ bytes) ≡ suc (far angle_step bytes)
@@ -276,8 +276,8 @@ enclosed-passed span text rest goes (closed shut) =
     let token = (closed-token shut).1 in
     closed-passed span token (token.passed span goes) rest
 enclosed-passed span text rest goes (in_angles {inner = inner} inside e) =
-    let whole : text ++ rest ≡ 60 ∷ (inner ++ 62 ∷ rest) = ap (λ b. b ++ rest) e ∙ marked 60 62 inner rest in
-    let len : length text ≡ length inner + 2 = ap length e ∙ marked-length 60 62 inner in
+    let whole : text ++ rest ≡ 60 ∷ (inner ++ 62 ∷ rest) = ap (λ b. b ++ rest) e ∙ delimited 60 62 inner rest in
+    let len : length text ≡ length inner + 2 = ap length e ∙ delimited-length 60 62 inner in
     run-token span text rest Angle (omega (arith, len)) (ap front_token whole ∙ angle-front inner rest inside ∙ ap (λ n. record { kind = Angle; len = n }) (sym len)) goes
 
 pair-front : (b : ℕ) (rest : List ℕ) → front_token (92 ∷ b ∷ rest) ≡ record { kind = Other; len = 2 }

@@ -19,7 +19,7 @@ use Rattle.mail_address.specs.Names.{IsNameWord, atom_word, quoted_word}
 use Rattle.mail_address.specs.Tokens.{angle_place, angle_token, closes_comment, comment_place, comment_token, depth_after, far, far_within, front_token, is_all_white, is_atom_byte, is_in, is_white, literal_token, plain_token, quoted_token, run, single_kind, step, unquoted_place}
 use Rattle.mail_address.proofs.lemmas.Addresses.{begins-within}
 use Rattle.mail_address.proofs.lemmas.Bounds.{far-over, step-within, token-fits}
-use Rattle.mail_address.proofs.lemmas.Enclosed.{marked, marked-length}
+use Rattle.mail_address.proofs.lemmas.Enclosed.{delimited, delimited-length}
 use Rattle.mail_address.proofs.lemmas.Tokens.{far-more, far-nothing}
 use Rattle.mail_address.proofs.lemmas.Passed.{comma-front, passed-up_to, run-stops, span_of, white-passed}
 
@@ -76,17 +76,18 @@ between-made one other false (b ∷ rest) low =
         let both = or_parts (eqb b one) (eqb b other) e in
         plain_byte (eqb-false b one both.0) (eqb-false b other both.1) (eqb-false b 92 f) (plain (omega (arith, low)))
 
-between-mark : (one other : ℕ) (quoted : Bool) (bytes : List ℕ) → unquoted_place one other quoted bytes < length bytes
+-- a search that ends at the first byte, or else in the rest
+found-or_later : (ends : Bool) (test : ℕ → Bool) (b : ℕ) (rest : List ℕ) {n : ℕ} → (ends ≡ true → test b ≡ true) → (n < length rest → begins test (drop n rest) ≡ true)
+    → cond ends 0 (suc n) < suc (length rest) → begins test (drop (cond ends 0 (suc n)) (b ∷ rest)) ≡ true
+found-or_later true test b rest here later low = here refl
+found-or_later false test b rest here later low = later (omega (arith, low))
+
+between-delimiter : (one other : ℕ) (quoted : Bool) (bytes : List ℕ) → unquoted_place one other quoted bytes < length bytes
     → begins (λ b. eqb b one || eqb b other) (drop (unquoted_place one other quoted bytes) bytes) ≡ true
-between-mark one other quoted [] low = absurd (omega (arith, low))
-between-mark one other quoted (b ∷ rest) low =
-    go (not quoted && (eqb b one || eqb b other)) refl (between-mark one other (not quoted && eqb b 92) rest) low
-  where
-    go : (t : Bool) → (not quoted && (eqb b one || eqb b other)) ≡ t → {n : ℕ}
-        → (n < length rest → begins (λ b. eqb b one || eqb b other) (drop n rest) ≡ true)
-        → cond t 0 (suc n) < suc (length rest) → begins (λ b. eqb b one || eqb b other) (drop (cond t 0 (suc n)) (b ∷ rest)) ≡ true
-    go true e later low = (and_parts (not quoted) (eqb b one || eqb b other) e).1
-    go false e later low = later (omega (arith, low))
+between-delimiter one other quoted [] low = absurd (omega (arith, low))
+between-delimiter one other quoted (b ∷ rest) low =
+    found-or_later (not quoted && (eqb b one || eqb b other)) (λ c. eqb c one || eqb c other) b rest (λ e. (and_parts (not quoted) (eqb b one || eqb b other) e).1)
+    (between-delimiter one other (not quoted && eqb b 92) rest) low
 
 -- ---- comments
 
@@ -102,8 +103,8 @@ closes-front front more (closes_later {inner = inner} {rest = rest} is later e) 
 
 closes-opened : {depth : ℕ} {text : List ℕ} → ClosesTo (suc depth) text → ClosesTo depth (40 ∷ text)
 closes-opened {depth} {text} (closes_later {inner = inner} {rest = rest} is later e) =
-    subst (ClosesTo depth) (marked 40 41 inner rest ∙ ap (λ (t : List ℕ). 40 ∷ t) (sym e))
-    (closes-front (40 ∷ (inner ++ 41 ∷ [])) (λ more commented. comment_within {inner = inner} {rest = more} is commented (marked 40 41 inner more)) later)
+    subst (ClosesTo depth) (delimited 40 41 inner rest ∙ ap (λ (t : List ℕ). 40 ∷ t) (sym e))
+    (closes-front (40 ∷ (inner ++ 41 ∷ [])) (λ more commented. comment_within {inner = inner} {rest = more} is commented (delimited 40 41 inner more)) later)
 
 closes-zero : {text : List ℕ} → ClosesTo zero text → IsCommented text
 closes-zero (closes_here is) = is
@@ -142,15 +143,12 @@ comment-made false depth (b ∷ rest) low =
     go false ec none en false es false eo later low =
         closes-front (b ∷ []) (λ more is. comment_byte (eqb-false b 40 eo) (eqb-false b 41 ec) (eqb-false b 92 es) is) (later false depth (omega (arith, low)))
 
-comment-mark : (quoted : Bool) (depth : ℕ) (bytes : List ℕ) → comment_place quoted depth bytes < length bytes → begins (λ b. eqb b 41) (drop (comment_place quoted depth bytes) bytes) ≡ true
-comment-mark quoted depth [] low = absurd (omega (arith, low))
-comment-mark quoted depth (b ∷ rest) low =
-    go (closes_comment quoted depth b) refl (comment-mark (not quoted && eqb b 92) (depth_after quoted depth b) rest) low
-  where
-    go : (t : Bool) → closes_comment quoted depth b ≡ t → {n : ℕ} → (n < length rest → begins (λ b. eqb b 41) (drop n rest) ≡ true)
-        → cond t 0 (suc n) < suc (length rest) → begins (λ b. eqb b 41) (drop (cond t 0 (suc n)) (b ∷ rest)) ≡ true
-    go true e later low = (and_parts (eqb b 41) (eqb depth 0) (and_parts (not quoted) (eqb b 41 && eqb depth 0) e).1).0
-    go false e later low = later (omega (arith, low))
+comment-delimiter : (quoted : Bool) (depth : ℕ) (bytes : List ℕ) → comment_place quoted depth bytes < length bytes → begins (λ b. eqb b 41) (drop (comment_place quoted depth bytes) bytes) ≡ true
+comment-delimiter quoted depth [] low = absurd (omega (arith, low))
+comment-delimiter quoted depth (b ∷ rest) low =
+    found-or_later (closes_comment quoted depth b) (λ c. eqb c 41) b rest
+    (λ e. (and_parts (eqb b 41) (eqb depth 0) (and_parts (not quoted) (eqb b 41 && eqb depth 0) e).1).0)
+    (comment-delimiter (not quoted && eqb b 92) (depth_after quoted depth b) rest) low
 
 -- ---- tokens
 
@@ -175,26 +173,23 @@ IsMet bytes token = Meets token.kind (take token.len bytes)
 abbrev tok : Kind → ℕ → Token
 tok k n = record { kind = k; len = n }
 
-prefix-white : (bytes : List ℕ) → IsWhite (take (prefix_len is_white bytes) bytes)
-prefix-white [] = white_ends
-prefix-white (b ∷ bytes) = go (is_white b) refl (prefix-white bytes)
+-- a property of the bytes at the front that pass a test
+prefix-has : (P : List ℕ → Type 0) (test : ℕ → Bool) → P [] → ((b : ℕ) (rest : List ℕ) → test b ≡ true → P rest → P (b ∷ rest)) → (bytes : List ℕ)
+    → P (take (prefix_len test bytes) bytes)
+prefix-has P test none more [] = none
+prefix-has P test none more (b ∷ bytes) = go (test b) refl (prefix-has P test none more bytes)
   where
-    go : (t : Bool) → is_white b ≡ t → IsWhite (take (prefix_len is_white bytes) bytes) → IsWhite (take (cond t (1 + prefix_len is_white bytes) 0) (b ∷ bytes))
+    go : (t : Bool) → test b ≡ t → P (take (prefix_len test bytes) bytes) → P (take (cond t (1 + prefix_len test bytes) 0) (b ∷ bytes))
     go true e later =
-        let one : suc (prefix_len is_white bytes) ≡ 1 + prefix_len is_white bytes = omega arith in
-        subst (λ n. IsWhite (take n (b ∷ bytes))) one (white_byte e later)
-    go false e later = white_ends
+        let one : suc (prefix_len test bytes) ≡ 1 + prefix_len test bytes = omega arith in
+        subst (λ n. P (take n (b ∷ bytes))) one (more b (take (prefix_len test bytes) bytes) e later)
+    go false e later = none
+
+prefix-white : (bytes : List ℕ) → IsWhite (take (prefix_len is_white bytes) bytes)
+prefix-white = prefix-has IsWhite is_white white_ends (λ b rest e more. white_byte e more)
 
 prefix-atoms : (bytes : List ℕ) → list_all is_atom_byte (take (prefix_len is_atom_byte bytes) bytes) ≡ true
-prefix-atoms [] = refl
-prefix-atoms (b ∷ bytes) = go (is_atom_byte b) refl (prefix-atoms bytes)
-  where
-    go : (t : Bool) → is_atom_byte b ≡ t → list_all is_atom_byte (take (prefix_len is_atom_byte bytes) bytes) ≡ true
-        → list_all is_atom_byte (take (cond t (1 + prefix_len is_atom_byte bytes) 0) (b ∷ bytes)) ≡ true
-    go true e later =
-        let one : suc (prefix_len is_atom_byte bytes) ≡ 1 + prefix_len is_atom_byte bytes = omega arith in
-        subst (λ n. list_all is_atom_byte (take n (b ∷ bytes)) ≡ true) one (and_from _ _ e later)
-    go false e later = refl
+prefix-atoms = prefix-has (λ text. list_all is_atom_byte text ≡ true) is_atom_byte refl (λ b rest e more. and_from _ _ e more)
 
 comment-meets : (rest : List ℕ) → IsMet (40 ∷ rest) (comment_token rest)
 unfolding comment_token
@@ -202,7 +197,7 @@ comment-meets rest =
     let n : ℕ = comment_place false 0 rest in
     cond_both (nat_lt n (length rest)) (tok Comment (n + 2)) (tok Other (n + 1)) (IsMet (40 ∷ rest))
     (λ e. let low = ltb-true n (length rest) e in
-    white_comment {inner = take n rest} {rest = []} (closes-zero (comment-made false 0 rest low)) white_ends (cut-closed 40 41 n rest (comment-mark false 0 rest low)))
+    white_comment {inner = take n rest} {rest = []} (closes-zero (comment-made false 0 rest low)) white_ends (cut-closed 40 41 n rest (comment-delimiter false 0 rest low)))
     (λ e. tt)
 
 or-same : (t : Bool) → (t || t) ≡ true → t ≡ true
@@ -219,7 +214,7 @@ quoted-meets rest =
     let n : ℕ = unquoted_place 34 34 false rest in
     cond_both (nat_lt n (length rest)) (tok Quoted (n + 2)) (tok Other 1) (IsMet (34 ∷ rest))
     (λ e. let low = ltb-true n (length rest) e in
-    quoted_word {inner = take n rest} (between-made 34 34 false rest low) (cut-closed 34 34 n rest (begins-either 34 (drop n rest) (between-mark 34 34 false rest low))))
+    quoted_word {inner = take n rest} (between-made 34 34 false rest low) (cut-closed 34 34 n rest (begins-either 34 (drop n rest) (between-delimiter 34 34 false rest low))))
     (λ e. tt)
 
 literal-meets : (rest : List ℕ) → IsMet (91 ∷ rest) (literal_token rest)
@@ -468,13 +463,14 @@ word-made words text h =
     let all = eqb-true n (length text) both.1 in
     subst (IsPadded words) (take_all n text (omega (arith, all))) (word_len-made words text (eqb-false n 0 (not-true (eqb n 0) both.0)))
 
+either-made : {P : Type 0} (t u : Bool) → (t ≡ true → P) → (u ≡ true → P) → (t || u) ≡ true → P
+either-made true u one other h = one refl
+either-made false u one other h = other h
+
 domain-made : (text : List ℕ) → is_domain text ≡ true → IsDomain text
 unfolding is_domain
-domain-made text h = go (is_dotted Atoms text) refl h
-  where
-    go : (t : Bool) → is_dotted Atoms text ≡ t → (t || is_word Literals text) ≡ true → IsDomain text
-    go true e h = dotted (dotted-made atoms text e)
-    go false e h = in_brackets (word-made literals text h)
+domain-made text h =
+    either-made (is_dotted Atoms text) (is_word Literals text) (λ e. dotted (dotted-made atoms text e)) (λ e. in_brackets (word-made literals text e)) h
 
 -- ---- phrases
 
@@ -554,24 +550,18 @@ phrase-made text h =
     }
 
 name-made : (text : List ℕ) → (is_all_white text || is_phrase text) ≡ true → IsName text
-name-made text h = go (is_all_white text) refl h
-  where
-    go : (t : Bool) → is_all_white text ≡ t → (t || is_phrase text) ≡ true → IsName text
-    go true e h = no_name (all_white-made text e)
-    go false e h = phrase (phrase-made text h)
+name-made text h = either-made (is_all_white text) (is_phrase text) (λ e. no_name (all_white-made text e)) (λ e. phrase (phrase-made text e)) h
 
 -- ---- routes
 
 stop-made : (text : List ℕ) → is_stop text ≡ true → IsStop text
 unfolding is_stop after_white
-stop-made text h = go (is_all_white text) refl h
-  where
-    go : (t : Bool) → is_all_white text ≡ t → (t || (begins (λ b. eqb b 64) (drop (run White text) text) && is_domain (drop 1 (drop (run White text) text)))) ≡ true → IsStop text
-    go true e h = no_stop (all_white-made text e)
-    go false e h =
-        let both = and_parts (begins (λ b. eqb b 64) (drop (run White text) text)) (is_domain (drop 1 (drop (run White text) text))) h in
-        stop {white = take (run White text) text} {domain = drop 1 (drop (run White text) text)} (white-made text) (domain-made (drop 1 (drop (run White text) text)) both.1)
-        (sym (take-append-drop (run White text) text) ∙ ap (λ r. take (run White text) text ++ r) (begins-cut 64 (drop (run White text) text) both.0))
+stop-made text h =
+    let rest : List ℕ = drop (run White text) text in
+    either-made (is_all_white text) (begins (λ b. eqb b 64) rest && is_domain (drop 1 rest)) (λ e. no_stop (all_white-made text e))
+    (λ e. let both = and_parts (begins (λ b. eqb b 64) rest) (is_domain (drop 1 rest)) e in
+    stop {white = take (run White text) text} {domain = drop 1 rest} (white-made text) (domain-made (drop 1 rest) both.1)
+    (sym (take-append-drop (run White text) text) ∙ ap (λ r. take (run White text) text ++ r) (begins-cut 64 rest both.0))) h
 
 comma-meets : (kind : Kind) (text : List ℕ) → is_in BeforeComma kind ≡ false → Meets kind text → begins (λ b. eqb b 44) text ≡ true
 comma-meets Comma text h m = ap (begins (λ b. eqb b 44)) m
@@ -602,21 +592,21 @@ stops-more bytes k some later = by (cases_lt (run BeforeComma bytes) (length byt
         subst AreStops (sym (sym (take-add (stop_len bytes) k bytes) ∙ take_all (stop_len bytes + k) bytes (omega (arith, len, high))))
         (last_stop (subst IsStop (take_all (run BeforeComma bytes) bytes high) (stop-made (take (run BeforeComma bytes) bytes) is.0)))
 
-at-not_behind : (white rest : List ℕ) → IsWhite white → run White rest ≡ 0 → begins (λ b. eqb b 64) rest ≡ false → begins (λ b. eqb b 64) (after_white (white ++ rest)) ≡ false
+at-not_after : (white rest : List ℕ) → IsWhite white → run White rest ≡ 0 → begins (λ b. eqb b 64) rest ≡ false → begins (λ b. eqb b 64) (after_white (white ++ rest)) ≡ false
 unfolding after_white
-at-not_behind white rest is none other =
+at-not_after white rest is none other =
     ap (begins (λ b. eqb b 64)) (drop_at white rest (run White (white ++ rest)) (sym (passed-up_to White white rest (white-passed White refl refl is) none))) ∙ other
 
 route-from : {bytes : List ℕ} → AreStops bytes → begins (λ b. eqb b 64) (after_white bytes) ≡ true → IsRoute bytes
 route-from (last_stop (stop {white = white} {domain = domain} is_white is_domain e)) at = one_stop {white = white} {domain = domain} is_white is_domain e
 route-from {bytes} (last_stop (no_stop is)) at =
-    absurd (false≢true (sym (ap (λ b. begins (λ c. eqb c 64) (after_white b)) (sym (append-nil bytes)) ∙ at-not_behind bytes [] is (far-nothing (step White)) refl) ∙ at))
+    absurd (false≢true (sym (ap (λ b. begins (λ c. eqb c 64) (after_white b)) (sym (append-nil bytes)) ∙ at-not_after bytes [] is (far-nothing (step White)) refl) ∙ at))
 route-from (next_stop {first = first} {rest = rest} (stop {white = white} {domain = domain} is_white is_domain cut) more e) at =
     more_stops {white = white} {domain = domain} {rest = rest} is_white is_domain more
     (e ∙ ap (λ f. f ++ 44 ∷ rest) cut ∙ append_assoc white (64 ∷ domain) (44 ∷ rest))
 route-from {bytes} (next_stop {first = first} {rest = rest} (no_stop is) more e) at =
     absurd (false≢true (sym (ap (λ b. begins (λ c. eqb c 64) (after_white b)) e
-    ∙ at-not_behind first (44 ∷ rest) is (run-stops White (44 ∷ rest) 1 Comma (comma-front rest) refl) refl) ∙ at))
+    ∙ at-not_after first (44 ∷ rest) is (run-stops White (44 ∷ rest) 1 Comma (comma-front rest) refl) refl) ∙ at))
 
 route-made : (text : List ℕ) → is_route text ≡ true → IsRoute text
 unfolding is_route
@@ -691,7 +681,7 @@ angle-made _ text h m = absurd (false≢true h)
 
 within-made : (inner text : List ℕ) → text ≡ 60 ∷ (inner ++ 62 ∷ []) → within_ends text ≡ inner
 within-made inner text e =
-    let len = marked-length 60 62 inner in
+    let len = delimited-length 60 62 inner in
     ap within_ends e ∙ take_at inner (62 ∷ []) (length (60 ∷ (inner ++ 62 ∷ [])) - 2) (omega (arith, len))
 
 named-made : (name rest : List ℕ) (m : Parts) → is_enclosed (front_token rest).kind ≡ true → named_mailbox name rest ≡ Some m → IsMailbox (name ++ rest) m
@@ -711,7 +701,7 @@ named-made name rest m angle h = go ((is_all_white name || is_phrase name) && is
         let routed = after_route-made inner in
         let whole : inner ≡ routed.may_be_route ++ (spec.local ++ 64 ∷ spec.domain) = routed.cut ∙ ap (λ r. routed.may_be_route ++ r) spec.cut in
         let cut : rest ≡ 60 ∷ (inner ++ 62 ∷ drop (front_token rest).len rest) =
-        sym (take-append-drop (front_token rest).len rest) ∙ ap (λ b. b ++ drop (front_token rest).len rest) is_angle.1 ∙ marked 60 62 inner (drop (front_token rest).len rest) in
+        sym (take-append-drop (front_token rest).len rest) ∙ ap (λ b. b ++ drop (front_token rest).len rest) is_angle.1 ∙ delimited 60 62 inner (drop (front_token rest).len rest) in
         subst (IsMailbox (name ++ rest)) spec.same
         (named_address {name = name} {may_be_route = routed.may_be_route} {local = spec.local} {domain = spec.domain} {after = drop (front_token rest).len rest} (name-made name both.0) routed.is spec.is_local spec.domain_is
         (all_white-made (drop (front_token rest).len rest) both.1)

@@ -14,7 +14,7 @@ use Rattle.mail_address.specs.Grammar.{address, AreDotted, AreDotWords, AreStops
 use Rattle.mail_address.specs.Mailbox.{after_route, after_white, dot_word_len, is_domain, is_dotted, is_phrase, is_route, is_stop, is_word, mailbox_of, named_mailbox, Parts, spec_mailbox, stop_len, within_ends, word_len}
 use Rattle.mail_address.specs.Names.{atom_word, quoted_word}
 use Rattle.mail_address.specs.Tokens.{far, front_token, is_all_white, is_atom_byte, is_in, run, step}
-use Rattle.mail_address.proofs.lemmas.Enclosed.{angle-front, ClosedToken, far-token, literal-closed, marked, marked-length, quoted-closed, step-token}
+use Rattle.mail_address.proofs.lemmas.Enclosed.{angle-front, ClosedToken, far-token, literal-closed, delimited, delimited-length, quoted-closed, step-token}
 use Rattle.mail_address.proofs.lemmas.Passed.{IsPassed, at_domain-passed, at-front, at-passed, atom_byte-front, colon-front, comma-front, comma-passed, dot-front, dotted-passed, name-passed, over-atoms, over-literals, over-words, passed-append, passed-up_to, passed-whole, phrase-passed, route-passed, route-stops, run-stops, span_of, spec-angles, stop-passed, white-passed, white-whole}
 use Rattle.mail_address.proofs.lemmas.Tokens.{atom_byte-visible, far-nothing}
 
@@ -324,13 +324,13 @@ module _ (name inner after : List ℕ) (is_name : IsName name) (inside : IsInAng
 
   within : (n : ℕ) → n ≡ length inner + 2 → within_ends (take n bracket) ≡ inner
   within n is =
-      let len = marked-length 60 62 inner in
-      ap within_ends (ap (take n) (sym (marked 60 62 inner after)) ∙ take_at (60 ∷ (inner ++ 62 ∷ [])) after n (len ∙ sym is))
+      let len = delimited-length 60 62 inner in
+      ap within_ends (ap (take n) (sym (delimited 60 62 inner after)) ∙ take_at (60 ∷ (inner ++ 62 ∷ [])) after n (len ∙ sym is))
       ∙ take_at inner (62 ∷ []) (length (60 ∷ (inner ++ 62 ∷ [])) - 2) (omega (arith, len))
 
   later : (n : ℕ) → n ≡ length inner + 2 → drop n bracket ≡ after
   later n is =
-      ap (drop n) (sym (marked 60 62 inner after)) ∙ drop_at (60 ∷ (inner ++ 62 ∷ [])) after n (marked-length 60 62 inner ∙ sym is)
+      ap (drop n) (sym (delimited 60 62 inner after)) ∙ drop_at (60 ∷ (inner ++ 62 ∷ [])) after n (delimited-length 60 62 inner ∙ sym is)
 
   named-read : named_mailbox name bracket ≡ spec_mailbox name (after_route inner)
   unfolding named_mailbox

@@ -64,15 +64,15 @@ after_group_made place (b ∷ rest) es later = go (is_separator b) refl later
 
 -- after these bytes come a separator and the rest
 pub record Ended (bytes : List ℕ) (n : ℕ) : Type 0 where
-  pub mark : ℕ
-  pub separates : is_separator mark ≡ true
-  pub cut : drop n bytes ≡ mark ∷ drop (suc n) bytes
+  pub separator : ℕ
+  pub separates : is_separator separator ≡ true
+  pub cut : drop n bytes ≡ separator ∷ drop (suc n) bytes
 
 ended : (bytes : List ℕ) (n : ℕ) → begins is_separator (drop n bytes) ≡ true → Ended bytes n
 ended [] zero none = absurd (false≢true none)
 ended [] (suc n) none = absurd (false≢true none)
-ended (b ∷ bytes) zero sep = record { mark = b; separates = sep; cut = refl }
-ended (b ∷ bytes) (suc n) sep = let later = ended bytes n sep in record { mark = later.mark; separates = later.separates; cut = later.cut }
+ended (b ∷ bytes) zero sep = record { separator = b; separates = sep; cut = refl }
+ended (b ∷ bytes) (suc n) sep = let later = ended bytes n sep in record { separator = later.separator; separates = later.separates; cut = later.cut }
 
 single_len : (bytes : List ℕ) → is_group bytes ≡ false → element_len bytes ≡ min (suc (run BeforeSeparator bytes)) (length bytes)
 unfolding element_len
@@ -110,16 +110,16 @@ single_made place bytes es alone later none w is = by_end (cases_lt (run BeforeS
         after : MakeUp (place + suc (run BeforeSeparator bytes)) (drop (suc (run BeforeSeparator bytes)) bytes) es
         after = subst (λ k. MakeUp (place + k) (drop k bytes) es) short later
 
-        cut : bytes ≡ front bytes ++ end.mark ∷ drop (suc (run BeforeSeparator bytes)) bytes
+        cut : bytes ≡ front bytes ++ end.separator ∷ drop (suc (run BeforeSeparator bytes)) bytes
         cut = whole ∙ ap (λ r. front bytes ++ r) end.cut
 
         go : (w : Bool) → is_all_white (front bytes) ≡ w → MakeUp place bytes (map single (cond w [] (here place bytes ∷ [])) ++ es)
         go true is =
-            after_separator place (front bytes) (drop (suc (run BeforeSeparator bytes)) bytes) bytes end.mark is end.separates cut
+            after_separator place (front bytes) (drop (suc (run BeforeSeparator bytes)) bytes) bytes end.separator is end.separates cut
             (subst (λ k. MakeUp (place + suc k) (drop (suc (run BeforeSeparator bytes)) bytes) es) (sym len) after)
         go false is =
-            element_first (single (here place bytes)) (end.mark ∷ drop (suc (run BeforeSeparator bytes)) bytes) bytes es end.separates
-            (after_separator (place + length (front bytes)) [] (drop (suc (run BeforeSeparator bytes)) bytes) (end.mark ∷ drop (suc (run BeforeSeparator bytes)) bytes) end.mark (white-whole white_ends)
+            element_first (single (here place bytes)) (end.separator ∷ drop (suc (run BeforeSeparator bytes)) bytes) bytes es end.separates
+            (after_separator (place + length (front bytes)) [] (drop (suc (run BeforeSeparator bytes)) bytes) (end.separator ∷ drop (suc (run BeforeSeparator bytes)) bytes) end.separator (white-whole white_ends)
             end.separates refl (subst (λ p. MakeUp p (drop (suc (run BeforeSeparator bytes)) bytes) es) (omega (arith, len)) after))
             cut
 

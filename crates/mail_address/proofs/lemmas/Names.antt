@@ -17,7 +17,7 @@ use Rattle.mail_address.specs.Text.{escaped_byte, front_len, front_meaning, mean
 use Rattle.mail_address.specs.Tokens.{front_token, is_all_white, is_in, run, step}
 use Rattle.mail_address.specs.Grammar.{any_word, any_words, atoms, IsPhrase, IsPhraseRest, IsWhite, literals, phrase, phrase_ends, phrase_white, phrase_word, white_byte, white_ends}
 use Rattle.mail_address.proofs.lemmas.Addresses.{element_len-some, items-more, member_len-some}
-use Rattle.mail_address.proofs.lemmas.Enclosed.{enclosed-passed, marked-length, quoted-closed}
+use Rattle.mail_address.proofs.lemmas.Enclosed.{enclosed-passed, delimited-length, quoted-closed}
 use Rattle.mail_address.proofs.lemmas.Tokens.{far-stop, far-nothing}
 use Rattle.mail_address.proofs.lemmas.Passed.{comma-front, GoesOver, IsPassed, over-atoms, over-literals, over-words, passed-append, passed-up_to, phrase-passed, run-stops, white-whole}
 use Rattle.mail_address.proofs.lemmas.GrammarRead.{bracket-read, word-front}
@@ -288,7 +288,7 @@ quoted-token text rest = (quoted-closed (escaped-between text) refl).front rest
 quoted-within : (text : List ℕ) → within_ends (quoted_text text) ≡ flat_map escaped_byte text
 unfolding quoted_text
 quoted-within text =
-    let len = marked-length 34 34 (flat_map escaped_byte text) in
+    let len = delimited-length 34 34 (flat_map escaped_byte text) in
     take_at (flat_map escaped_byte text) (34 ∷ []) (length (quoted_text text) - 2) (omega (arith, len))
 
 -- the text of the quoted string

@@ -11,7 +11,7 @@ use Rattle.mail_address.specs.Enclosed.{IsClosed, IsInAngles, angles_end, angles
 use Rattle.mail_address.specs.Grammar.{AreDotted, AreDotWords, AreStops, atom, any_word, any_words, atoms, dot_word, dots_end, dotted, in_brackets, IsDomain, IsName, IsPadded, IsPhrase, IsPhraseRest, IsRoute, IsStop, IsWhite, IsWord, last_stop, literal, literals, MayBeRoute, more_stops, next_stop, no_name, no_route, no_stop, one_stop, phrase, phrase_dot, phrase_ends, phrase_white, phrase_word, route, stop, white_byte, white_comment, white_ends, Words}
 use Rattle.mail_address.specs.Names.{IsNameWord, atom_word, quoted_word}
 use Rattle.mail_address.specs.Tokens.{front_token, is_all_white, is_atom_byte, is_in, is_white, run, single_kind, step}
-use Rattle.mail_address.proofs.lemmas.Enclosed.{closed-passed, comment-closed, far-run, literal-closed, marked, quoted-closed, run-token, step-token}
+use Rattle.mail_address.proofs.lemmas.Enclosed.{closed-passed, comment-closed, far-run, literal-closed, delimited, quoted-closed, run-token, step-token}
 use Rattle.mail_address.proofs.lemmas.Tokens.{atom_byte-visible, byte-other, far-nothing, far-stop, no_atom_bytes}
 
 -- ---- texts within a run
@@ -101,7 +101,7 @@ white-passed span blank comment (white_byte {b = b} {rest = more} h white) rest 
     let here = white_byte-passed span b (more ++ rest) blank h in
     omega (arith, here, later)
 white-passed span blank comment {bytes} (white_comment {inner = inner} {rest = more} commented white e) rest =
-    passed-same span (e ∙ sym (marked 40 41 inner more))
+    passed-same span (e ∙ sym (delimited 40 41 inner more))
     (passed-append span (40 ∷ (inner ++ 41 ∷ [])) more (closed-passed span (comment-closed commented refl) comment) (white-passed span blank comment white)) rest
 
 atoms-passed : (span : Span) → is_in span Atom ≡ true → (bytes : List ℕ) → list_all is_atom_byte bytes ≡ true → IsPassed span bytes
@@ -254,7 +254,7 @@ white-angles : {bytes : List ℕ} → IsWhite bytes → IsInAngles bytes
 white-angles white_ends = angles_end
 white-angles (white_byte {b = b} h white) = angles_byte (white_byte-angles b h) (white-angles white)
 white-angles (white_comment {inner = inner} {rest = rest} commented white e) =
-    angles_closed {closed = 40 ∷ (inner ++ 41 ∷ [])} {rest = rest} (in_comment commented refl) (white-angles white) (e ∙ sym (marked 40 41 inner rest))
+    angles_closed {closed = 40 ∷ (inner ++ 41 ∷ [])} {rest = rest} (in_comment commented refl) (white-angles white) (e ∙ sym (delimited 40 41 inner rest))
 
 atoms-angles : (bytes : List ℕ) → list_all is_atom_byte bytes ≡ true → IsInAngles bytes
 atoms-angles [] h = angles_end

@@ -27,7 +27,7 @@ use Rattle.mail_address.specs.Text.{address_bytes, phrase_text}
 use Rattle.mail_address.specs.Tokens.{front_token, is_all_white, is_in, run}
 use Rattle.mail_address.specs.Writer.{are_writable, AreTexts, element_shows, element_shown_for, HasTexts, HaveTexts, is_element_writable, is_writable, joined, mailbox_shown_for, seen_group, seen_single, single_shows, written_address, written_element, written_list, written_local, written_mailbox, written_name, written_phrase}
 use Rattle.mail_address.proofs.lemmas.Addresses.{element_len-some, items-more}
-use Rattle.mail_address.proofs.lemmas.Enclosed.{enclosed-passed, marked}
+use Rattle.mail_address.proofs.lemmas.Enclosed.{enclosed-passed, delimited}
 use Rattle.mail_address.proofs.lemmas.GrammarMade.{all_white-made}
 use Rattle.mail_address.proofs.lemmas.GrammarRead.{mailbox-read, phrase-read}
 use Rattle.mail_address.proofs.lemmas.Names.{no_items, Crosses, IsEnd, at_comma, at_end, crosses-group, crosses-delimiter, end-stops, member-first, single-first}
@@ -47,7 +47,7 @@ mailbox-passed {span} over (address {local = local} {domain = domain} is_local i
     (passed-append span local (64 ∷ domain) (dotted-passed over.over_words is_local) (at_domain-passed over.over_atoms over.over_literals (at-passed span over.at) [] domain white_ends is_domain))
 mailbox-passed {span} over (named_address {name = name} {may_be_route = may_be_route} {local = local} {domain = domain} {after = after} is_name is_route is_local is_domain is_white e) =
     let inner : List ℕ = may_be_route ++ (local ++ 64 ∷ domain) in
-    passed-same span (e ∙ ap (λ b. name ++ b) (sym (marked 60 62 inner after)))
+    passed-same span (e ∙ ap (λ b. name ++ b) (sym (delimited 60 62 inner after)))
     (passed-append span name (bracketed inner ++ after) (name-passed over.over_words is_name)
     (passed-append span (bracketed inner) after (angle-passed span over.angle is_route is_local is_domain) (over.over_words.white is_white)))
 
