@@ -20,7 +20,8 @@
 #include <stdlib.h>
 #include <string.h>
 
-/* How many bytes mail_vectors asks for at the start of a row. */
+/* The size of the buffer that mail_vectors allocates at the start of a row, and of no other: ANSWER_SIZE in
+ * crates/mail_vectors/src/notation.rt. */
 #define ANSWER_SIZE 48611
 
 extern void *__libc_malloc(size_t size);

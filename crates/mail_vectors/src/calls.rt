@@ -3,6 +3,7 @@
 mod addresses;
 mod bodies;
 mod charsets;
+mod debug;
 mod encoded_values;
 mod encodings;
 mod errors;
@@ -29,8 +30,8 @@ mod values;
 use crate::notation::{Answer, Row};
 use std::alloc::Global;
 
-/// Makes the call that a row names, and writes what it returns. Each topic makes its own calls, and
-/// says whether it knows the one that is asked for.
+/// Makes the call that a row names, and writes its result. Each topic makes its own calls, and
+/// returns whether it has this one.
 pub fn make(alloc: Global, row: &Row, answer: &mut Answer) -> bool {
     make_of_the_port(alloc, row, answer) || make_above_the_port(alloc, row, answer)
 }
@@ -65,4 +66,5 @@ fn make_above_the_port(alloc: Global, row: &Row, answer: &mut Answer) -> bool {
         || lenient::make(alloc, row, answer)
         || texts::make(alloc, row, answer)
         || addresses::make(alloc, row, answer)
+        || debug::make(alloc, row, answer)
 }

@@ -1,10 +1,10 @@
-//! Replays the suite: each row of the files that are named is a call with its inputs and what it
-//! has to return. The rows that differ are printed, with what the call returned.
+//! Replays the suite: each row of the given files is a call with its inputs and its expected result.
+//! The rows that differ are printed, with what the call returned.
 //!
-//! With the word `again` among the names, a row for which memory ran out is tried again, as long as
-//! that may help: whoever refuses memory now and then sees that each call says so, and that it
-//! returns the same afterwards. The last lines on standard error say how often that was, and how
-//! many rows passed.
+//! With `again` among the arguments, a row that runs out of memory is tried again while that may
+//! help. So a run under failing allocations shows that each call reports them, and that it returns
+//! the same afterwards. The last lines on standard error report how often that was, and how many
+//! rows passed.
 #![tactic(auto)]
 
 mod calls;
@@ -21,11 +21,11 @@ const TIMES: u32 = 100_000;
 fn main(rt: HostRuntime) -> anyhow::Result<ExitCode> {
     let mut tally = Tally::new(rt.alloc());
     let mut times = 0;
-    for word in env::args(&rt)?.skip(1) {
-        if word.as_str() == "again" {
+    for argument in env::args(&rt)?.skip(1) {
+        if argument.as_str() == "again" {
             times = TIMES;
         } else {
-            let suite = fs::read_to_string(&rt, word.as_str())?;
+            let suite = fs::read_to_string(&rt, argument.as_str())?;
             tally.replay(rt.alloc(), suite.as_str(), times)?;
         }
     }

@@ -1,26 +1,28 @@
-//! The notation of the suite: a row is read into a call, its inputs and the wanted answer, and what
-//! a call returns is written in the same notation. `data/README.md` describes it.
+//! The notation of the suite: a row is read into a call, its inputs and the expected answer, and the
+//! result of a call is written in the same notation. `data/README.md` describes it.
 
 use mailparse::MailParseError;
 use std::alloc::{AllocError, Global};
 use std::borrow::CowStr;
 use std::cell::Cell;
+use std::fmt::Debug;
 use std::str::from_utf8;
 
 /// A row that does not follow the notation, or whose inputs are not those of its call.
 pub const FORM: MailParseError = MailParseError::Generic(NOT_A_ROW);
 
-/// What such a row is refused with.
+/// The message of the refusal of such a row.
 const NOT_A_ROW: &str = "not a row of the suite";
 
-/// How much room an answer has from the start, so that writing it takes no memory of its own.
-/// A tool that refuses memory knows the start of a row by this size.
-const ROOM: usize = 48_611;
+/// The capacity of a new answer, so that writing it allocates nothing more. Nothing else allocates a
+/// buffer of this size, so `tools/refuse.c`, which has the same constant, recognizes the start of a
+/// row by it.
+const ANSWER_SIZE: usize = 48_611;
 
 /// An input, or an item of an answer.
 #[derive(Drop)]
 struct Item {
-    /// A text in quotes, and no word.
+    /// Whether it is a text in quotes, and not a word.
     is_text: bool,
     bytes: Vec<u8>,
 }
@@ -28,22 +30,22 @@ struct Item {
 /// A row of the suite.
 #[derive(Drop)]
 pub struct Row {
-    /// The name, empty where the row has none.
+    /// The name, or empty if the row has none.
     pub name: String,
     /// The call that is made.
     pub call: String,
     inputs: Vec<Item>,
-    /// What the call has to return.
+    /// The expected result of the call.
     pub wanted: Answer,
-    /// Whether the call must not take memory.
+    /// Whether the call must not allocate.
     pub is_free: bool,
-    /// Whether an error is to show its Debug, and that of what it wraps.
+    /// Whether an error is shown by its Debug text and that of its source.
     is_debug: bool,
-    /// Whether a call asked for an input that is not there, or is not what the call takes.
+    /// Whether a call asked for an input that is missing or of another kind.
     is_malformed: Cell<bool>,
 }
 
-/// The part of a row that is read.
+/// The part of a row that is being read.
 #[derive(Clone, Copy, PartialEq, Eq)]
 enum Part {
     Inputs,
@@ -52,8 +54,8 @@ enum Part {
 }
 
 impl Row {
-    /// Reads `NAME: CALL INPUT.. => ITEM.. ! MARK..`, where the name and the marks may be left out,
-    /// and `refusal` may stand before the call.
+    /// Reads `NAME: CALL INPUT.. => ITEM.. ! MARK..`, where the name and the marks are optional, and
+    /// `refusal` may come before the call.
     pub fn read(alloc: Global, text: &str) -> Result<Row, MailParseError> {
         let (name, rest) = name_and_rest(text);
         let is_debug = rest.starts_with("refusal ");
@@ -79,7 +81,7 @@ impl Row {
         self.want(items.list.as_slice())
     }
 
-    /// Makes these items the wanted answer.
+    /// Makes these items the expected answer.
     fn want(&mut self, items: &[Item]) -> Result<(), MailParseError> {
         for item in items {
             self.wanted.item(item);
@@ -87,10 +89,10 @@ impl Row {
         self.wanted.outcome()
     }
 
-    /// The bytes of an input.
+    /// Returns the bytes of an input.
     ///
-    /// This call and the next ones return something empty where the row has no such input; `fits`
-    /// says so afterwards, once for all inputs.
+    /// This call and the next ones return an empty value if the row has no such input; `fits` reports
+    /// that afterwards, once for all inputs.
     pub fn bytes(&self, at: usize) -> &[u8] {
         match self.inputs.get(at) {
             Some(item) => item.bytes.as_slice(),
@@ -101,7 +103,7 @@ impl Row {
         }
     }
 
-    /// The text of an input.
+    /// Returns the text of an input.
     pub fn text(&self, at: usize) -> &str {
         match from_utf8(self.bytes(at)) {
             Ok(text) => text,
@@ -112,7 +114,7 @@ impl Row {
         }
     }
 
-    /// The text of an input, or nothing where the word `none` stands.
+    /// Returns the text of an input, or `None` for the word `none`.
     pub fn optional_text(&self, at: usize) -> Option<&str> {
         match self.inputs.get(at) {
             Some(item) if !item.is_text && item.bytes.as_slice() == b"none".as_slice() => None,
@@ -120,7 +122,7 @@ impl Row {
         }
     }
 
-    /// The number that an input writes.
+    /// Returns the number of an input.
     pub fn number(&self, at: usize) -> usize {
         match self.text(at).parse::<usize>() {
             Ok(number) => number,
@@ -131,7 +133,7 @@ impl Row {
         }
     }
 
-    /// The number of levels that an input writes.
+    /// Returns the number of levels of an input.
     pub fn levels(&self, at: usize) -> u8 {
         match u8::try_from(self.number(at)) {
             Ok(levels) => levels,
@@ -142,23 +144,23 @@ impl Row {
         }
     }
 
-    /// How many inputs there are.
+    /// Returns how many inputs there are.
     pub fn count(&self) -> usize {
         self.inputs.len()
     }
 
-    /// Says that the inputs are not those of the call.
+    /// Records that the inputs are not those of the call.
     pub fn reject(&self) {
         self.is_malformed.set(true);
     }
 
-    /// Whether the inputs that were asked for are those of the call.
+    /// Returns whether the inputs that were asked for are those of the call.
     pub fn fits(&self) -> bool {
         !self.is_malformed.get()
     }
 }
 
-/// The name of a row, which ends in a colon before the first quote, and what follows it.
+/// Returns the name of a row, which ends in a colon before the first quote, and the rest.
 fn name_and_rest(text: &str) -> (&str, &str) {
     match text.split_once(": ") {
         Some((name, rest)) if !name.contains('"') && !name.contains('\'') => (name, rest),
@@ -166,14 +168,14 @@ fn name_and_rest(text: &str) -> (&str, &str) {
     }
 }
 
-/// Items, as far as they are read.
+/// The items that are read so far.
 #[derive(Drop)]
 struct Items {
     part: Part,
     list: Vec<Item>,
-    /// The last quoted text as it stands alone, which may be repeated.
+    /// The last quoted text by itself, which may be repeated.
     last: Vec<u8>,
-    /// Whether a `+` stands last.
+    /// Whether the last word is a `+`.
     is_joined: bool,
 }
 
@@ -203,7 +205,7 @@ impl Items {
         }
     }
 
-    /// Takes the text or word at the front of a text, and returns what follows it.
+    /// Takes the text or word at the front of a text, and returns the rest.
     fn take<'t>(
         &mut self,
         alloc: Global,
@@ -223,7 +225,7 @@ impl Items {
         Ok(rest)
     }
 
-    /// Takes a quoted text, which a `+` joins to the one before.
+    /// Takes a quoted text, which a `+` appends to the one before.
     fn take_text(&mut self, alloc: Global, raw: &str) -> Result<(), MailParseError> {
         self.last.clear();
         push_decoded(&mut self.last, raw)?;
@@ -261,7 +263,7 @@ impl Items {
         Ok(())
     }
 
-    /// Takes a word that is an item, or says how often the last quoted text stands.
+    /// Takes a word that is an item, or a `*COUNT` that repeats the last quoted text.
     fn take_item(&mut self, alloc: Global, word: &str) -> Result<(), MailParseError> {
         if let Some(count) = word.strip_prefix('*') {
             let Ok(count) = count.parse::<usize>() else {
@@ -273,7 +275,7 @@ impl Items {
         self.add(false, bytes)
     }
 
-    /// Adds the last quoted text to the last item so many times.
+    /// Appends the last quoted text to the last item `times` times.
     fn append(&mut self, times: usize) -> Result<(), MailParseError> {
         let Some(item) = self.list.last_mut() else {
             return Err(FORM);
@@ -285,7 +287,7 @@ impl Items {
     }
 }
 
-/// Adds the bytes that a quoted text stands for.
+/// Appends the bytes that a quoted text denotes.
 fn push_decoded(bytes: &mut Vec<u8>, raw: &str) -> Result<(), MailParseError> {
     // The first piece is plain, and so is one after an escaped backslash.
     let mut is_plain = true;
@@ -303,7 +305,7 @@ fn push_decoded(bytes: &mut Vec<u8>, raw: &str) -> Result<(), MailParseError> {
     Ok(())
 }
 
-/// Adds what follows a backslash.
+/// Appends the bytes of an escape and of the text after it.
 fn push_escape(bytes: &mut Vec<u8>, piece: &str) -> Result<(), MailParseError> {
     let Some((letter, rest)) = piece.split_at_checked(1) else {
         return Err(FORM);
@@ -320,13 +322,13 @@ fn push_escape(bytes: &mut Vec<u8>, piece: &str) -> Result<(), MailParseError> {
     push_both(bytes, byte, rest)
 }
 
-/// Adds a byte and what follows it.
+/// Appends a byte and the text after it.
 fn push_both(bytes: &mut Vec<u8>, byte: u8, rest: &str) -> Result<(), MailParseError> {
     bytes.push(byte)?;
     Ok(bytes.extend_from_slice(rest.as_bytes())?)
 }
 
-/// Adds the byte that two hexadecimal digits write, and what follows them.
+/// Appends the byte of two hexadecimal digits, and the text after them.
 fn push_byte(bytes: &mut Vec<u8>, text: &str) -> Result<(), MailParseError> {
     let Some((digits, rest)) = text.split_at_checked(2) else {
         return Err(FORM);
@@ -337,7 +339,7 @@ fn push_byte(bytes: &mut Vec<u8>, text: &str) -> Result<(), MailParseError> {
     }
 }
 
-/// Adds the UTF-8 of the character whose number stands in braces, and what follows them.
+/// Appends the UTF-8 of the character whose number is in braces, and the text after them.
 fn push_char(bytes: &mut Vec<u8>, text: &str) -> Result<(), MailParseError> {
     let Some((digits, rest)) = text.split_once('}') else {
         return Err(FORM);
@@ -347,39 +349,39 @@ fn push_char(bytes: &mut Vec<u8>, text: &str) -> Result<(), MailParseError> {
     let Some(character) = char::from_u32(number) else {
         return Err(FORM);
     };
-    let mut room = [0; 4];
-    bytes.extend_from_slice(character.encode_utf8(&mut room).as_bytes())?;
+    let mut buffer = [0; 4];
+    bytes.extend_from_slice(character.encode_utf8(&mut buffer).as_bytes())?;
     Ok(bytes.extend_from_slice(rest.as_bytes())?)
 }
 
-/// What a call returned, item by item: a word as it is, and a text with its length before it, so that
-/// no two lists of items look the same.
+/// The result of a call, item by item: a word as it is, and a text with its length before it, so no
+/// two lists of items look the same.
 ///
-/// No call of it fails: an answer remembers that memory ran out, and `outcome` says so once. So a call
-/// is written down in straight lines, without a way out after each item, which is shorter and much
-/// cheaper to prove.
+/// None of its calls fails: an answer records that memory ran out, and `outcome` reports that once.
+/// So results are written in straight-line code without an early return after each item, which is
+/// shorter and much cheaper to prove.
 #[derive(Drop)]
 pub struct Answer {
     written: Vec<u8>,
-    /// Whether errors show their Debug.
+    /// Whether errors are shown by their Debug text.
     is_debug: bool,
     /// Whether memory ran out, in a call or while the answer was written.
     has_run_out: bool,
-    /// Whether the row is none of the suite.
+    /// Whether the row is not one of the suite.
     is_malformed: bool,
     alloc: Global,
 }
 
 impl Answer {
-    /// An answer without items, which shows errors as a row wants them.
+    /// Returns an answer without items, which shows errors as a row asks for.
     pub fn new(alloc: Global, row: &Row) -> Result<Answer, AllocError> {
         let mut answer = Answer::empty(alloc);
-        answer.written = Vec::with_capacity(alloc, ROOM)?;
+        answer.written = Vec::with_capacity(alloc, ANSWER_SIZE)?;
         answer.is_debug = row.is_debug;
         Ok(answer)
     }
 
-    /// An answer without items that has no room yet.
+    /// Returns an answer without items and without a buffer.
     fn empty(alloc: Global) -> Answer {
         Answer {
             written: Vec::new(alloc),
@@ -390,7 +392,8 @@ impl Answer {
         }
     }
 
-    /// Whether the answer is whole: the error says that memory ran out, or that the row is none.
+    /// Returns whether the answer is complete: the error is that memory ran out, or that the row is
+    /// malformed.
     pub fn outcome(&self) -> Result<(), MailParseError> {
         if self.has_run_out {
             Err(MailParseError::Memory(AllocError))
@@ -401,47 +404,45 @@ impl Answer {
         }
     }
 
-    /// The answer, if it is whole.
+    /// Returns the answer, if it is complete.
     pub fn whole(self) -> Result<Answer, MailParseError> {
-        match self.outcome() {
-            Ok(()) => Ok(self),
-            Err(error) => Err(error),
-        }
+        self.outcome()?;
+        Ok(self)
     }
 
-    /// Says that the row is none of the suite.
+    /// Records that the row is not one of the suite.
     pub fn reject(&mut self) {
         self.is_malformed = true;
     }
 
-    /// The answer as it is written.
+    /// Returns the answer as it is written.
     pub fn as_bytes(&self) -> &[u8] {
         self.written.as_slice()
     }
 
-    /// How many bytes are written.
+    /// Returns how many bytes are written.
     pub fn len(&self) -> usize {
         self.written.len()
     }
 
-    /// Whether what is written from one place up to another is written again at a third one.
+    /// Returns whether the bytes written at `from..to` are written again from `again` onwards.
     pub fn repeats(&self, from: usize, to: usize, again: usize) -> bool {
         self.written.get(from..to) == self.written.get(again..)
     }
 
-    /// Takes away what is written from a place on.
+    /// Removes what is written from `from` onwards.
     pub fn cut(&mut self, from: usize) {
         self.written.truncate(from);
     }
 
-    /// Adds bytes as they are.
+    /// Appends bytes as they are.
     fn push(&mut self, bytes: &[u8]) {
         if self.written.extend_from_slice(bytes).is_err() {
             self.has_run_out = true;
         }
     }
 
-    /// Adds an item of a row.
+    /// Appends an item of a row.
     fn item(&mut self, item: &Item) {
         if item.is_text {
             self.bytes(item.bytes.as_slice());
@@ -451,13 +452,13 @@ impl Answer {
         }
     }
 
-    /// Adds a word.
+    /// Appends a word.
     pub fn word(&mut self, word: &str) {
         self.push(word.as_bytes());
         self.push(b" ");
     }
 
-    /// Adds bytes, or a text as its UTF-8.
+    /// Appends bytes, or a text as its UTF-8.
     pub fn bytes(&mut self, bytes: &[u8]) {
         self.digits(bytes.len() as u64);
         self.push(b":\"");
@@ -465,19 +466,19 @@ impl Answer {
         self.push(b"\" ");
     }
 
-    /// Adds a text.
+    /// Appends a text.
     pub fn text(&mut self, text: &str) {
         self.bytes(text.as_bytes());
     }
 
-    /// Adds texts.
+    /// Appends texts.
     pub fn texts(&mut self, texts: &[String]) {
         for text in texts {
             self.text(text.as_str());
         }
     }
 
-    /// Adds a text, or the word `none`.
+    /// Appends a text, or the word `none`.
     pub fn optional_text(&mut self, text: Option<&str>) {
         match text {
             Some(text) => self.text(text),
@@ -485,19 +486,19 @@ impl Answer {
         }
     }
 
-    /// Adds a number.
+    /// Appends a number.
     pub fn number(&mut self, number: usize) {
         self.digits(number as u64);
         self.push(b" ");
     }
 
-    /// Adds a number with a minus sign.
+    /// Appends a number with a minus sign.
     pub fn negative(&mut self, number: usize) {
         self.push(b"-");
         self.number(number);
     }
 
-    /// Adds a number, or the word `none`.
+    /// Appends a number, or the word `none`.
     pub fn optional_number(&mut self, number: Option<usize>) {
         match number {
             Some(number) => self.number(number),
@@ -505,7 +506,7 @@ impl Answer {
         }
     }
 
-    /// Adds a number that may be negative.
+    /// Appends a number that may be negative.
     pub fn signed(&mut self, number: i64) {
         if number < 0 {
             self.push(b"-");
@@ -514,13 +515,13 @@ impl Answer {
         self.push(b" ");
     }
 
-    /// Writes a number in decimal.
+    /// Appends a number in decimal.
     fn digits(&mut self, number: u64) {
         let mut digits = [0; 20];
         let mut rest = number;
         let mut front = digits.len();
-        for place in digits.iter_mut().rev() {
-            *place = b'0' + (rest % 10) as u8;
+        for digit in digits.iter_mut().rev() {
+            *digit = b'0' + (rest % 10) as u8;
             rest /= 10;
             front = front.saturating_sub(1);
             if rest == 0 {
@@ -530,12 +531,12 @@ impl Answer {
         self.push(digits.get(front..).unwrap_or(&digits));
     }
 
-    /// Adds `true` or `false`.
-    pub fn truth(&mut self, holds: bool) {
-        self.word(if holds { "true" } else { "false" });
+    /// Appends `true` or `false`.
+    pub fn truth(&mut self, is_true: bool) {
+        self.word(if is_true { "true" } else { "false" });
     }
 
-    /// Adds a text that is made, unless memory ran out.
+    /// Appends an allocated text, unless memory ran out.
     pub fn made(&mut self, text: Result<String, AllocError>) {
         match text {
             Ok(text) => self.text(text.as_str()),
@@ -543,7 +544,7 @@ impl Answer {
         }
     }
 
-    /// Adds bytes that are made, unless memory ran out.
+    /// Appends allocated bytes, unless memory ran out.
     pub fn made_bytes(&mut self, bytes: Result<Vec<u8>, AllocError>) {
         match bytes {
             Ok(bytes) => self.bytes(bytes.as_slice()),
@@ -551,7 +552,7 @@ impl Answer {
         }
     }
 
-    /// Adds a text, and whether it is borrowed.
+    /// Appends a text, after whether it is borrowed.
     pub fn cow(&mut self, text: &CowStr<'_>) {
         self.word(match text {
             CowStr::Borrowed(_) => "borrowed",
@@ -560,7 +561,7 @@ impl Answer {
         self.text(text.as_str());
     }
 
-    /// Adds a text that is made, and whether it is borrowed, unless memory ran out.
+    /// Appends a text, after whether it is borrowed, unless memory ran out.
     pub fn made_cow(&mut self, text: Result<CowStr<'_>, AllocError>) {
         match text {
             Ok(text) => self.cow(&text),
@@ -568,7 +569,7 @@ impl Answer {
         }
     }
 
-    /// Adds the text that a call returned, or its refusal.
+    /// Appends the text that a call returned, or its refusal.
     pub fn text_or_refusal(&mut self, outcome: Result<String, MailParseError>) {
         match outcome {
             Ok(text) => self.text(text.as_str()),
@@ -576,7 +577,7 @@ impl Answer {
         }
     }
 
-    /// Adds the bytes that a call returned, or its refusal.
+    /// Appends the bytes that a call returned, or its refusal.
     pub fn bytes_or_refusal(&mut self, outcome: Result<Vec<u8>, MailParseError>) {
         match outcome {
             Ok(bytes) => self.bytes(bytes.as_slice()),
@@ -584,7 +585,7 @@ impl Answer {
         }
     }
 
-    /// Adds the texts that a call returned, or its refusal.
+    /// Appends the texts that a call returned, or its refusal.
     pub fn texts_or_refusal(&mut self, outcome: Result<Vec<String>, MailParseError>) {
         match outcome {
             Ok(texts) => self.texts(texts.as_slice()),
@@ -592,7 +593,7 @@ impl Answer {
         }
     }
 
-    /// Adds the text that a call returned, the word `none`, or its refusal.
+    /// Appends the text that a call returned, the word `none`, or its refusal.
     pub fn optional_or_refusal(&mut self, outcome: Result<Option<String>, MailParseError>) {
         match outcome {
             Ok(text) => self.optional_text(text.as_deref()),
@@ -600,7 +601,7 @@ impl Answer {
         }
     }
 
-    /// Adds the number that a call returned, or its refusal.
+    /// Appends the number that a call returned, or its refusal.
     pub fn number_or_refusal(&mut self, outcome: Result<usize, MailParseError>) {
         match outcome {
             Ok(number) => self.number(number),
@@ -608,20 +609,20 @@ impl Answer {
         }
     }
 
-    /// Adds the refusal of a call, if it refused.
+    /// Appends the refusal of a call, if it refused.
     pub fn end(&mut self, outcome: Result<(), MailParseError>) {
         if let Err(error) = outcome {
             self.refusal(error);
         }
     }
 
-    /// Adds `error` and the text of a refusal, or its Debug and source where the row asks for them.
-    /// That memory ran out is none, nor is `FORM`.
+    /// Appends `error` and the text of a refusal, or its Debug text and source if the row asks for
+    /// them. Running out of memory is not a refusal, and neither is `FORM`.
     pub fn refusal(&mut self, error: MailParseError) {
         match &error {
             MailParseError::Memory(_) => self.has_run_out = true,
             MailParseError::Generic(NOT_A_ROW) => self.is_malformed = true,
-            _ if self.is_debug => self.debug(&error),
+            _ if self.is_debug => self.debug_and_source(&error),
             MailParseError::Generic(text) => self.error(text),
             _ => {
                 self.word("error");
@@ -630,16 +631,29 @@ impl Answer {
         }
     }
 
-    /// Adds the Debug text of an error, and that of the fault that it wraps, or the word `none`.
-    pub fn debug(&mut self, error: &MailParseError) {
-        self.made(format!(in self.alloc; "{error:?}"));
+    /// Appends the Debug text of a value.
+    pub fn debug<T: Debug>(&mut self, value: &T) {
+        self.made(format!(in self.alloc; "{value:?}"));
+    }
+
+    /// Appends the Debug text of the value that a call returned, or its refusal.
+    pub fn debug_or_refusal<T: Debug>(&mut self, outcome: Result<T, MailParseError>) {
+        match outcome {
+            Ok(value) => self.debug(&value),
+            Err(error) => self.refusal(error),
+        }
+    }
+
+    /// Appends the Debug text of an error, and that of its source, or the word `none`.
+    pub fn debug_and_source(&mut self, error: &MailParseError) {
+        self.debug(error);
         match error.source() {
-            Some(source) => self.made(format!(in self.alloc; "{source:?}")),
+            Some(source) => self.debug(&source),
             None => self.word("none"),
         }
     }
 
-    /// Adds `error` and a text.
+    /// Appends `error` and a text.
     pub fn error(&mut self, text: &str) {
         self.word("error");
         self.text(text);

@@ -5,10 +5,10 @@ use crate::notation::{Answer, Row};
 use mailparse::MailParseError;
 use std::alloc::{AllocError, Global};
 
-/// What came of a replay.
+/// The results of a replay.
 #[derive(Drop)]
 pub struct Tally {
-    /// How many rows returned what they want.
+    /// How many rows returned the expected result.
     pub passed: u64,
     /// How many did not.
     pub failed: u64,
@@ -16,13 +16,13 @@ pub struct Tally {
     pub refused: u64,
     /// The rows that failed, with what was returned.
     pub differences: String,
-    /// The group that the rows belong to, and how many of its rows came so far.
+    /// The group of the current row, and how many of its rows were read so far.
     group: String,
     number: u64,
 }
 
 impl Tally {
-    /// A replay without rows.
+    /// Returns a replay without rows.
     pub fn new(alloc: Global) -> Tally {
         Tally {
             passed: 0,
@@ -34,8 +34,9 @@ impl Tally {
         }
     }
 
-    /// Replays the rows of a file. A row begins where a line does not begin with a space, and goes on
-    /// over the lines that do. A row for which memory ran out is tried again, so often at most.
+    /// Replays the rows of a file. A row begins at a line that does not begin with a space, and
+    /// continues with the lines that do. A row that runs out of memory is tried again, at most
+    /// `times` times.
     pub fn replay(&mut self, alloc: Global, suite: &str, times: u32) -> Result<(), AllocError> {
         let mut row = String::new(alloc);
         for line in suite.lines() {
@@ -71,8 +72,8 @@ impl Tally {
         }
     }
 
-    /// Makes the call of a row, again so often at most where memory ran out. A call that must not
-    /// take memory is made once.
+    /// Makes the call of a row, and again at most `times` times if memory runs out. A call that must
+    /// not allocate is made once.
     fn make_call(&mut self, alloc: Global, row: &Row, times: u32) -> Result<(), AllocError> {
         for _turn in 0..times {
             if self.has_returned(alloc, row)? {
@@ -116,7 +117,7 @@ impl Tally {
         }
     }
 
-    /// Counts a row whose call returned this.
+    /// Counts a row whose call returned this result.
     fn compare(&mut self, alloc: Global, row: &Row, found: &[u8]) -> Result<(), AllocError> {
         let wanted = row.wanted.as_bytes();
         if found == wanted {
@@ -128,7 +129,7 @@ impl Tally {
         self.fail(row.name.as_str(), what.as_str())
     }
 
-    /// Counts a row that failed, and says how.
+    /// Counts a row that failed, and records how.
     fn fail(&mut self, name: &str, what: &str) -> Result<(), AllocError> {
         self.failed = self.failed.saturating_add(1);
         let (group, number) = (self.group.as_str(), self.number);
@@ -139,7 +140,8 @@ impl Tally {
     }
 }
 
-/// What the call of a row returns, unless memory ran out or there is no such call with such inputs.
+/// Returns the result of a row's call, unless memory runs out or there is no such call with such
+/// inputs.
 fn returned(alloc: Global, row: &Row) -> Result<Answer, MailParseError> {
     let mut answer = Answer::new(alloc, row)?;
     if !calls::make(alloc, row, &mut answer) || !row.fits() {

@@ -8,7 +8,7 @@
 //! sender_of MAIL => mailbox NAME ADDRESS | none
 //! write_mailboxes [NAME LOCAL DOMAIN].. => BYTES
 //! write_group NAME [NAME LOCAL DOMAIN].. => BYTES
-//! read_written [NAME LOCAL DOMAIN].. => ITEM..     what `write_mailboxes` writes, read
+//! read_written [NAME LOCAL DOMAIN].. => ITEM..     the elements of what `write_mailboxes` writes
 //! ```
 
 use crate::calls::tables::all_tables;
@@ -119,14 +119,18 @@ fn write_mailbox<K: KnownCharsets>(
     answer.made(mailbox.get_address(alloc));
 }
 
-/// Writes what is no address.
+/// Writes an element that is not an address.
 fn write_unknown(text: &[u8], answer: &mut Answer) {
     answer.word("unknown");
     answer.bytes(text);
 }
 
-/// The mailboxes that the inputs name from one on, by three inputs each.
-fn new_mailboxes(alloc: Global, row: &Row, from: usize) -> Result<Vec<NewMailbox<'_>>, AllocError> {
+/// Returns the mailboxes of the inputs from `from` onwards, three inputs each.
+pub fn new_mailboxes(
+    alloc: Global,
+    row: &Row,
+    from: usize,
+) -> Result<Vec<NewMailbox<'_>>, AllocError> {
     let mut mailboxes = Vec::new(alloc);
     for number in 0..row.count().saturating_sub(from) / 3 {
         let at = number.saturating_mul(3).saturating_add(from);
@@ -139,7 +143,7 @@ fn new_mailboxes(alloc: Global, row: &Row, from: usize) -> Result<Vec<NewMailbox
     Ok(mailboxes)
 }
 
-/// The elements of a list of these mailboxes.
+/// Returns the mailboxes of the inputs as elements of a list.
 fn new_addresses(alloc: Global, row: &Row) -> Result<Vec<NewAddress<'_>>, AllocError> {
     let mut list = Vec::new(alloc);
     for mailbox in &new_mailboxes(alloc, row, 0)? {
@@ -148,7 +152,7 @@ fn new_addresses(alloc: Global, row: &Row) -> Result<Vec<NewAddress<'_>>, AllocE
     Ok(list)
 }
 
-/// What a list of mailboxes is written as.
+/// Returns the written list of the mailboxes of the inputs.
 fn written(alloc: Global, row: &Row) -> Result<Vec<u8>, WriteError> {
     let list = new_addresses(alloc, row)?;
     write_addresses(alloc, list.as_slice())
@@ -169,7 +173,7 @@ fn write_group_of(alloc: Global, row: &Row, answer: &mut Answer) -> Result<(), M
     write_value(write_addresses(alloc, &[NewAddress::Group(group)]), answer)
 }
 
-/// Writes the elements of a list of mailboxes that was written.
+/// Writes the elements of the written list of mailboxes.
 fn read_written(alloc: Global, row: &Row, answer: &mut Answer) -> Result<(), MailParseError> {
     match written(alloc, row) {
         Ok(value) => {
@@ -183,7 +187,7 @@ fn read_written(alloc: Global, row: &Row, answer: &mut Answer) -> Result<(), Mai
     }
 }
 
-/// Writes a value that was made, or why it was not.
+/// Writes a value, or why it was not written.
 fn write_value(
     outcome: Result<Vec<u8>, WriteError>,
     answer: &mut Answer,

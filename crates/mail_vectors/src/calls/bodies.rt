@@ -1,8 +1,8 @@
 //! Bodies.
 //!
 //! - `body ENCODING LABEL BYTES => BODY`: ENCODING is the transfer encoding or `none`, LABEL that of
-//!   the charset. BODY is the kind of the body, its bytes as they stand, what they stand for, and
-//!   the text of that; each of the last two may be a refusal.
+//!   the charset. BODY is the kind of the body, its raw bytes, its decoded bytes and their text;
+//!   each of the last two may be a refusal.
 
 use crate::notation::{Answer, Row};
 use mailparse::body::Body;
@@ -22,7 +22,7 @@ pub fn make(alloc: Global, row: &Row, answer: &mut Answer) -> bool {
     true
 }
 
-/// What headers say of a body.
+/// The transfer encoding and the type of a body.
 #[derive(Drop)]
 pub struct Label {
     encoding: Option<String>,
@@ -30,7 +30,7 @@ pub struct Label {
 }
 
 impl Label {
-    /// The encoding and the charset that two inputs from a place on write.
+    /// Returns the encoding and the charset in two inputs from `at` onwards.
     pub fn of(alloc: Global, row: &Row, at: usize) -> Result<Label, MailParseError> {
         let encoding = match row.optional_text(at) {
             Some(text) => Some(String::from_str(alloc, text)?),
@@ -44,7 +44,7 @@ impl Label {
         Ok(Label { encoding, ctype })
     }
 
-    /// The body with these bytes.
+    /// Returns the body with these bytes.
     pub fn body<'b>(&'b self, raw: &'b [u8]) -> Body<'b> {
         Body::new(raw, &self.ctype, &self.encoding)
     }
@@ -65,7 +65,7 @@ fn decoded(alloc: Global, body: &Body<'_>) -> Result<Vec<u8>, MailParseError> {
     Ok(body.decoded(alloc)?.into_owned(alloc)?)
 }
 
-/// Writes the kind of a body, and its bytes as they stand.
+/// Writes the kind of a body and its raw bytes.
 pub fn push_raw(answer: &mut Answer, body: &Body<'_>) {
     answer.word(match body {
         Body::Base64(_) => "base64",

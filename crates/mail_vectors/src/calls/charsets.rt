@@ -1,11 +1,11 @@
-//! The charsets. LABEL is a label of a charset; where no charset has it, `none` comes out.
+//! The charsets. LABEL is a label of a charset; if no charset has it, the answer is `none`.
 //!
 //! ```text
 //! charset_for_label LABEL.. => utf-8 | windows-1252 | utf-16be | utf-16le | none ..
 //! decode LABEL BYTES => TEXT                       after a look for a byte order mark
 //! decode_without_bom_handling LABEL BYTES => TEXT
 //! utf_16 BIG LITTLE => TEXT                        the same units in either order of bytes, read by
-//!                                                  both calls: each text that is not as the last
+//!                                                  both calls: each text that differs from the first
 //! decode_latin1 BYTES => borrowed | owned TEXT
 //! decode_ascii BYTES => borrowed | owned TEXT
 //! ```
@@ -27,7 +27,7 @@ pub fn make(alloc: Global, row: &Row, answer: &mut Answer) -> bool {
     true
 }
 
-/// The charset of each label.
+/// Writes the charset of each label.
 fn find_charsets(row: &Row, answer: &mut Answer) {
     for at in 0..row.count() {
         answer.word(match Charset::for_label(row.bytes(at)) {
@@ -40,7 +40,7 @@ fn find_charsets(row: &Row, answer: &mut Answer) {
     }
 }
 
-/// The text of bytes under a label.
+/// Writes the text of bytes under a label.
 fn decode(alloc: Global, row: &Row, answer: &mut Answer) {
     let Some(charset) = Charset::for_label(row.bytes(0)) else {
         return answer.word("none");
@@ -51,7 +51,7 @@ fn decode(alloc: Global, row: &Row, answer: &mut Answer) {
     });
 }
 
-/// The texts of units in both orders of bytes.
+/// Writes the texts of units in both orders of bytes.
 fn decode_units(alloc: Global, row: &Row, answer: &mut Answer) {
     let (big, little) = (row.bytes(0), row.bytes(1));
     answer.made(Charset::Utf16Be.decode(alloc, big));
@@ -69,7 +69,7 @@ fn decode_units(alloc: Global, row: &Row, answer: &mut Answer) {
     );
 }
 
-/// Adds a text unless it is the first one, which ends at this place.
+/// Appends a text unless it equals the first one, which ends at `end`.
 fn push_other(answer: &mut Answer, end: usize, text: Result<String, AllocError>) {
     let start = answer.len();
     answer.made(text);

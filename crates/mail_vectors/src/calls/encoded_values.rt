@@ -8,7 +8,7 @@ use std::alloc::Global;
 /// Makes the call of a row, if it is one of these.
 pub fn make(alloc: Global, row: &Row, answer: &mut Answer) -> bool {
     match row.call.as_str() {
-        "encode_value" => answer.text_or_refusal(encode_value(alloc, row.text(0))),
+        "encode_value" => answer.made(encode_value(alloc, row.text(0))),
         "read_encoded" => answer.text_or_refusal(read_back(alloc, row.text(0))),
         "read_encoded_characters" => answer.number_or_refusal(count_characters(alloc, row)),
         "read_encoded_lengths" => answer.number_or_refusal(count_lengths(alloc, row)),
@@ -17,8 +17,8 @@ pub fn make(alloc: Global, row: &Row, answer: &mut Answer) -> bool {
     true
 }
 
-/// `read_encoded TEXT => TEXT`: what `get_value` returns of a header with the value that a text is
-/// written as.
+/// `read_encoded TEXT => TEXT`: what `get_value` returns for a header with the written value of a
+/// text.
 fn read_back(alloc: Global, text: &str) -> Result<String, MailParseError> {
     let written = encode_value(alloc, text)?;
     let header = format!(in alloc; "Subject: {written}")?;
@@ -26,8 +26,8 @@ fn read_back(alloc: Global, text: &str) -> Result<String, MailParseError> {
     header.get_value(alloc)
 }
 
-/// `read_encoded_characters FRONT FIRST LAST => COUNT`: how many of the characters with a number
-/// from FIRST to LAST read back, each after a front.
+/// `read_encoded_characters FRONT FIRST LAST => COUNT`: how many of the characters from FIRST to
+/// LAST, by their numbers, read back, each after FRONT.
 fn count_characters(alloc: Global, row: &Row) -> Result<usize, MailParseError> {
     let mut count: usize = 0;
     for number in row.number(1)..=row.number(2) {
@@ -39,14 +39,13 @@ fn count_characters(alloc: Global, row: &Row) -> Result<usize, MailParseError> {
     Ok(count)
 }
 
-/// 1 where a text reads back, otherwise 0.
+/// Returns 1 if a text reads back, otherwise 0.
 fn reads_back(alloc: Global, text: &str) -> Result<usize, MailParseError> {
     let read = read_back(alloc, text)?;
     Ok(usize::from(read.as_str() == text))
 }
 
-/// `read_encoded_lengths PIECE MOST => COUNT`: how many texts read back that are a piece 0 to MOST
-/// times.
+/// `read_encoded_lengths PIECE MOST => COUNT`: how many of the texts of 0 to MOST pieces read back.
 fn count_lengths(alloc: Global, row: &Row) -> Result<usize, MailParseError> {
     let mut text = String::new(alloc);
     let mut count: usize = 0;

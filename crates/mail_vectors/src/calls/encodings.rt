@@ -1,4 +1,4 @@
-//! The encodings of several bytes. Where no encoding has the label, `none` comes out.
+//! The encodings of several bytes. If no encoding has the label, the answer is `none`.
 //!
 //! ```text
 //! encoding_for_label LABEL.. => gbk | gb18030 | big5 | euc-jp | iso-2022-jp | shift_jis | euc-kr
@@ -23,14 +23,14 @@ pub fn make(alloc: Global, row: &Row, answer: &mut Answer) -> bool {
     true
 }
 
-/// The encoding of each label.
+/// Writes the encoding of each label.
 fn find_encodings(row: &Row, answer: &mut Answer) {
     for at in 0..row.count() {
         answer.word(name(Encoding::for_label(row.bytes(at))));
     }
 }
 
-/// The name of an encoding.
+/// Returns the name of an encoding.
 fn name(encoding: Option<Encoding>) -> &'static str {
     match encoding {
         Some(Encoding::Gbk) => "gbk",
@@ -46,7 +46,7 @@ fn name(encoding: Option<Encoding>) -> &'static str {
     }
 }
 
-/// The texts of bytes under a label.
+/// Writes the texts of bytes under a label.
 fn decode(alloc: Global, row: &Row, answer: &mut Answer) {
     let Some(encoding) = Encoding::for_label(row.bytes(0)) else {
         return answer.word("none");
@@ -57,7 +57,7 @@ fn decode(alloc: Global, row: &Row, answer: &mut Answer) {
     }
 }
 
-/// The texts of bytes under a label that may be one of UTF-7.
+/// Writes the texts of bytes under a label that may be one of UTF-7.
 fn decode_with_utf_7(alloc: Global, row: &Row, answer: &mut Answer) {
     let Some(charset) = (AllCharsets::standard(), Utf7).for_label(row.bytes(0)) else {
         return answer.word("none");

@@ -1,11 +1,10 @@
 //! The calls on errors.
 //!
-//! - `error KIND => DISPLAY DEBUG SOURCE`: how an error shows itself, and what it wraps. KIND is
-//!   `generic`, whose text is `a "text"`, `encoding` and `owned_encoding`, whose text is `x`,
-//!   `memory`, `quoted-printable`, or `base64` and the number of a group. SOURCE is the Debug text of
-//!   the fault, or `none`.
-//! - `from KIND => DEBUG`: what an error is made into that a call passes on.
-//! - `fault KIND => DISPLAY DEBUG`: how a fault shows itself that stands alone.
+//! - `error KIND => DISPLAY DEBUG SOURCE`: the texts of an error. KIND is `generic`, whose text is
+//!   `a "text"`, `encoding` and `owned_encoding`, whose text is `x`, `memory`, `quoted-printable`, or
+//!   `base64` and the number of a group. SOURCE is the Debug text of the wrapped fault, or `none`.
+//! - `from KIND => DEBUG`: the error that another one is converted to.
+//! - `fault KIND => DISPLAY DEBUG`: the texts of a fault by itself.
 
 use crate::notation::{Answer, FORM, Row};
 use mailparse::{Base64Fault, MailParseError, QuotedPrintableFault};
@@ -35,11 +34,11 @@ fn push_error(alloc: Global, row: &Row, answer: &mut Answer) -> Result<(), MailP
         _ => return Err(FORM),
     };
     answer.made(format!(in alloc; "{error}"));
-    answer.debug(&error);
+    answer.debug_and_source(&error);
     Ok(())
 }
 
-/// Writes the error that is made of what a row names.
+/// Writes the error that the one of a row is converted to.
 fn push_made(alloc: Global, row: &Row, answer: &mut Answer) -> Result<(), MailParseError> {
     let error = match row.text(0) {
         "encoding" => MailParseError::from(CowStr::Borrowed("x")),
@@ -49,16 +48,16 @@ fn push_made(alloc: Global, row: &Row, answer: &mut Answer) -> Result<(), MailPa
         "base64" => MailParseError::from(fault_of(row)),
         _ => return Err(FORM),
     };
-    answer.made(format!(in alloc; "{error:?}"));
+    answer.debug(&error);
     Ok(())
 }
 
-/// A text of its own.
+/// Returns an owned text.
 fn owned(alloc: Global) -> Result<CowStr<'static>, AllocError> {
     Ok(CowStr::Owned(String::from_str(alloc, "x")?))
 }
 
-/// The fault in Base64 at the group that a row names.
+/// Returns the fault in Base64 at the group that a row names.
 fn fault_of(row: &Row) -> Base64Fault {
     Base64Fault {
         group: row.number(1),
@@ -70,11 +69,11 @@ fn push_fault(alloc: Global, row: &Row, answer: &mut Answer) -> Result<(), MailP
         "base64" => {
             let fault = fault_of(row);
             answer.made(format!(in alloc; "{fault}"));
-            answer.made(format!(in alloc; "{fault:?}"));
+            answer.debug(&fault);
         }
         "quoted-printable" => {
             answer.made(format!(in alloc; "{QuotedPrintableFault}"));
-            answer.made(format!(in alloc; "{QuotedPrintableFault:?}"));
+            answer.debug(&QuotedPrintableFault);
         }
         _ => return Err(FORM),
     }

@@ -36,7 +36,7 @@ pub fn make(alloc: Global, row: &Row, answer: &mut Answer) -> bool {
     true
 }
 
-/// The part of a mail with this number, counted from the mail itself.
+/// Returns the part of a mail with this number, where 0 is the mail itself.
 pub fn part_at<'m, 'a>(
     alloc: Global,
     mail: &'m ParsedMail<'a>,
@@ -124,7 +124,7 @@ fn write_described(
     Ok(())
 }
 
-/// The disposition that the first input writes; for `none` the default one, without memory.
+/// Returns the disposition of the first input, and for `none` the default one, without allocating.
 fn disposition_of(alloc: Global, row: &Row) -> Result<ParsedContentDisposition, MailParseError> {
     match row.optional_text(0) {
         Some(text) => parse_content_disposition(alloc, text),
@@ -132,7 +132,7 @@ fn disposition_of(alloc: Global, row: &Row) -> Result<ParsedContentDisposition, 
     }
 }
 
-/// The type that an input writes; for `none` an empty one, without memory.
+/// Returns the type of an input, and for `none` an empty one, without allocating.
 fn type_of(alloc: Global, row: &Row, at: usize) -> Result<ParsedContentType, MailParseError> {
     match row.optional_text(at) {
         Some(text) => parse_content_type(alloc, text),
@@ -151,8 +151,8 @@ fn get_parameter(alloc: Global, row: &Row, answer: &mut Answer) -> Result<(), Ma
     Ok(())
 }
 
-/// `part_places MAIL => PATH START END START END` for the mail and each part: where it stands, and then
-/// where its body does.
+/// `part_places MAIL => PATH START END START END` for the mail and each part: its range, and then that
+/// of its body.
 fn list_places(alloc: Global, row: &Row, answer: &mut Answer) -> Result<(), MailParseError> {
     let mail = parse_mail(alloc, row.bytes(0))?;
     match places(alloc, &mail) {

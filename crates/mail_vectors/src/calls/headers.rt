@@ -6,7 +6,7 @@
 //!   before it.
 //! - `get_key RAW => TEXT`, `get_key_ref RAW => borrowed TEXT`, or `owned TEXT`.
 //! - `header RAW => KEY TEXT STRICT`: `get_key`, `get_value` and `get_value_utf8`.
-//! - `strict_value RAW => TEXT`: `get_value_utf8`, where the refusal is the text that the error holds.
+//! - `strict_value RAW => TEXT`: `get_value_utf8`, where a refusal is the text in the error.
 //! - `debug_header RAW => TEXT`.
 
 use crate::notation::{Answer, Row};
@@ -67,7 +67,7 @@ fn push_different(answer: &mut Answer, headers: &[MailHeader<'_>]) {
     }
 }
 
-/// Writes the second of two headers where its bytes are not those of the first.
+/// Writes the second of two headers if its bytes are not those of the first.
 fn push_second(answer: &mut Answer, pair: &[MailHeader<'_>]) {
     if let [before, header] = pair {
         let is_same = before.get_key_raw() == header.get_key_raw()
@@ -84,13 +84,13 @@ fn push_texts(alloc: Global, row: &Row, answer: &mut Answer) -> Result<(), MailP
     Ok(())
 }
 
-/// Writes what a call says of a header.
+/// Writes the result of a call on a header.
 fn push_text(alloc: Global, call: &str, answer: &mut Answer, header: &MailHeader<'_>) {
     match call {
         "get_key" => answer.text_or_refusal(header.get_key(alloc)),
         "get_key_ref" => push_key(answer, header.get_key_ref(alloc)),
         "strict_value" => push_strict(answer, header.get_value_utf8(alloc)),
-        "debug_header" => answer.made(format!(in alloc; "{header:?}")),
+        "debug_header" => answer.debug(header),
         _ => {
             answer.text_or_refusal(header.get_key(alloc));
             answer.text_or_refusal(header.get_value(alloc));
@@ -106,7 +106,7 @@ fn push_key(answer: &mut Answer, key: Result<CowStr<'_>, MailParseError>) {
     }
 }
 
-/// Writes a text, or the text that the refusal holds.
+/// Writes a text, or the text in the refusal.
 fn push_strict(answer: &mut Answer, outcome: Result<String, MailParseError>) {
     match outcome {
         Ok(text) => answer.text(text.as_str()),

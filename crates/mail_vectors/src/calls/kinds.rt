@@ -1,5 +1,5 @@
-//! The calls on content types, dispositions and lists of ids as values: how they show themselves,
-//! their copies, and whether they are equal.
+//! The calls on content types, dispositions and lists of ids as values: their texts, their copies,
+//! and whether they are equal.
 //!
 //! - `debug_content_type TEXT => TEXT`, `debug_content_disposition TEXT => TEXT`.
 //! - `default_content_type => MIMETYPE CHARSET COUNT DEBUG`, with how many parameters there are.
@@ -45,8 +45,7 @@ pub fn make(alloc: Global, row: &Row, answer: &mut Answer) -> bool {
 }
 
 fn show_type(alloc: Global, row: &Row, answer: &mut Answer) -> Result<(), MailParseError> {
-    let found = parse_content_type(alloc, row.text(0))?;
-    answer.made(format!(in alloc; "{found:?}"));
+    answer.debug(&parse_content_type(alloc, row.text(0))?);
     Ok(())
 }
 
@@ -55,7 +54,7 @@ fn show_default_type(alloc: Global, answer: &mut Answer) -> Result<(), MailParse
     answer.text(found.mimetype.as_str());
     answer.text(found.charset.as_str());
     answer.number(found.params.len());
-    answer.made(format!(in alloc; "{found:?}"));
+    answer.debug(&found);
     Ok(())
 }
 
@@ -64,7 +63,7 @@ fn show_disposition(alloc: Global, row: &Row, answer: &mut Answer) -> Result<(),
         "debug_content_disposition" => parse_content_disposition(alloc, row.text(0))?,
         _ => ParsedContentDisposition::default(alloc),
     };
-    answer.made(format!(in alloc; "{found:?}"));
+    answer.debug(&found);
     Ok(())
 }
 
@@ -97,7 +96,7 @@ fn push_type(alloc: Global, row: &Row, answer: &mut Answer) -> Result<(), MailPa
     Ok(())
 }
 
-/// The type that a body was made with.
+/// Returns the type that a body was made with.
 fn type_of<'a>(body: &Body<'a>) -> &'a ParsedContentType {
     match body {
         Body::Base64(encoded) | Body::QuotedPrintable(encoded) => encoded.get_content_type(),
@@ -114,7 +113,7 @@ fn push_equal(alloc: Global, row: &Row, answer: &mut Answer) -> Result<(), MailP
     Ok(())
 }
 
-/// The list of the ids that stand from one input up to another.
+/// Returns the list of the ids in the inputs `from..to`.
 fn list_of(
     alloc: Global,
     row: &Row,
@@ -131,7 +130,7 @@ fn list_of(
 fn show_ids(alloc: Global, row: &Row, answer: &mut Answer) -> Result<(), MailParseError> {
     let list = list_of(alloc, row, 0, row.count())?;
     answer.made(format!(in alloc; "{list}"));
-    answer.made(format!(in alloc; "{list:?}"));
+    answer.debug(&list);
     Ok(())
 }
 

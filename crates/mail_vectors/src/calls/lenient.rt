@@ -102,7 +102,7 @@ fn read_zoned_date(alloc: Global, row: &Row, answer: &mut Answer) -> Result<(), 
     Ok(())
 }
 
-/// Writes what is wrong in a date.
+/// Writes why a date is refused.
 fn write_fault(alloc: Global, fault: DateError, answer: &mut Answer) {
     answer.word("error");
     answer.made(format!(in alloc; "{fault}"));

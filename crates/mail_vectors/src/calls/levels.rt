@@ -1,13 +1,13 @@
-//! The calls on how deep parts go, and on mails that are cut short.
+//! The calls on the depth of parts, and on truncated mails.
 //!
 //! - `max_levels => NUMBER`.
 //! - `parse_mail_limited LEVELS MAIL => PARTS`: how many parts there are, or the refusal.
 //! - `levels MAIL => LEVELS PARTS PARTS`: the least limit under which the mail is not refused for its
 //!   depth, how many parts there are then, or the refusal, and the same of `parse_mail`.
-//! - `truncated MAIL => COUNT`: at how many lengths the mail can be cut, from none of its bytes to
-//!   all of them, so that what is left is read, its bodies, too, unless one is no Base64, and holds
-//!   no more headers, bytes of bodies, and parts at three bytes each, than it has bytes. Each other
-//!   length stands before the count, with the refusal, or with the word `more`.
+//! - `truncated MAIL => COUNT`: to how many lengths the mail can be truncated, from none of its bytes
+//!   to all of them, so that the front is read, with its bodies unless one is not Base64, and has no
+//!   more headers, bytes of bodies, and parts at three bytes each, than it has bytes. Each other
+//!   length precedes the count, with the refusal, or with the word `more`.
 
 use crate::calls::parts::{Held, count_below};
 use crate::notation::{Answer, FORM, Row};
@@ -28,7 +28,7 @@ pub fn make(alloc: Global, row: &Row, answer: &mut Answer) -> bool {
     true
 }
 
-/// How many parts a mail has, parts of parts among them, under a limit.
+/// Returns how many parts a mail has, with parts of parts, under a limit.
 fn count_under(alloc: Global, raw: &[u8], levels: u8) -> Result<usize, MailParseError> {
     if levels > MAX_LEVELS {
         return Err(FORM);
@@ -37,7 +37,7 @@ fn count_under(alloc: Global, raw: &[u8], levels: u8) -> Result<usize, MailParse
     count_below(alloc, &mail)
 }
 
-/// How many parts a mail has, parts of parts among them.
+/// Returns how many parts a mail has, with parts of parts.
 fn count_of(alloc: Global, raw: &[u8]) -> Result<usize, MailParseError> {
     let mail = parse_mail(alloc, raw)?;
     count_below(alloc, &mail)
@@ -54,7 +54,8 @@ fn push_levels(alloc: Global, answer: &mut Answer, raw: &[u8]) {
     }
 }
 
-/// The least limit on levels under which a mail is not refused for its depth, or the greatest.
+/// Returns the least limit on levels under which a mail is not refused for its depth, or the
+/// greatest.
 pub fn least_levels(alloc: Global, raw: &[u8]) -> Result<u8, MailParseError> {
     for levels in 0..MAX_LEVELS {
         if !is_too_deep(count_under(alloc, raw, levels))? {
@@ -64,7 +65,7 @@ pub fn least_levels(alloc: Global, raw: &[u8]) -> Result<u8, MailParseError> {
     Ok(MAX_LEVELS)
 }
 
-/// Whether a mail is refused for its depth.
+/// Returns whether a mail is refused for its depth.
 fn is_too_deep(found: Result<usize, MailParseError>) -> Result<bool, MailParseError> {
     match found {
         Err(MailParseError::Generic(text)) => Ok(text == "Recursion limit reached"),
@@ -83,7 +84,8 @@ fn push_truncated(alloc: Global, answer: &mut Answer, raw: &[u8]) {
     answer.number(count);
 }
 
-/// Whether the front of a mail is read and holds no more than its bytes; otherwise writes why not.
+/// Returns whether the front of a mail is read and contains no more than its bytes; otherwise writes
+/// why not.
 fn is_read(alloc: Global, answer: &mut Answer, front: &[u8]) -> bool {
     match outcome(alloc, front) {
         Ok(true) => return true,
@@ -99,13 +101,13 @@ fn is_read(alloc: Global, answer: &mut Answer, front: &[u8]) -> bool {
     false
 }
 
-/// Whether the front of a mail holds no more than its bytes.
+/// Returns whether the front of a mail contains no more than its bytes.
 fn outcome(alloc: Global, front: &[u8]) -> Result<bool, MailParseError> {
     let mail = parse_mail(alloc, front)?;
     Ok(bytes_held(alloc, &mail)? <= front.len())
 }
 
-/// How many bytes a mail must have at least to hold what it does.
+/// Returns how many bytes a mail with such contents must have at least.
 fn bytes_held(alloc: Global, mail: &ParsedMail<'_>) -> Result<usize, MailParseError> {
     read_bodies(alloc, mail)?;
     let held = Held::of(alloc, mail)?;
@@ -113,7 +115,7 @@ fn bytes_held(alloc: Global, mail: &ParsedMail<'_>) -> Result<usize, MailParseEr
     Ok(bytes.saturating_add(held.parts.saturating_mul(3)))
 }
 
-/// Reads the bytes that each body stands for, as far as it is Base64 where it says so.
+/// Decodes each body. One that is not the Base64 that it claims to be is not an error.
 fn read_bodies(alloc: Global, mail: &ParsedMail<'_>) -> Result<(), MailParseError> {
     for part in mail.parts(alloc)? {
         read_body(alloc, part)?;

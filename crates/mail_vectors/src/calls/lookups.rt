@@ -1,12 +1,12 @@
-//! The calls that look headers up by their names. Each is made on the list of headers of a mail,
-//! and on its block, `Headers`: `CALL MAIL NAME => list ITEM.. block ITEM..`
+//! The calls that look up headers by name. Each is made on the list of headers of a mail and on its
+//! block, `Headers`: `CALL MAIL NAME => list ITEM.. block ITEM..`
 //!
 //! - `get_first_header`, `get_all_headers`: the bytes of the values, or the word `none`.
 //! - `get_first_value`, `get_all_values`: the texts of the values, or the word `none`.
 //! - `count_headers`: how many headers there are with this name.
 //!
-//! `names_of_each BYTES NAMES`: for each key of `k` and a byte, the characters that follow `K` in
-//! names of it, of those in NAMES.
+//! `names_of_each BYTES NAMES`: for each key of `k` and a byte, the characters of NAMES that make it
+//! match a name of `K` and the character.
 
 use crate::notation::{Answer, Row};
 use mailparse::{MailHeader, MailHeaderMap, MailParseError, ParsedMail, parse_headers, parse_mail};
@@ -40,7 +40,7 @@ fn push_both(alloc: Global, row: &Row, answer: &mut Answer, mail: &ParsedMail<'_
     push_found(alloc, row, answer, &mail.get_headers());
 }
 
-/// Writes what a call finds by a name.
+/// Writes the result of a look-up.
 fn push_found<M: MailHeaderMap>(alloc: Global, row: &Row, answer: &mut Answer, map: &M) {
     let (call, name) = (row.call.as_str(), row.text(1));
     match call {
@@ -85,7 +85,7 @@ fn push_names_of_each(alloc: Global, row: &Row, answer: &mut Answer) -> Result<(
     Ok(())
 }
 
-/// The names that end in one of these characters.
+/// Returns the names of `K` and one of these characters.
 fn names_of(alloc: Global, characters: &str) -> Result<String, AllocError> {
     let mut names = String::new(alloc);
     for character in characters.chars() {
@@ -94,7 +94,7 @@ fn names_of(alloc: Global, characters: &str) -> Result<String, AllocError> {
     Ok(names)
 }
 
-/// What stands after each name: no character of a key.
+/// The separator after each name, which is not a character of a key.
 const BETWEEN: char = '\u{20AC}';
 
 /// Writes the characters that follow `K` in names of this header.
@@ -105,7 +105,7 @@ fn push_names(alloc: Global, answer: &mut Answer, raw: &[u8], names: &str) {
     }
 }
 
-/// The characters that follow `K` in names of these headers.
+/// Returns the characters that follow `K` in names of these headers.
 fn names_among(
     alloc: Global,
     headers: &Vec<MailHeader<'_>>,

@@ -42,7 +42,7 @@ fn list_counted_mails(row: &Row, answer: &mut Answer) {
     }
 }
 
-/// Writes a mail, and what stands round it.
+/// Writes a mail with its separator and its ending.
 fn write_entry(answer: &mut Answer, entry: &MailboxEntry<'_>) {
     answer.bytes(entry.separator());
     answer.bytes(entry.mail());

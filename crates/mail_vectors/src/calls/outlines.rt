@@ -1,9 +1,9 @@
-//! The calls on outlines. Their inputs are steps, of which the last outline is taken:
+//! The calls on outlines. Their inputs are steps, and the last outline counts:
 //!
-//! - `header KEY VALUE` is a header of the outline that is made next;
+//! - `header KEY VALUE` adds a header to the next outline;
 //! - `leaf BODY` makes an outline with this body;
-//! - `branch BOUNDARY COUNT` makes one whose parts are the last so many outlines, in the order in
-//!   which they were made;
+//! - `branch BOUNDARY COUNT` makes one whose parts are the last COUNT outlines, in the order in which
+//!   they were made;
 //! - `mixed BOUNDARY COUNT` does so with a last header `Content-Type` that names the boundary.
 
 mod compare;
@@ -16,7 +16,7 @@ use compare::is_message_of;
 use mail_laws::render::{Outline, is_well_formed, render};
 use mailparse::{MAX_LEVELS, MailParseError, parse_mail, parse_mail_limited};
 use std::alloc::Global;
-use steps::outline_of;
+pub use steps::outline_of;
 
 /// Makes the call of a row, if it is one of these.
 pub fn make(alloc: Global, row: &Row, answer: &mut Answer) -> bool {
@@ -28,17 +28,17 @@ pub fn make(alloc: Global, row: &Row, answer: &mut Answer) -> bool {
     true
 }
 
-/// Writes what a call says of an outline.
+/// Writes the result of a call on an outline.
 ///
 /// - `render STEP.. => BYTES`
 /// - `is_well_formed STEP.. => TRUTH`
 /// - `read_outline STEP.. => LEVELS PARTS`: the least limit on levels under which the bytes of the
-///   outline are read, and how many messages the mail holds; or the word `differs` where it is not
-///   the mail that the outline stands for.
-/// - `outline STEP.. => BYTES TRUTH`, the answers of the first two calls, and after `true` that of the
+///   outline are read, and how many messages the mail contains; or the word `differs` if it is not
+///   the mail that the outline represents.
+/// - `outline STEP.. => BYTES TRUTH`: the answers of the first two calls, and after `true` that of the
 ///   third.
 fn write_all(alloc: Global, row: &Row, answer: &mut Answer) -> Result<(), MailParseError> {
-    let outline = outline_of(alloc, row)?;
+    let outline = outline_of(alloc, row, 0)?;
     write_of(alloc, row.call.as_str(), &outline, answer)
 }
 
@@ -86,7 +86,8 @@ fn read_bytes(
     }
 }
 
-/// Whether these bytes are read, under a limit on levels, as the mail that an outline stands for.
+/// Returns whether these bytes are read, under a limit on levels, as the mail that an outline
+/// represents.
 fn is_read_under(
     alloc: Global,
     outline: &Outline,
@@ -97,7 +98,7 @@ fn is_read_under(
     is_message_of(alloc, outline, &mail)
 }
 
-/// Writes how many messages a mail holds, or the word `differs`.
+/// Writes how many messages a mail contains, or the word `differs`.
 fn write_mail(
     alloc: Global,
     outline: &Outline,

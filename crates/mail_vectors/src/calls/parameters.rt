@@ -3,8 +3,8 @@
 //! - `parse_content_type TEXT => TYPE CHARSET`, and then PARAMS
 //! - `parse_content_disposition TEXT => KIND`, and then PARAMS. KIND is `inline`, `attachment`,
 //!   `form-data`, or `extension` and the name of another kind.
-//! - `parse_many_parameters COUNT => COUNT NAME VALUE`: a type with so many parameters `n0=v0`,
-//!   `n1=v1` and so on; how many there are, and the last that was written.
+//! - `parse_many_parameters COUNT => COUNT NAME VALUE`: a type with COUNT parameters `n0=v0`, `n1=v1`
+//!   and so on; how many there are, and the last one.
 //!
 //! PARAMS are the names of the parameters, each with its value, in the order of the names' bytes.
 
@@ -77,7 +77,7 @@ fn push_params(answer: &mut Answer, params: &BTreeMap<String, String>) {
     }
 }
 
-/// A type with so many parameters.
+/// Returns a type with `count` parameters.
 fn many_parameters(alloc: Global, count: usize) -> Result<ParsedContentType, MailParseError> {
     let mut text = String::from_str(alloc, "x")?;
     for number in 0..count {
@@ -86,7 +86,7 @@ fn many_parameters(alloc: Global, count: usize) -> Result<ParsedContentType, Mai
     parse_content_type(alloc, text.as_str())
 }
 
-/// Writes how many parameters a type has that was made with so many, and the last of them.
+/// Writes how many parameters a type with `count` of them has, and the last of them.
 fn push_many(alloc: Global, answer: &mut Answer, count: usize) {
     match many_parameters(alloc, count) {
         Ok(found) => push_last(alloc, answer, &found, count.saturating_sub(1)),

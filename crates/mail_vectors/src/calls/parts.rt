@@ -1,5 +1,5 @@
-//! The calls on mails and on their parts. Each answers for the mail and then for each of its parts,
-//! each before its own parts, where nothing else is said; a mail that is refused is an answer, too.
+//! The calls on mails and on their parts. Unless stated otherwise, each answers for the mail and then
+//! for each of its parts, each before its own parts. A refused mail is an answer, too.
 //!
 //! - `mail MAIL => NODE..`. A NODE is `part`, how many parts it has, its type and the label of its
 //!   charset; `header` with a key and its value for each header; and then its body as in the calls on
@@ -10,14 +10,14 @@
 //!   blank line, and how many headers there are.
 //! - `get_body MAIL => TEXT`, `get_body_raw MAIL => BYTES`.
 //! - `get_content_disposition MAIL => part KIND`, then NAME VALUE of each parameter.
-//! - `next_parts MAIL TIMES => MIMETYPE`, or the word `none`, each time that the next part is asked for.
+//! - `next_parts MAIL TIMES => MIMETYPE`, or the word `none`, for each call of `next`.
 //! - `count_parts MAIL => COUNT`; `held MAIL => HEADERS BYTES PARTS`: how many headers there are, how
 //!   many bytes of bodies, and how many parts.
 //! - `get_headers MAIL => KEY VALUE` of each header of the mail.
 //! - `debug_headers MAIL => TEXT`, `debug_mail MAIL => TEXT`.
-//! - `without_headers MAIL => COUNT BLOCK`: the headers that are left when they were removed, and the
+//! - `without_headers MAIL => COUNT BLOCK`: how many headers are left after they were removed, and the
 //!   bytes of the block; `without_parts MAIL => COUNT`; `under_charset MAIL LABEL => TEXT`: the body
-//!   when the charset of the type was set.
+//!   after the charset of the type was set.
 
 use crate::calls::bodies::push_body;
 use crate::calls::headers::push_field;
@@ -46,17 +46,17 @@ pub fn make(alloc: Global, row: &Row, answer: &mut Answer) -> bool {
     true
 }
 
-/// How many messages a mail holds, itself among them.
+/// Returns how many messages a mail contains, with itself.
 pub fn count_parts(alloc: Global, mail: &ParsedMail<'_>) -> Result<usize, MailParseError> {
     Ok(mail.parts(alloc)?.count())
 }
 
-/// How many parts a mail has, parts of parts among them.
+/// Returns how many parts a mail has, with parts of parts.
 pub fn count_below(alloc: Global, mail: &ParsedMail<'_>) -> Result<usize, MailParseError> {
     Ok(count_parts(alloc, mail)?.saturating_sub(1))
 }
 
-/// Writes what a call says of each part.
+/// Writes the result of a call on each part.
 fn push_parts(alloc: Global, row: &Row, answer: &mut Answer) -> Result<(), MailParseError> {
     let mail = parse_mail(alloc, row.bytes(0))?;
     for part in mail.parts(alloc)? {
@@ -114,7 +114,7 @@ fn push_raw_bytes(answer: &mut Answer, part: &ParsedMail<'_>) {
     answer.number(part.headers.len());
 }
 
-/// Writes what a call says of the whole mail.
+/// Writes the result of a call on the whole mail.
 fn push_whole(alloc: Global, row: &Row, answer: &mut Answer) -> Result<(), MailParseError> {
     let mail = parse_mail(alloc, row.bytes(0))?;
     push_of_whole(alloc, row, answer, &mail)
@@ -131,11 +131,8 @@ fn push_of_whole(
         "next_parts" => return push_next(alloc, answer, mail, row.number(1)),
         "held" => return push_held(alloc, answer, mail),
         "get_headers" => push_listed(answer, mail),
-        "debug_headers" => {
-            let block = mail.get_headers();
-            answer.made(format!(in alloc; "{block:?}"));
-        }
-        _ => answer.made(format!(in alloc; "{mail:?}")),
+        "debug_headers" => answer.debug(&mail.get_headers()),
+        _ => answer.debug(mail),
     }
     Ok(())
 }
@@ -168,19 +165,19 @@ fn push_held(
     Ok(())
 }
 
-/// What a mail and its parts hold together.
+/// The contents of a mail and its parts, counted.
 #[derive(Clone, Copy)]
 pub struct Held {
     /// How many headers.
     pub headers: usize,
     /// How many bytes their bodies have.
     pub bytes: usize,
-    /// How many parts there are, parts of parts among them.
+    /// How many parts there are, with parts of parts.
     pub parts: usize,
 }
 
 impl Held {
-    /// What this mail holds.
+    /// Returns the contents of this mail.
     pub fn of(alloc: Global, mail: &ParsedMail<'_>) -> Result<Held, MailParseError> {
         let (mut headers, mut bytes, mut nodes) = (0usize, 0usize, 0usize);
         for node in mail.parts(alloc)? {
@@ -196,7 +193,7 @@ impl Held {
     }
 }
 
-/// Writes the headers as the block gives them.
+/// Writes the headers of the block.
 fn push_listed(answer: &mut Answer, mail: &ParsedMail<'_>) {
     let mut headers = mail.get_headers().into_iter();
     for _turn in 0..=mail.headers.len() {
@@ -206,7 +203,7 @@ fn push_listed(answer: &mut Answer, mail: &ParsedMail<'_>) {
     }
 }
 
-/// Writes what a call says of a mail that was changed.
+/// Writes the result of a call on a modified mail.
 fn push_changed(alloc: Global, row: &Row, answer: &mut Answer) -> Result<(), MailParseError> {
     let mut mail = parse_mail(alloc, row.bytes(0))?;
     match row.call.as_str() {

@@ -23,7 +23,7 @@ pub fn make(alloc: Global, row: &Row, answer: &mut Answer) -> bool {
     true
 }
 
-/// Writes what a call says of a mail.
+/// Writes the result of a call on a mail.
 fn read_mail(alloc: Global, row: &Row, answer: &mut Answer) -> Result<(), MailParseError> {
     let mail = parse_mail(alloc, row.bytes(0))?;
     write_of(alloc, row.call.as_str(), answer, &mail)

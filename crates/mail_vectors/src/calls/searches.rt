@@ -1,20 +1,20 @@
-//! The searches of bytes.
+//! The searches in bytes.
 //!
 //! ```text
-//! find_byte BYTES BYTE.. => PLACE | none ..
-//! find_either BYTES PAIR => PLACE | none
-//! find BYTES NEEDLE => PLACE | none
-//! find_pair BYTES PAIR => PLACE | none
+//! find_byte BYTES BYTE.. => OFFSET | none ..
+//! find_either BYTES PAIR => OFFSET | none
+//! find BYTES NEEDLE => OFFSET | none
+//! find_pair BYTES PAIR => OFFSET | none
 //! strip_ascii_whitespace BYTES => KEPT
 //! ```
 //!
-//! Two calls try all bytes, and say by runs (`sweeps.rt`) where the byte or pair is, counted from
-//! where it was put:
+//! Two calls try all bytes, and write as runs (`sweeps.rt`) the offset of the byte or pair, counted
+//! from where it was put:
 //!
 //! ```text
-//! find_each_byte KIND PLACES     each byte and each other byte, at so many places: the byte `among`
-//!                                the other, `between` two of the other, or `nowhere` beside it
-//! find_each_pair PAIR PLACES     each byte as the first of the pair, as the second, and as both
+//! find_each_byte KIND MOST     each byte and each other byte, at each offset up to MOST: the byte
+//!                              `among` the other, `between` two of the other, or `nowhere` beside it
+//! find_each_pair PAIR MOST     each byte as the first of the pair, as the second, and as both
 //! ```
 
 use super::sweeps::{Runs, push_times};
@@ -45,12 +45,12 @@ pub fn make(alloc: Global, row: &Row, answer: &mut Answer) -> bool {
 /// Makes a search for each needle.
 fn find_all(row: &Row, answer: &mut Answer) {
     for at in 1..row.count() {
-        answer.optional_number(place(row, row.call.as_str(), row.bytes(0), row.bytes(at)));
+        answer.optional_number(offset(row, row.call.as_str(), row.bytes(0), row.bytes(at)));
     }
 }
 
-/// The place that a search of a row finds.
-pub fn place(row: &Row, call: &str, bytes: &[u8], needle: &[u8]) -> Option<usize> {
+/// Returns the offset that a search of a row finds.
+pub fn offset(row: &Row, call: &str, bytes: &[u8], needle: &[u8]) -> Option<usize> {
     match (call, needle) {
         ("find_byte", [byte]) => find_byte(bytes, *byte),
         ("find_either", [first, second]) => find_either(bytes, *first, *second),
@@ -63,11 +63,11 @@ pub fn place(row: &Row, call: &str, bytes: &[u8], needle: &[u8]) -> Option<usize
     }
 }
 
-/// A sweep over places.
+/// A sweep over offsets.
 #[derive(Drop)]
 struct Sweep {
     text: Vec<u8>,
-    /// How many places there are but one.
+    /// The greatest offset.
     most: usize,
     runs: Runs,
 }
@@ -83,8 +83,7 @@ fn find_each_byte(alloc: Global, row: &Row, answer: &mut Answer) -> Result<(), M
     Ok(())
 }
 
-/// Looks for each pair that has a byte of this pair, and for each byte twice, among bytes that are
-/// not in it.
+/// Looks for each pair that has a byte of this pair, and for each byte twice, among other bytes.
 fn find_each_pair(alloc: Global, row: &Row, answer: &mut Answer) -> Result<(), MailParseError> {
     let mut sweep = Sweep::new(alloc, row);
     let [first, second] = row.bytes(0) else {
@@ -108,7 +107,7 @@ impl Sweep {
         }
     }
 
-    /// Looks for a byte beside another, if it is another.
+    /// Looks for a byte beside another one.
     fn find_beside(
         &mut self,
         answer: &mut Answer,
@@ -120,23 +119,23 @@ impl Sweep {
             return Ok(());
         }
         match kind {
-            "among" => self.find_at_places(answer, &[byte], &[byte], [other, other]),
+            "among" => self.find_at_offsets(answer, &[byte], &[byte], [other, other]),
             "between" => {
                 let filler = byte ^ 0x55;
-                self.find_at_places(answer, &[byte], &[other, byte, other], [filler, filler])
+                self.find_at_offsets(answer, &[byte], &[other, byte, other], [filler, filler])
             }
-            _ => self.find_at_places(answer, &[byte], &[other], [other, other]),
+            _ => self.find_at_offsets(answer, &[byte], &[other], [other, other]),
         }
     }
 
     fn find_one_pair(&mut self, answer: &mut Answer, pair: [u8; 2]) -> Result<(), AllocError> {
         let [first, second] = pair;
-        self.find_at_places(answer, &pair, &pair, [second ^ 0x2A, first ^ 0x55])
+        self.find_at_offsets(answer, &pair, &pair, [second ^ 0x2A, first ^ 0x55])
     }
 
-    /// Looks for a byte or a pair at each place of texts of one length: those of a middle between one
-    /// byte so many times and another so many times.
-    fn find_at_places(
+    /// Looks for a byte or a pair at each offset of texts of one length, which are a middle between
+    /// repetitions of one byte and repetitions of another.
+    fn find_at_offsets(
         &mut self,
         answer: &mut Answer,
         needle: &[u8],
@@ -149,15 +148,15 @@ impl Sweep {
             push_times(&mut self.text, &[before], lead)?;
             self.text.extend_from_slice(middle)?;
             push_times(&mut self.text, &[after], most.saturating_sub(lead))?;
-            let found = place_of(self.text.as_slice(), needle);
-            self.runs.place(answer, found, lead);
+            let found = offset_of(self.text.as_slice(), needle);
+            self.runs.offset(answer, found, lead);
         }
         Ok(())
     }
 }
 
-/// The place of a byte or of a pair.
-fn place_of(text: &[u8], needle: &[u8]) -> Option<usize> {
+/// Returns the offset of a byte or of a pair.
+fn offset_of(text: &[u8], needle: &[u8]) -> Option<usize> {
     match needle {
         [byte] => find_byte(text, *byte),
         [first, second] => find_pair(text, *first, *second),

@@ -1,28 +1,28 @@
-//! Sweeps: a call made on many texts, each a little different from the one before.
+//! Sweeps: a call made on many texts, each slightly different from the one before.
 //!
-//! What comes out is written in runs: `2 none x 3` is 2 and then three times nothing.
+//! The results are written as runs: `2 none x 3` is 2 and then three times `none`.
 //!
 //! ```text
-//! places CALL LEAD BEFORE BYTES AFTER TRAIL FEWEST MOST NEEDLE => PLACE..
+//! places CALL LEAD BEFORE BYTES AFTER TRAIL FEWEST MOST NEEDLE => OFFSET..
 //! places CALL LEAD BEFORE BYTES AFTER TRAIL FEWEST MOST READ => BYTES..
 //! around CALL BEFORE AFTER FRONT BACK => BYTES.. | error GROUP..
 //! fronts CALL TEXT FROM => WHOLE, FEWER.. | error GROUP.. | other FEWER..
 //! ```
 //!
-//! `places` makes texts of LEAD some times, BEFORE, one of BYTES, AFTER, and TRAIL some times, where
-//! LEAD and TRAIL come together at least FEWEST and at most MOST times: first all without TRAIL, each
-//! with one LEAD more than the one before, then all with TRAIL once, and so on. The word `any` stands
-//! for all 256 bytes. A search finds the place of NEEDLE, counted from where BEFORE begins. A decoder
-//! reads each LEAD and TRAIL as READ; of the rest, what it reads for all of BYTES is one item.
+//! `places` makes texts of repeated LEAD, BEFORE, one of BYTES, AFTER, and repeated TRAIL, where LEAD
+//! and TRAIL occur at least FEWEST and at most MOST times in all: first all texts without TRAIL, each
+//! with one LEAD more than the one before, then all with one TRAIL, and so on. The word `any` means
+//! all 256 bytes. A search returns the offset of NEEDLE, counted from the start of BEFORE. A decoder
+//! reads each LEAD and TRAIL as READ; what it reads from the rest for all of BYTES is one item.
 //!
-//! `around` decodes BEFORE, a byte and AFTER for all 256 bytes in turn: what stands between FRONT and
-//! BACK comes out.
+//! `around` decodes BEFORE, a byte and AFTER for all 256 bytes in turn, and writes the bytes between
+//! FRONT and BACK.
 //!
-//! `fronts` decodes TEXT, which gives WHOLE, and then the front of TEXT of FROM bytes, that with one
-//! byte more, and so on. Each gives a front of WHOLE, of so many bytes fewer than went in, or `other`
-//! bytes.
+//! `fronts` decodes TEXT, which gives WHOLE, and then the first FROM bytes of TEXT, one byte more, and
+//! so on. Each gives a front of WHOLE, and FEWER is how many bytes it has fewer than its text, or
+//! `other` bytes.
 
-use super::searches::place;
+use super::searches::offset;
 use super::transfer::push_invalid;
 use crate::notation::{Answer, FORM, Row};
 use mail_codec::bytescan::strip_ascii_whitespace;
@@ -47,14 +47,14 @@ pub fn make(alloc: Global, row: &Row, answer: &mut Answer) -> bool {
 /// The run of equal items at the end of an answer.
 #[derive(Clone, Copy)]
 pub struct Runs {
-    /// Where its item stands in the answer, and how often it came.
+    /// The range of its item in the answer, and how often the item occurred.
     start: usize,
     end: usize,
     times: usize,
 }
 
 impl Runs {
-    /// No run yet.
+    /// Returns an empty run.
     pub fn new() -> Runs {
         Runs {
             start: 0,
@@ -63,19 +63,19 @@ impl Runs {
         }
     }
 
-    /// Writes a place as counted from another, or that there is none.
-    pub fn place(&mut self, answer: &mut Answer, found: Option<usize>, start: usize) {
+    /// Writes an offset, counted from `start`, or `none`.
+    pub fn offset(&mut self, answer: &mut Answer, found: Option<usize>, start: usize) {
         let from = answer.len();
         match found {
-            Some(place) if place < start => answer.negative(start.saturating_sub(place)),
-            Some(place) => answer.number(place.saturating_sub(start)),
+            Some(offset) if offset < start => answer.negative(start.saturating_sub(offset)),
+            Some(offset) => answer.number(offset.saturating_sub(start)),
             None => answer.word("none"),
         }
         self.take(answer, from);
     }
 
-    /// Takes the item that was written from a place on: where it stood last, too, it is written once,
-    /// with how often it came.
+    /// Takes the item that was written from `from` onwards. An item that equals the last one is
+    /// written once, with how often it occurred.
     fn take(&mut self, answer: &mut Answer, from: usize) {
         if self.times > 0 && answer.repeats(self.start, self.end, from) {
             answer.cut(self.end);
@@ -90,7 +90,7 @@ impl Runs {
     }
 }
 
-/// Adds a piece so many times.
+/// Appends a piece `times` times.
 pub fn push_times(bytes: &mut Vec<u8>, piece: &[u8], times: usize) -> Result<(), AllocError> {
     for _turn in 0..times {
         bytes.extend_from_slice(piece)?;
@@ -98,7 +98,7 @@ pub fn push_times(bytes: &mut Vec<u8>, piece: &[u8], times: usize) -> Result<(),
     Ok(())
 }
 
-/// Adds a byte between two texts.
+/// Appends a byte between two texts.
 fn push_between(
     bytes: &mut Vec<u8>,
     before: &[u8],
@@ -110,7 +110,7 @@ fn push_between(
     bytes.extend_from_slice(after)
 }
 
-/// Goes over all places.
+/// Tries the bytes at all offsets.
 fn go_over_places(alloc: Global, row: &Row, answer: &mut Answer) -> Result<(), MailParseError> {
     let mut sweep = Sweep {
         text: Vec::new(alloc),
@@ -126,18 +126,18 @@ fn go_over_places(alloc: Global, row: &Row, answer: &mut Answer) -> Result<(), M
     Ok(())
 }
 
-/// A sweep over places.
+/// A sweep over offsets.
 #[derive(Drop)]
 struct Sweep {
     /// The text that a call is made on.
     text: Vec<u8>,
-    /// What a decoder makes of the bytes at one place.
+    /// The decoded bytes at one offset.
     joined: Vec<u8>,
     runs: Runs,
 }
 
 impl Sweep {
-    /// Tries the bytes at a place, with so many pieces before it and after it.
+    /// Tries the bytes at an offset, with these numbers of pieces before and after.
     fn try_place(
         &mut self,
         alloc: Global,
@@ -159,7 +159,7 @@ impl Sweep {
         Ok(())
     }
 
-    /// Tries a byte at a place.
+    /// Tries a byte at an offset.
     fn try_byte(
         &mut self,
         alloc: Global,
@@ -173,9 +173,9 @@ impl Sweep {
         push_between(&mut self.text, row.bytes(2), byte, row.bytes(4))?;
         push_times(&mut self.text, row.bytes(5), trail)?;
         if row.text(0).starts_with("find") {
-            let found = place(row, row.text(0), self.text.as_slice(), row.bytes(8));
+            let found = offset(row, row.text(0), self.text.as_slice(), row.bytes(8));
             let start = lead.saturating_mul(row.bytes(1).len());
-            self.runs.place(answer, found, start);
+            self.runs.offset(answer, found, start);
             return Ok(());
         }
         match decode(alloc, row.text(0), self.text.as_slice())? {
@@ -189,8 +189,8 @@ impl Sweep {
     }
 }
 
-/// The bytes without a piece so many times in front and so many times at the end, or all of them
-/// where other bytes stand there.
+/// Returns the bytes without `lead` pieces in front and `trail` pieces at the end, or all of them if
+/// there are other bytes.
 fn without_pieces<'b>(bytes: &'b [u8], piece: &[u8], lead: usize, trail: usize) -> &'b [u8] {
     match after_pieces(bytes, piece, lead) {
         Some(rest) => before_pieces(rest, piece, trail).unwrap_or(bytes),
@@ -214,8 +214,8 @@ fn before_pieces<'b>(bytes: &'b [u8], piece: &[u8], times: usize) -> Option<&'b 
     Some(rest)
 }
 
-/// What a decoder makes of a text, or the group that it refuses. The borrows are the text where it is
-/// borrowed, and nothing where it is not.
+/// Decodes a text, or returns the group that is refused. The `borrowed` calls return the text if it
+/// is borrowed, and nothing if it is not.
 fn decode(
     alloc: Global,
     call: &str,
@@ -238,7 +238,7 @@ fn decode(
     Ok(Ok(bytes?))
 }
 
-/// The bytes of a text, or nothing where it is not borrowed and only a borrow counts.
+/// Returns the bytes of a text, or nothing if it is not borrowed and only a borrow counts.
 fn bytes_of(
     alloc: Global,
     text: Result<CowStr<'_>, AllocError>,
@@ -265,7 +265,7 @@ fn go_around(alloc: Global, row: &Row, answer: &mut Answer) -> Result<(), MailPa
     Ok(())
 }
 
-/// Adds what a decoder makes of a text between two sides, or the group that it refuses.
+/// Appends the decoded bytes between two sides, or the refused group.
 fn write_between(row: &Row, answer: &mut Answer, read: Result<Vec<u8>, usize>) {
     match read {
         Ok(bytes) => answer.bytes(between(bytes.as_slice(), row.bytes(3), row.bytes(4))),
@@ -273,7 +273,7 @@ fn write_between(row: &Row, answer: &mut Answer, read: Result<Vec<u8>, usize>) {
     }
 }
 
-/// The bytes without a front and a back, or all of them where they have others.
+/// Returns the bytes without a front and a back, or all of them if they have others.
 fn between<'b>(bytes: &'b [u8], front: &[u8], back: &[u8]) -> &'b [u8] {
     match bytes.strip_prefix(front) {
         Some(rest) => rest.strip_suffix(back).unwrap_or(bytes),
@@ -281,7 +281,7 @@ fn between<'b>(bytes: &'b [u8], front: &[u8], back: &[u8]) -> &'b [u8] {
     }
 }
 
-/// Decodes a text, and then one front of it after another.
+/// Decodes a text, and then its fronts one after another.
 fn go_on(alloc: Global, row: &Row, answer: &mut Answer) -> Result<(), MailParseError> {
     let text = row.bytes(1);
     let whole = decode(alloc, row.text(0), text)?.unwrap_or(Vec::new(alloc));
@@ -301,7 +301,7 @@ fn go_on(alloc: Global, row: &Row, answer: &mut Answer) -> Result<(), MailParseE
     Ok(())
 }
 
-/// Adds what a decoder makes of a front of a text that has so many bytes.
+/// Appends the decoded bytes of the front of a text with this length.
 fn write_front(answer: &mut Answer, whole: &[u8], length: usize, read: Result<Vec<u8>, usize>) {
     match read {
         Ok(read) => {

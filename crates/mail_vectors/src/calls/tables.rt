@@ -1,15 +1,15 @@
 //! The calls that take tables of single-byte charsets.
 //!
-//! TABLES is `all`, those of `mail_charsets`, or a text of tables that are made up, each as
-//! `LABEL,LABEL:CHARACTER` with a semicolon between two: the bytes from 80 on are the 128 characters
-//! from this one on. OTHERS are tables too.
+//! TABLES is `all`, those of `mail_charsets`, or a text of made-up tables, separated by semicolons,
+//! each as `LABEL,LABEL:CHARACTER`: the bytes from 0x80 onwards are the 128 characters from this one
+//! onwards. OTHERS are tables too.
 //!
 //! ```text
 //! table_for_label TABLES LABEL.. => NUMBER | none ..
 //! labels_of_table NUMBER => LABEL.. | none          of the tables of `mail_charsets`
 //! decode_with TABLES LABEL BYTES => TEXT | none     after a look for a byte order mark
 //! decode_without_bom_handling_with TABLES LABEL BYTES => TEXT | none
-//! get_value_with TABLES RAW => TEXT                 RAW stands after `X:`
+//! get_value_with TABLES RAW => TEXT                 of the header `X:RAW`
 //! parse_content_type_with TABLES TEXT => MIMETYPE CHARSET, NAME VALUE..
 //! parse_content_disposition_with TABLES TEXT => DISPOSITION, NAME VALUE..
 //! body_with TABLES ENCODING LABEL BODY => TEXT
@@ -19,7 +19,7 @@
 //! ```
 //!
 //! DISPOSITION is `inline`, `attachment`, `form-data`, or `extension` and its name. `mail_with`
-//! parses under the tables, and reads what was parsed under the others.
+//! parses under the first tables, and reads the parsed mail under the others.
 
 use crate::calls::bodies::Label;
 use crate::calls::parameters::{push_parsed_disposition, push_parsed_type, push_type};
@@ -97,7 +97,7 @@ pub struct MadeUp<'r> {
     high: [char; 128],
 }
 
-/// The tables that a text makes up.
+/// Returns the tables that a text makes up.
 pub fn made_up(alloc: Global, text: &str) -> Result<Vec<MadeUp<'_>>, MailParseError> {
     let mut found = Vec::new(alloc);
     for table in text.split(';') {
@@ -111,7 +111,7 @@ pub fn made_up(alloc: Global, text: &str) -> Result<Vec<MadeUp<'_>>, MailParseEr
     Ok(found)
 }
 
-/// The labels between commas.
+/// Returns the labels, which commas separate.
 fn listed(alloc: Global, labels: &str) -> Result<Vec<&str>, AllocError> {
     let mut list = Vec::new(alloc);
     for label in labels.split(',') {
@@ -120,10 +120,10 @@ fn listed(alloc: Global, labels: &str) -> Result<Vec<&str>, AllocError> {
     Ok(list)
 }
 
-/// What a byte without a character reads as.
+/// The text of a byte without a character.
 const NO_CHARACTER: char = '\u{FFFD}';
 
-/// The characters from one on.
+/// Returns the 128 characters from one onwards.
 fn characters_from(first: char) -> [char; 128] {
     let mut characters = [NO_CHARACTER; 128];
     let mut number = u32::from(first);
@@ -134,7 +134,7 @@ fn characters_from(first: char) -> [char; 128] {
     characters
 }
 
-/// The same tables as the calls take them.
+/// Returns made-up tables as the calls take them.
 pub fn own_tables<'t, 'r>(
     alloc: Global,
     made_up: &'t [MadeUp<'r>],
@@ -149,19 +149,19 @@ pub fn own_tables<'t, 'r>(
     Ok(tables)
 }
 
-/// The tables of `mail_charsets`, which each use of the constant would make dear to prove.
+/// Returns the tables of `mail_charsets`. Each use of the constant itself is expensive to prove.
 pub fn all_tables() -> &'static [SingleByteTable<'static>] {
     &TABLES
 }
 
-/// Adds the number of the table for each label.
+/// Writes the number of the table for each label.
 fn push_numbers(row: &Row, answer: &mut Answer, tables: &[SingleByteTable<'_>]) {
     for at in 1..row.count() {
         answer.optional_number(table_for_label(row.bytes(at), tables));
     }
 }
 
-/// Adds the labels of a table of `mail_charsets`.
+/// Writes the labels of a table of `mail_charsets`.
 fn push_labels(row: &Row, answer: &mut Answer) {
     match all_tables().get(row.number(0)) {
         Some(table) => push_all(answer, table.labels),
@@ -169,14 +169,14 @@ fn push_labels(row: &Row, answer: &mut Answer) {
     }
 }
 
-/// Adds texts.
+/// Writes texts.
 fn push_all(answer: &mut Answer, texts: &[&str]) {
     for text in texts {
         answer.text(text);
     }
 }
 
-/// Adds the text of bytes under the table of a label.
+/// Writes the text of bytes under the table of a label.
 fn decode(alloc: Global, row: &Row, answer: &mut Answer, tables: &[SingleByteTable<'_>]) {
     let number = table_for_label(row.bytes(1), tables).unwrap_or(tables.len());
     let Some(table) = tables.get(number) else {
@@ -188,7 +188,7 @@ fn decode(alloc: Global, row: &Row, answer: &mut Answer, tables: &[SingleByteTab
     });
 }
 
-/// The text that a value shows.
+/// Returns the text that a value shows.
 fn value_of(
     alloc: Global,
     row: &Row,
@@ -199,7 +199,7 @@ fn value_of(
     header.get_value_with(alloc, tables)
 }
 
-/// The text of a body.
+/// Returns the text of a body.
 fn body_text(
     alloc: Global,
     row: &Row,
@@ -223,7 +223,7 @@ fn text_of(
     }
 }
 
-/// Adds a mail that is parsed under tables, and read under others.
+/// Writes a mail that is parsed under tables, and read under others.
 fn read_mail(
     alloc: Global,
     row: &Row,
@@ -238,7 +238,7 @@ fn read_mail(
     write_mail(alloc, answer, row.bytes(2), first, others.as_slice())
 }
 
-/// Adds a mail and its parts, parsed under tables, and read under others.
+/// Writes a mail and its parts, parsed under tables, and read under others.
 fn write_mail(
     alloc: Global,
     answer: &mut Answer,
@@ -262,7 +262,7 @@ fn write_parts(
     Ok(())
 }
 
-/// Adds a part by itself.
+/// Writes a part by itself.
 fn write_part(
     alloc: Global,
     answer: &mut Answer,

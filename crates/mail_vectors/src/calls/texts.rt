@@ -33,7 +33,7 @@ fn join_lines(alloc: Global, row: &Row, answer: &mut Answer) {
     answer.made(unflowed(alloc, row.text(0), row.number(1) == 1));
 }
 
-/// Reads a mail, and writes what a call says of it. The calls that end in `_with`, `inner_mails` and
+/// Reads a mail, and writes the result of a call on it. The calls that end in `_with`, `inner_mails` and
 /// `flowed_text` are made under all tables.
 fn read_mail<K: KnownCharsets>(alloc: Global, row: &Row, answer: &mut Answer, known: &K) {
     match parse_mail_in(alloc, row.bytes(0), known) {
@@ -151,8 +151,8 @@ fn list_mails<K: KnownCharsets>(
     Ok(())
 }
 
-/// `inner_mails MAIL => PATH START` for each mail, START `none` where it stands nowhere, and then
-/// `COUNT PATH..` of its parts, or its refusal.
+/// `inner_mails MAIL => PATH START` for each mail, START `none` if its bytes are not in the outer
+/// mail, and then `COUNT PATH..` of its parts, or its refusal.
 fn list_inner<K: KnownCharsets>(
     alloc: Global,
     answer: &mut Answer,

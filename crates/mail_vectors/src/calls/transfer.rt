@@ -1,4 +1,4 @@
-//! The transfer encodings. A refusal of Base64 is `error` and the number of its first invalid group.
+//! The transfer encodings. A refusal of Base64 is `error` and the number of the first invalid group.
 //!
 //! ```text
 //! decode_base64 TEXT => BYTES | error GROUP
@@ -24,7 +24,7 @@ pub fn make(alloc: Global, row: &Row, answer: &mut Answer) -> bool {
     true
 }
 
-/// Adds the bytes of groups, or the number of the first invalid one.
+/// Writes the bytes of groups, or the number of the first invalid one.
 fn push_groups(answer: &mut Answer, groups: Result<Result<Vec<u8>, usize>, AllocError>) {
     match groups {
         Ok(Ok(bytes)) => answer.bytes(bytes.as_slice()),
@@ -33,7 +33,7 @@ fn push_groups(answer: &mut Answer, groups: Result<Result<Vec<u8>, usize>, Alloc
     }
 }
 
-/// Adds the number of an invalid group.
+/// Writes the number of an invalid group.
 pub fn push_invalid(answer: &mut Answer, group: usize) {
     answer.word("error");
     answer.number(group);

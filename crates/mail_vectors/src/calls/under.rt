@@ -1,9 +1,9 @@
 //! The calls that take charsets: those that end in `_in`, and a few more. CHARSETS is `latin1`, the
-//! charset of `latin1.rt` alone; or all of the standard: the four, the tables, and then the encodings of
-//! several bytes, with TABLES that are written as for the calls in `tables.rt`.
+//! charset of `latin1.rt` alone; `all`, those of the standard; or made-up tables, written as for the
+//! calls in `tables.rt`, with the four charsets and the encodings of several bytes.
 //!
 //! ```text
-//! value_under CHARSETS RAW => TEXT               RAW stands after `X:`
+//! value_under CHARSETS RAW => TEXT               of the header `X:RAW`
 //! value_text_under CHARSETS BYTES => TEXT
 //! first_value_under CHARSETS MAIL NAME => list TEXT | none, block TEXT | none
 //! type_under CHARSETS TEXT => MIMETYPE CHARSET, NAME VALUE..
@@ -58,7 +58,7 @@ fn choose_charsets(alloc: Global, row: &Row, answer: &mut Answer) -> Result<(), 
     Ok(())
 }
 
-/// Makes the call of a row with tables that it makes up.
+/// Makes the call of a row with made-up tables.
 fn call_under_made_up(
     alloc: Global,
     row: &Row,
@@ -99,7 +99,7 @@ fn call_under<K: KnownCharsets>(alloc: Global, row: &Row, answer: &mut Answer, k
     }
 }
 
-/// The text that a value shows.
+/// Returns the text that a value shows.
 fn value_of<K: KnownCharsets>(
     alloc: Global,
     row: &Row,
@@ -110,7 +110,7 @@ fn value_of<K: KnownCharsets>(
     header.get_value_in(alloc, known)
 }
 
-/// The text of a body.
+/// Returns the text of a body.
 fn body_text<K: KnownCharsets>(
     alloc: Global,
     row: &Row,
@@ -134,7 +134,7 @@ fn text_of<K: KnownCharsets>(
     }
 }
 
-/// Adds the first value with a name.
+/// Writes the first value with a name.
 fn look_up<K: KnownCharsets>(alloc: Global, row: &Row, answer: &mut Answer, known: &K) {
     match parse_mail_in(alloc, row.bytes(1), known) {
         Ok(mail) => {
@@ -157,7 +157,7 @@ fn push_first<M: MailHeaderMap, K: KnownCharsets>(
     answer.optional_or_refusal(map.get_first_value_in(alloc, row.text(2), known));
 }
 
-/// Adds a mail and its parts, each before its own parts.
+/// Writes a mail and its parts, each before its own parts.
 fn write_mail<K: KnownCharsets>(
     alloc: Global,
     answer: &mut Answer,
@@ -183,7 +183,7 @@ fn write_parts<K: KnownCharsets>(
     Ok(())
 }
 
-/// A mail that is parsed under a limit on levels.
+/// Parses a mail under a limit on levels.
 fn limited<'a, K: KnownCharsets>(
     alloc: Global,
     raw: &'a [u8],
@@ -196,7 +196,7 @@ fn limited<'a, K: KnownCharsets>(
     parse_mail_limited_in(alloc, raw, levels, known)
 }
 
-/// Adds a part by itself.
+/// Writes a part by itself.
 fn write_part<K: KnownCharsets>(
     alloc: Global,
     answer: &mut Answer,

@@ -1,4 +1,4 @@
-//! The texts of headers. RAW is what stands after the colon of a header, up to its end.
+//! The texts of headers. RAW is the bytes of a header after its colon.
 //!
 //! - `get_value RAW => TEXT`, `get_value_utf8 RAW => TEXT`, or a refusal
 //! - `dateparse TEXT => SECONDS`: the seconds since 1970, or a refusal
@@ -19,7 +19,7 @@ pub fn make(alloc: Global, row: &Row, answer: &mut Answer) -> bool {
     true
 }
 
-/// The text of a value.
+/// Returns the text of a value.
 fn value_of(alloc: Global, row: &Row) -> Result<String, MailParseError> {
     let raw = raw_header(alloc, row.bytes(0))?;
     let (header, _) = parse_header(raw.as_slice())?;
@@ -29,7 +29,7 @@ fn value_of(alloc: Global, row: &Row) -> Result<String, MailParseError> {
     }
 }
 
-/// A header with this value.
+/// Returns a header with this value.
 pub fn raw_header(alloc: Global, value: &[u8]) -> Result<Vec<u8>, MailParseError> {
     let mut raw = b"X:".to_vec(alloc)?;
     raw.extend_from_slice(value)?;

@@ -1,18 +1,18 @@
-//! A message that was read, beside an outline.
+//! A message that was read, compared with an outline.
 
 use mail_laws::render::{Outline, OutlineKind, encode_value, render};
 use mailparse::{MailHeader, MailParseError, ParsedMail};
 use std::alloc::Global;
 use std::str::from_utf8;
 
-/// Whether a message is the one that an outline stands for: its bytes, its headers in order, its
-/// body as it stands, and its parts in order.
+/// Returns whether a message is the one that an outline represents: its bytes, its headers in order,
+/// its raw body, and its parts in order.
 pub fn is_message_of(
     alloc: Global,
     outline: &Outline,
     mail: &ParsedMail<'_>,
 ) -> Result<bool, MailParseError> {
-    if !stands_as(alloc, outline, mail)? || !are_headers_of(alloc, outline, mail)? {
+    if !has_bytes(alloc, outline, mail)? || !are_headers_of(alloc, outline, mail)? {
         return Ok(false);
     }
     match &outline.kind {
@@ -37,8 +37,8 @@ pub fn is_message_of(
     }
 }
 
-/// Whether a message has the bytes that an outline is written as.
-fn stands_as(
+/// Returns whether a message has the bytes that an outline is written as.
+fn has_bytes(
     alloc: Global,
     outline: &Outline,
     mail: &ParsedMail<'_>,
@@ -47,7 +47,7 @@ fn stands_as(
     Ok(mail.raw_bytes == bytes.as_slice())
 }
 
-/// Whether a message has the headers of an outline, in order.
+/// Returns whether a message has the headers of an outline, in order.
 fn are_headers_of(
     alloc: Global,
     outline: &Outline,
@@ -65,7 +65,7 @@ fn are_headers_of(
     Ok(read.next().is_none())
 }
 
-/// Whether a header has this key, and the value that this text is written as, which shows it.
+/// Returns whether a header has this key and the written value of this text, which shows it.
 fn is_header(
     alloc: Global,
     key: &[u8],
@@ -82,19 +82,19 @@ fn is_header(
     )
 }
 
-/// Whether the value of a header is the one that a text is written as.
+/// Returns whether the value of a header is the one that a text is written as.
 fn is_written(alloc: Global, text: &str, header: &MailHeader<'_>) -> Result<bool, MailParseError> {
     let written = encode_value(alloc, text)?;
     Ok(header.get_value_raw() == written.as_bytes())
 }
 
-/// Whether the value of a header shows a text.
+/// Returns whether the value of a header shows a text.
 fn is_shown(alloc: Global, text: &str, header: &MailHeader<'_>) -> Result<bool, MailParseError> {
     let shown = header.get_value(alloc)?;
     Ok(shown.as_str() == text)
 }
 
-/// Whether the body of a message stands as these bytes.
+/// Returns whether the raw body of a message is these bytes.
 fn has_body(alloc: Global, mail: &ParsedMail<'_>, wanted: &[u8]) -> Result<bool, MailParseError> {
     let body = mail.get_body_encoded(alloc)?;
     Ok(body.get_raw() == wanted)

@@ -1,26 +1,26 @@
-//! An outline, step by step.
+//! An outline that is made step by step.
 
 use crate::notation::{FORM, Row};
 use mail_laws::render::{Outline, OutlineKind};
 use mailparse::MailParseError;
 use std::alloc::Global;
 
-/// What the steps so far made.
+/// The results of the steps so far.
 #[derive(Drop)]
 struct Made {
-    /// The headers of the outline that is made next.
+    /// The headers of the next outline.
     headers: Vec<(Vec<u8>, Vec<u8>)>,
-    /// The outlines that are in no other one.
+    /// The outlines that are not part of another one.
     outlines: Vec<Outline>,
 }
 
-/// The last outline that the steps of a row make.
-pub fn outline_of(alloc: Global, row: &Row) -> Result<Outline, MailParseError> {
+/// Returns the last outline that the steps in the inputs from `from` onwards make.
+pub fn outline_of(alloc: Global, row: &Row, from: usize) -> Result<Outline, MailParseError> {
     let mut made = Made {
         headers: Vec::new(alloc),
         outlines: Vec::new(alloc),
     };
-    let mut at: usize = 0;
+    let mut at = from;
     for _turn in 0..row.count() {
         if at >= row.count() {
             break;
@@ -58,7 +58,7 @@ impl Made {
         }
     }
 
-    /// Adds a header to the outline that is made next.
+    /// Adds a header to the next outline.
     fn add_header(
         &mut self,
         alloc: Global,
@@ -67,8 +67,7 @@ impl Made {
     ) -> Result<(), MailParseError> {
         let key = key.to_vec(alloc)?;
         let value = value.to_vec(alloc)?;
-        self.headers.push((key, value))?;
-        Ok(())
+        Ok(self.headers.push((key, value))?)
     }
 
     /// Adds the header that names a boundary.
@@ -78,7 +77,7 @@ impl Made {
         self.add_header(alloc, b"Content-Type", value.as_slice())
     }
 
-    /// Makes an outline whose parts are the last so many that were made.
+    /// Makes an outline whose parts are the last `count` outlines.
     fn add_branch(
         &mut self,
         alloc: Global,
@@ -100,7 +99,6 @@ impl Made {
     /// Makes an outline.
     fn add(&mut self, alloc: Global, kind: OutlineKind) -> Result<(), MailParseError> {
         let headers = std::mem::replace(&mut self.headers, Vec::new(alloc));
-        self.outlines.push(Outline { headers, kind })?;
-        Ok(())
+        Ok(self.outlines.push(Outline { headers, kind })?)
     }
 }
