@@ -1,5 +1,6 @@
 //! The errors of the library.
 ghost use Rattle.std.specs.Prelude.{◌≡◌};
+ghost use Rattle.mailparse.specs.RefusalKinds.{error_kind, text_kind};
 ghost use Rattle.mailparse.specs.Wrapped.{HasSource};
 
 use std::alloc::{AllocError, AllocFailed};
@@ -48,7 +49,48 @@ pub enum Wrapped<'a> {
     Base64(&'a Base64Fault),
 }
 
+/// The kind of a refusal.
+#[derive(Clone, Copy, Debug, PartialEq, Eq)]
+pub enum RefusalKind {
+    /// A header begins with a space.
+    LeadingSpace,
+    /// A CR without a LF comes where a header or the blank line should begin.
+    LoneCarriageReturn,
+    /// A part is nested deeper than the limit.
+    TooDeep,
+    /// A body is not Base64.
+    NotBase64,
+    /// Bytes are not text in the encoding that was asked for.
+    NotText,
+    /// Any other refusal.
+    Other,
+}
+
 impl MailParseError {
+    /// Returns the kind of the refusal, or `None` if the call ran out of memory.
+    ///
+    /// Takes no memory.
+    ///
+    /// # Examples
+    ///
+    /// ```rust
+    /// use mailparse::{RefusalKind, parse_mail};
+    ///
+    /// let error = parse_mail(alloc, b" Subject: Hi").err().ok_or("no error")?;
+    /// assert!(rt; error.refusal() == Some(RefusalKind::LeadingSpace));
+    /// ```
+    pub fn refusal(&self) -> Option<RefusalKind>
+        ensures { result ≡ error_kind self.now }
+    {
+        match self {
+            MailParseError::Generic(text) => Some(text_kind(text)),
+            MailParseError::EncodingError(_) => Some(RefusalKind::NotText),
+            MailParseError::Base64DecodeError(_) => Some(RefusalKind::NotBase64),
+            MailParseError::QuotedPrintableDecodeError(_) => Some(RefusalKind::Other),
+            MailParseError::Memory(_) => None,
+        }
+    }
+
     /// Returns the fault that the error wraps: that of the two decode errors, otherwise `None`.
     ///
     /// Takes no memory.
@@ -75,6 +117,21 @@ impl MailParseError {
             MailParseError::Base64DecodeError(fault) => Some(Wrapped::Base64(fault)),
             _ => None,
         }
+    }
+}
+
+/// Returns the kind of a refusal with this text.
+fn text_kind(text: &str) -> RefusalKind
+    ensures { result ≡ text_kind text.now }
+{
+    match text {
+        "Header cannot start with a space; it is likely an overhanging line from a previous header" =>
+            { RefusalKind::LeadingSpace }
+        "Headers were followed by an unexpected lone CR character!" => {
+            RefusalKind::LoneCarriageReturn
+        }
+        "Recursion limit reached" => RefusalKind::TooDeep,
+        _ => RefusalKind::Other,
     }
 }
 
