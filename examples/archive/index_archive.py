@@ -1,12 +1,12 @@
 #!/usr/bin/env python3
-"""Reads the mailboxes and Maildirs of shared folders on many machines, by dask.distributed and mail_json.
+"""Reads the mailboxes and Maildirs of shared directories on many machines, with dask.distributed and mail_json.
 
-Every machine sees the folders, OUT and the program under the same names. A large mailbox is read in equal parts, and
-small files are read together. The lines of each part go to a file of its own in OUT, a shard, which gets its name when
-it is whole. The name says which part of which files that is, of what sizes and times, and what read them: no part is
-read twice, however often a run is broken off, and a mailbox that changed is read anew. OUT/MANIFEST, written last,
-names the shards in order; those that it does not name are removed. What cannot be read is named, and the status is 1.
-All else is read then too, and the next run goes on from there.
+Every machine sees the directories, OUT and the program under the same paths. A large mailbox is read in equal parts,
+and small files are read together. The lines of each part go to a file in OUT, a shard, which gets its name when it is
+complete. The name is a hash of the part, the paths, sizes and times of its files, and the program: no part is read
+twice, however often a run is interrupted, and a mailbox that changed is read again. OUT/MANIFEST, written last, names
+the shards in order; other shards are removed. Files that cannot be read are named, and the exit status is 1.
+Everything else is read nevertheless, and the next run continues from there.
 """
 import argparse
 import hashlib
@@ -25,7 +25,7 @@ PROGRAM = os.path.join(os.path.dirname(os.path.abspath(__file__)), "../../crates
 
 
 def state(path):
-    """A file with its size and time."""
+    """Returns a file with its size and time."""
     try:
         found = os.stat(path)
         return path, found.st_size, found.st_mtime_ns
@@ -33,10 +33,10 @@ def state(path):
         return path, 0, None
 
 
-def visit(folder, options, out, faults):
-    """The files of a folder and of those inside, each with the options for mail_json."""
+def visit(directory, options, out, faults):
+    """Yields the files of a directory and of those inside it, with the options for mail_json."""
     try:
-        entries = sorted(os.scandir(folder), key=lambda entry: entry.name)
+        entries = sorted(os.scandir(directory), key=lambda entry: entry.name)
     except OSError as fault:
         faults.append(str(fault))
         return
@@ -53,7 +53,8 @@ def visit(folder, options, out, faults):
 
 
 def batches(files, most):
-    """Files that are read together. Since some names always end a batch, most batches stay where files come or go."""
+    """Yields files that are read together. Certain names always end a batch, so that most batches remain the same when
+    files are added or removed."""
     batch, total, is_end = [], 0, False
     for file in files:
         path, size, _ = file
@@ -68,7 +69,7 @@ def batches(files, most):
 
 
 def parts(options, files, most):
-    """What the runs of mail_json read: options and files; one file alone where it is a part of a mailbox."""
+    """Yields the options and the files of each run of mail_json. A part of a mailbox is a run of its own."""
     for batch in batches(files, most):
         count = max(1, -(-sum(size for _, size, _ in batch) // most))
         for number in [1] if options else range(1, count + 1):
@@ -76,20 +77,20 @@ def parts(options, files, most):
 
 
 def title(options, files):
-    """What a part is called."""
+    """Returns the title of a part."""
     return f"{files[0][0]}{f' and {len(files) - 1} more' if len(files) > 1 else ''} ({' '.join(options)})"
 
 
 def read(name, options, files, out, program):
-    """Reads a part into its shard, which gets its name when it is whole; returns the name, and what went wrong."""
+    """Reads a part into its shard, which gets its name when it is complete. Returns the name, and the error or None."""
     unfinished = os.path.join(out, f".part-{uuid.uuid4().hex}")
     try:
         with open(unfinished, "xb") as shard:
-            words = [program, *options, *(path for path, _, _ in files)]
-            ended = subprocess.run(words, stdin=subprocess.DEVNULL, stdout=shard, stderr=subprocess.PIPE, check=False)
+            command = [program, *options, *(path for path, _, _ in files)]
+            ended = subprocess.run(command, stdin=subprocess.DEVNULL, stdout=shard, stderr=subprocess.PIPE, check=False)
             os.fsync(shard.fileno())
         if ended.returncode not in (0, 3):
-            return name, f"status {ended.returncode}: {ended.stderr.decode(errors='replace').strip()}"
+            return name, f"exit status {ended.returncode}: {ended.stderr.decode(errors='replace').strip()}"
         if [state(path) for path, _, _ in files] != files:
             return name, "changed while it was read"
         os.replace(unfinished, os.path.join(out, name))
@@ -100,7 +101,7 @@ def read(name, options, files, out, program):
 
 
 def run(wanted, scheduler, **places):
-    """Reads these parts on the workers; yields what went wrong, with the part's title."""
+    """Reads these parts on the workers. Yields each error, with the title of its part."""
     from dask.distributed import Client, progress, wait  # here, so that --help needs no dask
 
     with Client(**{"address": scheduler} if scheduler else {"threads_per_worker": 1, "dashboard_address": ":0"}) as client:
@@ -108,26 +109,26 @@ def run(wanted, scheduler, **places):
         if sys.stdout.isatty():
             progress(futures)
         wait(futures)
-        told = dict(client.gather(futures, errors="skip"))
+        results = dict(client.gather(futures, errors="skip"))
         for name, future in zip(wanted, futures):
-            if name not in told or told[name]:
-                yield f"{title(*wanted[name])}: {told[name] if name in told else repr(future.exception())}"
+            if name not in results or results[name]:
+                yield f"{title(*wanted[name])}: {results[name] if name in results else repr(future.exception())}"
 
 
 def main():
-    """Reads what is not there yet, and writes MANIFEST if that is all."""
+    """Reads the missing parts, and writes MANIFEST if the index is complete."""
     parser = argparse.ArgumentParser(description=__doc__, formatter_class=argparse.RawDescriptionHelpFormatter)
     parser.add_argument("out", metavar="OUT", type=os.path.abspath)
-    parser.add_argument("folder", metavar="FOLDER", nargs="+", type=os.path.abspath, help="or a mailbox")
-    parser.add_argument("--scheduler", metavar="ADDRESS", help="without it workers are started here, one for each processor")
+    parser.add_argument("paths", metavar="PATH", nargs="+", type=os.path.abspath, help="a directory or a mailbox")
+    parser.add_argument("--scheduler", metavar="ADDRESS", help="by default, a worker for each processor is started here")
     parser.add_argument("--program", metavar="MAIL_JSON", type=os.path.abspath, default=PROGRAM)
-    parser.add_argument("--hash", action="store_true", help="read with the SHA-256 of each attachment")
-    parser.add_argument("--bytes", type=int, default=32 << 20, help="at most so many make a part; 32 MiB if left out")
+    parser.add_argument("--hash", action="store_true", help="write the SHA-256 of each attachment")
+    parser.add_argument("--bytes", type=int, default=32 << 20, help="the greatest size of a part; 32 MiB by default")
     given = parser.parse_args()
     program = hashlib.sha256(pathlib.Path(given.program).read_bytes()).hexdigest()
     os.makedirs(given.out, exist_ok=True)
     faults, wanted = [], {}
-    for top in given.folder:
+    for top in given.paths:
         found = visit(top, [], given.out, faults) if os.path.isdir(top) else [([], [state(top)])]
         for reading, files in found:
             for options, batch in parts(reading, files, given.bytes):

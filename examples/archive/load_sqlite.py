@@ -1,16 +1,16 @@
 #!/usr/bin/env python3
 """Loads the index of an archive into SQLite, with full-text search (FTS5).
 
-OUT is the folder of index_archive.py. DATABASE is a folder of databases, the slices, which are loaded side by side;
-each shard is in one of them, and search.py searches them all. A shard is loaded in one transaction; those that are
-there already are passed over, and those that OUT/MANIFEST no longer names are taken out. So a run that was broken off
-goes on where it was. The tables of a slice:
+OUT is the directory of index_archive.py. DATABASE is a directory of databases, the slices, which are loaded in
+parallel. Each shard is in one of them, and search.py searches them all. A shard is loaded in one transaction. Shards
+that are already loaded are skipped, and those that OUT/MANIFEST no longer names are removed. So an interrupted run can
+be continued. The tables of a slice:
 
-  mails        each mail, which lies in `file` from `start` up to `end`, and each that was refused, with the `error`
+  mails        each mail, which is in `file` from `start` to `end`, and each that was refused, with the `error`
   texts        the words of subject, sender and body
   links        the ids in References and In-Reply-To
-  attachments  the files of the mails, each with its SHA-256 where the lines have it
-  shards       what was loaded
+  attachments  the files of the mails, each with its SHA-256 if the lines have it
+  shards       the loaded shards
 """
 import argparse
 import concurrent.futures
@@ -42,13 +42,13 @@ create table if not exists attachments(
 create index if not exists attachments_by_sha256 on attachments(sha256);
 create virtual table if not exists texts using fts5(subject, sender, body, content=mails, content_rowid=id);
 """
-# the words of so many bytes are sorted in memory
+# the number of bytes of words that are sorted in memory
 BUFFER = "insert into texts(texts, rank) values('hashsize', 100000000)"
 TAGS = re.compile(r"<(style|script)\b.*?</\1|<[^>]*>", re.DOTALL | re.IGNORECASE)
 
 
 def people(value):
-    """The text of a header's addresses."""
+    """Returns the text of a header's addresses."""
     return ", ".join(
         people(one["members"]) if "members" in one
         else one["unknown"] if "unknown" in one
@@ -59,46 +59,46 @@ def people(value):
 
 
 def body(parts):
-    """The text of a mail: its parts that are text; those in HTML only where there is no other, without their tags."""
+    """Returns the text of a mail: its text parts, or if there are only HTML parts, those without their tags."""
     texts = [part for part in parts if part["text"]]
     plain = [part["text"] for part in texts if part["type"] != "text/html"]
     return "\n".join(plain or [html.unescape(TAGS.sub(" ", part["text"])) for part in texts])
 
 
 def mail_row(number, line):
-    """The row of a mail."""
-    place = (number, line["file"], line["start"], line["end"])
+    """Returns the row of a mail."""
+    origin = (number, line["file"], line["start"], line["end"])
     if "error" in line:
-        return (*place, line["error"], *[None] * 6)
+        return (*origin, line["error"], *[None] * 6)
     to = ", ".join(filter(None, map(people, (line["to"], line["cc"]))))
     first_id = line["message_id"][0] if line["message_id"] else None
-    return (*place, None, first_id, line["date"], people(line["from"]), to, line["subject"], body(line["parts"]))
+    return (*origin, None, first_id, line["date"], people(line["from"]), to, line["subject"], body(line["parts"]))
 
 
 def link_rows(number, line):
-    """The rows of the ids that a mail refers to."""
+    """Returns the rows of the ids to which a mail refers."""
     return [(number, one) for one in {*line["references"], *line["in_reply_to"]}]
 
 
 def attachment_rows(number, line):
-    """The rows of the files of a mail."""
+    """Returns the rows of the files of a mail."""
     members = ("path", "file_name", "type", "decoded_size", "start", "end", "sha256")
     return [(number, *map(part.get, members)) for part in line["parts"] if part["attachment"]]
 
 
 def remove(db, name):
-    """Takes a shard out."""
+    """Removes a shard."""
     first, count = db.execute("select first, count from shards where name = ?", (name,)).fetchone()
-    place = (first, first + count - 1)
+    ids = (first, first + count - 1)
     columns = "id, subject, sender, body from mails where id between ? and ?"
-    db.execute(f"insert into texts(texts, rowid, subject, sender, body) select 'delete', {columns}", place)
+    db.execute(f"insert into texts(texts, rowid, subject, sender, body) select 'delete', {columns}", ids)
     for table, column in (("mails", "id"), ("links", "mail"), ("attachments", "mail")):
-        db.execute(f"delete from {table} where {column} between ? and ?", place)
+        db.execute(f"delete from {table} where {column} between ? and ?", ids)
     db.execute("delete from shards where name = ?", (name,))
 
 
 def insert(db, name, path):
-    """Puts a shard in; returns how many mails it has."""
+    """Inserts a shard. Returns the number of its mails."""
     first = db.execute("select coalesce(max(first + count), 1) from shards").fetchone()[0]
     mails, links, attachments = [], [], []
     with open(path, "rb") as lines:
@@ -117,7 +117,7 @@ def insert(db, name, path):
 
 
 def opened(path):
-    """A slice, with its tables."""
+    """Opens a slice, and creates its tables."""
     db = sqlite3.connect(path)
     db.executescript(SCHEMA)
     with db:
@@ -126,13 +126,13 @@ def opened(path):
 
 
 def loaded(path):
-    """The names of the shards of a slice."""
+    """Returns the names of the shards of a slice."""
     with contextlib.closing(opened(path)) as db:
         return {name for name, in db.execute("select name from shards")}
 
 
 def load(path, out, stale, fresh):
-    """Takes shards out of a slice, and puts others in; returns how many mails these have."""
+    """Removes shards from a slice, and inserts others. Returns the number of inserted mails."""
     total = 0
     with contextlib.closing(opened(path)) as db:
         for name in stale:
@@ -145,11 +145,11 @@ def load(path, out, stale, fresh):
 
 
 def main():
-    """Loads all slices side by side."""
+    """Loads all slices in parallel."""
     parser = argparse.ArgumentParser(description=__doc__, formatter_class=argparse.RawDescriptionHelpFormatter)
     parser.add_argument("out", metavar="OUT")
     parser.add_argument("database", metavar="DATABASE")
-    parser.add_argument("--slices", type=int, default=os.cpu_count(), help="how many slices a new database gets")
+    parser.add_argument("--slices", type=int, default=os.cpu_count(), help="the number of slices of a new database")
     given = parser.parse_args()
     begun = time.monotonic()
     with open(os.path.join(given.out, "MANIFEST"), encoding="utf-8") as manifest:

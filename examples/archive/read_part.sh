@@ -1,10 +1,10 @@
 #!/bin/sh
-# read_part.sh K N MAILBOX FOLDER: writes the lines of the K-th of N equal parts of a mailbox to a file in the
-# folder, which gets its name when it is whole; what is there is not read again. The status is 0 where it is
-# whole, and otherwise that of mail_json.
+# read_part.sh K N MAILBOX DIRECTORY: writes the lines of the K-th of N equal parts of a mailbox to a file in the
+# directory, which gets its name when it is complete. A part that is there is not read again. The exit status is 0
+# if the file is complete, and otherwise that of mail_json.
 set -eu
 if [ $# != 4 ]; then
-    echo "usage: read_part.sh K N MAILBOX FOLDER" >&2
+    echo "usage: read_part.sh K N MAILBOX DIRECTORY" >&2
     exit 2
 fi
 top=$(dirname "$(readlink -f "$0")")/../..
