@@ -26,6 +26,6 @@ pub mod Written
 pub mod QuotedPrintableDigits
 pub mod QuotedPrintableEscapes
 pub mod QuotedPrintableLines
-pub mod QuotedPrintableMarks
+pub mod QuotedPrintableSpecials
 pub mod QuotedPrintableLaw
 pub mod Calendar

@@ -1,4 +1,4 @@
-//! Searches in bytes. Places are byte numbers counted from 0.
+//! Searches in bytes. Offsets are counted in bytes from 0.
 ghost use Rattle.std.specs.Prelude.{◌≡◌, ◌∷◌, [], IfOk};
 ghost use Rattle.mail_codec.specs.Places.{byte_place, either_place, text_place, without_ascii_whitespace};
 
@@ -14,9 +14,9 @@ use runs::{RunEnd, push_runs};
 use single::byte_len;
 use std::alloc::{AllocError, Global};
 
-/// Returns the first place of `byte` in `haystack`, or `None` where it is absent.
+/// Returns the offset of the first `byte` in `haystack`, or `None` if it does not occur.
 ///
-/// Takes no memory.
+/// Does not allocate.
 ///
 /// # Examples
 ///
@@ -36,7 +36,7 @@ pub fn find_byte(haystack: &[u8], byte: u8) -> Option<usize>
     Some(place)
 }
 
-/// Returns the first offset of `first` or `second` in `haystack`, or `None` if neither occurs.
+/// Returns the offset of the first `first` or `second` in `haystack`, or `None` if neither occurs.
 ///
 /// Does not allocate.
 ///
@@ -59,10 +59,10 @@ pub fn find_either(haystack: &[u8], first: u8, second: u8) -> Option<usize>
     Some(place)
 }
 
-/// Returns the first place where `needle` occurs in `haystack`, or `None` if it does not occur.
+/// Returns the offset of the first `needle` in `haystack`, or `None` if it does not occur.
 ///
-/// The empty needle never occurs. Takes no memory. Each place of the needle's first byte is
-/// compared in turn, so the time grows with the needle where that byte is frequent.
+/// The empty needle never occurs. Each occurrence of the needle's first byte is compared in turn,
+/// so if that byte is frequent, the time grows with the length of the needle. Does not allocate.
 ///
 /// # Examples
 ///
@@ -79,6 +79,7 @@ pub fn find(haystack: &[u8], needle: &[u8]) -> Option<usize>
     let first = *needle.first()?;
     let mut at = 0;
     'candidates: while let Some(passed) = find_byte(&haystack[at..], first) {
+        prove!(passed < haystack.len() - at);
         let place = at + passed;
         if haystack[place..].starts_with(needle) {
             return Some(place);
@@ -88,10 +89,10 @@ pub fn find(haystack: &[u8], needle: &[u8]) -> Option<usize>
     None
 }
 
-/// Returns the first place where `first` occurs in `haystack` with `second` right after it, or
-/// `None` if there is no such place.
+/// Returns the offset of the first `first` in `haystack` that `second` follows immediately, or
+/// `None` if there is none.
 ///
-/// Takes no memory. The time does not grow with how frequent either byte is.
+/// The time does not depend on how frequent either byte is. Does not allocate.
 ///
 /// # Examples
 ///
@@ -114,13 +115,13 @@ pub fn find_pair(haystack: &[u8], first: u8, second: u8) -> Option<usize>
     Some(place)
 }
 
-/// Returns the bytes without those that are ASCII whitespace: space, tab, LF, FF and CR.
+/// Returns the bytes without ASCII whitespace: space, tab, LF, FF and CR.
 ///
-/// The vertical tab (0x0B) stays. Takes memory for the result.
+/// The vertical tab (0x0B) is kept. Allocates the result.
 ///
 /// # Errors
 ///
-/// Where it runs out of memory.
+/// `AllocError` if it runs out of memory.
 ///
 /// # Examples
 ///

@@ -30,21 +30,22 @@ pub fn searches_find_first_places()
     ensures byte { (bytes : List ℕ) (byte : ℕ) (found : Option ℕ) →
         (found ≡ byte_place bytes byte) ↔ IsFirstOf (HasByteAt bytes byte) found }
     ensures either { (bytes : List ℕ) (first second : ℕ) (found : Option ℕ) →
-        (found ≡ either_place bytes first second) ↔ IsFirstOf (HasEitherAt bytes first second) found }
+        (found ≡ either_place bytes first second)
+        ↔ IsFirstOf (HasEitherAt bytes first second) found }
     ensures text { (bytes : List ℕ) (text : List ℕ) (found : Option ℕ) →
         (found ≡ text_place bytes text) ↔ IsFirstOf (HasTextAt bytes text) found }
 {}
 
-/// The function that reads Base64 gives the bytes that a text stands for in groups, and no others;
-/// and its fault is the index of the first invalid group, and no other number.
+/// `base64` gives the bytes that a text stands for in groups, and no others. Its fault is the index
+/// of the first invalid group, and no other number.
 pub fn base64_is_groups()
     ensures read { (text : List ℕ) → (bytes : List ℕ) →
         (base64 text ≡ Ok bytes) ↔ IsBase64 text bytes }
     ensures faults { (text : List ℕ) → (n : ℕ) → (base64 text ≡ Err n) ↔ IsBase64Fault text n }
 {}
 
-/// Exactly one list of lines fits a text, and the function that reads quoted-printable gives the
-/// bytes of these lines, and no others.
+/// Exactly one list of lines fits a text, and `quoted_printable` gives the bytes of these lines,
+/// and no others.
 pub fn quoted_printable_is_lines()
     ensures once { (text : List ℕ) → (lines : List Line) →
         AreLines text lines ↔ (lines ≡ lines_of text) }

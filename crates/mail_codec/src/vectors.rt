@@ -1,11 +1,10 @@
-//! Vectors of sixteen bytes, and of 64 for pairs, long searches, lines of letters and blocks of
-//! quoted-printable, all of which are tested or mapped at once.
+//! Vectors of 16 bytes, and of 64 for pairs, long searches, lines of letters and blocks of
+//! quoted-printable. All bytes of a vector are tested or mapped at once.
 //!
-//! Each operation is a small function with a contract of its own, and is inlined.
+//! Each operation is a small inlined function with a contract of its own.
 
 pub(crate) mod letters;
-pub(crate) mod marks;
-pub(crate) mod wide_letters;
+pub(crate) mod masks;
 
-/// How many bytes a vector has.
+/// The number of bytes in a vector.
 pub(crate) const LANES: usize = 16;

@@ -1,4 +1,4 @@
--- A text read in parts: blocks of letters, groups that go over line ends, and what is absent.
+-- A text read in parts: blocks of letters, groups over line ends, and absent bytes.
 use Rattle.std.proofs.Common.{◌≡◌, ℕ, zero, suc, ◌+◌, ◌*◌, ◌/◌, ◌<◌, ◌≤◌, Bool, true, false, cond, List, [], ◌∷◌, ◌++◌, length, take, drop, get_or, replicate, set, Ok, refl, sym, ap, ◌∙◌, arith, inl, inr}
 use Rattle.std.proofs.lemmas.Bool.{cases_Bool}
 use Rattle.std.proofs.lemmas.List.{append_assoc, drop-drop, drop_all, drop_more, take-append-drop, take-append-le, take_more_set, length-take-le, length-drop}
@@ -66,7 +66,7 @@ letters_before_zeros : (n k : ℕ) (xs : List ℕ) → prefix_len is_letter (xs 
 letters_before_zeros n k [] = no_letters n k
 letters_before_zeros n k (x ∷ xs) = ap (λ i. cond (is_letter x) (1 + i) 0) (letters_before_zeros n k xs)
 
--- the letters of a tail, with zeros after it in place of what a vector has more
+-- the letters of a tail, which zeros fill up to a vector
 pub tail_letters : (tail copied : List ℕ) (len : ℕ) → copied ≡ tail → len ≡ prefix_len is_letter (copied ++ drop (length tail) (replicate 16 0)) → len ≡ prefix_len is_letter tail
 tail_letters tail copied len is len_is =
     len_is ∙ ap (λ xs. prefix_len is_letter (xs ++ drop (length tail) (replicate 16 0))) is ∙ letters_before_zeros 16 (length tail) tail
@@ -80,11 +80,11 @@ tail_groups tail copied bytes k n is few read =
 -- one more byte is gathered
 pub gathered_one : (absent : RunEnd) (text four : List ℕ) (found place b : ℕ) → found < length four → place < length text → b ≡ get_or text place 0 → ends_run absent b ≡ false
     → take found four ++ without_ends absent (drop place text) ≡ take (found + 1) (set four found b) ++ without_ends absent (drop (place + 1) text)
-gathered_one absent text four found place b room within is kept =
+gathered_one absent text four found place b capacity within is kept =
     let rest = without_ends absent (drop (place + 1) text) in
     ap (λ r. take found four ++ r) (byte_kept absent text place within (ap (ends_run absent) (sym is) ∙ kept) ∙ ap (λ x. x ∷ rest) (sym is))
     ∙ sym (append_assoc (take found four) (b ∷ []) rest)
-    ∙ ap (λ xs. xs ++ rest) (sym (take_more_set four found b room))
+    ∙ ap (λ xs. xs ++ rest) (sym (take_more_set four found b capacity))
 
 -- at the end nothing is left
 pub read_whole : (absent : RunEnd) (text bytes : List ℕ) (count at : ℕ)
@@ -108,7 +108,8 @@ four_items xs h = drop_four 0 xs (omega arith) ∙ ap (λ r. get_or xs 0 0 ∷ g
 -- ---- steps
 
 module _ (absent : RunEnd) (text whole : List ℕ) where
-  -- the whole reads as these bytes, and then as what is left of the text from a place on, whose first group has this number
+  -- the whole reads as these bytes, and then as the rest of the text from a place onwards, whose
+  -- first group has this number
   abbrev pub ReadTo : List ℕ → ℕ → ℕ → Type 0
   ReadTo bytes count at = (n : ℕ) → groups_from n whole ≡ prepend bytes (groups_from (n + count) (without_ends absent (drop at text)))
 
@@ -124,7 +125,7 @@ module _ (absent : RunEnd) (text whole : List ℕ) where
       ∙ ap (λ m. prepend old (prepend new (groups_from m later))) {x = n + count + length xs / 4} {y = n + (count + k)} (omega (arith, len))
       ∙ prepend-prepend old new (groups_from (n + (count + k)) later)
 
-  -- what stands before a place stays, and more is written there
+  -- the bytes before a place stay, and more are written there
   written_more : (old new : List ℕ) (count k : ℕ) → take (3 * count) new ≡ take (3 * count) old
       → take (3 * count) old ++ take (3 * k) (drop (3 * count) new) ≡ take (3 * (count + k)) new
   written_more old new count k kept =
@@ -173,7 +174,7 @@ module _ (absent : RunEnd) (text whole : List ℕ) where
       ∙ ap (λ m. prepend (take (3 * count) old ++ take 3 (drop (3 * count) new)) (groups_from m later)) {x = n + count + 1} {y = n + (count + 1)} (omega arith)
       ∙ ap (λ bs. prepend bs (groups_from (n + (count + 1)) later)) (written_more old new count 1 kept)
 
-  -- what is absent
+  -- absent bytes
   pub absent_passed : (bytes : List ℕ) (count at next : ℕ) → ReadTo bytes count at
       → without_ends absent (drop at text) ≡ without_ends absent (drop next text) → ReadTo bytes count next
   absent_passed bytes count at next so_far passed n = so_far n ∙ ap (λ r. prepend bytes (groups_from (n + count) r)) passed

@@ -5,10 +5,10 @@ use Rattle.std.proofs.lemmas.List.{length-drop, length-take-le, drop-drop, drop-
 use Rattle.mail_codec.specs.Places.{first_place, begins}
 use Rattle.mail_codec.specs.private.Vectors.{lane_mask}
 use Rattle.mail_codec.proofs.lemmas.Places.{PassedTo, first_place-≤}
-use Rattle.mail_codec.proofs.lemmas.Vectors.{no_mark, free_mask}
+use Rattle.mail_codec.proofs.lemmas.Vectors.{no_match, free_mask}
 use Rattle.mail_codec.proofs.lemmas.PlacesSearches.{PassedTo-chunk, PassedTo-found, both_zero}
 
--- a part of a list from a place on lies within a longer one
+-- a part of a list from a place onwards lies within a longer one
 inside : (k m n : ℕ) (xs : List ℕ) → k + m ≤ n → take m (drop k (take n xs)) ≡ take m (drop k xs)
 inside k m n xs h =
     ap (λ (j : ℕ). take m (drop k (take j xs))) {x = n} {y = k + (n - k)} (omega arith)
@@ -40,7 +40,7 @@ module _ (test : ℕ → Bool) (bytes : List ℕ) (at : ℕ) (fits : at + 128 �
 
   on : (k : ℕ) → k + 64 ≤ 128 → Come k → lane_mask test (vector k) ≡ 0 → Come (k + 64)
   on k h come none =
-      PassedTo-chunk test block (vector k) _ k 64 come (omega (arith, long, h)) (there k h) (sym (no_mark test (vector k) (lane_mask test (vector k)) refl none) ∙ wide k h)
+      PassedTo-chunk test block (vector k) _ k 64 come (omega (arith, long, h)) (there k h) (sym (no_match test (vector k) (lane_mask test (vector k)) refl none) ∙ wide k h)
 
   free : (k : ℕ) → k + 64 ≤ 128 → Come k → first_place (begins test) block ≡ 128 → lane_mask test (vector k) ≡ 0
   free k h come none = elim (cases_lt (first_place (begins test) (vector k)) 64) [
@@ -65,14 +65,14 @@ module _ (test : ℕ → Bool) (bytes : List ℕ) (at : ℕ) (fits : at + 128 �
         let later = p2.later in
         omega (arith, later, long, first_place-≤ (begins test) block)
 
-    none_marked : first_place (begins test) block ≡ 128 → bit_or a b ≡ 0
-    none_marked none =
+    none_matches : first_place (begins test) block ≡ 128 → bit_or a b ≡ 0
+    none_matches none =
         let n1 = free 0 (omega arith) start none in
         let n2 = free 64 (omega arith) (on 0 (omega arith) start n1) none in
         rw (is_first ∙ n1, is_b ∙ n2) refl
 
     pub free_block : (bit_or a b == 0) ≡ (first_place (begins test) block == 128)
     free_block = elim (cases_eq (first_place (begins test) block) 128) [
-      | inl e ↦ ap (λ m. m == 0) (none_marked e) ∙ sym (ap (λ p. p == 128) e)
+      | inl e ↦ ap (λ m. m == 0) (none_matches e) ∙ sym (ap (λ p. p == 128) e)
       | inr n ↦ ne_eqb (bit_or a b) 0 (λ z. n (none_there z)) ∙ sym (ne_eqb (first_place (begins test) block) 128 n)
     ]

@@ -7,7 +7,7 @@ use Rattle.mail_codec.specs.Places.{first_place, begins, has_prefix}
 use Rattle.mail_codec.specs.private.Vectors.{is_set, lane_mask, pair_flags}
 use Rattle.std.specs.Int.{w64, trailing_zeros}
 use Rattle.mail_codec.proofs.lemmas.Places.{PassedTo, first_place-≤, first_place-drop}
-use Rattle.mail_codec.proofs.lemmas.Vectors.{no_mark, lowest_mark, free_mask}
+use Rattle.mail_codec.proofs.lemmas.Vectors.{no_match, lowest_match, free_mask}
 use lib.Lanes.{zip2, mask_l, top}
 
 -- ---- the mask of the flags
@@ -18,18 +18,18 @@ both true false = refl
 both false true = refl
 both false false = refl
 
-flags_marked : (a c : ℕ) (v w : List ℕ)
+flags_mask : (a c : ℕ) (v w : List ℕ)
     → map (top 7) (zip2 bit_and (map (λ x. cond (x == a) 255 0) v) (map (λ y. cond (y == c) 255 0) w)) ≡ map is_set (pair_flags a c v w)
-flags_marked a c [] w = refl
-flags_marked a c (x ∷ v) [] = refl
-flags_marked a c (x ∷ v) (y ∷ w) = (λ i. both (x == a) (y == c) i ∷ flags_marked a c v w i)
+flags_mask a c [] w = refl
+flags_mask a c (x ∷ v) [] = refl
+flags_mask a c (x ∷ v) (y ∷ w) = (λ i. both (x == a) (y == c) i ∷ flags_mask a c v w i)
 
-pub pair_marked : (a c : ℕ) (v w : List ℕ) → length v ≡ 64 → length w ≡ 64
+pub pair_mask : (a c : ℕ) (v w : List ℕ) → length v ≡ 64 → length w ≡ 64
     → mask_l (map (top 7) (zip2 bit_and (zip2 (λ x y. cond (x == y) 255 0) v (replicate 64 a)) (zip2 (λ x y. cond (x == y) 255 0) w (replicate 64 c)))) % 2 ^ 64
     ≡ lane_mask is_set (pair_flags a c v w)
-pair_marked a c v w long wide =
+pair_mask a c v w long wide =
     (λ i. mask_l (map (top 7) (zip2 bit_and (zip2_splat (λ x y. cond (x == y) 255 0) v 64 a long i) (zip2_splat (λ x y. cond (x == y) 255 0) w 64 c wide i))) % 2 ^ 64)
-    ∙ ap (λ l. mask_l l % 2 ^ 64) (flags_marked a c v w)
+    ∙ ap (λ l. mask_l l % 2 ^ 64) (flags_mask a c v w)
     ∙ mask_l-mod (map is_set (pair_flags a c v w)) 64 (omega (arith, length-map (pair_flags a c v w) is_set, length-zip2 {C = ℕ} (λ b d. cond (b == a && d == c) 1 0) v w (long ∙ sym wide), long))
 
 -- ---- the flags of n bytes and of those one byte later
@@ -45,7 +45,7 @@ last_and true true = refl
 last_and true false = refl
 last_and false t = refl
 
--- the pair stands at the front of two bytes
+-- the pair is at the front of two bytes
 has_prefix_pair : (a c x y : ℕ) (rest : List ℕ) → has_prefix (a ∷ c ∷ []) (x ∷ y ∷ rest) ≡ (x == a && y == c)
 has_prefix_pair a c x y rest = last_and (a == x) (c == y) ∙ (λ i. swapped a x i && swapped c y i)
 
@@ -57,7 +57,7 @@ set_cond : (t : Bool) → is_set (cond t 1 0) ≡ t
 set_cond true = refl
 set_cond false = refl
 
--- where none of them is set, the search goes on after them
+-- if none of them is set, the search goes on after them
 free_flags : (a c n : ℕ) (bytes : List ℕ) → n + 1 ≤ length bytes → first_place (begins is_set) (flags a c n bytes) ≡ n
     → first_place (has_prefix (a ∷ c ∷ [])) bytes ≡ n + first_place (has_prefix (a ∷ c ∷ [])) (drop n bytes)
 free_flags a c zero bytes h e = omega arith
@@ -71,7 +71,7 @@ free_flags a c (suc n) (x ∷ y ∷ rest) h e = go (x == a && y == c) (has_prefi
     go true t e more = absurd (omega arith)
     go false t e more = rw t (let r = more (omega arith) in omega arith)
 
--- where one is set, the first tells the place
+-- if one is set, the first is the place
 found_flags : (a c n : ℕ) (bytes : List ℕ) → n + 1 ≤ length bytes → first_place (begins is_set) (flags a c n bytes) < n
     → first_place (has_prefix (a ∷ c ∷ [])) bytes ≡ first_place (begins is_set) (flags a c n bytes)
 found_flags a c zero bytes h e = absurd (omega arith)
@@ -88,7 +88,7 @@ found_flags a c (suc n) (x ∷ y ∷ rest) h e =
     go true t e more = rw t refl
     go false t e more = rw t (ap suc (more (omega arith)))
 
--- ---- steps of the search, whose vectors are 64 bytes from a place on and from the next place on
+-- ---- steps of the search, whose vectors are 64 bytes from a place onwards and from the next
 
 abbrev pub front : List ℕ → ℕ → List ℕ
 front bytes at = take 64 (drop at bytes)
@@ -116,7 +116,7 @@ alone a c (x ∷ []) h = by_first (a == x)
     by_first false = refl
 alone a c (x ∷ y ∷ rest) h = absurd (omega arith)
 
--- the last 65 bytes, of which some were passed over before
+-- the last 65 bytes, some of which were searched before
 pub last_pairs : (a c : ℕ) (bytes : List ℕ) (at last : ℕ) → PassedTo (has_prefix (a ∷ c ∷ [])) bytes (first_place (has_prefix (a ∷ c ∷ [])) bytes) at
     → last + 65 ≡ length bytes → last ≤ at → PassedTo (has_prefix (a ∷ c ∷ [])) bytes (first_place (has_prefix (a ∷ c ∷ [])) bytes) last
 last_pairs a c bytes at last h ends back =
@@ -124,8 +124,8 @@ last_pairs a c bytes at last h ends back =
     let seen = first_place-drop (has_prefix (a ∷ c ∷ [])) bytes last (omega arith) in
     record { within = omega arith; later = omega arith }
 
--- what the mask of the pairs at a place tells
-module _ (a c : ℕ) (bytes : List ℕ) (at mask : ℕ) (fits : at + 65 ≤ length bytes) (marks : mask ≡ lane_mask is_set (flags_at a c bytes at)) where
+-- the mask of the pairs at a place
+module _ (a c : ℕ) (bytes : List ℕ) (at mask : ℕ) (fits : at + 65 ≤ length bytes) (matches : mask ≡ lane_mask is_set (flags_at a c bytes at)) where
   long : length (flags_at a c bytes at) ≡ 64
   long = flags_at_long a c bytes at fits
 
@@ -135,11 +135,11 @@ module _ (a c : ℕ) (bytes : List ℕ) (at mask : ℕ) (fits : at + 65 ≤ leng
   -- the lowest bit is that of the first place
   first : mask ≢ 0 → (trailing_zeros w64 mask ≡ first_place (begins is_set) (flags_at a c bytes at)) × (trailing_zeros w64 mask < 64)
   first some =
-      let is = lowest_mark is_set (flags_at a c bytes at) mask (omega (arith, long)) marks some in (
+      let is = lowest_match is_set (flags_at a c bytes at) mask (omega (arith, long)) matches some in (
         is,
         elim (cases_lt (first_place (begins is_set) (flags_at a c bytes at)) 64) [
           | inl low ↦ omega (arith, is, low)
-          | inr high ↦ absurd (some (marks ∙ free_mask is_set (flags_at a c bytes at) (omega (arith, high, long, first_place-≤ (begins is_set) (flags_at a c bytes at)))))
+          | inr high ↦ absurd (some (matches ∙ free_mask is_set (flags_at a c bytes at) (omega (arith, high, long, first_place-≤ (begins is_set) (flags_at a c bytes at)))))
         ],
       )
 
@@ -153,10 +153,10 @@ module _ (a c : ℕ) (bytes : List ℕ) (at mask : ℕ) (fits : at + 65 ≤ leng
       let later = h.later in
       omega (arith, same, is.0, here, later)
 
-  -- where there is none, the search goes on after 64
+  -- if there is none, the search goes on after 64
   pub pair_passed : (answer : ℕ) → PassedTo (has_prefix (a ∷ c ∷ [])) bytes answer at → mask ≡ 0 → PassedTo (has_prefix (a ∷ c ∷ [])) bytes answer (at + 64)
   pair_passed answer h none =
-      let free = no_mark is_set (flags_at a c bytes at) mask marks none in
+      let free = no_match is_set (flags_at a c bytes at) mask matches none in
       let on = free_flags a c 64 (drop at bytes) (omega (arith, fits, length-drop at bytes)) (sym same ∙ sym free ∙ long) in
       let later = h.later in
       let there = ap (first_place (has_prefix (a ∷ c ∷ []))) (drop-drop 64 at bytes) in

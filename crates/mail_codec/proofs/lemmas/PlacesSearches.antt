@@ -22,7 +22,7 @@ chunk_at n (suc k) xs (suc i) h = chunk_at n k (drop n xs) i (omega arith) ∙ a
 
 -- ---- a part at the front
 
--- where no byte of it passes, the search goes on after it
+-- if no byte of it passes, the search goes on after it
 pub free_front : (test : ℕ → Bool) (n : ℕ) (xs : List ℕ) → n ≤ length xs → first_place (begins test) (take n xs) ≡ n
     → first_place (begins test) xs ≡ n + first_place (begins test) (drop n xs)
 free_front test zero xs h e = omega arith
@@ -32,7 +32,7 @@ free_front test (suc n) (x ∷ xs) h e = elim (cases_Bool (test x)) [
   | inr t ↦ let past : suc (first_place (begins test) (take n xs)) ≡ suc n = rw t at e in let rest = free_front test n xs (omega arith) (omega arith) in rw t (omega arith)
 ]
 
--- where one passes, it is the first of all
+-- if one passes, it is the first of all
 pub found_front : (test : ℕ → Bool) (n : ℕ) (xs : List ℕ) → first_place (begins test) (take n xs) < n → n ≤ length xs
     → first_place (begins test) xs ≡ first_place (begins test) (take n xs)
 found_front test zero xs l h = absurd (omega arith)
@@ -44,7 +44,7 @@ found_front test (suc n) (x ∷ xs) l h = elim (cases_Bool (test x)) [
 
 -- ---- steps of a search
 
--- passes over a chunk
+-- skips a chunk
 pub PassedTo-chunk : (test : ℕ → Bool) (bytes chunk : List ℕ) (answer at n : ℕ) → PassedTo (begins test) bytes answer at → at + n ≤ length bytes
     → chunk ≡ take n (drop at bytes) → first_place (begins test) chunk ≡ n → PassedTo (begins test) bytes answer (at + n)
 PassedTo-chunk test bytes chunk answer at n h fits is free =
@@ -64,7 +64,7 @@ PassedTo-found test bytes chunk answer at n h fits is found =
     let later = h.later in
     omega arith
 
--- the last n bytes, of which some were passed over before
+-- the last n bytes, some of which were searched before
 pub last_chunk : (test : ℕ → Bool) (bytes : List ℕ) (n at last p : ℕ) → PassedTo (begins test) bytes (first_place (begins test) bytes) at → last + n ≡ length bytes → last ≤ at
     → p ≡ first_place (begins test) (take n (drop last bytes)) → first_place (begins test) bytes ≡ last + p
 last_chunk test bytes n at last p h ends back is =
@@ -76,13 +76,13 @@ last_chunk test bytes n at last p h ends back is =
 
 -- ---- a vector at a place
 
--- the lane that its mask tells, or 16
-module _ (test : ℕ → Bool) (bytes : List ℕ) (at mask place : ℕ) (fits : at + 16 ≤ length bytes) (marks : mask ≡ lane_mask test (take 16 (drop at bytes)))
+-- the first lane of its mask, or 16
+module _ (test : ℕ → Bool) (bytes : List ℕ) (at mask place : ℕ) (fits : at + 16 ≤ length bytes) (matches : mask ≡ lane_mask test (take 16 (drop at bytes)))
     (first : (t : ℕ → Bool) (v : List ℕ) → length v ≡ 16 → mask ≡ lane_mask t v → place ≡ first_place (begins t) v) where
   pub lane_is : (place ≡ first_place (begins test) (take 16 (drop at bytes))) × (place ≤ 16)
   lane_is =
       let long = length-take-le 16 (drop at bytes) (omega (arith, length-drop at bytes)) in
-      let is = first test (take 16 (drop at bytes)) long marks in
+      let is = first test (take 16 (drop at bytes)) long matches in
       (is, omega (arith, is, long, first_place-≤ (begins test) (take 16 (drop at bytes))))
 
   -- it is the first place, or the search goes on after the vector
@@ -96,17 +96,17 @@ module _ (test : ℕ → Bool) (bytes : List ℕ) (at mask place : ℕ) (fits : 
 
 -- ---- a word at a place
 
--- the place that a mask tells
-marked_first : (test : ℕ → Bool) (bs : List ℕ) (m : ℕ) → length bs ≡ 8 → IsMask test bs m → m ≢ 0
+-- the place of the lowest set bit of a mask
+match_first : (test : ℕ → Bool) (bs : List ℕ) (m : ℕ) → length bs ≡ 8 → IsMask test bs m → m ≢ 0
     → (first_place (begins test) bs < 8) × (trailing_zeros w64 m / 8 ≡ first_place (begins test) bs)
-marked_first test bs m len is some =
+match_first test bs m len is some =
     let low = is.lowest some in
     let within = first_place-≤ (begins test) bs in
     (elim (cases_lt (first_place (begins test) bs) 8) [ inl l ↦ l | inr ge ↦ absurd (some (is.none.1 (omega arith))) ], omega arith)
 
 -- one of the words that the bytes are cut into
 module _ (test : ℕ → Bool) (bytes : List ℕ) (words : List (List ℕ)) (i at mask : ℕ) (are : words ≡ first_chunks 8 (length bytes / 8) bytes)
-    (within : i < length bytes / 8) (place : at ≡ 8 * i) (marks : IsMask test (get_or words i []) mask) where
+    (within : i < length bytes / 8) (place : at ≡ 8 * i) (matches : IsMask test (get_or words i []) mask) where
   pub word_is : get_or words i [] ≡ take 8 (drop at bytes)
   word_is =
       ap (λ (cs : List (List ℕ)). get_or cs i []) are ∙ chunk_at 8 (length bytes / 8) bytes i within ∙ ap (λ (j : ℕ). take 8 (drop j bytes)) (sym place)
@@ -115,20 +115,20 @@ module _ (test : ℕ → Bool) (bytes : List ℕ) (words : List (List ℕ)) (i a
   pub word_found : (answer : ℕ) → PassedTo (begins test) bytes answer at → mask ≢ 0 → (at + trailing_zeros w64 mask / 8 ≡ answer) × (trailing_zeros w64 mask / 8 < 8)
   word_found answer h some =
       let eight = ap length word_is ∙ length-take-le 8 (drop at bytes) (omega (arith, length-drop at bytes)) in
-      let first = marked_first test (get_or words i []) mask eight marks some in
+      let first = match_first test (get_or words i []) mask eight matches some in
       let found = PassedTo-found test bytes (get_or words i []) answer at 8 h (omega arith) word_is first.0 in
       (omega (arith, found, first.1), omega (arith, first.0, first.1))
 
   pub word_passed : (answer : ℕ) → PassedTo (begins test) bytes answer at → mask ≡ 0 → PassedTo (begins test) bytes answer (at + 8)
-  word_passed answer h none = PassedTo-chunk test bytes (get_or words i []) answer at 8 h (omega arith) word_is (marks.none.0 none)
+  word_passed answer h none = PassedTo-chunk test bytes (get_or words i []) answer at 8 h (omega arith) word_is (matches.none.0 none)
 
--- two masks put together are 0 where both are
+-- two masks combined are 0 if both are
 pub both_zero : (m n : ℕ) → bit_or m n ≡ 0 → (m ≡ 0) × (n ≡ 0)
 both_zero m n e = (omega (arith, le_or_l m n), omega (arith, le_or_r m n))
 
 -- ---- a test that lets more bytes pass
 
--- up to the first place with the one, there is none with the other
+-- up to the first place with the weaker property, there is none with the other
 pub PassedTo-weaker : (weak strong : List ℕ → Bool) → ((rest : List ℕ) → strong rest ≡ true → weak rest ≡ true)
     → (bytes rest : List ℕ) (answer at n : ℕ) → PassedTo strong bytes answer at
     → rest ≡ drop at bytes → n ≡ first_place weak rest → PassedTo strong bytes answer (at + n)
@@ -150,12 +150,12 @@ has_prefix_begins [] rest some h = absurd (omega arith)
 has_prefix_begins (n ∷ needle) [] some h = h
 has_prefix_begins (n ∷ needle) (b ∷ rest) some h = (Decides-eqb b n).1 (sym ((Decides-eqb n b).0 (and_parts (n == b) _ h).0))
 
--- up to the first place of its first byte, the text stands nowhere
+-- up to the first place of its first byte, the text does not occur
 pub PassedTo-first_byte : (needle bytes rest : List ℕ) (answer at n : ℕ) → 0 < length needle → PassedTo (has_prefix needle) bytes answer at
     → rest ≡ drop at bytes → n ≡ first_place (begins (λ b. b == get_or needle 0 0)) rest → PassedTo (has_prefix needle) bytes answer (at + n)
 PassedTo-first_byte needle bytes rest answer at n some = PassedTo-weaker (begins (λ b. b == get_or needle 0 0)) (has_prefix needle) (λ r. has_prefix_begins needle r some) bytes rest answer at n
 
--- what a place that was found says of the first place, and what it says that none was found
+-- the first place, if one was found and if none was
 pub place_some : (test : List ℕ → Bool) (bytes : List ℕ) (p : ℕ) → Some p ≡ place test bytes → (p ≡ first_place test bytes) × (first_place test bytes < length bytes)
 place_some test bytes p h = elim (cases_lt (first_place test bytes) (length bytes)) [
   | inl l ↦ let e = lt-ltb (first_place test bytes) (length bytes) l in let s = rw e at h in (cc, l)
@@ -168,47 +168,44 @@ place_none test bytes h = elim (cases_lt (first_place test bytes) (length bytes)
   | inr g ↦ let le = first_place-≤ test bytes in omega arith
 ]
 
--- a place of the text's first byte
-pub candidate : (needle bytes rest : List ℕ) (answer first at passed : ℕ) → 0 < length needle → first ≡ get_or needle 0 0
-    → PassedTo (has_prefix needle) bytes answer at → rest ≡ drop at bytes → Some passed ≡ place (begins (λ b. b == first)) rest
-    → PassedTo (has_prefix needle) bytes answer (at + passed) × (at + passed < length bytes)
-candidate needle bytes rest answer first at passed some is h there found =
-    let p = place_some (begins (λ b. b == first)) rest passed found in
-    let same : Path (ℕ → Bool) (λ b. b == first) (λ b. b == get_or needle 0 0) = λ i b. b == is i in
-    let len = length-drop at bytes in
-    let l = ap length there in
-    let w = h.within in
-    (PassedTo-first_byte needle bytes rest answer at passed some h there (p.0 ∙ ap (λ t. first_place (begins t) rest) same), omega (arith, p.0, p.1))
+-- the first byte of a text that is not empty
+first_item : (needle : List ℕ) (x : ℕ) → Some x ≡ slice_get needle 0 → (0 < length needle) × (x ≡ get_or needle 0 0)
+first_item [] x h = absurd (cc)
+first_item (n ∷ needle) x h = (omega arith, cc)
 
--- no more place of the text's first byte
-pub no_candidate : (needle bytes rest : List ℕ) (first at : ℕ) → 0 < length needle → first ≡ get_or needle 0 0
-    → PassedTo (has_prefix needle) bytes (first_place (has_prefix needle) bytes) at → rest ≡ drop at bytes → None ≡ place (begins (λ b. b == first)) rest
-    → first_place (has_prefix needle) bytes ≡ length bytes
-no_candidate needle bytes rest first at some is h there none =
-    let p = place_none (begins (λ b. b == first)) rest none in
-    let same : Path (ℕ → Bool) (λ b. b == first) (λ b. b == get_or needle 0 0) = λ i b. b == is i in
-    let len = length-drop at bytes in
-    let l = ap length there in
-    let w = h.within in
-    let on = PassedTo-first_byte needle bytes rest (first_place (has_prefix needle) bytes) at (length rest) some h there (sym p ∙ ap (λ t. first_place (begins t) rest) same) in
-    let le = first_place-≤ (has_prefix needle) bytes in
-    let later = on.later in
-    omega arith
+module _ (needle bytes rest : List ℕ) (answer first at : ℕ) (is : Some first ≡ slice_get needle 0) (h : PassedTo (has_prefix needle) bytes answer at) (there : rest ≡ drop at bytes) where
+  same : Path (ℕ → Bool) (λ b. b == first) (λ b. b == get_or needle 0 0)
+  same = λ i b. b == (first_item needle first is).1 i
 
--- what a search for a text returns
+  -- a place of the text's first byte
+  pub candidate : (passed : ℕ) → Some passed ≡ place (begins (λ b. b == first)) rest
+      → PassedTo (has_prefix needle) bytes answer (at + passed) × (at + passed < length bytes)
+  candidate passed found =
+      let p = place_some (begins (λ b. b == first)) rest passed found in
+      let w = h.within in (
+        PassedTo-first_byte needle bytes rest answer at passed (first_item needle first is).0 h there (p.0 ∙ ap (λ t. first_place (begins t) rest) same),
+        omega (arith, p.0, p.1, length-drop at bytes, ap length there),
+      )
+
+  -- no more place of the text's first byte
+  pub no_candidate : answer ≡ first_place (has_prefix needle) bytes → None ≡ place (begins (λ b. b == first)) rest → first_place (has_prefix needle) bytes ≡ length bytes
+  no_candidate least none =
+      let p = place_none (begins (λ b. b == first)) rest none in
+      let w = h.within in
+      let on = PassedTo-first_byte needle bytes rest answer at (length rest) (first_item needle first is).0 h there (sym p ∙ ap (λ t. first_place (begins t) rest) same) in
+      let later = on.later in
+      omega (arith, least, later, length-drop at bytes, ap length there, first_place-≤ (has_prefix needle) bytes)
+
+-- the result of a search for a text
 not_empty : (text : List ℕ) → 0 < length text → (length text == 0) ≡ false
 not_empty [] h = absurd (omega arith)
 not_empty (b ∷ text) h = grind (arith, nat_tests)
 
-pub text_found : (needle bytes : List ℕ) (p : ℕ) → 0 < length needle → PassedTo (has_prefix needle) bytes (first_place (has_prefix needle) bytes) p
+pub text_found : (needle bytes : List ℕ) (p first : ℕ) → Some first ≡ slice_get needle 0 → PassedTo (has_prefix needle) bytes (first_place (has_prefix needle) bytes) p
     → p < length bytes → has_prefix needle (drop p bytes) ≡ true → Some p ≡ text_place bytes needle
-text_found needle bytes p some h low here =
-    rw (not_empty needle some) (sym (place-found (has_prefix needle) bytes p h low here))
+text_found needle bytes p first is h low here =
+    rw (not_empty needle (first_item needle first is).0) (sym (place-found (has_prefix needle) bytes p h low here))
 
-pub text_absent : (needle bytes : List ℕ) → 0 < length needle → first_place (has_prefix needle) bytes ≡ length bytes → None ≡ text_place bytes needle
-text_absent needle bytes some e =
-    rw (not_empty needle some, le-ltb (first_place (has_prefix needle) bytes) (length bytes) (omega arith)) refl
-
-pub first_item : (needle : List ℕ) (x : ℕ) → Some x ≡ slice_get needle 0 → (0 < length needle) × (x ≡ get_or needle 0 0)
-first_item [] x h = absurd (cc)
-first_item (n ∷ needle) x h = (omega arith, cc)
+pub text_absent : (needle bytes : List ℕ) (first : ℕ) → Some first ≡ slice_get needle 0 → first_place (has_prefix needle) bytes ≡ length bytes → None ≡ text_place bytes needle
+text_absent needle bytes first is e =
+    rw (not_empty needle (first_item needle first is).0, le-ltb (first_place (has_prefix needle) bytes) (length bytes) (omega arith)) refl

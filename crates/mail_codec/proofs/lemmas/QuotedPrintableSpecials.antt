@@ -1,4 +1,5 @@
--- A text read mark by mark: what stands before an escape is read by itself, and so is the escape.
+-- A text read by special bytes: the bytes before an escape are read by themselves, and so is the
+-- escape.
 use Rattle.std.proofs.Common.{◌≡◌, ℕ, zero, suc, ◌+◌, ◌*◌, ◌-◌, ◌<◌, ◌≤◌, ◌≢◌, ◌↔◌, ◌==◌, ◌||◌, slice_set, Bool, true, false, cond, List, [], ◌∷◌, ◌++◌, length, take, drop, get_or, reverse, Option, Some, None, refl, sym, ap, subst, ◌∙◌, arith, inl, inr}
 use Rattle.std.specs.List.{flat_map, slice_split, prefix_len, suffix_len}
 use Rattle.std.proofs.lemmas.Bool.{cases_Bool, cases_eq, cases_lt, eqb-true, false≢true}
@@ -12,14 +13,14 @@ use Rattle.std.proofs.lemmas.List.{append-nil, append_cancel_left, take-append-l
 use Rattle.mail_codec.specs.Ascii.{is_blank}
 use Rattle.mail_codec.specs.Places.{first_place, begins, trimmed_at_end}
 use Rattle.mail_codec.specs.QuotedPrintable.{ends_in, without_last, lf, cr_lf, digit_value, byte_of_values, first_escape, ended_line, lines_of_pieces, lines_of, line_bytes, quoted_printable, unescaped}
-use Rattle.mail_codec.specs.private.QuotedPrintable.{is_mark, HasNoEscape, IsPlain, IsReading, IsSoftBreak}
+use Rattle.mail_codec.specs.private.QuotedPrintable.{is_special, HasNoEscape, IsPlain, IsReading, IsSoftBreak}
 use Rattle.mail_codec.specs.private.Vectors.{lane_mask}
 use Rattle.mail_codec.proofs.lemmas.Places.{first_place-≤, first_place-before, first_place-passes, first_place-begins}
 use Rattle.mail_codec.proofs.lemmas.Written.{written_rest, stored_after}
 use Rattle.mail_codec.proofs.lemmas.QuotedPrintableEscapes.{unescaped_stays, unescaped_escape, unescaped-nil, first_escape-other}
 use Rattle.mail_codec.proofs.lemmas.QuotedPrintableLines.{ends_in-push, without_last-push, is_lf, split_some, line_read, line_last, nothing_left}
 
--- ---- what begins with bytes of which the last is no blank, no CR and no `=`
+-- ---- a line that begins with bytes of which the last is no blank, no CR and no `=`
 
 ends_in-front : (c d : ℕ) (front rest : List ℕ) → (d == c) ≡ false → ends_in c (front ++ d ∷ rest) ≡ ends_in c rest
 ends_in-front c d [] [] h = h
@@ -154,7 +155,7 @@ no_lf_three [] b h l none nb nh nl (suc (suc (suc k))) lt = absurd (omega arith)
 no_lf_three (x ∷ run) b h l none nb nh nl zero lt = none 0 (omega arith)
 no_lf_three (x ∷ run) b h l none nb nh nl (suc k) lt = no_lf_three run b h l (λ j lt. none (suc j) (omega arith)) nb nh nl k (omega arith)
 
--- what comes before an escape and the escape are read by themselves
+-- the bytes before an escape and the escape are read by themselves
 pub escape_after : (run rest : List ℕ) (byte : ℕ) → HasNoLf run → NoneBefore run rest → first_escape rest ≡ Some byte
     → quoted_printable (run ++ rest) ≡ run ++ byte ∷ quoted_printable (drop 3 rest)
 unfolding quoted_printable lines_of
@@ -216,7 +217,7 @@ drop-of-take k n xs = elim (cases_lt k n) [
 pub no_escape-take : (xs : List ℕ) (n : ℕ) → HasNoEscape xs → HasNoEscape (take n xs)
 no_escape-take xs n none k = ap first_escape (drop-of-take k n xs) ∙ first_escape-take (drop k xs) (n - k) (none k)
 
--- what stands at the front of bytes that were copied
+-- the front of bytes that were copied
 pub front_copied : (output content part : List ℕ) → take (length content) output ≡ content → (n m : ℕ) → part ≡ take m (take n content)
     → take (length part) output ≡ part
 front_copied output content part copied n m is =
@@ -230,7 +231,7 @@ front_copied output content part copied n m is =
     ∙ take_min m (take n content)
     ∙ sym is
 
--- ---- what a loop has copied since the last line end or escape
+-- ---- the bytes that a loop has copied since the last line end or escape
 
 pub plain-empty : (text : List ℕ) (at : ℕ) → IsPlain text at at
 plain-empty text at = record { no_lf = λ k lo hi. absurd (omega arith); no_escape = λ k lo hi. absurd (omega arith) }
@@ -269,7 +270,7 @@ module _ (text : List ℕ) (from to : ℕ) (low : from ≤ to) (high : to ≤ le
       ∙ ap (λ (r : List ℕ). take (to - from - k) (drop (from + k) text) ++ r) (ap (λ (m : ℕ). drop m text) {x = to} {y = from + k + (to - from - k)} (omega arith) ∙ sym (drop-drop (to - from - k) (from + k) text))
       ∙ cut
 
-  -- it goes before what is read from an escape on
+  -- it goes before the bytes read from an escape onwards
   pub before_escape : (byte : ℕ) → first_escape (drop to text) ≡ Some byte → quoted_printable (drop from text) ≡ piece ++ quoted_printable (drop to text)
   before_escape byte is =
       let none : NoneBefore piece (drop to text) = λ k lt. ap first_escape (rest-is k (omega (arith, long))) ∙ plain.no_escape (from + k) (omega arith) (omega (arith, long)) in
@@ -281,78 +282,78 @@ module _ (text : List ℕ) (from to : ℕ) (low : from ≤ to) (high : to ≤ le
 byte_there : (text : List ℕ) (at m k : ℕ) → k < length (take m (drop at text)) → get_or (take m (drop at text)) k 0 ≡ get_or text (at + k) 0
 byte_there text at m k lt = get_or-take m (drop at text) k 0 (omega (arith, length-take m (drop at text))) ∙ get_or-drop at text k 0
 
--- no mark stands before the first
-pub plain-run : (text : List ℕ) (at m run : ℕ) → run ≡ first_place (begins is_mark) (take m (drop at text)) → IsPlain text at (at + run)
+-- no special byte precedes the first
+pub plain-run : (text : List ℕ) (at m run : ℕ) → run ≡ first_place (begins is_special) (take m (drop at text)) → IsPlain text at (at + run)
 plain-run text at m run is = record {
-  no_lf = λ k lo hi. (unmarked (get_or text k 0) (free k lo hi)).1;
+  no_lf = λ k lo hi. (unmatched (get_or text k 0) (free k lo hi)).1;
   no_escape = λ k lo hi.
       ap first_escape (drop_more text k 0 (within k lo hi))
-      ∙ first_escape-other (get_or text k 0) (drop (k + 1) text) (unmarked (get_or text k 0) (free k lo hi)).0;
+      ∙ first_escape-other (get_or text k 0) (drop (k + 1) text) (unmatched (get_or text k 0) (free k lo hi)).0;
 }
   where
     bytes : List ℕ
     bytes = take m (drop at text)
 
-    unmarked : (b : ℕ) → is_mark b ≡ false → ((b == 61) ≡ false) × ((b == 10) ≡ false)
-    unmarked b h = elim (cases_Bool (b == 61)) [
+    unmatched : (b : ℕ) → is_special b ≡ false → ((b == 61) ≡ false) × ((b == 10) ≡ false)
+    unmatched b h = elim (cases_Bool (b == 61)) [
       | inl sign ↦ absurd (false≢true (sym h ∙ rw sign refl))
       | inr other ↦ (other, sym (ap (λ (t : Bool). t || (b == 10)) other) ∙ h)
     ]
 
     short : (k : ℕ) → at ≤ k → k < at + run → k - at < length bytes
-    short k lo hi = omega (arith, is, first_place-≤ (begins is_mark) bytes)
+    short k lo hi = omega (arith, is, first_place-≤ (begins is_special) bytes)
 
     within : (k : ℕ) → at ≤ k → k < at + run → k < length text
     within k lo hi = let s = short k lo hi in omega (arith, length-take m (drop at text), length-drop at text)
 
-    free : (k : ℕ) → at ≤ k → k < at + run → is_mark (get_or text k 0) ≡ false
+    free : (k : ℕ) → at ≤ k → k < at + run → is_special (get_or text k 0) ≡ false
     free k lo hi =
         let s = short k lo hi in
         let there : get_or bytes (k - at) 0 ≡ get_or text k 0 =
         byte_there text at m (k - at) s ∙ ap (λ (j : ℕ). get_or text j 0) {x = at + (k - at)} {y = k} (omega arith) in
-        sym (ap is_mark there)
-        ∙ sym (ap (begins is_mark) (drop_more bytes (k - at) 0 s))
-        ∙ first_place-before (begins is_mark) bytes (k - at) (omega arith)
+        sym (ap is_special there)
+        ∙ sym (ap (begins is_special) (drop_more bytes (k - at) 0 s))
+        ∙ first_place-before (begins is_special) bytes (k - at) (omega arith)
 
--- what is plain up to a place, and has no mark from there up to an end
+-- bytes that are plain up to a place, and have no special byte from there up to an end
 pub plain-to_end : (text : List ℕ) (from to end : ℕ) → end ≤ length text → IsPlain text from to
-    → length (take (end - to) (drop to text)) ≡ first_place (begins is_mark) (take (end - to) (drop to text)) → IsPlain text from end
+    → length (take (end - to) (drop to text)) ≡ first_place (begins is_special) (take (end - to) (drop to text)) → IsPlain text from end
 plain-to_end text from to end within front none = elim (cases_lt end to) [
   | inl lt ↦ record { no_lf = λ k lo hi. front.no_lf k lo (omega arith); no_escape = λ k lo hi. front.no_escape k lo (omega arith) }
   | inr ge ↦
-      let run : end - to ≡ first_place (begins is_mark) (take (end - to) (drop to text)) = omega (arith, none, length-take-le (end - to) (drop to text) (omega (arith, length-drop to text))) in
+      let run : end - to ≡ first_place (begins is_special) (take (end - to) (drop to text)) = omega (arith, none, length-take-le (end - to) (drop to text) (omega (arith, length-drop to text))) in
       let back = plain-run text to (end - to) (end - to) run in
       plain-joined text from to end front (subst (IsPlain text to) {x = to + (end - to)} {y = end} (omega arith) back)
 ]
 
--- what is plain up to a place, up to the first mark after it
-pub plain-to_mark : (text : List ℕ) (from to end count : ℕ) → IsPlain text from to → count ≡ first_place (begins is_mark) (take (end - to) (drop to text))
+-- bytes that are plain up to a place, up to the first special byte after it
+pub plain-to_special : (text : List ℕ) (from to end count : ℕ) → IsPlain text from to → count ≡ first_place (begins is_special) (take (end - to) (drop to text))
     → IsPlain text from (to + count)
-plain-to_mark text from to end count front first = plain-joined text from to (to + count) front (plain-run text to (end - to) count first)
+plain-to_special text from to end count front first = plain-joined text from to (to + count) front (plain-run text to (end - to) count first)
 
--- the marks from a place up to an end, and those from a later place on
-pub marks_later : (text : List ℕ) (at end k next mask after : ℕ) → next ≡ at + k
+-- the mask from a place up to an end, and that from a later place
+pub matches_later : (text : List ℕ) (at end k next mask after : ℕ) → next ≡ at + k
     → ((test : ℕ → Bool) (bytes : List ℕ) → mask ≡ lane_mask test bytes → after ≡ lane_mask test (drop k bytes))
-    → mask ≡ lane_mask is_mark (take (end - at) (drop at text)) → after ≡ lane_mask is_mark (take (end - next) (drop next text))
-marks_later text at end k next mask after later shift is =
-    shift is_mark (take (end - at) (drop at text)) is
-    ∙ ap (lane_mask is_mark) (drop-of-take k (end - at) (drop at text) ∙ ap (take (end - at - k)) (drop-drop k at text))
-    ∙ ap (λ (m : ℕ). lane_mask is_mark (take m (drop (at + k) text))) {x = end - at - k} {y = end - next} (omega arith)
-    ∙ ap (λ (j : ℕ). lane_mask is_mark (take (end - next) (drop j text))) (sym later)
+    → mask ≡ lane_mask is_special (take (end - at) (drop at text)) → after ≡ lane_mask is_special (take (end - next) (drop next text))
+matches_later text at end k next mask after later shift is =
+    shift is_special (take (end - at) (drop at text)) is
+    ∙ ap (lane_mask is_special) (drop-of-take k (end - at) (drop at text) ∙ ap (take (end - at - k)) (drop-drop k at text))
+    ∙ ap (λ (m : ℕ). lane_mask is_special (take m (drop (at + k) text))) {x = end - at - k} {y = end - next} (omega arith)
+    ∙ ap (λ (j : ℕ). lane_mask is_special (take (end - next) (drop j text))) (sym later)
 
--- the first mark is one
-pub mark_there : (text : List ℕ) (at m run : ℕ) → run ≡ first_place (begins is_mark) (take m (drop at text)) → run < length (take m (drop at text))
+-- the first special byte is one
+pub special_there : (text : List ℕ) (at m run : ℕ) → run ≡ first_place (begins is_special) (take m (drop at text)) → run < length (take m (drop at text))
     → (get_or text (at + run) 0 ≡ 10 → ⊥) → get_or text (at + run) 0 ≡ 61
-mark_there text at m run is lt other =
+special_there text at m run is lt other =
     let bytes = take m (drop at text) in
-    let marked : is_mark (get_or text (at + run) 0) ≡ true =
-    sym (ap is_mark (byte_there text at m run lt))
-    ∙ sym (ap (begins is_mark) (drop_more bytes run 0 lt))
-    ∙ ap (λ (j : ℕ). begins is_mark (drop j bytes)) is
-    ∙ first_place-passes (begins is_mark) bytes (omega arith) in
+    let special : is_special (get_or text (at + run) 0) ≡ true =
+    sym (ap is_special (byte_there text at m run lt))
+    ∙ sym (ap (begins is_special) (drop_more bytes run 0 lt))
+    ∙ ap (λ (j : ℕ). begins is_special (drop j bytes)) is
+    ∙ first_place-passes (begins is_special) bytes (omega arith) in
     elim (cases_Bool (get_or text (at + run) 0 == 61)) [
       | inl sign ↦ eqb-true (get_or text (at + run) 0) 61 sign
-      | inr no_sign ↦ absurd (other (eqb-true (get_or text (at + run) 0) 10 (sym (ap (λ (t : Bool). t || (get_or text (at + run) 0 == 10)) no_sign) ∙ marked)))
+      | inr no_sign ↦ absurd (other (eqb-true (get_or text (at + run) 0) 10 (sym (ap (λ (t : Bool). t || (get_or text (at + run) 0 == 10)) no_sign) ∙ special)))
     ]
 
 pub plain-sign : (text : List ℕ) (at : ℕ) → get_or text at 0 ≡ 61 → first_escape (drop at text) ≡ None → IsPlain text at (at + 1)
@@ -418,7 +419,7 @@ copied_more len n run xs ys front more fits here is =
           ∙ append_assoc (take len xs) front more),
     )
 
--- what goes before an escape, whatever it stands for
+-- the bytes before an escape, whatever it stands for
 before : (text : List ℕ) (from to : ℕ) (low : from ≤ to) (high : to ≤ length text) (plain : IsPlain text from to) → (first_escape (drop to text) ≡ None → ⊥)
     → quoted_printable (drop from text) ≡ take (to - from) (drop from text) ++ quoted_printable (drop to text)
 before text from to low high plain some = go (first_escape (drop to text)) refl
@@ -427,19 +428,19 @@ before text from to low high plain some = go (first_escape (drop to text)) refl
     go None e = absurd (some e)
     go (Some byte) e = before_escape text from to low high plain byte e
 
--- ---- the loop over marks
+-- ---- the loop over special bytes
 
 -- a line end or an escape was the last that was read
 fresh : (text : List ℕ) (from : ℕ) (output : List ℕ) (len at : ℕ) → at ≤ length text → from + len ≤ at → len ≤ length output
     → take len output ++ quoted_printable (drop at text) ≡ quoted_printable (drop from text) → IsReading text from output len at at
-fresh text from output len at within after room so_far = record {
+fresh text from output len at within after capacity so_far = record {
   within = within;
   start = omega arith;
   after = after;
-  room = omega arith;
+  fits = omega arith;
   so_far = so_far;
   copied = ap (λ (k : ℕ). take k (drop len output)) {x = at - at} {y = 0} (omega arith) ∙ sym (ap (λ (k : ℕ). take k (drop at text)) {x = at - at} {y = 0} (omega arith));
-  marks = plain-empty text at;
+  is_plain = plain-empty text at;
 }
 
 -- nothing has been read
@@ -450,14 +451,14 @@ nothing_read text from output within = fresh text from output 0 from within (ome
 abbrev pub with_part : ℕ → List ℕ → List ℕ → List ℕ
 with_part place output part = put_mid place (length output - place) output part
 
--- as many bytes as there is room for from a place on
-abbrev pub room_from : ℕ → List ℕ → List ℕ
-room_from place output = take (length output - place) (drop place output)
+-- the part of the buffer from a place onwards
+abbrev pub buffer_from : ℕ → List ℕ → List ℕ
+buffer_from place output = take (length output - place) (drop place output)
 
-length-room_from : (place : ℕ) (output : List ℕ) → length (room_from place output) ≡ length output - place
-length-room_from place output = ap length (take_rest output place) ∙ length-drop place output
+length-buffer_from : (place : ℕ) (output : List ℕ) → length (buffer_from place output) ≡ length output - place
+length-buffer_from place output = ap length (take_rest output place) ∙ length-drop place output
 
-length-with_part : (place : ℕ) (output part : List ℕ) → place ≤ length output → length part ≡ length (room_from place output)
+length-with_part : (place : ℕ) (output part : List ℕ) → place ≤ length output → length part ≡ length (buffer_from place output)
     → length (with_part place output part) ≡ length output
 length-with_part place output part fits same =
     let k = length output - place in
@@ -472,36 +473,36 @@ length-with_part place output part fits same =
       length-drop place output,
     )
 
--- a run was copied, and it goes up to the end, or a mark follows
+-- a run was copied, and it goes up to the end, or a special byte follows
 pub record Ran (text : List ℕ) (from : ℕ) (output : List ℕ) (len plain at end run : ℕ) (part : List ℕ) : Type 0 where
   pub reading : IsReading text from (with_part (len + (at - plain)) output part) len plain (at + run)
-  pub marked : at + run ≢ end
+  pub stopped : at + run ≢ end
       → (len + (at + run - plain) < length (with_part (len + (at - plain)) output part)) × (at + run < length text) × (get_or text (at + run) 0 ≢ 10 → get_or text (at + run) 0 ≡ 61)
 
 module _ (text : List ℕ) (from : ℕ) (output : List ℕ) (len plain at : ℕ) (h : IsReading text from output len plain at) where
   abbrev place : ℕ
   place = len + (at - plain)
 
-  -- what has been copied
+  -- the bytes that have been copied
   abbrev copy : List ℕ
   copy = take (at - plain) (drop plain text)
 
   length-copy : length copy ≡ at - plain
   length-copy = let within = h.within in length-take-le (at - plain) (drop plain text) (omega (arith, length-drop plain text))
 
-  -- more bytes without a mark, or with one that stays
+  -- more bytes that are plain
   extended : (run to : ℕ) (ys : List ℕ) → to ≡ at + run → to ≤ length text → len + (to - plain) ≤ length ys
       → take (place + run) ys ≡ take place output ++ take run (drop at text) → IsPlain text at to → IsReading text from ys len plain to
-  extended run to ys to_is within room is more =
+  extended run to ys to_is within capacity is more =
       let n = at - plain in
       let start = h.start in
-      let both = copied_more len n run output ys copy (take run (drop at text)) h.room h.copied is in
+      let both = copied_more len n run output ys copy (take run (drop at text)) h.fits h.copied is in
       let e : to - plain ≡ n + run = omega arith in
       record {
         within = within;
         start = omega arith;
         after = h.after;
-        room = room;
+        fits = capacity;
         so_far = ap (λ (r : List ℕ). r ++ quoted_printable (drop plain text)) both.0 ∙ h.so_far;
         copied =
             ap (λ (k : ℕ). take k (drop len ys)) e
@@ -509,16 +510,16 @@ module _ (text : List ℕ) (from : ℕ) (output : List ℕ) (len plain at : ℕ)
             ∙ ap (λ (r : List ℕ). copy ++ take run r) (ap (λ (k : ℕ). drop k text) {x = at} {y = plain + n} (omega arith) ∙ sym (drop-drop n plain text))
             ∙ sym (take-add n run (drop plain text))
             ∙ ap (λ (k : ℕ). take k (drop plain text)) (sym e);
-        marks = plain-joined text plain at to h.marks more;
+        is_plain = plain-joined text plain at to h.is_plain more;
       }
 
-  module _ (n : ℕ) (part : List ℕ) (same : length part ≡ length (room_from place output)) where
+  module _ (n : ℕ) (part : List ℕ) (same : length part ≡ length (buffer_from place output)) where
     full : length (with_part place output part) ≡ length output
-    full = length-with_part place output part h.room same
+    full = length-with_part place output part h.fits same
 
     -- a run is copied
     pub after_run : (end : ℕ) → at ≤ end → end ≤ length text → end ≤ from + length output → n ≤ length (take (end - at) (drop at text))
-        → n ≡ first_place (begins is_mark) (take (end - at) (drop at text)) → take n part ≡ take n (take (end - at) (drop at text))
+        → n ≡ first_place (begins is_special) (take (end - at) (drop at text)) → take n part ≡ take n (take (end - at) (drop at text))
         → Ran text from output len plain at end n part
     after_run end ahead inside_text inside_output few first copied =
         let m = end - at in
@@ -531,9 +532,9 @@ module _ (text : List ℕ) (from : ℕ) (output : List ℕ) (len plain at : ℕ)
           reading = extended n (at + n) (with_part place output part) refl (omega arith) (omega (arith, full))
               (written_rest place n output part fits same (take n (drop at text)) (copied ∙ take-take n m (drop at text) (omega arith)))
               (plain-run text at m n first);
-          marked = λ other.
+          stopped = λ other.
               let lt : n < length (take m (drop at text)) = omega (arith, other) in
-              (omega (arith, full), omega arith, mark_there text at m n first lt);
+              (omega (arith, full), omega arith, special_there text at m n first lt);
         }
 
     -- bytes are copied that are plain
@@ -544,27 +545,27 @@ module _ (text : List ℕ) (from : ℕ) (output : List ℕ) (len plain at : ℕ)
         extended n to (with_part place output part) (omega arith) inside (omega (arith, full)) (written_rest place n output part fits same (take n (drop at text)) copied) free
 
     -- escapes are read
-    pub after_escapes : n ≤ length (room_from place output) → n ≢ 0 → ((n ≡ 0) ↔ (first_escape (drop at text) ≡ None)) → at + 3 * n ≤ length text
+    pub after_escapes : n ≤ length (buffer_from place output) → n ≢ 0 → ((n ≡ 0) ↔ (first_escape (drop at text) ≡ None)) → at + 3 * n ≤ length text
         → take n part ++ quoted_printable (drop (at + 3 * n) text) ≡ quoted_printable (drop at text)
         → IsReading text from (with_part place output part) (place + n) (at + 3 * n) (at + 3 * n)
     after_escapes few some first within read =
         let next : List ℕ = quoted_printable (drop (at + 3 * n) text) in
         let after = h.after in
         let start = h.start in
-        let fits : place + n ≤ length output = omega (arith, few, length-room_from place output, h.room, some) in
+        let fits : place + n ≤ length output = omega (arith, few, length-buffer_from place output, h.fits, some) in
         fresh text from (with_part place output part) (place + n) (at + 3 * n) within (omega arith) (omega (arith, full))
         (ap (λ (r : List ℕ). r ++ next) (written_rest place n output part fits same (take n part) refl)
         ∙ append_assoc (take place output) (take n part) next
         ∙ ap (λ (r : List ℕ). take place output ++ r) read
         ∙ ap (λ (r : List ℕ). r ++ quoted_printable (drop at text)) (take-add len (at - plain) output ∙ ap (λ (r : List ℕ). take len output ++ r) h.copied)
         ∙ append_assoc (take len output) copy (quoted_printable (drop at text))
-        ∙ ap (λ (r : List ℕ). take len output ++ r) (sym (before text plain at h.start h.within h.marks (λ none. some (first.1 none))))
+        ∙ ap (λ (r : List ℕ). take len output ++ r) (sym (before text plain at h.start h.within h.is_plain (λ none. some (first.1 none))))
         ∙ h.so_far)
 
     -- nothing is read at the place
     pub after_none : n ≡ 0 → IsReading text from (with_part place output part) len plain at
     after_none none =
-        extended 0 at (with_part place output part) (omega arith) h.within (omega (arith, full, h.room)) (written_rest place 0 output part (omega (arith, h.room)) same [] refl) (plain-empty text at)
+        extended 0 at (with_part place output part) (omega arith) h.within (omega (arith, full, h.fits)) (written_rest place 0 output part (omega (arith, h.fits)) same [] refl) (plain-empty text at)
 
   -- a vector is copied, of which as much counts as is plain
   pub after_vector : (m to : ℕ) (v : List ℕ) → v ≡ take m (drop at text) → at ≤ to → to ≤ at + m → at + m ≤ length text → place + m ≤ length output → IsPlain text at to
@@ -593,7 +594,7 @@ module _ (text : List ℕ) (from : ℕ) (output : List ℕ) (len plain at : ℕ)
       ∙ ap (λ (r : List ℕ). take place output ++ r) (sym read)
       ∙ ap (λ (r : List ℕ). r ++ quoted_printable (drop at text)) (take-add len (at - plain) output ∙ ap (λ (r : List ℕ). take len output ++ r) h.copied)
       ∙ append_assoc (take len output) copy (quoted_printable (drop at text))
-      ∙ ap (λ (r : List ℕ). take len output ++ r) (sym (before_escape text plain at h.start h.within h.marks byte is))
+      ∙ ap (λ (r : List ℕ). take len output ++ r) (sym (before_escape text plain at h.start h.within h.is_plain byte is))
       ∙ h.so_far)
 
   -- a soft line break takes the line end with it
@@ -601,11 +602,11 @@ module _ (text : List ℕ) (from : ℕ) (output : List ℕ) (len plain at : ℕ)
   after_soft next within soft =
       let start = h.start in
       let after = h.after in
-      let none = piece-no_escape text plain at h.start h.within h.marks in
+      let none = piece-no_escape text plain at h.start h.within h.is_plain in
       elim soft.1 [
         | inl one ↦
             let no_lf : (k : ℕ) → plain ≤ k → k < at + 1 → is_lf (get_or text k 0) ≡ false =
-            (λ k lo hi. elim (cases_lt k at) [ inl lt ↦ h.marks.no_lf k lo lt | inr ge ↦ ap (λ (j : ℕ). is_lf (get_or text j 0)) {x = k} {y = at} (omega arith) ∙ ap is_lf soft.0 ]) in
+            (λ k lo hi. elim (cases_lt k at) [ inl lt ↦ h.is_plain.no_lf k lo lt | inr ge ↦ ap (λ (j : ℕ). is_lf (get_or text j 0)) {x = k} {y = at} (omega arith) ∙ ap is_lf soft.0 ]) in
             let end = lf_place text plain (at + 1) (omega arith) (omega (arith, one.0)) no_lf (λ _. one.1) in
             let piece = piece_more text plain at 61 h.start (omega (arith, one.0)) soft.0 in
             let line = ap (λ (r : List ℕ). line_bytes (ended_line r)) piece ∙ soft_lf copy none in
@@ -613,7 +614,7 @@ module _ (text : List ℕ) (from : ℕ) (output : List ℕ) (len plain at : ℕ)
         | inr two ↦
             let no_lf : (k : ℕ) → plain ≤ k → k < at + 2 → is_lf (get_or text k 0) ≡ false =
             (λ k lo hi. elim (cases_lt k at) [
-              | inl lt ↦ h.marks.no_lf k lo lt
+              | inl lt ↦ h.is_plain.no_lf k lo lt
               | inr ge ↦ elim (cases_lt k (at + 1)) [
                 | inl lt ↦ ap (λ (j : ℕ). is_lf (get_or text j 0)) {x = k} {y = at} (omega arith) ∙ ap is_lf soft.0
                 | inr ge2 ↦ ap (λ (j : ℕ). is_lf (get_or text j 0)) {x = k} {y = at + 1} (omega arith) ∙ ap is_lf two.1
@@ -631,38 +632,38 @@ module _ (text : List ℕ) (from : ℕ) (output : List ℕ) (len plain at : ℕ)
           → line_bytes (ended_line (take (end - plain) (drop plain text))) ≡ copy → plain ≤ at → at ≤ end → IsReading text from output place next next
       softened end next is within there line low high =
           let after = h.after in
-          fresh text from output place next within (omega (arith, after, low, high, is)) h.room
+          fresh text from output place next within (omega (arith, after, low, high, is)) h.fits
           (ap (λ (k : ℕ). take place output ++ quoted_printable (drop k text)) is
           ∙ sym (line_read text (take len output) plain end (omega (arith, is, within)) there (take place output) (omega (arith, is, within))
           (take-add len (at - plain) output ∙ ap (λ (r : List ℕ). take len output ++ r) (h.copied ∙ sym line)))
           ∙ h.so_far)
 
   -- a `=` that begins no escape stays
-  pub after_sign : (part : List ℕ) → length part ≡ length (room_from place output) → place < length output → at < length text
+  pub after_sign : (part : List ℕ) → length part ≡ length (buffer_from place output) → place < length output → at < length text
       → get_or text at 0 ≡ 61 → first_escape (drop at text) ≡ None → IsReading text from (slice_set (with_part place output part) place 61) len plain (at + 1)
   after_sign part same fits lt sign none =
       let ys = with_part place output part in
       let start = h.start in
       let front : take place ys ≡ take place output =
       ap (λ (k : ℕ). take k ys) {x = place} {y = place + 0} (omega arith) ∙ written_rest place 0 output part (omega arith) same [] refl ∙ append-nil (take place output) in
-      let room : place < length ys = omega (arith, fits, full 0 part same) in
-      extended 1 (at + 1) (slice_set ys place 61) refl (omega arith) (omega (arith, room, length-set ys place 61))
-      (take_more_set ys place 61 room
+      let capacity : place < length ys = omega (arith, fits, full 0 part same) in
+      extended 1 (at + 1) (slice_set ys place 61) refl (omega arith) (omega (arith, capacity, length-set ys place 61))
+      (take_more_set ys place 61 capacity
       ∙ ap (λ (r : List ℕ). r ++ 61 ∷ []) front
       ∙ ap (λ (r : List ℕ). take place output ++ r) (sym (ap (take 1) (drop_more text at 0 lt) ∙ ap (λ (b : ℕ). b ∷ take 0 (drop (at + 1) text)) sign)))
       (plain-sign text at sign none)
 
-  module _ (n : ℕ) (part : List ℕ) (same : length part ≡ length (room_from len output)) where
+  module _ (n : ℕ) (part : List ℕ) (same : length part ≡ length (buffer_from len output)) where
     -- a line ends
     pub after_line : place < length output → at < length text → get_or text at 0 ≡ 10 → n ≤ length copy + 1 → take n part ≡ line_bytes (ended_line copy)
         → IsReading text from (with_part len output part) (len + n) (at + 1) (at + 1)
-    after_line room lt lf_there few is =
+    after_line capacity lt lf_there few is =
         let after = h.after in
         let start = h.start in
-        let fits : len + n ≤ length output = omega (arith, length-copy, room, few) in
+        let fits : len + n ≤ length output = omega (arith, length-copy, capacity, few) in
         fresh text from (with_part len output part) (len + n) (at + 1) (omega arith) (omega (arith, length-copy, few))
         (omega (arith, fits, length-with_part len output part (omega arith) same))
-        (sym (line_read text (take len output) plain at (omega arith) (lf_place text plain at h.start h.within h.marks.no_lf (λ _. lf_there))
+        (sym (line_read text (take len output) plain at (omega arith) (lf_place text plain at h.start h.within h.is_plain.no_lf (λ _. lf_there))
         (take (len + n) (with_part len output part)) lt (written_rest len n output part fits same _ is))
         ∙ h.so_far)
 
@@ -671,25 +672,25 @@ module _ (text : List ℕ) (from : ℕ) (output : List ℕ) (len plain at : ℕ)
         → take (len + n) (with_part len output part) ++ quoted_printable (drop at text) ≡ quoted_printable (drop from text)
     after_all few end is =
         let start = h.start in
-        let fits : len + n ≤ length output = omega (arith, length-copy, h.room, few) in
+        let fits : len + n ≤ length output = omega (arith, length-copy, h.fits, few) in
         nothing_left text (take (len + n) (with_part len output part)) at (omega arith)
-        ∙ sym (line_last text (take len output) plain at (omega arith) (lf_place text plain at h.start h.within h.marks.no_lf (λ lt. absurd (omega arith)))
+        ∙ sym (line_last text (take len output) plain at (omega arith) (lf_place text plain at h.start h.within h.is_plain.no_lf (λ lt. absurd (omega arith)))
         (take (len + n) (with_part len output part)) end (written_rest len n output part fits same _ is))
         ∙ h.so_far
 
-  -- no escape begins in what has been copied, and it is a part of what is written
+  -- no escape begins in the copied bytes, and they are a part of those written
   pub copy-no_escape : HasNoEscape copy
-  copy-no_escape = piece-no_escape text plain at h.start h.within h.marks
+  copy-no_escape = piece-no_escape text plain at h.start h.within h.is_plain
 
-  pub copy-written : take (length copy) (room_from len output) ≡ copy
+  pub copy-written : take (length copy) (buffer_from len output) ≡ copy
   copy-written =
-      take-take (length copy) (length output - len) (drop len output) (omega (arith, length-copy, h.room))
+      take-take (length copy) (length output - len) (drop len output) (omega (arith, length-copy, h.fits))
       ∙ ap (λ (k : ℕ). take k (drop len output)) length-copy
       ∙ h.copied
 
 -- escapes are read, or a soft line break is, or both, one after the other
 pub after_both : (text : List ℕ) (from : ℕ) (output : List ℕ) (len plain at : ℕ) → IsReading text from output len plain at → (n : ℕ) (part : List ℕ)
-    → length part ≡ length (room_from (len + (at - plain)) output) → n ≤ length (room_from (len + (at - plain)) output)
+    → length part ≡ length (buffer_from (len + (at - plain)) output) → n ≤ length (buffer_from (len + (at - plain)) output)
     → ((n ≡ 0) ↔ (first_escape (drop at text) ≡ None)) → at + 3 * n ≤ length text
     → take n part ++ quoted_printable (drop (at + 3 * n) text) ≡ quoted_printable (drop at text)
     → (next : ℕ) → next ≢ at → next ≤ length text → (next ≢ at + 3 * n → IsSoftBreak text (at + 3 * n) next)

@@ -9,7 +9,7 @@ use Rattle.mail_codec.specs.declared.bytescan.runs.RunEnd.{RunEnd}
 use Rattle.mail_codec.proofs.lemmas.PlacesSearches.{found_front}
 use Rattle.mail_codec.proofs.lemmas.Written.{stored_after}
 
--- what is kept is what stands before the first end of a run, and then what is kept of what follows it
+-- the bytes kept are those before the first end of a run, and then those kept of the rest
 runs_first : (ends : ℕ → Bool) (xs : List ℕ)
     → filter (λ b. not (ends b)) xs
     ≡ take (first_place (begins ends) xs) xs ++ filter (λ b. not (ends b)) (drop (first_place (begins ends) xs + 1) xs)
@@ -22,7 +22,7 @@ runs_first ends (x ∷ xs) = elim (cases_Bool (ends x)) [
       rw (free, more) (ap (λ (r : List ℕ). x ∷ r) (runs_first ends xs))
 ]
 
--- bytes at the front none of which ends a run are kept
+-- bytes at the front are kept if none of them ends a run
 kept_front : (ends : ℕ → Bool) (n : ℕ) (xs : List ℕ) → n ≤ length xs → first_place (begins ends) (take n xs) ≡ n
     → filter (λ b. not (ends b)) xs ≡ take n xs ++ filter (λ b. not (ends b)) (drop n xs)
 kept_front ends zero xs h e = refl
@@ -39,9 +39,9 @@ kept_one end b xs e = rw e refl
 ended_one : (end : RunEnd) (b : ℕ) (xs : List ℕ) → ends_run end b ≡ true → without_ends end (b ∷ xs) ≡ without_ends end xs
 ended_one end b xs e = rw e refl
 
--- ---- what has been written, up to a place
+-- ---- the bytes that have been written, up to a place
 
--- what was written, and then what is kept of the rest, is all
+-- the bytes written, and then those kept of the rest, are all
 pub record Kept (end : RunEnd) (bytes output : List ℕ) (len at : ℕ) : Type 0 where
   pub within : at ≤ length bytes
   pub few : len ≤ at
@@ -75,7 +75,7 @@ module _ (end : RunEnd) (bytes output : List ℕ) (len at : ℕ) (h : Kept end b
   -- no run ends in it
   pub vector_kept : at + 16 ≤ length bytes → len + 16 ≤ length output → first_place (begins (ends_run end)) vector ≡ 16
       → Kept end bytes (put_chunk len output vector) (len + 16) (at + 16)
-  vector_kept fits room free =
+  vector_kept fits capacity free =
       written_more (put_chunk len output vector) 16 16 (omega arith) fits vector
       (stored_after len 16 output vector (omega (arith, vector_long fits)) (omega (arith, vector_long fits)) ∙ ap (λ (r : List ℕ). take len output ++ r) (take-take 16 16 (drop at bytes) (omega arith)))
       (kept_front (ends_run end) 16 (drop at bytes) (omega (arith, length-drop at bytes)) free)
@@ -83,7 +83,7 @@ module _ (end : RunEnd) (bytes output : List ℕ) (len at : ℕ) (h : Kept end b
   -- a run ends in it
   pub vector_ended : (place : ℕ) → at + 16 ≤ length bytes → len + 16 ≤ length output → place ≡ first_place (begins (ends_run end)) vector → place < 16
       → Kept end bytes (put_chunk len output vector) (len + place) (at + (place + 1))
-  vector_ended place fits room is few =
+  vector_ended place fits capacity is few =
       let same : first_place (begins (ends_run end)) (drop at bytes) ≡ place =
       found_front (ends_run end) 16 (drop at bytes) (omega (arith, is)) (omega (arith, length-drop at bytes)) ∙ sym is in
       written_more (put_chunk len output vector) place (place + 1) (omega arith) (omega arith) (take place (drop at bytes))
@@ -93,7 +93,7 @@ module _ (end : RunEnd) (bytes output : List ℕ) (len at : ℕ) (h : Kept end b
   -- a byte that was stored
   pub byte_kept : at < length bytes → len < length output → ends_run end (get_or bytes at 0) ≡ false
       → Kept end bytes (slice_set output len (get_or bytes at 0)) (len + 1) (at + 1)
-  byte_kept lt room free =
+  byte_kept lt capacity free =
       let b : ℕ = get_or bytes at 0 in
       let next : List ℕ = drop (at + 1) bytes in
       let low = h.few in
@@ -101,7 +101,7 @@ module _ (end : RunEnd) (bytes output : List ℕ) (len at : ℕ) (h : Kept end b
         within = omega arith;
         few = omega arith;
         so_far =
-            ap (λ (r : List ℕ). r ++ without_ends end next) (take_more_set output len b room)
+            ap (λ (r : List ℕ). r ++ without_ends end next) (take_more_set output len b capacity)
             ∙ append_assoc (take len output) (b ∷ []) (without_ends end next)
             ∙ ap (λ (r : List ℕ). take len output ++ r) (sym (ap (without_ends end) (drop_more bytes at 0 lt) ∙ kept_one end b next free))
             ∙ h.so_far;

@@ -1,44 +1,54 @@
 -- Letters of Base64 in a vector, and the bytes of their groups.
-use Rattle.std.proofs.Common.{◌≡◌, ℕ, zero, suc, ◌+◌, ◌*◌, ◌/◌, ◌%◌, ◌^◌, ◌<◌, ◌≤◌, Bool, true, false, not, ◌&&◌, ◌||◌, ◌==◌, nat_lt, bit_or, List, [], ◌∷◌, ◌++◌, map, length, take, drop, get_or, replicate, Option, Some, None, Ok, Fits, w8, refl, sym, ap, subst, ◌∙◌, ◌-◌, cond, inl, inr, arith}
+use Rattle.std.proofs.Common.{◌≡◌, ℕ, zero, suc, ◌+◌, ◌*◌, ◌/◌, ◌%◌, ◌^◌, ◌<◌, ◌≤◌, Bool, true, false, not, ◌&&◌, ◌||◌, ◌==◌, eqb, nat_lt, bit_and, bit_or, List, [], ◌∷◌, ◌++◌, map, length, take, drop, get_or, replicate, Option, Some, None, Ok, Fits, w8, refl, sym, ap, subst, ◌∙◌, ◌-◌, cond, inl, inr, arith}
 use Rattle.std.proofs.lemmas.Bool.{agree_below, agree_below_at, and_parts, cases_eq, eq-eqb, eqb-true, ne_eqb, not-true, ltb-true}
-use Rattle.std.proofs.lemmas.List.{get_or-map, get_or_append_left, length-take-le}
+use Rattle.std.proofs.lemmas.List.{get_or-map, get_or_append_left, length-take-le, map-id}
 use Rattle.std.proofs.lemmas.List.Sums.{prefix_len_passes, prefix_len-le-length}
-use Rattle.std.proofs.lemmas.Nat.{or_shifted, or_lt}
-use Rattle.std.proofs.lemmas.Simd.{Each1-from_get_or, get_or_narrower, get_or-zip2, get_or-replicate, length-replicate, length-zip2, leading_from_mask_l, sum_dots}
+use Rattle.std.proofs.lemmas.Nat.{and_le_r, or_shifted, or_lt}
+use Rattle.std.proofs.lemmas.Simd.{Each1-from_get_or, get_or_narrower, get_or-zip2, get_or-replicate, length-replicate, length-zip2, sum_dots, swz_l, SwzOk, tops_compared, zip2_of_maps, zip2_splat}
 use Rattle.std.proofs.Math.Seq.{take-add}
 use Rattle.std.specs.List.{prefix_len}
 use Rattle.std.specs.Option.{is_some}
-use lib.Lanes.{Each1, zip2, dots, digits_l, mask_l, number_l, pick_l, top}
+use lib.Lanes.{Each1, zip2, dots, digits_l, mask_l, number_l, pick_l, sel_l, top}
 use mir.Val.{bits, hbits}
 use Rattle.mail_codec.specs.Base64.{letter, letter_value, padding, group_bytes, group_number, groups_from, after_group, prepend, three_bytes}
-use Rattle.mail_codec.specs.private.Vectors.{fault_of, group_of, is_letter, addition_place, three_at, value_of}
+use Rattle.mail_codec.specs.private.Vectors.{additions, addition_place, fault_of, group_of, is_letter, lower_faults, three_at, upper_faults, value_of, AreNumbers}
+use Rattle.mail_codec.specs.declared.vectors.letters.TheConstants.{ADDITIONS, LOWER_FAULTS, UPPER_FAULTS}
+use Rattle.mail_codec.specs.Places.{begins, first_place}
 use Rattle.mail_codec.proofs.lemmas.Places.{first_place-begins}
-use Rattle.mail_codec.proofs.lemmas.Vectors.{free_mask, lane_fits, marks_of, prefix_same}
+use Rattle.mail_codec.proofs.lemmas.Vectors.{chosen, free_mask, lane_fits, looked_up, map_same, mask_of, no_match, places_ok}
 use Rattle.mail_codec.proofs.lemmas.Base64Letters.{is_value, is_value_true, letter-letter_value}
 use Rattle.mail_codec.proofs.lemmas.Base64Groups.{drop_three, drop_four, groups_from-append}
 
 -- ---- all bytes as letters
 
--- no fault is found at letters alone
-pub faults_agree : agree_below (λ b. not (not (fault_of b == 0))) is_letter 256 ≡ true
+-- letters alone have no fault
+others_agree : agree_below (λ b. not (fault_of b == 0)) (λ b. not (is_letter b)) 256 ≡ true
 unfolding letter_value
-faults_agree = refl
+others_agree = refl
 
--- no byte has a fault exactly where all are letters
-pub all_letters : (v fs : List ℕ) → (length v ≡ 64) × Each1 (Fits w8) v → fs ≡ map fault_of v
-    → (mask_l (map (top (hbits w8)) (zip2 (λ a b. cond (not (a == b)) (2 ^ bits w8 - 1) 0) fs (replicate 64 0))) % 2 ^ 64 == 0) ≡ (prefix_len is_letter v == 64)
-all_letters v fs fits is =
-    let faulty : ℕ → Bool = λ b. not (fault_of b == 0) in
-    let marks = marks_of 64 (omega arith) (λ a b. not (a == b)) fault_of 0 v fs fits.0 is in
-    let same = prefix_same (λ b. not (faulty b)) is_letter faults_agree v fits.1 in
-    let free = first_place-begins faulty v in
-    ap (λ m. m == 0) marks
-    ∙ elim (cases_eq (mask_l (map faulty v)) 0) [
-      | inl none ↦ eq-eqb _ _ none ∙ sym (eq-eqb _ _ (sym same ∙ leading_from_mask_l faulty v none ∙ fits.0))
-      | inr some ↦ ne_eqb _ _ some ∙ sym (ne_eqb _ _ (λ e. some (free_mask faulty v (free ∙ same ∙ e ∙ sym fits.0))))
-    ]
+-- the mask of the bytes that have a fault
+pub others_mask : (n : ℕ) → n ≤ 64 → (v fs : List ℕ) → (length v ≡ n) × Each1 (Fits w8) v → fs ≡ map fault_of v
+    → mask_l (map (top (hbits w8)) (zip2 (λ a b. cond (not (a == b)) (2 ^ bits w8 - 1) 0) fs (replicate n 0))) % 2 ^ 64 ≡ mask_l (map (λ b. not (is_letter b)) v)
+others_mask n few v fs fits is =
+    mask_of n few (λ a b. not (a == b)) fault_of 0 v fs fits.0 is
+    ∙ ap mask_l (map_same (λ b. not (fault_of b == 0)) (λ b. not (is_letter b)) others_agree v fits.1)
 
--- a letter's value is what is computed, and it is no padding
+twice : (t : Bool) → not (not t) ≡ t
+twice true = refl
+twice false = refl
+
+-- how many letters precede the first other byte
+pub letters_first : (v : List ℕ) → first_place (begins (λ b. not (is_letter b))) v ≡ prefix_len is_letter v
+letters_first v = first_place-begins (λ b. not (is_letter b)) v ∙ (λ i. prefix_len (λ b. twice (is_letter b) i) v)
+
+-- the mask is 0 exactly where all are letters
+pub all_letters : (v : List ℕ) (mask : ℕ) → length v ≡ 64 → mask ≡ mask_l (map (λ b. not (is_letter b)) v) → (mask == 0) ≡ (prefix_len is_letter v == 64)
+all_letters v mask long is = elim (cases_eq mask 0) [
+  | inl none ↦ eq-eqb _ _ none ∙ sym (eq-eqb _ _ (sym (letters_first v) ∙ sym (no_match (λ b. not (is_letter b)) v mask is none) ∙ long))
+  | inr some ↦ ne_eqb _ _ some ∙ sym (ne_eqb _ _ (λ e. some (is ∙ free_mask (λ b. not (is_letter b)) v (letters_first v ∙ e ∙ sym long))))
+]
+
+-- the value of a letter is the computed one, and the letter is no padding
 abbrev has_value : ℕ → Bool
 has_value b = not (is_letter b) || (is_value (letter_value b) (value_of b) && not (b == padding))
 
@@ -55,6 +65,51 @@ letter_read b h e =
     let parts = and_parts _ _ (or_right _ _ (agree_below_at has_value (λ _. true) 256 b values_agree h) e) in
     let is = is_value_true _ _ parts.0 in
     (is, (letter-letter_value b (value_of b) is).0, not-true _ parts.1)
+
+-- ---- look-ups in a vector of n letters
+
+-- each index in the table of additions is one of sixteen
+pub addition_place_small : (b : ℕ) → b < 256 → addition_place b < 16
+addition_place_small b h = ltb-true _ _ (agree_below_at (λ x. nat_lt (addition_place x) 16) (λ _. true) 256 b refl h)
+
+module _ (b n : ℕ) (whole : n ≡ b * 16) (few : n ≤ 64) (v : List ℕ) (fits : (length v ≡ n) × Each1 (Fits w8) v) where
+  abbrev halves : List ℕ
+  halves = zip2 (λ a b. a / 2 ^ b) v (replicate n 4)
+
+  upper_half : halves ≡ map (λ b. b / 16) v
+  upper_half = zip2_splat (λ a b. a / 2 ^ b) v n 4 fits.0
+
+  lower_half : zip2 bit_and v (replicate n 15) ≡ map (λ b. bit_and b 15) v
+  lower_half = zip2_splat bit_and v n 15 fits.0
+
+  pub upper_ok : SwzOk w8 16 n 0 halves
+  upper_ok = places_ok b n whole (λ b. b / 16) v halves fits upper_half (λ x h. omega arith)
+
+  pub lower_ok : SwzOk w8 16 n 0 (zip2 bit_and v (replicate n 15))
+  lower_ok = places_ok b n whole (λ b. bit_and b 15) v (zip2 bit_and v (replicate n 15)) fits lower_half (λ x h. omega (arith, and_le_r x 15))
+
+  pub faults_are : zip2 bit_and (swz_l w8 16 (take n UPPER_FAULTS) 0 halves) (swz_l w8 16 (take n LOWER_FAULTS) 0 (zip2 bit_and v (replicate n 15))) ≡ map fault_of v
+  faults_are =
+      zip2_of_maps bit_and _ _ v
+      (looked_up b n whole (λ b. b / 16) v halves fits upper_half (λ x h. omega arith) 64 few UPPER_FAULTS upper_faults refl)
+      (looked_up b n whole (λ b. bit_and b 15) v (zip2 bit_and v (replicate n 15)) fits lower_half (λ x h. omega (arith, and_le_r x 15)) 64 few LOWER_FAULTS lower_faults refl)
+
+  abbrev places : List ℕ
+  places = zip2 (λ a b. (a + b) % 2 ^ 8) halves (sel_l (map (top (hbits w8)) (zip2 (λ a b. cond (eqb a b) (2 ^ bits w8 - 1) 0) v (replicate n 47))) (replicate n 255) (replicate n 0))
+
+  places_are : places ≡ map addition_place v
+  places_are =
+      zip2_of_maps (λ a b. (a + b) % 2 ^ 8) _ _ v upper_half
+      (ap (λ ms. sel_l ms (replicate n 255) (replicate n 0)) (tops_compared w8 eqb v (replicate n 47) ∙ zip2_splat eqb v n 47 fits.0)
+      ∙ chosen (λ b. b == 47) 255 0 n v fits.0)
+
+  pub additions_ok : SwzOk w8 16 n 0 places
+  additions_ok = places_ok b n whole addition_place v places fits places_are addition_place_small
+
+  pub values_are : zip2 (λ a b. (a + b) % 2 ^ 8) v (swz_l w8 16 (take n ADDITIONS) 0 places) ≡ map value_of v
+  values_are =
+      zip2_of_maps (λ a b. (a + b) % 2 ^ 8) _ _ v (sym (map-id v))
+      (looked_up b n whole addition_place v places fits places_are addition_place_small 64 few ADDITIONS additions refl)
 
 -- ---- numbers of groups
 
@@ -113,10 +168,10 @@ module _ (n : ℕ) (v : List ℕ) (long : length v ≡ 4 * n) (fits : Each1 (Fit
   raised_len : length raised ≡ n
   raised_len = length-zip2 (λ a b. a * 2 ^ b % 2 ^ 32) first_pairs (replicate n 12) (first_len ∙ sym (length-replicate {A = ℕ} n 12)) ∙ first_len
 
-  pub numbers_len : length (zip2 bit_or raised last_pairs) ≡ n
+  numbers_len : length (zip2 bit_or raised last_pairs) ≡ n
   numbers_len = length-zip2 bit_or raised last_pairs (raised_len ∙ sym last_len) ∙ raised_len
 
-  pub numbers_at : (k : ℕ) → k < n → get_or v (4 * k + 2) 0 < 64 → get_or v (4 * k + 3) 0 < 64
+  numbers_at : (k : ℕ) → k < n → get_or v (4 * k + 2) 0 < 64 → get_or v (4 * k + 3) 0 < 64
       → get_or (zip2 bit_or raised last_pairs) k 0 ≡ group_number (get_or v (4 * k) 0) (get_or v (4 * k + 1) 0) (get_or v (4 * k + 2) 0) (get_or v (4 * k + 3) 0)
   numbers_at k h hy hz =
       get_or-zip2 bit_or raised last_pairs k 0 0 0 (omega (arith, raised_len)) (omega (arith, last_len))
@@ -126,12 +181,15 @@ module _ (n : ℕ) (v : List ℕ) (long : length v ≡ 4 * n) (fits : Each1 (Fit
       ∙ pairs_joined (get_or v (4 * k) 0) (get_or v (4 * k + 1) 0) (get_or v (4 * k + 2) 0) (get_or v (4 * k + 3) 0) (get_or first_pairs k 0) (get_or last_pairs k 0)
       (lane_fits v (4 * k) fits) (lane_fits v (4 * k + 1) fits) hy hz (dots_at 64 1 0 0 n k v h long) (dots_at 0 0 64 1 n k v h long)
 
-  pub numbers_fit : (k : ℕ) → k < n → get_or (zip2 bit_or raised last_pairs) k 0 < 2 ^ 32
+  numbers_fit : (k : ℕ) → k < n → get_or (zip2 bit_or raised last_pairs) k 0 < 2 ^ 32
   numbers_fit k h =
       let at = get_or-zip2 bit_or raised last_pairs k 0 0 0 (omega (arith, raised_len)) (omega (arith, last_len)) in
       let high : get_or raised k 0 < 2 ^ 32 = omega (arith, get_or-zip2 (λ a b. a * 2 ^ b % 2 ^ 32) first_pairs (replicate n 12) k 0 0 0 (omega (arith, first_len)) (omega (arith, length-replicate {A = ℕ} n 12))) in
       let low : get_or last_pairs k 0 < 2 ^ 32 = omega (arith, dots_at 0 0 64 1 n k v h long, lane_fits v (4 * k + 2) fits, lane_fits v (4 * k + 3) fits) in
       subst (λ m. m < 2 ^ 32) (sym at) (or_lt 32 (get_or raised k 0) (get_or last_pairs k 0) high low)
+
+  pub numbers_are : AreNumbers n v (zip2 bit_or raised last_pairs)
+  numbers_are = record { len = numbers_len; fits = numbers_fit; lanes = numbers_at }
 
 -- ---- bytes of numbers
 
@@ -164,8 +222,8 @@ pub groups_read : (v bytes : List ℕ) (m : ℕ) → 4 * m ≤ length v → 3 * 
     → ((k : ℕ) → k < m → group_of v k ≡ Some (three_at bytes k))
     → (n : ℕ) → groups_from n (take (4 * m) v) ≡ Ok (take (3 * m) bytes)
 unfolding groups_from
-groups_read v bytes zero long room each n = refl
-groups_read v bytes (suc m) long room each n =
+groups_read v bytes zero long capacity each n = refl
+groups_read v bytes (suc m) long capacity each n =
     let before = groups_read v bytes m (omega arith) (omega arith) (λ k h. each k (omega arith)) n in
     let split : take (4 * suc m) v ≡ take (4 * m) v ++ take 4 (drop (4 * m) v) = ap (λ k. take k v) {x = 4 * suc m} {y = 4 * m + 4} (omega arith) ∙ take-add (4 * m) 4 v in
     let four = ap (take 4) (drop_four (4 * m) v (omega arith)) in
@@ -178,16 +236,10 @@ groups_read v bytes (suc m) long room each n =
     ∙ ap (λ g. prepend (take (3 * m) bytes) (after_group (n + length (take (4 * m) v) / 4) g (Ok []))) (each m (omega arith))
     ∙ ap Ok (sym bytes_split)
 
--- each place in the table of what is added is one of sixteen
-pub addition_place_small : (b : ℕ) → b < 256 → addition_place b < 16
-addition_place_small b h = ltb-true _ _ (agree_below_at (λ x. nat_lt (addition_place x) 16) (λ _. true) 256 b refl h)
-
 -- the n groups of a vector of letters, with their values, numbers and bytes
-module _ (n : ℕ) (v vs ns : List ℕ) (long : length v ≡ 4 * n) (fits : Each1 (Fits w8) v) (vs_is : vs ≡ map value_of v) (ns_len : length ns ≡ n) (ns_small : (k : ℕ) → k < n → get_or ns k 0 < 2 ^ 32)
-    (ns_is : (k : ℕ) → k < n → get_or vs (4 * k + 2) 0 < 64 → get_or vs (4 * k + 3) 0 < 64
-    → get_or ns k 0 ≡ group_number (get_or vs (4 * k) 0) (get_or vs (4 * k + 1) 0) (get_or vs (4 * k + 2) 0) (get_or vs (4 * k + 3) 0)) where
+module _ (n : ℕ) (v vs ns : List ℕ) (long : length v ≡ 4 * n) (fits : Each1 (Fits w8) v) (vs_is : vs ≡ map value_of v) (are : AreNumbers n vs ns) where
   ns_fit : Each1 (λ x. x < 2 ^ 32) ns
-  ns_fit = Each1-from_get_or (λ x. x < 2 ^ 32) ns 0 (λ i h. ns_small i (omega (arith, ns_len)))
+  ns_fit = Each1-from_get_or (λ x. x < 2 ^ 32) ns 0 (λ i h. are.fits i (omega (arith, are.len)))
 
   letter_at : (i : ℕ) → i < 4 * n → i < prefix_len is_letter v
       → (letter_value (get_or v i 0) ≡ Some (get_or vs i 0)) × (get_or vs i 0 < 64) × ((get_or v i 0 == padding) ≡ false)
@@ -206,7 +258,7 @@ module _ (n : ℕ) (v vs ns : List ℕ) (long : length v ≡ 4 * n) (fits : Each
       let b = letter_at (4 * k + 1) (omega arith) (omega arith) in
       let c = letter_at (4 * k + 2) (omega arith) (omega arith) in
       let d = letter_at (4 * k + 3) (omega arith) (omega arith) in
-      let is = ns_is k h c.1 d.1 in
+      let is = are.lanes k h c.1 d.1 in
       four_letters_read _ _ _ _ _ _ _ _ a.0 b.0 c.0 d.0 d.2
       ∙ ap (λ m. Some (three_bytes m)) (sym is)
       ∙ ap Some (three_of n ns ns_fit k h (omega (arith, is, a.1, b.1, c.1, d.1)) x y z ex ey ez)
@@ -229,7 +281,7 @@ some_of : (o : Option ℕ) → is_some o ≡ true → (v : ℕ) × (o ≡ Some v
 some_of None h = absurd (cc h)
 some_of (Some v) h = (v, refl)
 
--- what fails for each of the 64 letters
+-- a test that fails for each of the 64 letters
 pub letters_fail : (t : ℕ → Bool) → agree_below (λ v. t (letter v)) (λ _. false) 64 ≡ true → (b : ℕ) → is_letter b ≡ true → t b ≡ false
 letters_fail t all b h =
     let s = some_of (letter_value b) h in

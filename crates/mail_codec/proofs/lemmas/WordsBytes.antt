@@ -31,7 +31,7 @@ bytes_below : (bs : List ℕ) → ((i : ℕ) → get_or bs i 0 < 256) → AllBel
 bytes_below [] h = tt
 bytes_below (b ∷ bs) h = (h 0, bytes_below bs (λ i. h (suc i)))
 
--- what holds of any eight bytes holds of a list of eight
+-- a property of any eight bytes is one of each list of eight
 of_eight : (P : List ℕ → Type 0) → ((a b d e f g i j : ℕ) → P (a ∷ b ∷ d ∷ e ∷ f ∷ g ∷ i ∷ j ∷ [])) → (bs : List ℕ) → length bs ≡ 8 → P bs
 of_eight P all [] h = absurd (omega arith)
 of_eight P all (a ∷ []) h = absurd (omega arith)
@@ -133,7 +133,7 @@ mask_before test bs m small is i l = elim (cases_lt 0 m) [
   | inr none ↦ let z : m ≡ 0 = omega arith in ap (λ x. bit_at x i) z ∙ bit_at-zero i
 ]
 
--- the first byte that passes is marked
+-- the bit of the first byte that passes is set
 mask_there : (test : ℕ → Bool) (bs : List ℕ) (m : ℕ) → length bs ≡ 8 → IsMask test bs m → first_place (begins test) bs < 8
     → bit_at m (8 * first_place (begins test) bs + 7) ≡ 1
 mask_there test bs m len is l =
@@ -159,7 +159,7 @@ either_mask_is bs one two m n len hm hn p q =
     let z : m ≡ 0 = p.none.1 (omega arith) in
     let y : n ≡ 0 = q.none.1 (omega arith) in
     rw (z, y) refl in
-    let marked : both < 8 → bit_at (bit_or m n) (8 * both + 7) ≡ 1 = λ l. elim (cases_lt g f) [
+    let selected : both < 8 → bit_at (bit_or m n) (8 * both + 7) ≡ 1 = λ l. elim (cases_lt g f) [
       | inl less ↦ let e : both ≡ g = omega arith in rw e (bit_right m n (8 * g + 7) (mask_there two bs n len q (omega arith)))
       | inr more ↦ let e : both ≡ f = omega arith in rw e (bit_left m n (8 * f + 7) (mask_there one bs m len p (omega arith)))
     ] in
@@ -172,7 +172,7 @@ either_mask_is bs one two m n len hm hn p q =
         clear,
       );
       lowest = λ some. lowest_bit (bit_or m n) (8 * both + 7) (or_lt 64 m n hm hn)
-          (marked (elim (cases_lt both 8) [ inl l ↦ l | inr ge ↦ absurd (some (clear (omega arith))) ]))
+          (selected (elim (cases_lt both 8) [ inl l ↦ l | inr ge ↦ absurd (some (clear (omega arith))) ]))
           (λ i l.
           let a = mask_before one bs m hm p i (omega arith) in
           let b = mask_before two bs n hn q i (omega arith) in

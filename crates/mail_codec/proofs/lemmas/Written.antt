@@ -7,7 +7,7 @@ use borrow.Rule.Slice.PartMut.{put_mid}
 use lib.Lanes.{put_chunk}
 use Rattle.mail_codec.proofs.lemmas.Vectors.{stored_before, stored_at}
 
--- what stands before the part stays, and then comes what the part begins with
+-- the bytes before the part stay, followed by the start of the part
 pub written_after : (at k n : ℕ) (xs part : List ℕ) → at ≤ length xs → n ≤ length part
     → take (at + n) (put_mid at k xs part) ≡ take at xs ++ take n part
 written_after at k n xs part low few =
@@ -44,17 +44,17 @@ module _ (at n : ℕ) (xs part : List ℕ) (fits : at + n ≤ length xs) (same :
       → take (at + n) (put_mid at (length xs - at) xs part) ≡ take (at + n) bytes
   copied_rest bytes front more = copied_after at (length xs - at) n xs part bytes front (omega arith) enough more
 
--- what stands before a vector that was stored stays, and then comes what the vector begins with
+-- the bytes before a vector that was stored stay, followed by the start of the vector
 pub stored_after : (at m : ℕ) (xs v : List ℕ) → at + length v ≤ length xs → m ≤ length v → take (at + m) (put_chunk at xs v) ≡ take at xs ++ take m v
-stored_after at m xs v room few =
+stored_after at m xs v capacity few =
     take-add at m (put_chunk at xs v)
     ∙ ap (λ ys. ys ++ take m (drop at (put_chunk at xs v))) (stored_before at xs v)
-    ∙ ap (λ ys. take at xs ++ ys) (stored_at at m xs v room few)
+    ∙ ap (λ ys. take at xs ++ ys) (stored_at at m xs v capacity few)
 
 -- a vector copied from a place to the same place
 pub stored_lanes : (w at m : ℕ) (xs bytes : List ℕ) → take at xs ≡ take at bytes → at + w ≤ length xs → at + w ≤ length bytes → m ≤ w
     → take (at + m) (put_chunk at xs (take w (drop at bytes))) ≡ take (at + m) bytes
-stored_lanes w at m xs bytes front room within few =
+stored_lanes w at m xs bytes front capacity within few =
     let v = take w (drop at bytes) in
     let long : length v ≡ w = length-take-le w (drop at bytes) (omega (arith, length-drop at bytes)) in
     stored_after at m xs v (omega (arith, long)) (omega (arith, long))

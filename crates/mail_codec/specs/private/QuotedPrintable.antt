@@ -1,35 +1,35 @@
--- Quoted-printable read mark by mark, and not line by line; this crate's own words.
+-- Quoted-printable read by special bytes and not by lines; this crate's own words.
 use Rattle.std.specs.Prelude.{◌≡◌, ◌⊎◌, ℕ, ◌+◌, ◌-◌, ◌<◌, ◌≤◌, Bool, false, ◌==◌, ◌||◌, List, ◌++◌, length, take, drop, slice_index, None}
 use Rattle.mail_codec.specs.Ascii.{carriage_return, equals_sign, line_feed}
 use Rattle.mail_codec.specs.QuotedPrintable.{first_escape, quoted_printable}
 
--- The byte may change what is made of the bytes about it: every other one is copied.
-abbrev pub is_mark : ℕ → Bool
-is_mark b = b == equals_sign || b == line_feed
+-- the byte may begin an escape or end a line; every other byte is copied
+abbrev pub is_special : ℕ → Bool
+is_special b = b == equals_sign || b == line_feed
 
--- No escape begins anywhere in the bytes.
+-- no escape begins anywhere in the bytes
 abbrev pub HasNoEscape : List ℕ → Type 0
 HasNoEscape bytes = (k : ℕ) → first_escape (drop k bytes) ≡ None
 
--- From a place up to the next one, a soft line break stands: `=`, and LF or CR LF.
+-- from one place up to another there is a soft line break: `=`, and LF or CR LF
 abbrev pub IsSoftBreak : List ℕ → ℕ → ℕ → Type 0
 IsSoftBreak text at next = (slice_index text at ≡ equals_sign)
     × (((next ≡ at + 2) × (slice_index text (at + 1) ≡ line_feed))
     ⊎ ((next ≡ at + 3) × (slice_index text (at + 1) ≡ carriage_return) × (slice_index text (at + 2) ≡ line_feed)))
 
--- From one place up to another there is no LF, and no escape begins.
+-- from one place up to another there is no LF, and no escape begins
 pub record IsPlain (text : List ℕ) (from to : ℕ) : Type 0 where
   pub no_lf : (k : ℕ) → from ≤ k → k < to → (slice_index text k == line_feed) ≡ false
   pub no_escape : (k : ℕ) → from ≤ k → k < to → first_escape (drop k text) ≡ None
 
--- A text has been read from one place up to another: the first bytes of the output, up to a length,
--- and then those of the rest from the last line end or escape on, are all. The bytes since then are
--- plain, and they have been copied.
+-- a text has been read from one place up to another: the first bytes of the output, up to a length,
+-- and then those of the rest after the last line end or escape, are all; the bytes since then are
+-- plain, and they have been copied
 pub record IsReading (text : List ℕ) (from : ℕ) (output : List ℕ) (len plain at : ℕ) : Type 0 where
   pub within : at ≤ length text
   pub start : plain ≤ at
   pub after : from + len ≤ plain
-  pub room : len + (at - plain) ≤ length output
+  pub fits : len + (at - plain) ≤ length output
   pub so_far : take len output ++ quoted_printable (drop plain text) ≡ quoted_printable (drop from text)
   pub copied : take (at - plain) (drop len output) ≡ take (at - plain) (drop plain text)
-  pub marks : IsPlain text plain at
+  pub is_plain : IsPlain text plain at

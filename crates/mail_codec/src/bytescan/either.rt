@@ -3,11 +3,11 @@ ghost use Rattle.std.specs.Prelude.{◌≡◌, ◌≤◌, ◌==◌, ◌||◌, le
 ghost use Rattle.mail_codec.specs.Places.{begins, first_place};
 
 use crate::vectors::LANES;
-use crate::vectors::marks::{either_lanes, first_lane};
+use crate::vectors::masks::{either_lanes, first_lane};
 use std::simd::prelude::*;
 
-/// Returns the first offset of either byte, or the length if there is none. Most searches in the
-/// header of a mail end within the first vector.
+/// Returns the offset of the first of either byte, or the length if there is none. Most searches in
+/// the headers of a mail end within the first vector.
 #[inline(always)]
 pub(super) fn either_len(bytes: &[u8], first: u8, second: u8) -> usize
     ensures least { result ≡ first_place (begins (λ b. b == first || b == second)) bytes.now }

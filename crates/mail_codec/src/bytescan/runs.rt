@@ -1,16 +1,16 @@
-//! Runs of bytes, which end at certain bytes: all of them put together.
+//! Copies bytes without those that end a run.
 //!
-//! What is small is inlined: a copy is fast where the compiler knows what ends a run.
+//! Small functions are inlined: a copy is fast if the compiler knows which bytes end a run.
 ghost use Rattle.std.specs.Prelude.{◌≡◌, ◌≤◌, ◌++◌, length, take, OnOk};
 ghost use Rattle.mail_codec.specs.private.Runs.{ends_run, without_ends};
 ghost use Rattle.mail_codec.specs.private.Vectors.{lane_mask};
 
 use crate::vectors::LANES;
-use crate::vectors::marks::{either_lanes, first_lane, whitespace_lanes};
+use crate::vectors::masks::{either_lanes, first_lane, whitespace_lanes};
 use std::alloc::AllocError;
 use std::simd::prelude::*;
 
-/// How many bytes are looked at before what stays of them is appended.
+/// The number of bytes that are searched before those kept are appended.
 const BUFFER: usize = 1024;
 
 /// Which bytes end a run.
@@ -34,7 +34,7 @@ impl RunEnd {
         }
     }
 
-    /// Marks those of sixteen bytes that end a run.
+    /// Returns the mask of those of sixteen bytes that end a run.
     #[inline(always)]
     fn end_lanes(self, bytes: u8x16) -> u64
         ensures { result ≡ lane_mask (ends_run self) bytes }
@@ -46,7 +46,7 @@ impl RunEnd {
     }
 }
 
-/// Appends the bytes that end no run, in order. The error comes where memory runs out.
+/// Appends the bytes that do not end a run, in order. Fails only if it runs out of memory.
 #[inline(always)]
 pub(crate) fn push_runs(kept: &mut Vec<u8>, bytes: &[u8], end: RunEnd) -> Result<(), AllocError>
     ensures { OnOk result (kept.new.items ≡ kept.old.items ++ without_ends end bytes.now) }
@@ -62,12 +62,12 @@ pub(crate) fn push_runs(kept: &mut Vec<u8>, bytes: &[u8], end: RunEnd) -> Result
     Ok(())
 }
 
-/// Writes the bytes that end no run at the front of `output`, and returns how many they are. A
-/// vector is written whole before it is looked at, and what follows the first end of a run is
-/// written over.
+/// Writes the bytes that do not end a run at the start of `output`, and returns their number. Each
+/// vector is written whole before it is searched. The bytes after the first end of a run are
+/// overwritten.
 #[inline(always)]
 fn put_runs(output: &mut [u8], bytes: &[u8], end: RunEnd) -> usize
-    requires room { length bytes.now ≤ length output.old }
+    requires capacity { length bytes.now ≤ length output.old }
     ensures written { take result output.new ≡ without_ends end bytes.now }
     ensures bounds { result ≤ length bytes.now }
 {
@@ -88,10 +88,10 @@ fn put_runs(output: &mut [u8], bytes: &[u8], end: RunEnd) -> usize
     len + put_few(&mut output[len..], &bytes[at..], end)
 }
 
-/// The same, byte by byte: each is written, and where it ends a run, written over.
+/// Does the same byte by byte: each byte is written, and overwritten if it ends a run.
 #[inline(always)]
 fn put_few(output: &mut [u8], bytes: &[u8], end: RunEnd) -> usize
-    requires room { length bytes.now ≤ length output.old }
+    requires capacity { length bytes.now ≤ length output.old }
     ensures written { take result output.new ≡ without_ends end bytes.now }
     ensures bounds { result ≤ length bytes.now }
 {

@@ -1,20 +1,21 @@
-//! A single byte, sought by vectors, or by words where there are few bytes.
+//! Searches for a single byte, by vectors, or by words if there are few bytes.
 ghost use Rattle.std.specs.Prelude.{◌≡◌, ◌≤◌, ◌+◌, ◌==◌, length, take, drop};
 ghost use Rattle.mail_codec.specs.Places.{begins, first_place};
 
 use super::words::{equal_mask, first_match_byte};
 use crate::vectors::LANES;
-use crate::vectors::marks::{equal_lanes, first_lane, wide_equal_lanes};
+use crate::vectors::masks::{equal_lanes, first_lane};
 use std::simd::prelude::*;
 
-/// How many bytes a search looks at vector by vector before it takes blocks of them.
+/// The number of bytes searched vector by vector before the search goes on by blocks.
 const NEAR: usize = 512;
 
-/// How many bytes two vectors of 64 have.
+/// The number of bytes in two vectors of 64.
 const BLOCK: usize = 128;
 
-/// The first place of `wanted`, or the length where it is absent: what is near vector by vector,
-/// and what is far by blocks, as far as `wanted` is in none of them, and then vector by vector.
+/// Returns the offset of the first `wanted`, or the length if it does not occur. The first bytes
+/// are searched vector by vector. After them, blocks without `wanted` are skipped, and the rest is
+/// searched vector by vector.
 #[inline(always)]
 pub(super) fn byte_len(bytes: &[u8], wanted: u8) -> usize
     ensures least { result ≡ first_place (begins (λ b. b == wanted)) bytes.now }
@@ -32,7 +33,7 @@ pub(super) fn byte_len(bytes: &[u8], wanted: u8) -> usize
     next + rest
 }
 
-/// The same by vectors, and where there are fewer bytes than one has, by words.
+/// Returns the same by vectors, or by words if there are fewer bytes than one vector has.
 #[inline(always)]
 fn near_len(bytes: &[u8], wanted: u8) -> usize
     ensures least { result ≡ first_place (begins (λ b. b == wanted)) bytes.now }
@@ -45,8 +46,8 @@ fn near_len(bytes: &[u8], wanted: u8) -> usize
     }
 }
 
-/// The same where there are as many bytes as a vector has. The last vector is that of the last
-/// sixteen bytes, of which some may have been looked at before.
+/// Returns the same for at least one vector. The last vector ends with the bytes, some of which may
+/// have been searched before.
 #[inline(always)]
 fn vectors_len(bytes: &[u8], wanted: u8) -> usize
     requires { 16 ≤ length bytes.now }
@@ -65,7 +66,7 @@ fn vectors_len(bytes: &[u8], wanted: u8) -> usize
     last + first_lane(equal_lanes(u8x16::from_slice(&bytes[last..]), wanted))
 }
 
-/// How many bytes whole blocks have, from the first on, as far as `wanted` is in none of them.
+/// Returns the length of the leading whole blocks that do not contain `wanted`.
 #[inline(always)]
 fn free_len(bytes: &[u8], wanted: u8) -> usize
     ensures passed { first_place (begins (λ b. b == wanted)) bytes.now
@@ -82,19 +83,19 @@ fn free_len(bytes: &[u8], wanted: u8) -> usize
     at
 }
 
-/// Whether `wanted` is none of the 128 bytes from a place on: the masks of two vectors are put
-/// together and tested once.
+/// Whether `wanted` is none of the 128 bytes from `at` onwards. The masks of two vectors are
+/// combined and tested once.
 #[inline(always)]
 fn is_free(bytes: &[u8], at: usize, wanted: u8) -> bool
     requires within { at + 128 ≤ length bytes.now }
     ensures { result ≡ (first_place (begins (λ b. b == wanted)) (take 128 (drop at bytes.now)) == 128) }
 {
-    let first = wide_equal_lanes(u8x64::from_slice(&bytes[at..]), wanted);
-    let second = wide_equal_lanes(u8x64::from_slice(&bytes[at + 64..]), wanted);
+    let first = equal_lanes(u8x64::from_slice(&bytes[at..]), wanted);
+    let second = equal_lanes(u8x64::from_slice(&bytes[at + 64..]), wanted);
     first | second == 0
 }
 
-/// The same by words of eight bytes.
+/// Returns the same by words of eight bytes.
 #[inline(always)]
 fn words_len(bytes: &[u8], wanted: u8) -> usize
     ensures least { result ≡ first_place (begins (λ b. b == wanted)) bytes.now }
@@ -112,7 +113,7 @@ fn words_len(bytes: &[u8], wanted: u8) -> usize
     at + tail_len(tail, wanted)
 }
 
-/// The same byte by byte.
+/// Returns the same, byte by byte.
 #[inline(always)]
 fn tail_len(tail: &[u8], wanted: u8) -> usize
     ensures least { result ≡ first_place (begins (λ b. b == wanted)) tail.now }

@@ -5,7 +5,7 @@ ghost use Rattle.mail_codec.specs.Charset.{single_byte_char, windows_1252_char};
 
 use super::decoder::{ascii_blocks_length, put_char};
 use crate::vectors::LANES;
-use crate::vectors::marks::{first_lane, lanes_from};
+use crate::vectors::masks::{first_lane, lanes_from};
 use std::alloc::{AllocError, Global};
 use std::borrow::CowStr;
 use std::simd::prelude::*;

@@ -4,21 +4,21 @@ ghost use Rattle.std.specs.List.{suffix_len};
 ghost use Rattle.mail_codec.specs.Ascii.{equals_sign, is_blank};
 ghost use Rattle.mail_codec.specs.Places.{begins, first_place};
 ghost use Rattle.mail_codec.specs.QuotedPrintable.{digit_value, ended_line, first_escape, line_bytes, quoted_printable};
-ghost use Rattle.mail_codec.specs.private.QuotedPrintable.{is_mark, HasNoEscape, IsSoftBreak};
+ghost use Rattle.mail_codec.specs.private.QuotedPrintable.{is_special, HasNoEscape, IsSoftBreak};
 
 mod blocks;
 
 use crate::bytescan::words::{either_mask, first_match_byte};
 use crate::vectors::LANES;
-use crate::vectors::marks::{either_lanes, first_lane};
+use crate::vectors::masks::{either_lanes, first_lane};
 use blocks::put_blocks;
 use std::alloc::{AllocError, Global};
 use std::simd::prelude::*;
 
-/// How many bytes are read before they are appended; more than a line has by the rules of mail.
+/// The size of the buffer that is filled before it is appended. The standard's lines are shorter.
 const BUFFER: usize = 4096;
 
-/// What stands in the table for a byte that is not a digit: with it, two digits are no byte.
+/// The table's value for a byte that is not a digit: with it, two digits do not make a byte.
 const NO_DIGIT: u32 = 1000;
 
 /// The value of each byte that is a hexadecimal digit, of either case.
@@ -45,13 +45,13 @@ static DIGIT_VALUES: [u32; 256] = [
 ///
 /// On each line, the spaces and tabs at its end are removed, then a final `=` together with the
 /// line end, which is LF or CR LF. Then, from the left, each `=` with two hexadecimal digits of
-/// either case becomes one byte. Every other byte stays, so no text is refused. Takes memory for
-/// the bytes, which is reserved at once; where four kilobytes or more stand without a line end or an
-/// escape, up to as much again temporarily.
+/// either case becomes one byte. Every other byte is kept, so no text is refused. Allocates the
+/// bytes, all at once; if the text has four kilobytes or more without a line end or an escape, up
+/// to as much again temporarily.
 ///
 /// # Errors
 ///
-/// Where it runs out of memory.
+/// `AllocError` if it runs out of memory.
 ///
 /// # Examples
 ///
@@ -71,7 +71,7 @@ pub fn decode_quoted_printable(alloc: Global, text: &[u8]) -> Result<Vec<u8>, Al
     }
 }
 
-/// The same, by a list that is as long as the text at first.
+/// Does the same with a list that is at first as long as the text.
 fn decode_at_once(alloc: Global, text: &[u8]) -> Result<Vec<u8>, AllocError>
     ensures { IfOk result (λ bytes. bytes.items ≡ quoted_printable text.now) }
 {
@@ -81,8 +81,8 @@ fn decode_at_once(alloc: Global, text: &[u8]) -> Result<Vec<u8>, AllocError>
     Ok(bytes)
 }
 
-/// The same, by as much at a time as a buffer has room for. Where it has none for what stands
-/// before a line end or an escape, the rest is read at once.
+/// Does the same with a buffer that is filled and appended in turn. If the text before a line end
+/// or an escape does not fit into the buffer, the rest is decoded at once.
 fn decode_by_buffers(alloc: Global, text: &[u8]) -> Result<Vec<u8>, AllocError>
     ensures { IfOk result (λ bytes. bytes.items ≡ quoted_printable text.now) }
 {
@@ -110,12 +110,12 @@ fn push_at_once(alloc: Global, bytes: &mut Vec<u8>, text: &[u8]) -> Result<(), A
     Ok(())
 }
 
-/// Writes the bytes that a text from a place on stands for at the front of `output`, as far as
-/// there is room. Returns how many bytes they are, and where the text goes on. Here and below, the
-/// bytes after them may be overwritten. What is left after whole blocks is read mark by mark.
+/// Decodes the text from `from` onwards to the start of `output` until the buffer is full. Returns
+/// the number of bytes written, and the offset where the text goes on. Here and below, the bytes
+/// after them may be overwritten. After whole blocks the rest is read special byte by special byte.
 ///
-/// What has been copied since the last line end or escape, from `plain` on, is taken back where a
-/// line end shows that it does not stay, or where there is no room to find out.
+/// The bytes copied since the last line end or escape, those from `plain` onwards, are dropped if a
+/// line end shows that they are not kept, or if the buffer is full before the line ends.
 fn put_lines(output: &mut [u8], text: &[u8], from: usize) -> (usize, usize)
     requires within { from ≤ length text.now }
     ensures bounds { result.1 ≤ length text.now }
@@ -130,7 +130,7 @@ fn put_lines(output: &mut [u8], text: &[u8], from: usize) -> (usize, usize)
     let mut len = read.len;
     let mut plain = read.plain;
     let mut at = read.at;
-    'marks: while at < end {
+    'specials: while at < end {
         let place = len + (at - plain);
         at += put_run(&mut output[place..], &text[at..end]);
         if at == end {
@@ -161,11 +161,11 @@ fn put_lines(output: &mut [u8], text: &[u8], from: usize) -> (usize, usize)
     (len, at)
 }
 
-/// Writes the bytes of the escapes that follow one another from a `=` on, as far as there is room.
-/// Returns how many they are.
+/// Writes the bytes of the consecutive escapes from a `=` onwards until the buffer is full. Returns
+/// their number.
 #[inline(always)]
 fn put_escapes(output: &mut [u8], text: &[u8], from: usize) -> usize
-    requires room { 0 < length output.old }
+    requires capacity { 0 < length output.old }
     requires within { from < length text.now }
     requires sign { slice_index text.now from ≡ equals_sign }
     ensures bounds { from + 3 * result ≤ length text.now }
@@ -190,8 +190,8 @@ fn put_escapes(output: &mut [u8], text: &[u8], from: usize) -> usize
     count
 }
 
-/// The place after the soft line break at a place, which is a `=` and the line end after it; or the
-/// place itself where there is none.
+/// Returns the offset after the soft line break at `at`, which is a `=` and the line end after it;
+/// or `at` if there is none.
 #[inline(always)]
 fn after_soft_break(text: &[u8], at: usize) -> usize
     requires within { at ≤ length text.now }
@@ -211,11 +211,11 @@ fn after_soft_break(text: &[u8], at: usize) -> usize
     at + 3
 }
 
-/// Makes of the bytes of a piece, which have been copied, those of its line, whose LF follows the
+/// Turns the bytes of a piece, which have been copied, into those of its line, whose LF follows the
 /// piece: a CR at its end is part of the line end.
 #[inline(always)]
 fn put_ended_line(output: &mut [u8], piece: &[u8]) -> usize
-    requires room { length piece.now < length output.old }
+    requires capacity { length piece.now < length output.old }
     requires copied { take (length piece.now) output.old ≡ piece.now }
     requires plain { HasNoEscape piece.now }
     ensures written { take result output.new ≡ line_bytes (ended_line piece.now) }
@@ -227,10 +227,10 @@ fn put_ended_line(output: &mut [u8], piece: &[u8]) -> usize
     put_line(output, piece, b"\n")
 }
 
-/// Makes of the bytes of a content, which have been copied, those of its line.
+/// Turns the bytes of a line's content, which have been copied, into those of the line.
 #[inline(always)]
 fn put_line(output: &mut [u8], content: &[u8], ending: &[u8]) -> usize
-    requires room { length content.now + length ending.now ≤ length output.old }
+    requires capacity { length content.now + length ending.now ≤ length output.old }
     requires copied { take (length content.now) output.old ≡ content.now }
     requires plain { HasNoEscape content.now }
     ensures written { take result output.new
@@ -248,7 +248,7 @@ fn put_line(output: &mut [u8], content: &[u8], ending: &[u8]) -> usize
     }
 }
 
-/// How many bytes stand before the spaces and tabs at the end.
+/// Returns the number of bytes before the spaces and tabs at the end.
 fn trimmed_len(content: &[u8]) -> usize
     ensures len { result ≡ length content.now - suffix_len is_blank content.now }
     ensures bounds { result ≤ length content.now }
@@ -266,13 +266,13 @@ fn is_blank(byte: u8) -> bool
     byte == b' ' || byte == b'\t'
 }
 
-/// Writes the bytes before the first `=` or LF, or all where there is none. A vector is written
-/// whole before it is looked at, so that a copy of a few bytes has a length that is known.
+/// Writes the bytes before the first `=` or LF, or all bytes if there is none. Each vector is
+/// written whole before it is searched, so that a copy of a few bytes has a known length.
 #[inline(always)]
 fn put_run(output: &mut [u8], bytes: &[u8]) -> usize
-    requires room { length bytes.now ≤ length output.old }
+    requires capacity { length bytes.now ≤ length output.old }
     ensures written { take result output.new ≡ take result bytes.now }
-    ensures least { result ≡ first_place (begins is_mark) bytes.now }
+    ensures least { result ≡ first_place (begins is_special) bytes.now }
     ensures bounds { result ≤ length bytes.now }
 {
     let mut at = 0;
@@ -288,12 +288,12 @@ fn put_run(output: &mut [u8], bytes: &[u8]) -> usize
     at + put_words(&mut output[at..], &bytes[at..])
 }
 
-/// The same, by words.
+/// Does the same by words.
 #[inline(always)]
 fn put_words(output: &mut [u8], bytes: &[u8]) -> usize
-    requires room { length bytes.now ≤ length output.old }
+    requires capacity { length bytes.now ≤ length output.old }
     ensures written { take result output.new ≡ take result bytes.now }
-    ensures least { result ≡ first_place (begins is_mark) bytes.now }
+    ensures least { result ≡ first_place (begins is_special) bytes.now }
     ensures bounds { result ≤ length bytes.now }
 {
     let (words, tail) = bytes.as_chunks::<8>();
@@ -309,12 +309,12 @@ fn put_words(output: &mut [u8], bytes: &[u8]) -> usize
     at + put_tail(&mut output[at..], tail)
 }
 
-/// The same, byte by byte.
+/// Does the same byte by byte.
 #[inline(always)]
 fn put_tail(output: &mut [u8], tail: &[u8]) -> usize
-    requires room { length tail.now ≤ length output.old }
+    requires capacity { length tail.now ≤ length output.old }
     ensures written { take result output.new ≡ take result tail.now }
-    ensures least { result ≡ first_place (begins is_mark) tail.now }
+    ensures least { result ≡ first_place (begins is_special) tail.now }
     ensures bounds { result ≤ length tail.now }
 {
     for (place, byte) in tail.iter().enumerate() {
@@ -326,7 +326,7 @@ fn put_tail(output: &mut [u8], tail: &[u8]) -> usize
     tail.len()
 }
 
-/// The byte of the escape at a place that holds `=`, with two bytes after it.
+/// Returns the byte of the escape at `at`, where a `=` is followed by two bytes or more.
 #[inline(always)]
 fn escape_at(text: &[u8], at: usize) -> Option<u8>
     requires within { at + 3 ≤ length text.now }
@@ -340,7 +340,7 @@ fn escape_at(text: &[u8], at: usize) -> Option<u8>
     Some(value as u8)
 }
 
-/// The value of a hexadecimal digit, of either case; 1000 for another byte.
+/// Returns the value of a hexadecimal digit of either case, or 1000 for another byte.
 #[inline(always)]
 fn digit_value(digit: u8) -> u32
     ensures read { result ≡ unwrap_or (digit_value digit) 1000 }

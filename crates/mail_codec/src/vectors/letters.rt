@@ -1,34 +1,58 @@
-//! Letters of Base64 in vectors: which bytes are letters, and the bytes that groups stand for.
-ghost use Rattle.std.specs.Prelude.{◌≡◌, ℕ, Some, ◌+◌, ◌*◌, ◌/◌, ◌^◌, ◌<◌, ◌≤◌, length, map, slice_index, bit_and};
+//! Base64 letters in vectors of 16 and of 64 bytes: which bytes are letters, and the bytes that
+//! groups of them stand for.
+//!
+//! A processor with shorter vectors takes several for each of 64 bytes. A table is repeated for each
+//! sixteen lanes and read within them, and a vector of 16 takes the first lanes of it. No function is
+//! generic over the width, as the toolchain has no look-ups in a vector whose length is a parameter.
+ghost use Rattle.std.specs.Prelude.{◌≡◌, ◌==◌, length, map};
 ghost use Rattle.std.specs.List.{prefix_len};
-ghost use Rattle.mail_codec.specs.Base64.{group_number};
-ghost use Rattle.mail_codec.specs.private.Vectors.{addition_of, addition_place, fault_of, group_of, is_letter, lower_faults, slash_mark, three_at, upper_faults, value_of};
+ghost use Rattle.mail_codec.specs.private.Vectors.{fault_of, is_letter, value_of, AreNumbers, Packs};
 
-use super::marks::first_lane;
+use super::masks::first_lane;
 use std::simd::prelude::*;
 
-/// What may be wrong with a byte, by its upper half. Where a bit stands here and in `LOWER_FAULTS`,
-/// the byte is not a letter.
-const UPPER_FAULTS: [u8; 16] = [
+/// The number of bytes in a wide vector.
+pub(crate) const WIDE: usize = 64;
+
+/// What may be wrong with a byte, by its upper half. If a bit is set both here and in
+/// `LOWER_FAULTS`, the byte is not a letter.
+static UPPER_FAULTS: [u8; 64] = [
+    0x10, 0x10, 0x01, 0x02, 0x04, 0x08, 0x04, 0x08, 0x10, 0x10, 0x10, 0x10, 0x10, 0x10, 0x10, 0x10,
+    0x10, 0x10, 0x01, 0x02, 0x04, 0x08, 0x04, 0x08, 0x10, 0x10, 0x10, 0x10, 0x10, 0x10, 0x10, 0x10,
+    0x10, 0x10, 0x01, 0x02, 0x04, 0x08, 0x04, 0x08, 0x10, 0x10, 0x10, 0x10, 0x10, 0x10, 0x10, 0x10,
     0x10, 0x10, 0x01, 0x02, 0x04, 0x08, 0x04, 0x08, 0x10, 0x10, 0x10, 0x10, 0x10, 0x10, 0x10, 0x10,
 ];
 
 /// What may be wrong with a byte, by its lower half.
-const LOWER_FAULTS: [u8; 16] = [
+static LOWER_FAULTS: [u8; 64] = [
+    0x15, 0x11, 0x11, 0x11, 0x11, 0x11, 0x11, 0x11, 0x11, 0x11, 0x13, 0x1A, 0x1B, 0x1B, 0x1B, 0x1A,
+    0x15, 0x11, 0x11, 0x11, 0x11, 0x11, 0x11, 0x11, 0x11, 0x11, 0x13, 0x1A, 0x1B, 0x1B, 0x1B, 0x1A,
+    0x15, 0x11, 0x11, 0x11, 0x11, 0x11, 0x11, 0x11, 0x11, 0x11, 0x13, 0x1A, 0x1B, 0x1B, 0x1B, 0x1A,
     0x15, 0x11, 0x11, 0x11, 0x11, 0x11, 0x11, 0x11, 0x11, 0x11, 0x13, 0x1A, 0x1B, 0x1B, 0x1B, 0x1A,
 ];
 
-/// What is added to a letter to get its value, indexed by the letter's upper half; the index of `/`
-/// is 1.
-const ADDITIONS: [u8; 16] = [0, 16, 19, 4, 191, 191, 185, 185, 0, 0, 0, 0, 0, 0, 0, 0];
+/// What is added to a letter to get its value, by the letter's upper half; the index of `/` is 1.
+static ADDITIONS: [u8; 64] = [
+    0, 16, 19, 4, 191, 191, 185, 185, 0, 0, 0, 0, 0, 0, 0, 0, 0, 16, 19, 4, 191, 191, 185, 185, 0,
+    0, 0, 0, 0, 0, 0, 0, 0, 16, 19, 4, 191, 191, 185, 185, 0, 0, 0, 0, 0, 0, 0, 0, 0, 16, 19, 4,
+    191, 191, 185, 185, 0, 0, 0, 0, 0, 0, 0, 0,
+];
 
-/// Weights that put the first two values of a group together.
-const FIRST_PAIR: [u8; 16] = [64, 1, 0, 0, 64, 1, 0, 0, 64, 1, 0, 0, 64, 1, 0, 0];
+/// Weights that combine the first two values of a group.
+static FIRST_PAIR: [u8; 64] = [
+    64, 1, 0, 0, 64, 1, 0, 0, 64, 1, 0, 0, 64, 1, 0, 0, 64, 1, 0, 0, 64, 1, 0, 0, 64, 1, 0, 0, 64,
+    1, 0, 0, 64, 1, 0, 0, 64, 1, 0, 0, 64, 1, 0, 0, 64, 1, 0, 0, 64, 1, 0, 0, 64, 1, 0, 0, 64, 1,
+    0, 0, 64, 1, 0, 0,
+];
 
-/// Weights that put the last two values of a group together.
-const LAST_PAIR: [u8; 16] = [0, 0, 64, 1, 0, 0, 64, 1, 0, 0, 64, 1, 0, 0, 64, 1];
+/// Weights that combine the last two values of a group.
+static LAST_PAIR: [u8; 64] = [
+    0, 0, 64, 1, 0, 0, 64, 1, 0, 0, 64, 1, 0, 0, 64, 1, 0, 0, 64, 1, 0, 0, 64, 1, 0, 0, 64, 1, 0,
+    0, 64, 1, 0, 0, 64, 1, 0, 0, 64, 1, 0, 0, 64, 1, 0, 0, 64, 1, 0, 0, 64, 1, 0, 0, 64, 1, 0, 0,
+    64, 1, 0, 0, 64, 1,
+];
 
-/// How many bytes come before the first that is not a letter.
+/// Returns the number of letters before the first byte that is not one.
 #[inline(always)]
 pub(crate) fn letters_len(bytes: u8x16) -> usize
     ensures { result ≡ prefix_len is_letter bytes }
@@ -36,84 +60,97 @@ pub(crate) fn letters_len(bytes: u8x16) -> usize
     first_lane(faults(bytes).simd_ne(u8x16::splat(0)).to_bitmask())
 }
 
-/// The bytes that groups of letters stand for, three for each group, one after another; the last
-/// four bytes mean nothing.
+/// Whether all bytes are letters.
+#[inline(always)]
+pub(crate) fn are_letters(bytes: u8x64) -> bool
+    ensures { result ≡ (prefix_len is_letter bytes == 64) }
+{
+    wide_faults(bytes).simd_ne(u8x64::splat(0)).to_bitmask() == 0
+}
+
+/// Returns the bytes that groups of letters stand for, three for each group. The last four bytes
+/// have no meaning.
 #[inline(always)]
 pub(crate) fn packed(letters: u8x16) -> u8x16
     ensures len { length result ≡ 16 }
-    ensures groups { (k : ℕ) → 4 * k + 4 ≤ prefix_len is_letter letters
-        → group_of letters k ≡ Some (three_at result k) }
+    ensures groups { Packs letters result }
 {
     numbers(values(letters))
         .to_le_bytes()
         .swizzle([2, 1, 0, 6, 5, 4, 10, 9, 8, 14, 13, 12, 3, 7, 11, 15])
 }
 
-/// 0 where the byte is a letter.
+/// Returns the same for 64 letters. The last sixteen bytes have no meaning.
+#[inline(always)]
+pub(crate) fn wide_packed(letters: u8x64) -> u8x64
+    ensures len { length result ≡ 64 }
+    ensures groups { Packs letters result }
+{
+    wide_numbers(wide_values(letters)).to_le_bytes().swizzle([
+        2, 1, 0, 6, 5, 4, 10, 9, 8, 14, 13, 12, 18, 17, 16, 22, 21, 20, 26, 25, 24, 30, 29, 28, 34,
+        33, 32, 38, 37, 36, 42, 41, 40, 46, 45, 44, 50, 49, 48, 54, 53, 52, 58, 57, 56, 62, 61, 60,
+        48, 49, 50, 51, 52, 53, 54, 55, 56, 57, 58, 59, 60, 61, 62, 63,
+    ])
+}
+
+/// Returns 0 for each byte that is a letter.
 #[inline(always)]
 fn faults(bytes: u8x16) -> u8x16
     ensures { result ≡ map fault_of bytes }
 {
-    upper_faults_of(bytes) & lower_faults_of(bytes)
+    let upper = u8x16::from_slice(&UPPER_FAULTS).swizzle_dyn(bytes >> u8x16::splat(4));
+    let lower = u8x16::from_slice(&LOWER_FAULTS).swizzle_dyn(bytes & u8x16::splat(15));
+    upper & lower
 }
 
+/// Returns the same for 64 bytes.
 #[inline(always)]
-fn upper_faults_of(bytes: u8x16) -> u8x16
-    ensures { result ≡ map (λ b. slice_index upper_faults (b / 16)) bytes }
+fn wide_faults(bytes: u8x64) -> u8x64
+    ensures { result ≡ map fault_of bytes }
 {
-    u8x16::from_array(UPPER_FAULTS).swizzle_dyn(bytes >> u8x16::splat(4))
+    let upper = u8x64::from_slice(&UPPER_FAULTS).swizzle_dyn_within::<16>(bytes >> u8x64::splat(4));
+    let lower = u8x64::from_slice(&LOWER_FAULTS).swizzle_dyn_within::<16>(bytes & u8x64::splat(15));
+    upper & lower
 }
 
-#[inline(always)]
-fn lower_faults_of(bytes: u8x16) -> u8x16
-    ensures { result ≡ map (λ b. slice_index lower_faults (bit_and b 15)) bytes }
-{
-    u8x16::from_array(LOWER_FAULTS).swizzle_dyn(bytes & u8x16::splat(15))
-}
-
-/// The value of each letter.
+/// Returns the value of each letter.
 #[inline(always)]
 fn values(letters: u8x16) -> u8x16
     ensures { result ≡ map value_of letters }
 {
-    letters + additions_of(letters)
+    let slashes = letters.simd_eq(u8x16::splat(b'/'));
+    let places = (letters >> u8x16::splat(4)) + slashes.select(u8x16::splat(255), u8x16::splat(0));
+    let additions = u8x16::from_slice(&ADDITIONS).swizzle_dyn(places);
+    letters + additions
 }
 
+/// Returns the same for 64 letters.
 #[inline(always)]
-fn additions_of(letters: u8x16) -> u8x16
-    ensures { result ≡ map addition_of letters }
+fn wide_values(letters: u8x64) -> u8x64
+    ensures { result ≡ map value_of letters }
 {
-    u8x16::from_array(ADDITIONS).swizzle_dyn(addition_places(letters))
+    let slashes = letters.simd_eq(u8x64::splat(b'/'));
+    let places = (letters >> u8x64::splat(4)) + slashes.select(u8x64::splat(255), u8x64::splat(0));
+    let additions = u8x64::from_slice(&ADDITIONS).swizzle_dyn_within::<16>(places);
+    letters + additions
 }
 
-#[inline(always)]
-fn addition_places(letters: u8x16) -> u8x16
-    ensures { result ≡ map addition_place letters }
-{
-    (letters >> u8x16::splat(4)) + slash_marks(letters)
-}
-
-#[inline(always)]
-fn slash_marks(letters: u8x16) -> u8x16
-    ensures { result ≡ map slash_mark letters }
-{
-    letters
-        .simd_eq(u8x16::splat(b'/'))
-        .select(u8x16::splat(255), u8x16::splat(0))
-}
-
-/// The number of 24 bits that the values of each group make.
+/// Returns the number of 24 bits that the values of each group make.
 #[inline(always)]
 fn numbers(values: u8x16) -> u32x4
-    ensures len { length result ≡ 4 }
-    ensures fits { (k : ℕ) → k < 4 → slice_index result k < 2 ^ 32 }
-    ensures lanes { (k : ℕ) → k < 4 → slice_index values (4 * k + 2) < 64
-        → slice_index values (4 * k + 3) < 64
-        → slice_index result k ≡ group_number (slice_index values (4 * k))
-        (slice_index values (4 * k + 1)) (slice_index values (4 * k + 2))
-        (slice_index values (4 * k + 3)) }
+    ensures { AreNumbers 4 values result }
 {
-    let first = values.dot4(u8x16::from_array(FIRST_PAIR));
-    let last = values.dot4(u8x16::from_array(LAST_PAIR));
+    let first = values.dot4(u8x16::from_slice(&FIRST_PAIR));
+    let last = values.dot4(u8x16::from_slice(&LAST_PAIR));
     (first << u32x4::splat(12)) | last
+}
+
+/// Returns the same for 64 values.
+#[inline(always)]
+fn wide_numbers(values: u8x64) -> u32x16
+    ensures { AreNumbers 16 values result }
+{
+    let first = values.dot4(u8x64::from_slice(&FIRST_PAIR));
+    let last = values.dot4(u8x64::from_slice(&LAST_PAIR));
+    (first << u32x16::splat(12)) | last
 }

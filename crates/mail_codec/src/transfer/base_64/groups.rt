@@ -1,5 +1,5 @@
-//! Base64 groups read where they lie: 64 letters at a time and then sixteen, as lines of mail have
-//! 64 to 76, and four at a time where a line ends within a group.
+//! Base64 groups read in place: 64 letters at a time and then sixteen, since lines of mail have 64
+//! to 76, and four at a time if a line ends within a group.
 ghost use Rattle.std.specs.Prelude.{◌≡◌, ℕ, ◌+◌, ◌*◌, ◌/◌, ◌<◌, ◌≤◌, ◌++◌, Ok, length, take, drop, OnSome, IfSome};
 ghost use Rattle.std.specs.List.{prefix_len};
 ghost use Rattle.mail_codec.specs.Base64.{groups_from, prepend};
@@ -9,17 +9,16 @@ ghost use Rattle.mail_codec.specs.private.Vectors.{is_letter};
 
 use crate::bytescan::runs::RunEnd;
 use crate::vectors::LANES;
-use crate::vectors::letters::{letters_len, packed};
-use crate::vectors::wide_letters::{self, WIDE, are_letters};
+use crate::vectors::letters::{WIDE, are_letters, letters_len, packed, wide_packed};
 use std::simd::prelude::*;
 
-/// How many bytes of a buffer there have to be for what is written before the next look at them:
-/// those of 64 letters, and a vector for the rest of the line and for the group over its end.
-const ROOM: usize = 96;
+/// The number of bytes that must be left in a buffer for one turn of the loop: those of 64 letters,
+/// and a vector each for the rest of the line and for the group over its end.
+const RESERVE: usize = 96;
 
-/// Writes the bytes of the groups from a place of the text on to the front of `output`, up to the
-/// first that is not four letters, or as far as there is room. Returns how many groups these are,
-/// and where the text goes on after them. The bytes after theirs may be written over.
+/// Writes the bytes of the groups of the text from `from` onwards to the start of `output`, up to
+/// the first group that is not four letters or until the buffer is full. Returns the number of
+/// these groups and the offset after them. The bytes of `output` after theirs may be overwritten.
 #[inline(always)]
 pub(crate) fn put_groups(
     output: &mut [u8],
@@ -38,7 +37,7 @@ pub(crate) fn put_groups(
 {
     let mut count = 0;
     let mut at = from;
-    'parts: while at < text.len() && output.len() - 3 * count >= ROOM {
+    'parts: while at < text.len() && output.len() - 3 * count >= RESERVE {
         let wide = put_wide(output, 3 * count, text, at);
         count += wide / 4;
         at += wide / 4 * 4;
@@ -67,11 +66,11 @@ pub(crate) fn put_groups(
     (count, at)
 }
 
-/// Writes the bytes of the groups of the next 64 bytes to a place, and returns 64; or returns 0
-/// where not all of them are letters, or they are not that many.
+/// Writes the bytes of the groups of the next 64 bytes at offset `place`, and returns 64; or
+/// returns 0 if not all of them are letters, or fewer are left.
 #[inline(always)]
 fn put_wide(output: &mut [u8], place: usize, text: &[u8], at: usize) -> usize
-    requires room { place + 64 ≤ length output.old }
+    requires capacity { place + 64 ≤ length output.old }
     requires within { at ≤ length text.now }
     ensures fits { result ≤ 64 }
     ensures bounds { at + result ≤ length text.now }
@@ -87,16 +86,16 @@ fn put_wide(output: &mut [u8], place: usize, text: &[u8], at: usize) -> usize
     if !are_letters(letters) {
         return 0;
     }
-    wide_letters::packed(letters).copy_to_slice(&mut output[place..]);
+    wide_packed(letters).copy_to_slice(&mut output[place..]);
     WIDE
 }
 
-/// Writes the bytes of the groups of letters at the front of the next sixteen bytes to a place.
-/// Returns how many letters come before the first byte that is not a letter, or before the end of
-/// the text.
+/// Writes the bytes of the groups of letters at the start of the next sixteen bytes at offset
+/// `place`. Returns the number of letters before the first byte that is not one, or before the end
+/// of the text.
 #[inline(always)]
 fn put_block(output: &mut [u8], place: usize, text: &[u8], at: usize) -> usize
-    requires room { place + 16 ≤ length output.old }
+    requires capacity { place + 16 ≤ length output.old }
     requires within { at ≤ length text.now }
     ensures fits { result ≤ 16 }
     ensures bounds { at + result ≤ length text.now }
@@ -111,10 +110,10 @@ fn put_block(output: &mut [u8], place: usize, text: &[u8], at: usize) -> usize
     put_letters(output, place, u8x16::from_slice(&text[at..]))
 }
 
-/// The same of the last bytes of a text, which are fewer than a vector has: zeros, which are no
-/// letters, stand after them.
+/// Does the same for the last bytes of a text, which are fewer than a vector has. They are followed
+/// by zeros, which are not letters.
 fn put_tail(output: &mut [u8], place: usize, tail: &[u8]) -> usize
-    requires room { place + 16 ≤ length output.old }
+    requires capacity { place + 16 ≤ length output.old }
     requires short { length tail.now < 16 }
     ensures bounds { result ≤ length tail.now }
     ensures letters { result ≤ prefix_len is_letter tail.now }
@@ -127,12 +126,12 @@ fn put_tail(output: &mut [u8], place: usize, tail: &[u8]) -> usize
     put_letters(output, place, u8x16::from_array(letters))
 }
 
-/// Writes the bytes of the groups at the front of the letters to a place. Returns how many letters
-/// come before the first byte that is not one; what is written after the groups that they make
-/// means nothing.
+/// Writes the bytes of the groups at the start of the letters at offset `place`. Returns the number
+/// of letters before the first byte that is not one. Bytes written after their groups have no
+/// meaning.
 #[inline(always)]
 pub(crate) fn put_letters(output: &mut [u8], place: usize, letters: u8x16) -> usize
-    requires room { place + 16 ≤ length output.old }
+    requires capacity { place + 16 ≤ length output.old }
     ensures len { result ≡ prefix_len is_letter letters }
     ensures bounds { result ≤ 16 }
     ensures kept { take place output.new ≡ take place output.old }
@@ -143,8 +142,8 @@ pub(crate) fn put_letters(output: &mut [u8], place: usize, letters: u8x16) -> us
     letters_len(letters)
 }
 
-/// Writes the three bytes of the next four bytes that are not absent, and returns the place after
-/// them; or returns `None` where not all of them are letters.
+/// Writes the three bytes of the group that the next four bytes make, absent ones skipped, and
+/// returns the offset after it; or returns `None` if not all of them are letters.
 fn put_next_group(
     output: &mut [u8],
     place: usize,
@@ -152,7 +151,7 @@ fn put_next_group(
     at: usize,
     absent: RunEnd,
 ) -> Option<usize>
-    requires room { place + 16 ≤ length output.old }
+    requires capacity { place + 16 ≤ length output.old }
     requires within { at ≤ length text.now }
     ensures kept { take place output.new ≡ take place output.old }
     ensures bounds { IfSome result (λ next. next ≤ length text.now) }
@@ -171,7 +170,7 @@ fn put_next_group(
     Some(next)
 }
 
-/// The next four bytes that are not absent, and the place after them.
+/// Returns the next four bytes that are not absent, and the offset after them.
 fn next_four(text: &[u8], at: usize, absent: RunEnd) -> Option<([u8; 4], usize)>
     requires within { at ≤ length text.now }
     ensures bounds { IfSome result (λ found. found.1 ≤ length text.now) }
@@ -196,8 +195,8 @@ fn next_four(text: &[u8], at: usize, absent: RunEnd) -> Option<([u8; 4], usize)>
     None
 }
 
-/// A place up to which all bytes from `at` on are absent: after a CR LF at once, or else before the
-/// first byte that is not absent.
+/// Returns an offset up to which all bytes from `at` onwards are absent: the one after a CR LF, or
+/// else that of the first byte that is not absent.
 #[inline(always)]
 fn after_line_end(text: &[u8], at: usize, absent: RunEnd) -> usize
     requires within { at ≤ length text.now }
@@ -212,7 +211,7 @@ fn after_line_end(text: &[u8], at: usize, absent: RunEnd) -> usize
     at + 2
 }
 
-/// The first place from `at` on whose byte is not absent, or the length where there is none.
+/// Returns the offset of the first byte from `at` onwards that is not absent, or the length.
 #[inline(always)]
 fn after_absent(text: &[u8], at: usize, absent: RunEnd) -> usize
     requires within { at ≤ length text.now }

@@ -1,6 +1,6 @@
 use Rattle.std.proofs.Common.{◌-◌, length}
 use Rattle.mail_codec.proofs.lemmas.QuotedPrintableLines.{ended_line-cr, ended_line-lf}
-use Rattle.mail_codec.proofs.lemmas.QuotedPrintableMarks.{no_escape-take}
+use Rattle.mail_codec.proofs.lemmas.QuotedPrintableSpecials.{no_escape-take}
 use Rattle.mail_codec.proofs.transfer.quoted_printable.put_ended_line.Goals as goal
 
 pub put_line-requires-clause-plain : goal.put_line-requires-clause-plain

@@ -3,7 +3,7 @@ use Rattle.std.proofs.lemmas.Bool.{cases_lt}
 use Rattle.std.proofs.lemmas.List.{length-drop, length-set, take_more_set}
 use Rattle.mail_codec.specs.QuotedPrintable.{first_escape}
 use Rattle.mail_codec.proofs.lemmas.QuotedPrintableEscapes.{first_escape-short}
-use Rattle.mail_codec.proofs.lemmas.QuotedPrintableMarks.{escape_read}
+use Rattle.mail_codec.proofs.lemmas.QuotedPrintableSpecials.{escape_read}
 use Rattle.mail_codec.proofs.transfer.quoted_printable.put_escapes.Goals as goal
 
 pub escapes-preserved : goal.escapes-preserved
@@ -11,7 +11,7 @@ escapes-preserved c =
     let at = c.args.from + 3 * c.escapes.count in
     record {
       within = omega (arith, c.min-most.ensures);
-      room = omega (arith, length-set c.escapes.output c.escapes.count c.in-Some.byte);
+      fits = omega (arith, length-set c.escapes.output c.escapes.count c.in-Some.byte);
       first = λ some none. elim (cases_lt 0 c.escapes.count) [
         | inl more ↦ c.escapes.invariant.first more none
         | inr zero ↦ (

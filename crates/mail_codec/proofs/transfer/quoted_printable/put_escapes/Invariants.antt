@@ -6,7 +6,7 @@ use Rattle.mail_codec.proofs.transfer.quoted_printable.put_escapes.Given as goal
 abbrev pub invariant-escapes : goal.invariant-escapes
 invariant-escapes l = record {
   within : l.from + 3 * l.count ≤ length l.text;
-  room : l.count ≤ length l.output;
+  fits : l.count ≤ length l.output;
   first : 0 < l.count → first_escape (drop l.from l.text) ≢ None;
   so_far : take l.count l.output ++ quoted_printable (drop (l.from + 3 * l.count) l.text) ≡ quoted_printable (drop l.from l.text);
 }

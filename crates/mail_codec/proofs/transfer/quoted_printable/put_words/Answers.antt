@@ -1,27 +1,27 @@
 use Rattle.std.proofs.Common.{◌≡◌, ◌*◌, ◌/◌, length, take, drop, ap, ◌∙◌, arith}
 use Rattle.std.proofs.lemmas.List.{length-drop}
-use Rattle.mail_codec.specs.private.QuotedPrintable.{is_mark}
+use Rattle.mail_codec.specs.private.QuotedPrintable.{is_special}
 use Rattle.mail_codec.proofs.lemmas.Written.{copied_rest, word_copied}
 use Rattle.mail_codec.proofs.lemmas.PlacesSearches.{word_is, word_found, word_passed}
 use Rattle.mail_codec.proofs.transfer.quoted_printable.put_words.Goals as goal
 
 pub returns-then-mask-ne0-clause-written : goal.returns-then-mask-ne0-clause-written
 returns-then-mask-ne0-clause-written c =
-    let is = word_is is_mark c.args.bytes.now _ c.loop-word.word-index c.loop-word.at _ c.as_chunks.ensures.front (omega arith) c.loop-word.invariant.place c.either_mask-mask.ensures in
-    let found = word_found is_mark c.args.bytes.now _ c.loop-word.word-index _ _ c.as_chunks.ensures.front (omega arith) c.loop-word.invariant.place c.either_mask-mask.ensures _ c.loop-word.invariant.passed c.if-mask-ne0.true in
+    let is = word_is is_special c.args.bytes.now _ c.loop-word.word-index c.loop-word.at _ c.as_chunks.ensures.front (omega arith) c.loop-word.invariant.place c.either_mask-mask.ensures in
+    let found = word_found is_special c.args.bytes.now _ c.loop-word.word-index _ _ c.as_chunks.ensures.front (omega arith) c.loop-word.invariant.place c.either_mask-mask.ensures _ c.loop-word.invariant.passed c.if-mask-ne0.true in
     word_copied c.loop-word.at _ c.first_match_byte.result c.loop-word.output c.copy_from_slice.new.self c.args.bytes.now c.loop-word.invariant.written (omega arith) (c.copy_from_slice.ensures.after ∙ is) (omega arith)
     (omega (arith, found.1, c.first_match_byte.ensures))
 
 pub returns-then-mask-ne0-clause-least : goal.returns-then-mask-ne0-clause-least
 returns-then-mask-ne0-clause-least c =
-    let found = word_found is_mark c.args.bytes.now _ c.loop-word.word-index _ _ c.as_chunks.ensures.front (omega arith) c.loop-word.invariant.place c.either_mask-mask.ensures _ c.loop-word.invariant.passed c.if-mask-ne0.true in
+    let found = word_found is_special c.args.bytes.now _ c.loop-word.word-index _ _ c.as_chunks.ensures.front (omega arith) c.loop-word.invariant.place c.either_mask-mask.ensures _ c.loop-word.invariant.passed c.if-mask-ne0.true in
     omega (arith, found.0, c.first_match_byte.ensures)
 
 pub loop-word-preserved : goal.loop-word-preserved
 loop-word-preserved c =
-    let is = word_is is_mark c.args.bytes.now _ c.loop-word.word-index c.loop-word.at _ c.as_chunks.ensures.front (omega arith) c.loop-word.invariant.place c.either_mask-mask.ensures in
+    let is = word_is is_special c.args.bytes.now _ c.loop-word.word-index c.loop-word.at _ c.as_chunks.ensures.front (omega arith) c.loop-word.invariant.place c.either_mask-mask.ensures in
     record {
-      passed = word_passed is_mark c.args.bytes.now _ c.loop-word.word-index _ _ c.as_chunks.ensures.front (omega arith) c.loop-word.invariant.place c.either_mask-mask.ensures _ c.loop-word.invariant.passed c.if-mask-ne0.false;
+      passed = word_passed is_special c.args.bytes.now _ c.loop-word.word-index _ _ c.as_chunks.ensures.front (omega arith) c.loop-word.invariant.place c.either_mask-mask.ensures _ c.loop-word.invariant.passed c.if-mask-ne0.false;
       place = omega arith;
       written = word_copied c.loop-word.at _ 8 c.loop-word.output c.copy_from_slice.new.self c.args.bytes.now c.loop-word.invariant.written (omega arith) (c.copy_from_slice.ensures.after ∙ is) (omega arith) (omega arith);
     }

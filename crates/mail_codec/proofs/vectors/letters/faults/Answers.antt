@@ -1,6 +1,12 @@
-use Rattle.std.proofs.Common.{bit_and}
-use Rattle.std.proofs.lemmas.Simd.{zip2_of_maps}
+use Rattle.std.proofs.Common.{refl, arith}
+use Rattle.mail_codec.proofs.lemmas.VectorsLetters.{faults_are, lower_ok, upper_ok}
 use Rattle.mail_codec.proofs.vectors.letters.faults.Goals as goal
 
+pub swizzle-upper : goal.swizzle-upper
+swizzle-upper c = upper_ok 1 16 refl (omega arith) c.args.bytes c.fits-bytes
+
+pub swizzle-lower : goal.swizzle-lower
+swizzle-lower c = lower_ok 1 16 refl (omega arith) c.args.bytes c.fits-bytes
+
 pub returns : goal.returns
-returns c = zip2_of_maps bit_and _ _ c.args.bytes c.upper_faults_of.ensures c.lower_faults_of.ensures
+returns c = faults_are 1 16 refl (omega arith) c.args.bytes c.fits-bytes

@@ -1,17 +1,14 @@
-use Rattle.mail_codec.specs.declared.vectors.letters.TheConstants.{FIRST_PAIR, LAST_PAIR}
+use Rattle.std.proofs.Common.{take}
 use Rattle.std.proofs.lemmas.Simd.{dot4_Fits}
-use Rattle.mail_codec.proofs.lemmas.VectorsLetters.{numbers_len, numbers_fit, numbers_at}
+use Rattle.mail_codec.specs.declared.vectors.letters.TheConstants.{FIRST_PAIR, LAST_PAIR}
+use Rattle.mail_codec.proofs.lemmas.VectorsLetters.{numbers_are}
 use Rattle.mail_codec.proofs.vectors.letters.numbers.Goals as goal
 
 pub dot4-first : goal.dot4-first
-dot4-first c = (dot4_Fits c.args.values FIRST_PAIR c.fits-values.1 tt, tt)
+dot4-first c = (dot4_Fits c.args.values (take 16 FIRST_PAIR) c.fits-values.1 tt, tt)
 
 pub dot4-last : goal.dot4-last
-dot4-last c = (dot4_Fits c.args.values LAST_PAIR c.fits-values.1 tt, tt)
+dot4-last c = (dot4_Fits c.args.values (take 16 LAST_PAIR) c.fits-values.1 tt, tt)
 
 pub returns : goal.returns
-returns c = record {
-  len = numbers_len 4 c.args.values c.fits-values.0 c.fits-values.1;
-  fits = numbers_fit 4 c.args.values c.fits-values.0 c.fits-values.1;
-  lanes = numbers_at 4 c.args.values c.fits-values.0 c.fits-values.1;
-}
+returns c = numbers_are 4 c.args.values c.fits-values.0 c.fits-values.1

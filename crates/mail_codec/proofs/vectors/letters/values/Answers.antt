@@ -1,7 +1,9 @@
-use Rattle.std.proofs.Common.{◌+◌, ◌%◌, ◌^◌, sym}
-use Rattle.std.proofs.lemmas.List.{map-id}
-use Rattle.std.proofs.lemmas.Simd.{zip2_of_maps}
+use Rattle.std.proofs.Common.{refl, arith}
+use Rattle.mail_codec.proofs.lemmas.VectorsLetters.{additions_ok, values_are}
 use Rattle.mail_codec.proofs.vectors.letters.values.Goals as goal
 
+pub swizzle-additions : goal.swizzle-additions
+swizzle-additions c = additions_ok 1 16 refl (omega arith) c.args.letters c.fits-letters
+
 pub returns : goal.returns
-returns c = zip2_of_maps (λ a b. (a + b) % 2 ^ 8) _ _ c.args.letters (sym (map-id c.args.letters)) c.additions_of.ensures
+returns c = values_are 1 16 refl (omega arith) c.args.letters c.fits-letters

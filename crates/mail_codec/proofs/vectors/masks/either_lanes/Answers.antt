@@ -1,6 +1,5 @@
-use Rattle.std.proofs.Common.{arith}
-use Rattle.mail_codec.proofs.lemmas.Vectors.{either_marked}
-use Rattle.mail_codec.proofs.vectors.marks.either_lanes.Goals as goal
+use Rattle.mail_codec.proofs.lemmas.Vectors.{either_mask}
+use Rattle.mail_codec.proofs.vectors.masks.either_lanes.Goals as goal
 
 pub returns : goal.returns
-returns c = either_marked 16 c.args.first c.args.second c.args.bytes (omega arith) c.fits-bytes.0
+returns g c = either_mask g.row.N c.args.first c.args.second c.args.bytes c.requires c.fits-bytes.0

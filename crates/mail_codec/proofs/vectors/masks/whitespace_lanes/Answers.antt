@@ -1,5 +1,5 @@
-use Rattle.mail_codec.proofs.lemmas.Vectors.{whitespace_marked}
-use Rattle.mail_codec.proofs.vectors.marks.whitespace_lanes.Goals as goal
+use Rattle.mail_codec.proofs.lemmas.Vectors.{whitespace_mask}
+use Rattle.mail_codec.proofs.vectors.masks.whitespace_lanes.Goals as goal
 
 pub returns : goal.returns
-returns c = whitespace_marked c.args.bytes _ c.fits-bytes c.whitespace_like.ensures
+returns c = whitespace_mask c.args.bytes _ c.fits-bytes c.whitespace_like.ensures

@@ -1,12 +1,12 @@
 use Rattle.std.proofs.Common.{bit_and, refl, arith}
 use Rattle.std.proofs.lemmas.Nat.{and_le_r}
 use Rattle.std.proofs.lemmas.Simd.{zip2_splat}
-use Rattle.mail_codec.specs.declared.vectors.marks.TheConstants.{WHITESPACE}
+use Rattle.mail_codec.specs.declared.vectors.masks.TheConstants.{WHITESPACE}
 use Rattle.mail_codec.proofs.lemmas.Vectors.{places_ok, looked_up}
-use Rattle.mail_codec.proofs.vectors.marks.whitespace_like.Goals as goal
+use Rattle.mail_codec.proofs.vectors.masks.whitespace_like.Goals as goal
 
 pub swizzle : goal.swizzle
 swizzle c = places_ok 1 16 refl (λ b. bit_and b 15) c.args.bytes _ c.fits-bytes (zip2_splat bit_and c.args.bytes 16 15 c.fits-bytes.0) (λ x h. omega (arith, and_le_r x 15))
 
 pub returns : goal.returns
-returns c = looked_up 1 16 refl (λ b. bit_and b 15) c.args.bytes _ c.fits-bytes (zip2_splat bit_and c.args.bytes 16 15 c.fits-bytes.0) (λ x h. omega (arith, and_le_r x 15)) WHITESPACE WHITESPACE refl
+returns c = looked_up 1 16 refl (λ b. bit_and b 15) c.args.bytes _ c.fits-bytes (zip2_splat bit_and c.args.bytes 16 15 c.fits-bytes.0) (λ x h. omega (arith, and_le_r x 15)) 16 (omega arith) WHITESPACE WHITESPACE refl

@@ -12,7 +12,7 @@ parts-preserved-then-len-eq-LANES c =
     record {
       within = omega (arith, e.bounds, full);
       counted = omega (arith, c.parts.invariant.counted);
-      room = omega (arith, c.parts.invariant.room, c.put_wide-wide.auto.output, w.fits, c.put_block-len.auto.output);
+      fits = omega (arith, c.parts.invariant.fits, c.put_wide-wide.auto.output, w.fits, c.put_block-len.auto.output);
       read = blocks_read c.args.absent c.args.text.now _ c.requires.letters c.parts.output c.put_wide-wide.new.output c.put_block-len.new.output c.parts.count c.parts.at c.put_wide-wide.result _ c.parts.invariant.read w.bounds w.letters w.kept w.read e.bounds e.letters e.kept e.read 4 (omega (arith, full)) _ _ refl refl;
     }
 
@@ -25,7 +25,7 @@ parts-preserved-then-next-at c =
     record {
       within = c.after_line_end-next.ensures.bounds;
       counted = omega (arith, c.parts.invariant.counted, c.after_line_end-next.ensures.after);
-      room = omega (arith, c.parts.invariant.room, c.put_wide-wide.auto.output, w.fits, c.put_block-len.auto.output, e.fits);
+      fits = omega (arith, c.parts.invariant.fits, c.put_wide-wide.auto.output, w.fits, c.put_block-len.auto.output, e.fits);
       read = absent_passed c.args.absent c.args.text.now _ _ _ _ _ block c.after_line_end-next.ensures.passed;
     }
 
@@ -53,6 +53,6 @@ parts-preserved c =
     record {
       within = c.in-Some.ensures.bounds;
       counted = omega (arith, c.parts.invariant.counted, c.in-Some.ensures.later);
-      room = omega (arith, c.parts.invariant.room, c.put_wide-wide.auto.output, w.fits, c.put_block-len.auto.output, c.put_next_group.auto.output, e.fits);
+      fits = omega (arith, c.parts.invariant.fits, c.put_wide-wide.auto.output, w.fits, c.put_block-len.auto.output, c.put_next_group.auto.output, e.fits);
       read = group_more c.args.absent c.args.text.now _ c.put_block-len.new.output c.put_next_group.new.output _ _ _ block c.put_next_group.ensures.kept c.in-Some.ensures.read;
     }

@@ -3,12 +3,12 @@ use Rattle.mail_codec.specs.private.Runs.{without_ends}
 use Rattle.mail_codec.proofs.lemmas.Base64Parts.{ReadTo}
 use Rattle.mail_codec.proofs.transfer.base_64.groups.put_groups.Given as goal
 
--- the text reads as the bytes that were written, and then as what is left
+-- the text reads as the bytes written, and then as the rest
 abbrev pub invariant-parts : goal.invariant-parts
 invariant-parts l = record {
   within : l.at ≤ length l.text;
   counted : l.from + 4 * l.count ≤ l.at;
-  room : 3 * l.count ≤ length l.output;
+  fits : 3 * l.count ≤ length l.output;
   read : ReadTo l.absent l.text (without_ends l.absent (drop l.from l.text)) (take (3 * l.count) l.output) l.count l.at;
 }
 

@@ -22,7 +22,7 @@ returns-clause-letters c =
     omega (arith, all, prefix_take is_letter 64 rest)
 
 pub returns-clause-kept : goal.returns-clause-kept
-returns-clause-kept c = stored_before c.args.place c.args.output.now c.packed.result
+returns-clause-kept c = stored_before c.args.place c.args.output.now c.wide_packed.result
 
 pub returns-clause-read : goal.returns-clause-read
 returns-clause-read c k n h =
@@ -30,6 +30,6 @@ returns-clause-read c k n h =
     let all : prefix_len is_letter (take 64 rest) ≡ 64 = eqb-true _ 64 (sym c.are_letters.ensures ∙ c.if-not-are_letters.false) in
     let long = length-take-le 64 rest (omega (arith, length-drop c.args.at c.args.text.now)) in
     ap (groups_from n) (sym (take-take (4 * k) 64 rest h))
-    ∙ groups_read (take 64 rest) c.packed.result k (omega (arith, h, long)) (omega (arith, h, c.packed.ensures.len))
-    (λ j l. c.packed.ensures.groups j (omega (arith, h, all))) n
-    ∙ ap Ok (sym (stored_at c.args.place (3 * k) c.args.output.now c.packed.result (omega (arith, c.packed.ensures.len, c.requires)) (omega (arith, h, c.packed.ensures.len))))
+    ∙ groups_read (take 64 rest) c.wide_packed.result k (omega (arith, h, long)) (omega (arith, h, c.wide_packed.ensures.len))
+    (λ j l. c.wide_packed.ensures.groups j (omega (arith, h, all))) n
+    ∙ ap Ok (sym (stored_at c.args.place (3 * k) c.args.output.now c.wide_packed.result (omega (arith, c.wide_packed.ensures.len, c.requires)) (omega (arith, h, c.wide_packed.ensures.len))))

@@ -1,4 +1,4 @@
-use Rattle.mail_codec.proofs.lemmas.QuotedPrintableMarks.{after_none, after_escapes}
+use Rattle.mail_codec.proofs.lemmas.QuotedPrintableSpecials.{after_none, after_escapes}
 use Rattle.mail_codec.proofs.transfer.quoted_printable.blocks.put_more_escapes.Goals as goal
 
 pub returns-then-count-eq0-clause-reading : goal.returns-then-count-eq0-clause-reading
