@@ -7,7 +7,7 @@ pub mod Map
 pub mod Tokens
 pub mod Cuts
 pub mod EncodedWord
-pub mod Shown
+pub mod Unfolded
 pub mod Value
 pub mod ValuePlain
 pub mod ValueBare

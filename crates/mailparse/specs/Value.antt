@@ -102,12 +102,12 @@ module _ (known : Charsets) where
   value_tokens text = tokens_of_lines (map trim_start (lines text))
 
   -- the text of a value, unfolded and decoded, by the text of its bytes
-  unfoldable pub shown_value : List ℕ → List ℕ
-  shown_value text = shown_tokens (value_tokens text)
+  unfoldable pub unfolded_value : List ℕ → List ℕ
+  unfolded_value text = shown_tokens (value_tokens text)
 
   -- the text of a value, whatever its bytes are
   unfoldable pub lenient_value_in : List ℕ → List ℕ
-  lenient_value_in bytes = shown_value (value_text bytes)
+  lenient_value_in bytes = unfolded_value (value_text bytes)
 
 -- the same under the four charsets
 abbrev pub lenient_value : List ℕ → List ℕ
@@ -115,7 +115,7 @@ lenient_value bytes = lenient_value_in four_charsets bytes
 
 -- the text of a value whose bytes are UTF-8, or the refusal of other bytes
 unfoldable pub strict_value : List ℕ → Result (List ℕ) Refusal
-strict_value bytes = if is_utf8 bytes then Ok (shown_value four_charsets bytes) else Err value_not_utf8
+strict_value bytes = if is_utf8 bytes then Ok (unfolded_value four_charsets bytes) else Err value_not_utf8
 
 -- a value that is plain: printable ASCII that does not begin with a space and does not contain `=?`
 pub record IsPlain (value : List ℕ) : Type 0 where

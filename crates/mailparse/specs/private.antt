@@ -1,6 +1,6 @@
 -- Words that private functions alone need; no public clause speaks of them.
 pub mod Cuts
-pub mod Shown
+pub mod Unfolded
 pub mod Delimiters
 pub mod Segments
 pub mod Pairs

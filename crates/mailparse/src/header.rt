@@ -9,8 +9,8 @@ ghost use Rattle.mailparse.specs.Value.{lenient_value, lenient_value_in, strict_
 mod encoded_word;
 pub(crate) mod parse;
 mod plain;
-mod shown;
 mod tokens;
+mod unfolded;
 mod value;
 
 use crate::error::MailParseError;

@@ -22,10 +22,10 @@ use Rattle.mail_codec.specs.Places.{first_place, has_prefix}
 use Rattle.mail_codec.proofs.lemmas.CharsetUtf8.{encode_two, encode_three, encode_four}
 use Rattle.mail_codec.proofs.lemmas.Places.{first_place-before}
 use Rattle.mailparse.specs.Tokens.{whitespace, decoded_word}
-use Rattle.mailparse.specs.Value.{IsPlain, Token, is_released, kinds, lenient_value, lenient_value_in, line_tokens, newline, shown_after, shown_tokens, shown_value, tokens_of_lines, value_tokens, whitespace_token}
+use Rattle.mailparse.specs.Value.{IsPlain, Token, is_released, kinds, lenient_value, lenient_value_in, line_tokens, newline, shown_after, shown_tokens, unfolded_value, tokens_of_lines, value_tokens, whitespace_token}
 use Rattle.mailparse.proofs.lemmas.EncodedWord.{split_some}
 use Rattle.mailparse.proofs.lemmas.Value.{lenient-utf8}
-use Rattle.mailparse.proofs.lemmas.ValuePlain.{shown_value-plain}
+use Rattle.mailparse.proofs.lemmas.ValuePlain.{unfolded_value-plain}
 use Rattle.mail_address.specs.Encode.{KnowUtf8, AreWords, no_word, next_word, encoded_word, is_plain_byte, is_plain_value, letters, word_lines, words_of, written_value}
 use Rattle.mail_address.specs.WordTokens.{word}
 use Rattle.mail_address.proofs.lemmas.Encode.{each, list_all-weaker, plain_ascii, plain_byte, plain_no_feed, words_fit, words_join}
@@ -206,8 +206,8 @@ shown_next (w ∷ ws) =
     ∙ ap (λ r. encode_utf8_all w ++ r) (shown_next ws)
 
 words_show : (known : Charsets) → KnowUtf8 known → (w : List ℕ) (ws : List (List ℕ)) → AreTexts (w ∷ ws)
-    → shown_value known (word_lines (w ∷ ws)) ≡ flat_map encode_utf8_all (w ∷ ws)
-unfolding shown_value value_tokens
+    → unfolded_value known (word_lines (w ∷ ws)) ≡ flat_map encode_utf8_all (w ∷ ws)
+unfolding unfolded_value value_tokens
 words_show known knows w ws h =
     ap (λ ls. shown_tokens (tokens_of_lines known ls)) (trimmed_lines w ws h)
     ∙ ap shown_tokens (tokens_are known knows w ws h)
@@ -221,8 +221,8 @@ lines_ascii w (v ∷ ws) h =
     IsAscii-append (encoded_word w) (13 ∷ 10 ∷ 32 ∷ word_lines (v ∷ ws)) (word_ascii w h.0)
     (IsAscii-cons 13 (10 ∷ 32 ∷ word_lines (v ∷ ws)) (omega arith) (IsAscii-cons 10 (32 ∷ word_lines (v ∷ ws)) (omega arith) (IsAscii-cons 32 (word_lines (v ∷ ws)) (omega arith) (lines_ascii v ws h.1))))
 
-pub nothing_shows : (known : Charsets) → shown_value known [] ≡ []
-unfolding shown_value value_tokens
+pub nothing_shows : (known : Charsets) → unfolded_value known [] ≡ []
+unfolding unfolded_value value_tokens
 nothing_shows known = refl
 
 pub words_read : (known : Charsets) → KnowUtf8 known → (ws : List (List ℕ)) → AreTexts ws → lenient_value_in known (word_lines ws) ≡ flat_map encode_utf8_all ws
@@ -261,7 +261,7 @@ plain_is value h =
 pub plain_reads : (known : Charsets) (value : List ℕ) → is_plain_value value ≡ true → lenient_value_in known value ≡ value
 plain_reads known value h =
     lenient-utf8 known value (IsUtf8-from_ascii value (plain_ascii value (and_parts (list_all is_plain_byte value) _ h).0))
-    ∙ shown_value-plain known value (plain_is value h)
+    ∙ unfolded_value-plain known value (plain_is value h)
 
 -- ---- any value
 

@@ -25,7 +25,7 @@ use Rattle.mailparse.specs.EncodedWord.{encoded_bytes, word_text}
 use Rattle.mailparse.specs.Tokens.{begins_opening, begins_closing, boundary_before, closing, decodes, inside, last_group, next_group, no_opening, opening, outside_range, word_range, AreTokens}
 use Rattle.mailparse.specs.Value.{Token, line_tokens, outside_token, token_of, whitespace_token}
 use Rattle.mailparse.proofs.lemmas.EncodedWord.{word_whole}
-use Rattle.mailparse.proofs.lemmas.Shown.{token_of-outside}
+use Rattle.mailparse.proofs.lemmas.Unfolded.{token_of-outside}
 use Rattle.mailparse.proofs.lemmas.Tokens.{token_ranges_only}
 use Rattle.mail_address.specs.Encode.{KnowUtf8, letters}
 use Rattle.mail_address.specs.WordTokens.{word}

@@ -12,7 +12,7 @@ use Rattle.mailparse.specs.Tokens.{whitespace, plain_text, opening, closing, beg
 use Rattle.mailparse.specs.Value.{outside_token}
 use Rattle.mail_codec.proofs.lemmas.Places.{place_from_same, place_from_here, place_from_next, place_from_passes}
 use Rattle.mailparse.proofs.lemmas.Places.{place_from_via}
-use Rattle.mailparse.proofs.lemmas.Tokens.{pair_stands, opening_stands, closing_stands}
+use Rattle.mailparse.proofs.lemmas.Tokens.{pair_within, opening_within, closing_within}
 
 -- a place that was found is kept for all later starts
 pub KeepsClosing_found : (line : List ℕ) (s close : ℕ) → closing line s ≡ close → KeepsClosing line s close
@@ -117,7 +117,7 @@ outside_token-text text e =
 pair_cut : (a b : ℕ) (line : List ℕ) (s v : ℕ) → IsUtf8 line → a < 128 → b < 128 → s ≤ length line → place_from (has_prefix (a ∷ b ∷ [])) line s ≡ v
     → v ≢ length line → IsCut line v
 pair_cut a b line s v utf8 first second fits e some =
-    let has_prefix = pair_stands a b line s v fits e some in
+    let has_prefix = pair_within a b line s v fits e some in
     record {
       fits = has_prefix.1;
       before = IsCharBoundary-before_ascii line v (omega arith) (omega (arith, has_prefix.2));
@@ -129,13 +129,13 @@ opening_found line s v utf8 fits e some =
     record {
       least = e;
       some = some;
-      ahead = (opening_stands line s v fits e some).0;
+      ahead = (opening_within line s v fits e some).0;
       cut = pair_cut 61 63 line s v utf8 (lit< tt) (lit< tt) fits e some;
     }
 
 pub closing_cut : (line : List ℕ) (s e : ℕ) → IsUtf8 line → s ≤ length line → closing line s ≡ e → e ≢ length line → IsCut line e
 closing_cut line s e utf8 fits at some =
-    let has_prefix = closing_stands line s e fits at some in
+    let has_prefix = closing_within line s e fits at some in
     record {
       fits = has_prefix.1;
       before = IsCharBoundary-before_ascii line e (omega arith) (omega (arith, has_prefix.2));

@@ -35,25 +35,25 @@ has_prefix_where test a b begins line s v h e some =
     let second = get_or-drop v line 1 0 in
     (omega arith, omega arith, ap (λ n. get_or line n 0) (omega arith) ∙ sym first ∙ two.1, sym second ∙ two.2)
 
-pub pair_stands : (a b : ℕ) (line : List ℕ) (s v : ℕ) → s ≤ length line → place_from (has_prefix (a ∷ b ∷ [])) line s ≡ v → v ≢ length line
+pub pair_within : (a b : ℕ) (line : List ℕ) (s v : ℕ) → s ≤ length line → place_from (has_prefix (a ∷ b ∷ [])) line s ≡ v → v ≢ length line
     → (s ≤ v) × (v + 2 ≤ length line) × (get_or line v 0 ≡ a) × (get_or line (v + 1) 0 ≡ b)
-pair_stands a b = has_prefix_where (has_prefix (a ∷ b ∷ [])) a b (λ rest h. h)
+pair_within a b = has_prefix_where (has_prefix (a ∷ b ∷ [])) a b (λ rest h. h)
 
 -- a `=?` that was found is within the line
-pub opening_stands : (line : List ℕ) (s v : ℕ) → s ≤ length line → opening line s ≡ v → v ≢ length line
+pub opening_within : (line : List ℕ) (s v : ℕ) → s ≤ length line → opening line s ≡ v → v ≢ length line
     → (s ≤ v) × (v + 2 ≤ length line) × (get_or line v 0 ≡ 61) × (get_or line (v + 1) 0 ≡ 63)
-opening_stands = pair_stands 61 63
+opening_within = pair_within 61 63
 
 -- a `?=` that was found is within the line, and a boundary follows it
-pub closing_stands : (line : List ℕ) (s e : ℕ) → s ≤ length line → closing line s ≡ e → e ≢ length line
+pub closing_within : (line : List ℕ) (s e : ℕ) → s ≤ length line → closing line s ≡ e → e ≢ length line
     → (s ≤ e) × (e + 2 ≤ length line) × (get_or line e 0 ≡ 63) × (get_or line (e + 1) 0 ≡ 61)
-closing_stands = has_prefix_where begins_closing 63 61 (λ rest h. (and_parts _ _ h).0)
+closing_within = has_prefix_where begins_closing 63 61 (λ rest h. (and_parts _ _ h).0)
 
 -- a `=?` and the `?=` after it
 both_stand : (line : List ℕ) (s v e : ℕ) → s ≤ length line → opening line s ≡ v → v ≢ length line → closing line (v + 2) ≡ e → e ≢ length line → (s ≤ v) × (v + 2 ≤ e) × (e + 2 ≤ length line)
 both_stand line s v e h at some close more =
-    let here = opening_stands line s v h at some in
-    let there = closing_stands line (v + 2) e here.1 close more in
+    let here = opening_within line s v h at some in
+    let there = closing_within line (v + 2) e here.1 close more in
     (here.0, there.0, there.1)
 
 Adjoin-append : (s t e : ℕ) (xs ys : List TokenRange) → Adjoin s xs t → Adjoin t ys e → Adjoin s (xs ++ ys) e
@@ -158,8 +158,8 @@ module _ (known : Charsets) where
   -- the next group starts at least two bytes on, and within the line
   pub next_ahead : {line : List ℕ} {s t : ℕ} {group : List TokenRange} → IsTokenGroup known line s group (Some t) → s ≤ length line
       → (s + 2 ≤ t) × (t ≤ length line)
-  next_ahead {line} {s} (no_boundary {v = v} e some out) h = let at = opening_stands line s v h e some in (omega arith, omega arith)
-  next_ahead {line} {s} (no_closing {v = v} e some beside close) h = let at = opening_stands line s v h e some in (omega arith, omega arith)
+  next_ahead {line} {s} (no_boundary {v = v} e some out) h = let at = opening_within line s v h e some in (omega arith, omega arith)
+  next_ahead {line} {s} (no_closing {v = v} e some beside close) h = let at = opening_within line s v h e some in (omega arith, omega arith)
   next_ahead {line} {s} (decodes {v = v} {e = e} at some beside close more read) h = let both = both_stand line s v e h at some close more in (omega arith, omega arith)
   next_ahead {line} {s} (stays_text {v = v} {e = e} at some beside close more fails) h = let both = both_stand line s v e h at some close more in (omega arith, omega arith)
 
@@ -209,9 +209,9 @@ module _ (known : Charsets) where
   group_adjoins : {line : List ℕ} {s : ℕ} {group : List TokenRange} {next : Option ℕ} → IsTokenGroup known line s group next → s ≤ length line
       → Adjoin s group (option_map_or (λ t. t) next (length line))
   group_adjoins (no_opening e) h = (refl, h, refl)
-  group_adjoins {line} {s} (no_boundary {v = v} e some out) h = let at = opening_stands line s v h e some in (refl, omega arith, refl)
+  group_adjoins {line} {s} (no_boundary {v = v} e some out) h = let at = opening_within line s v h e some in (refl, omega arith, refl)
   group_adjoins {line} {s} (no_closing {v = v} e some beside close) h =
-      let at = opening_stands line s v h e some in (refl, at.0, (refl, omega arith, refl))
+      let at = opening_within line s v h e some in (refl, at.0, (refl, omega arith, refl))
   group_adjoins {line} {s} (decodes {v = v} {e = e} at some beside close more read) h = let both = both_stand line s v e h at some close more in (refl, both.0, (refl, omega arith, refl))
   group_adjoins {line} {s} (stays_text {v = v} {e = e} at some beside close more fails) h = let both = both_stand line s v e h at some close more in (refl, both.0, (refl, omega arith, refl))
 

@@ -6,22 +6,22 @@ use Rattle.std.proofs.lemmas.Str.{IsUtf8-from_is_utf8, is_utf8-from_IsUtf8}
 use Rattle.mail_codec.specs.Charset.{Charsets, four_charsets}
 use Rattle.mail_codec.specs.Latin1.{latin1_text}
 use Rattle.mailparse.specs.Refusal.{Refusal, value_not_utf8}
-use Rattle.mailparse.specs.Value.{shown_value, lenient_value_in, strict_value}
+use Rattle.mailparse.specs.Value.{unfolded_value, lenient_value_in, strict_value}
 
 is_utf8-false : (bytes : List ℕ) → (IsUtf8 bytes → ⊥) → is_utf8 bytes ≡ false
 is_utf8-false bytes none = false_from_ne_true _ (λ e. none (IsUtf8-from_is_utf8 bytes e))
 
 -- bytes that are UTF-8 are read as they are
-pub lenient-utf8 : (known : Charsets) (bytes : List ℕ) → IsUtf8 bytes → lenient_value_in known bytes ≡ shown_value known bytes
+pub lenient-utf8 : (known : Charsets) (bytes : List ℕ) → IsUtf8 bytes → lenient_value_in known bytes ≡ unfolded_value known bytes
 unfolding lenient_value_in
 lenient-utf8 known bytes some = rw (is_utf8-from_IsUtf8 bytes some) refl
 
-pub strict-utf8 : (bytes : List ℕ) → IsUtf8 bytes → strict_value bytes ≡ Ok (shown_value four_charsets bytes)
+pub strict-utf8 : (bytes : List ℕ) → IsUtf8 bytes → strict_value bytes ≡ Ok (unfolded_value four_charsets bytes)
 unfolding strict_value
 strict-utf8 bytes some = rw (is_utf8-from_IsUtf8 bytes some) refl
 
 -- other bytes are read as Latin-1, or refused
-pub lenient-latin1 : (known : Charsets) (bytes : List ℕ) → (IsUtf8 bytes → ⊥) → lenient_value_in known bytes ≡ shown_value known (latin1_text bytes)
+pub lenient-latin1 : (known : Charsets) (bytes : List ℕ) → (IsUtf8 bytes → ⊥) → lenient_value_in known bytes ≡ unfolded_value known (latin1_text bytes)
 unfolding lenient_value_in
 lenient-latin1 known bytes none = rw (is_utf8-false bytes none) refl
 

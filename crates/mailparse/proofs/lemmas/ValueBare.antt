@@ -11,9 +11,9 @@ use Rattle.mail_codec.specs.Places.{begins, first_place, place}
 use Rattle.mail_codec.proofs.lemmas.Places.{first_place-before, first_place-passes, place_from_weaker}
 use Rattle.mailparse.specs.Header.{is_line_feed}
 use Rattle.mailparse.specs.Tokens.{begins_opening}
-use Rattle.mailparse.specs.Value.{shown_value}
+use Rattle.mailparse.specs.Value.{unfolded_value}
 use Rattle.mailparse.specs.private.Plain.{IsBare, cuts_value}
-use Rattle.mailparse.proofs.lemmas.ValuePlain.{graphic_no_whitespace, shown_value-line}
+use Rattle.mailparse.proofs.lemmas.ValuePlain.{graphic_no_whitespace, unfolded_value-line}
 
 graphic : (b : ℕ) → is_ascii_graphic b ≡ true → (33 ≤ b) × (b ≤ 126)
 graphic b h = let range = and_parts (leb 33 b) (leb b 126) h in (leb-true 33 b range.0, leb-true b 126 range.1)
@@ -61,7 +61,7 @@ no_opening bytes uncut =
     (λ past. none_placed begins_opening bytes past)
     (cases_lt p (length bytes))
 
-pub shown_value-bare : (known : Charsets) (text : List ℕ) → IsUtf8 text → IsBare text → text ≡ shown_value known text
-shown_value-bare known text utf8 bare =
-    shown_value-line known text text (no_feed text bare.uncut) (sym (trim_start-visible text utf8 bare.visible))
+pub unfolded_value-bare : (known : Charsets) (text : List ℕ) → IsUtf8 text → IsBare text → text ≡ unfolded_value known text
+unfolded_value-bare known text utf8 bare =
+    unfolded_value-line known text text (no_feed text bare.uncut) (sym (trim_start-visible text utf8 bare.visible))
     (no_opening text bare.uncut)

@@ -7,9 +7,9 @@ use Rattle.std.specs.Borrow.{Bor}
 use Rattle.std.specs.Str.{trim_start}
 use Rattle.mail_codec.specs.Charset.{Charsets}
 use Rattle.mailparse.specs.Value.{newline, line_tokens, tokens_of_lines}
-use Rattle.mailparse.specs.declared.header.shown.ShownValue.{ShownValue}
-use Rattle.mailparse.specs.private.Shown.{Shows}
-use Rattle.mailparse.proofs.lemmas.Shown.{Shows-append, Shows-at}
+use Rattle.mailparse.specs.declared.header.unfolded.UnfoldedValue.{UnfoldedValue}
+use Rattle.mailparse.specs.private.Unfolded.{Shows}
+use Rattle.mailparse.proofs.lemmas.Unfolded.{Shows-append, Shows-at}
 
 pub more_is_some : {A : Type 0} (xs : List A) (x : A) → false ≡ eqb (length (xs ++ x ∷ [])) 0
 more_is_some xs x = let len = length-append xs (x ∷ []) in sym (ne_eqb _ _ (λ e. absurd (omega arith)))
@@ -38,7 +38,7 @@ module _ (known : Charsets) where
       ∙ sym (ap (λ ts. ts ++ line_tokens known line) (append_assoc (line_tokens known l) (newline ∷ tokens_of_lines known (m ∷ lines)) (newline ∷ []))
       ∙ append_assoc (line_tokens known l) ((newline ∷ tokens_of_lines known (m ∷ lines)) ++ newline ∷ []) (line_tokens known line))
 
-  pub first_line : (items : List (Bor (List ℕ))) (line : Bor (List ℕ)) (text : List ℕ) (start value new : ShownValue) → eqb (length items) 0 ≡ true
+  pub first_line : (items : List (Bor (List ℕ))) (line : Bor (List ℕ)) (text : List ℕ) (start value new : UnfoldedValue) → eqb (length items) 0 ≡ true
       → Shows start (tokens_of_lines known (trimmed items)) value → text ≡ trim_start line.now → Shows value (line_tokens known text) new
       → Shows start (tokens_of_lines known (trimmed (items ++ line ∷ []))) new
   first_line items line text start value new none b t h =
@@ -50,7 +50,7 @@ module _ (known : Charsets) where
       ∙ tokens_of_first (trimmed items) (trim_start line.now) (omega arith)))
       (Shows-append start value new _ _ b h)
 
-  pub next_line : (items : List (Bor (List ℕ))) (line : Bor (List ℕ)) (text : List ℕ) (start value middle new : ShownValue) → eqb (length items) 0 ≡ false
+  pub next_line : (items : List (Bor (List ℕ))) (line : Bor (List ℕ)) (text : List ℕ) (start value middle new : UnfoldedValue) → eqb (length items) 0 ≡ false
       → Shows start (tokens_of_lines known (trimmed items)) value → text ≡ trim_start line.now → Shows value (newline ∷ []) middle
       → Shows middle (line_tokens known text) new
       → Shows start (tokens_of_lines known (trimmed (items ++ line ∷ []))) new

@@ -18,11 +18,11 @@ use Rattle.mailparse.specs.Tokens.{whitespace, plain_text, line_end, begins_open
 use Rattle.mailparse.specs.Refusal.{value_not_utf8}
 use Rattle.mailparse.proofs.lemmas.Value.{lenient-utf8}
 use Rattle.std.proofs.lemmas.Str.{IsUtf8-from_ascii}
-use Rattle.mailparse.specs.Value.{IsPlain, Token, newline, token_of, outside_token, line_tokens, tokens_of_lines, value_tokens, shown_tokens, shown_after, shown_value, lenient_value, lenient_value_in, strict_value}
+use Rattle.mailparse.specs.Value.{IsPlain, Token, newline, token_of, outside_token, line_tokens, tokens_of_lines, value_tokens, shown_tokens, shown_after, unfolded_value, lenient_value, lenient_value_in, strict_value}
 use Rattle.mail_codec.proofs.lemmas.Places.{first_place-≤, first_place-passes, first_place-before, begins-at}
 use Rattle.mail_codec.proofs.lemmas.PlacesSearches.{place_none}
 use Rattle.mailparse.proofs.lemmas.Places.{Nowhere, nowhere_found, nowhere_behind}
-use Rattle.mailparse.proofs.lemmas.Shown.{settled, token_of-outside}
+use Rattle.mailparse.proofs.lemmas.Unfolded.{settled, token_of-outside}
 use Rattle.mailparse.proofs.lemmas.Tokens.{token_ranges_only}
 
 -- ---- printable ASCII
@@ -107,10 +107,10 @@ module _ (known : Charsets) where
   pub line_tokens-plain : (line : List ℕ) → ((k : ℕ) → begins_opening (drop k line) ≡ false) → line_tokens known line ≡ outside_token line ∷ []
   line_tokens-plain line none = line_tokens-first line (no_opening_found line none)
 
-  pub shown_value-plain : (value : List ℕ) → IsPlain value → shown_value known value ≡ value
-  unfolding shown_value value_tokens
-  shown_value-plain [] plain = refl
-  shown_value-plain (b ∷ value) plain =
+  pub unfolded_value-plain : (value : List ℕ) → IsPlain value → unfolded_value known value ≡ value
+  unfolding unfolded_value value_tokens
+  unfolded_value-plain [] plain = refl
+  unfolded_value-plain (b ∷ value) plain =
       let some : b ≢ 32 = λ e. absurd (false≢true (sym plain.no_space ∙ ap (λ t. t && true) (eq-eqb 32 b (sym e)))) in
       ap (λ ls. shown_tokens (tokens_of_lines known (map trim_start ls))) (lines_of_plain b value plain.printable)
       ∙ ap (λ l. shown_tokens (line_tokens known l)) (trim_start-plain b value plain.printable some)
@@ -118,11 +118,11 @@ module _ (known : Charsets) where
       ∙ shown_alone (b ∷ value)
 
   -- a text of one line without `=?` is its own text, without its leading whitespace
-  pub shown_value-line : (text line : List ℕ) → None ≡ place (begins (λ b. eqb b 10)) text → line ≡ trim_start text → None ≡ place begins_opening line
-      → line ≡ shown_value known text
-  unfolding shown_value value_tokens
-  shown_value-line [] line no_line e no_word = e ∙ trim_start-nil
-  shown_value-line (b ∷ text) line no_line e no_word =
+  pub unfolded_value-line : (text line : List ℕ) → None ≡ place (begins (λ b. eqb b 10)) text → line ≡ trim_start text → None ≡ place begins_opening line
+      → line ≡ unfolded_value known text
+  unfolding unfolded_value value_tokens
+  unfolded_value-line [] line no_line e no_word = e ∙ trim_start-nil
+  unfolded_value-line (b ∷ text) line no_line e no_word =
       let whole = place_none (begins (λ b. eqb b 10)) (b ∷ text) no_line in
       let none = place_none begins_opening line no_word in
       sym (ap (λ ls. shown_tokens (tokens_of_lines known (map trim_start ls)))
@@ -151,17 +151,17 @@ module _ (known : Charsets) where
   shown_joined (line ∷ []) none = ap shown_tokens (line_tokens-plain known line none) ∙ shown_alone line
   shown_joined (line ∷ next ∷ more) none =
       let rest = space ∷ join_with_byte space (next ∷ more) in
-      let behind = nowhere_behind begins_opening line rest none in
+      let later = nowhere_behind begins_opening line rest none in
       ap (λ ts. shown_tokens (ts ++ (newline ∷ tokens_of_lines known (next ∷ more)))) (line_tokens-plain known line (no_opening_front line rest none))
       ∙ shown_outside line (newline ∷ tokens_of_lines known (next ∷ more))
       ∙ ap (λ r. line ++ r) (shown_line_end (tokens_of_lines known (next ∷ more))
-      ∙ ap (λ r. space ∷ r) (shown_joined (next ∷ more) (λ k. behind (suc k))))
+      ∙ ap (λ r. space ∷ r) (shown_joined (next ∷ more) (λ k. later (suc k))))
 
   -- lines without their leading whitespace are the text of the value if they contain no `=?` when they are joined
-  pub shown_value-joined : (text joined : List ℕ) → joined ≡ join_with_byte space (map trim_start (lines text)) → None ≡ place begins_opening joined
-      → joined ≡ shown_value known text
-  unfolding shown_value value_tokens
-  shown_value-joined text joined e no_word =
+  pub unfolded_value-joined : (text joined : List ℕ) → joined ≡ join_with_byte space (map trim_start (lines text)) → None ≡ place begins_opening joined
+      → joined ≡ unfolded_value known text
+  unfolding unfolded_value value_tokens
+  unfolded_value-joined text joined e no_word =
       e ∙ sym (shown_joined (map trim_start (lines text)) (subst (Nowhere begins_opening) e (nowhere_found begins_opening joined refl no_word)))
 
 -- ---- the strict reading
@@ -170,17 +170,17 @@ pub strict_agrees : (bytes : List ℕ) → IsUtf8 bytes → strict_value bytes �
 unfolding strict_value lenient_value_in
 strict_agrees bytes utf8 =
     let test = is_utf8-from_IsUtf8 bytes utf8 in
-    cond-true _ _ _ test ∙ ap (λ t. Ok (shown_value four_charsets t)) (sym (cond-true _ _ (latin1_text bytes) test))
+    cond-true _ _ _ test ∙ ap (λ t. Ok (unfolded_value four_charsets t)) (sym (cond-true _ _ (latin1_text bytes) test))
 
 pub strict_succeeds : (bytes value : List ℕ) → strict_value bytes ≡ Ok value → lenient_value bytes ≡ value
 unfolding strict_value lenient_value_in
 strict_succeeds bytes value h = go (is_utf8 bytes) h
   where
-    go : (t : Bool) → cond t (Ok (shown_value four_charsets bytes)) (Err value_not_utf8) ≡ Ok value
-        → shown_value four_charsets (cond t bytes (latin1_text bytes)) ≡ value
+    go : (t : Bool) → cond t (Ok (unfolded_value four_charsets bytes)) (Err value_not_utf8) ≡ Ok value
+        → unfolded_value four_charsets (cond t bytes (latin1_text bytes)) ≡ value
     go true e = cc
     go false e = cc
 
 -- so the value is read as itself
 pub lenient_value-plain : (value : List ℕ) → IsPlain value → lenient_value value ≡ value
-lenient_value-plain value plain = lenient-utf8 four_charsets value (IsUtf8-from_ascii value (printable_ascii value plain.printable)) ∙ shown_value-plain four_charsets value plain
+lenient_value-plain value plain = lenient-utf8 four_charsets value (IsUtf8-from_ascii value (printable_ascii value plain.printable)) ∙ unfolded_value-plain four_charsets value plain

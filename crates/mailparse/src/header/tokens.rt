@@ -5,10 +5,10 @@ ghost use Rattle.mail_codec.specs.Places.{has_prefix, place_from};
 ghost use Rattle.mailparse.specs.Tokens.{begins_with_boundary, closing, is_boundary, opening};
 ghost use Rattle.mailparse.specs.Value.{line_tokens, outside_token};
 ghost use Rattle.mailparse.specs.private.Cuts.{IsCut, IsOpening, KeepsClosing};
-ghost use Rattle.mailparse.specs.private.Shown.{Shows, token_view};
+ghost use Rattle.mailparse.specs.private.Unfolded.{Shows, token_view};
 
 use super::encoded_word::decode_word;
-use super::shown::{HeaderToken, ShownValue};
+use super::unfolded::{HeaderToken, UnfoldedValue};
 use mail_codec::bytescan::find_pair;
 use mail_codec::charset::KnownCharsets;
 use std::alloc::{AllocError, Global};
@@ -115,34 +115,34 @@ fn find_closing_or_keep(line: &str, from: usize, kept: usize) -> usize
 /// are kept until the search is past it.
 pub(crate) fn push_line<'a, K: KnownCharsets>(
     alloc: Global,
+    unfolded: &mut UnfoldedValue<'a>,
     line: &'a str,
     known: &K,
-    shown: &mut ShownValue<'a>,
 ) -> Result<(), AllocError>
     ensures { OnOk result
-        (Shows shown.old (line_tokens (K.known known.now) line.now) shown.new) }
+        (Shows unfolded.old (line_tokens (K.known known.now) line.now) unfolded.new) }
 {
     let mut start = 0;
     let mut close = 0;
     while let Some(open) = find_opening(line, start) {
         let inside = open + 2;
         if !ends_with_boundary(&line[..open]) {
-            shown.push(HeaderToken::Text(&line[start..inside]))?;
+            unfolded.push(HeaderToken::Text(&line[start..inside]))?;
             start = inside;
             continue;
         }
-        shown.push(outside_token(&line[start..open]))?;
+        unfolded.push(outside_token(&line[start..open]))?;
         close = find_closing_or_keep(line, inside, close);
         if close == line.len() {
-            shown.push(HeaderToken::Text(&line[open..inside]))?;
+            unfolded.push(HeaderToken::Text(&line[open..inside]))?;
             start = inside;
             continue;
         }
         match decode_word(alloc, &line[inside..close], known)? {
-            Some(decoded) => shown.push(HeaderToken::DecodedWord(decoded))?,
-            None => shown.push(HeaderToken::Text(&line[open..close + 2]))?,
+            Some(decoded) => unfolded.push(HeaderToken::DecodedWord(decoded))?,
+            None => unfolded.push(HeaderToken::Text(&line[open..close + 2]))?,
         }
         start = close + 2;
     }
-    shown.push(outside_token(&line[start..]))
+    unfolded.push(outside_token(&line[start..]))
 }

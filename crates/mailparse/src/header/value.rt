@@ -9,11 +9,11 @@ ghost use Rattle.std.specs.String.{string_bytes};
 ghost use Rattle.mail_codec.specs.Ascii.{carriage_return, line_feed, space};
 ghost use Rattle.mail_codec.specs.Charset.{Charsets};
 ghost use Rattle.mail_codec.specs.Places.{byte_place};
-ghost use Rattle.mailparse.specs.Value.{shown_value};
+ghost use Rattle.mailparse.specs.Value.{unfolded_value};
 
 use super::plain::is_bare;
-use super::shown::{HeaderToken, ShownValue};
 use super::tokens::push_line;
+use super::unfolded::{HeaderToken, UnfoldedValue};
 use mail_codec::bytescan::{find, find_byte};
 use mail_codec::charset::KnownCharsets;
 use std::alloc::{AllocError, Global};
@@ -24,7 +24,7 @@ use std::borrow::CowStr;
 #[inline(always)]
 fn plain_line(text: &str) -> Option<&str>
     ensures value { IfSome result (λ line. (known : Charsets) →
-        line.now ≡ shown_value known text.now) }
+        line.now ≡ unfolded_value known text.now) }
     ensures same { IfSome result (λ line.
         length line.now ≡ length text.now → line.now ≡ text.now) }
 {
@@ -48,7 +48,7 @@ pub(crate) fn value_ref<'v, K: KnownCharsets>(
     known: &K,
 ) -> Result<CowStr<'v>, AllocError>
     ensures { IfOk result (λ value.
-        cow_str_bytes value ≡ shown_value (K.known known.now) text.now) }
+        cow_str_bytes value ≡ unfolded_value (K.known known.now) text.now) }
 {
     match plain_line(text) {
         Some(line) => Ok(CowStr::Borrowed(line)),
@@ -63,7 +63,7 @@ pub(crate) fn value_of<K: KnownCharsets>(
     known: &K,
 ) -> Result<String, AllocError>
     ensures { IfOk result (λ value.
-        string_bytes value ≡ shown_value (K.known known.now) (string_bytes text)) }
+        string_bytes value ≡ unfolded_value (K.known known.now) (string_bytes text)) }
 {
     let Some(line) = plain_line(text.as_str()) else {
         return owned_value(alloc, text.as_str(), known);
@@ -77,7 +77,7 @@ pub(crate) fn value_of<K: KnownCharsets>(
 /// Returns the text of a value. Lines without `=?` are joined; any other value is read token by token.
 fn owned_value<K: KnownCharsets>(alloc: Global, text: &str, known: &K) -> Result<String, AllocError>
     ensures { IfOk result (λ value.
-        string_bytes value ≡ shown_value (K.known known.now) text.now) }
+        string_bytes value ≡ unfolded_value (K.known known.now) text.now) }
 {
     if find_byte(text.as_bytes(), b'\n').is_some() {
         let joined = joined_lines(alloc, text)?;
@@ -145,17 +145,17 @@ fn unfolded_value<K: KnownCharsets>(
     known: &K,
 ) -> Result<String, AllocError>
     ensures { IfOk result (λ value.
-        string_bytes value ≡ shown_value (K.known known.now) text.now) }
+        string_bytes value ≡ unfolded_value (K.known known.now) text.now) }
 {
-    let mut shown = ShownValue::with_capacity(alloc, text.len())?;
+    let mut unfolded = UnfoldedValue::with_capacity(alloc, text.len())?;
     let mut is_first = true;
     for line in text.lines() {
         if is_first {
             is_first = false;
         } else {
-            shown.push(HeaderToken::Newline)?;
+            unfolded.push(HeaderToken::Newline)?;
         }
-        push_line(alloc, line.trim_start(), known, &mut shown)?;
+        push_line(alloc, &mut unfolded, line.trim_start(), known)?;
     }
-    Ok(shown.into_text())
+    Ok(unfolded.into_text())
 }

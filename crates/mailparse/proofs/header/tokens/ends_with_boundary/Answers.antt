@@ -6,8 +6,8 @@ use Rattle.mailparse.proofs.header.tokens.ends_with_boundary.Goals as goal
 
 pub returns-in-Some : goal.returns-in-Some
 returns-in-Some c =
-    let told = rw c.in-Some.is at c.next_back.type_inv in
-    let scalar : IsScalar c.in-Some.c = assumption told in
+    let valid = rw c.in-Some.is at c.next_back.type_inv in
+    let scalar : IsScalar c.in-Some.c = assumption valid in
     let ends : c.args.text.now ≡ c.next_back.new.self.rest.now ++ encode_utf8 c.in-Some.c = sym c.chars.ensures.rest ∙ c.in-Some.ensures.steps in
     c.is_boundary.ensures ∙ sym (boundary_at_end c.args.text.now c.next_back.new.self.rest.now c.in-Some.c c.utf8.text scalar ends)
 

@@ -3,7 +3,7 @@ use Rattle.std.specs.Str.{chars}
 use Rattle.mail_codec.specs.Places.{has_prefix, place_from}
 use Rattle.mailparse.specs.Tokens.{begins_with_boundary}
 use Rattle.mailparse.proofs.lemmas.Cuts.{closing_from_pair, closing_here, closing_next, boundary_after}
-use Rattle.mailparse.proofs.lemmas.Tokens.{pair_stands}
+use Rattle.mailparse.proofs.lemmas.Tokens.{pair_within}
 use Rattle.mailparse.proofs.header.tokens.find_closing.Goals as goal
 
 pub loop-at-init : goal.loop-at-init
@@ -15,7 +15,7 @@ loop-at-init c =
 pub range_from-requires : goal.range_from-requires
 range_from-requires c = λ _.
     let some : c.loop-at.at ≢ length c.args.line.now = omega arith in
-    let has_prefix = pair_stands 63 61 c.args.line.now c.loop-at.at c.loop-at.at c.loop-at.invariant.in_line c.loop-at.invariant.found some in
+    let has_prefix = pair_within 63 61 c.args.line.now c.loop-at.at c.loop-at.at c.loop-at.invariant.in_line c.loop-at.invariant.found some in
     boundary_after c.args.line.now c.loop-at.at 61 c.utf8.line has_prefix.1 has_prefix.3 (omega arith)
 
 pub returns-then-begins_with_boundary : goal.returns-then-begins_with_boundary

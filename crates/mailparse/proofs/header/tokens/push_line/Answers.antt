@@ -6,8 +6,8 @@ use Rattle.std.specs.Option.{option_map}
 use Rattle.std.specs.String.{string_bytes}
 use Rattle.mailparse.specs.Tokens.{boundary_before, closing}
 use Rattle.mailparse.proofs.lemmas.Cuts.{KeepsClosing_none, KeepsClosing_found, KeepsClosing_later}
-use Rattle.mailparse.proofs.lemmas.Tokens.{closing_stands}
-use Rattle.mailparse.proofs.lemmas.Shown.{Completes, Completes_first, boundary_of_front, step_no_boundary, step_no_closing, step_decoded, step_stays, step_last}
+use Rattle.mailparse.proofs.lemmas.Tokens.{closing_within}
+use Rattle.mailparse.proofs.lemmas.Unfolded.{Completes, Completes_first, boundary_of_front, step_no_boundary, step_no_closing, step_decoded, step_stays, step_last}
 use Rattle.mailparse.proofs.header.tokens.push_line.Goals as goal
 use Rattle.mailparse.proofs.header.tokens.push_line.Goals.{in-Some-2+in_ok-push-in-Some-2, in-None+in_ok-push-in-None}
 
@@ -15,7 +15,7 @@ pub loop-open-init : goal.loop-open-init
 loop-open-init g c = record {
   in_line = omega arith;
   boundary = IsCharBoundary-start c.args.line.now c.utf8.line;
-  completes = Completes_first (g.K.KnownCharsets.known c.args.known.now) c.args.line.now c.args.shown.now;
+  completes = Completes_first (g.K.KnownCharsets.known c.args.known.now) c.args.line.now c.args.unfolded.now;
   keeps = KeepsClosing_none c.args.line.now;
 }
 
@@ -31,7 +31,7 @@ loop-open-preserved-then-not-ends_with_boundary g c =
     record {
       in_line = at.cut.fits;
       boundary = at.cut.after;
-      completes = step_no_boundary (g.K.KnownCharsets.known c.args.known.now) line s v c.args.shown.now c.loop-open.shown c.push.new.self c.range-then-not-ends_with_boundary.result.now at.least at.some out
+      completes = step_no_boundary (g.K.KnownCharsets.known c.args.known.now) line s v c.args.unfolded.now c.loop-open.unfolded c.push.new.self c.range-then-not-ends_with_boundary.result.now at.least at.some out
           c.range-then-not-ends_with_boundary.ensures.value c.in_ok-push.ensures c.loop-open.invariant.completes;
       keeps = KeepsClosing_later line (s + 2) (v + 2 + 2) c.loop-open.close (omega (arith, at.ahead)) c.loop-open.invariant.keeps;
     }
@@ -49,7 +49,7 @@ loop-open-preserved-then-close-line g c =
     record {
       in_line = at.cut.fits;
       boundary = at.cut.after;
-      completes = step_no_closing (g.K.KnownCharsets.known c.args.known.now) line s v c.args.shown.now c.loop-open.shown c.push-in-Some.new.self c.push-then-close-line.new.self _ c.range-in-Some.result.now c.range-then-close-line.result.now at.least at.some beside close
+      completes = step_no_closing (g.K.KnownCharsets.known c.args.known.now) line s v c.args.unfolded.now c.loop-open.unfolded c.push-in-Some.new.self c.push-then-close-line.new.self _ c.range-in-Some.result.now c.range-then-close-line.result.now at.least at.some beside close
           c.outside_token.ensures c.range-in-Some.ensures.value c.range-then-close-line.ensures.value c.in_ok-push-2.ensures c.in_ok-push-3.ensures
           c.loop-open.invariant.completes;
       keeps = KeepsClosing_later line (v + 2) (v + 2 + 2) c.find_closing_or_keep-close.result (omega arith)
@@ -63,8 +63,8 @@ loop-open-preserved g c =
     let v = c.in-Some.open in
     let e = c.find_closing_or_keep-close.result in
     let at = c.in-Some.ensures in
-    let before = c.args.shown.now in
-    let value = c.loop-open.shown in
+    let before = c.args.unfolded.now in
+    let value = c.loop-open.unfolded in
     let middle = c.push-in-Some.new.self in
     let beside : boundary_before line v ≡ true =
     boundary_of_front line c.range.result.now v true c.range.ensures.value
@@ -77,26 +77,26 @@ loop-open-preserved g c =
       boundary = cut.after;
       completes = elim c.match-branch-5.branch [
         | in-Some-2+in_ok-push-in-Some-2 w ↦
-            subst (λ n. Completes (g.K.KnownCharsets.known c.args.known.now) line (e + 2) before n) (sym w.shown-is)
+            subst (λ n. Completes (g.K.KnownCharsets.known c.args.known.now) line (e + 2) before n) (sym w.unfolded-is)
             (step_decoded (g.K.KnownCharsets.known c.args.known.now) line s v e before value middle w.push-in-Some-2.new.self _ c.range-in-Some.result.now c.range-in-Some-2.result.now
             (string_bytes w.in-Some-2.decoded) at.least at.some beside close more c.outside_token.ensures c.range-in-Some.ensures.value
             c.range-in-Some-2.ensures.value (sym c.in_ok-decoded.ensures ∙ ap (option_map string_bytes) w.in-Some-2.is)
             c.in_ok-push-2.ensures w.in_ok-push-in-Some-2.ensures c.loop-open.invariant.completes)
         | in-None+in_ok-push-in-None w ↦
-            subst (λ n. Completes (g.K.KnownCharsets.known c.args.known.now) line (e + 2) before n) (sym w.shown-is)
+            subst (λ n. Completes (g.K.KnownCharsets.known c.args.known.now) line (e + 2) before n) (sym w.unfolded-is)
             (step_stays (g.K.KnownCharsets.known c.args.known.now) line s v e before value middle w.push-in-None.new.self _ c.range-in-Some.result.now c.range-in-Some-2.result.now
             w.range-in-None.result.now at.least at.some beside close more c.outside_token.ensures c.range-in-Some.ensures.value
             c.range-in-Some-2.ensures.value (sym c.in_ok-decoded.ensures ∙ ap (option_map string_bytes) w.in-None.is) w.range-in-None.ensures.value
             c.in_ok-push-2.ensures w.in_ok-push-in-None.ensures c.loop-open.invariant.completes)
       ];
-      keeps = KeepsClosing_later line (v + 2) (e + 2 + 2) e (omega (arith, (closing_stands line (v + 2) e at.cut.fits close more).0))
+      keeps = KeepsClosing_later line (v + 2) (e + 2 + 2) e (omega (arith, (closing_within line (v + 2) e at.cut.fits close more).0))
           (KeepsClosing_found line (v + 2) e close);
     }
 
 pub returns : goal.returns
 returns g c =
     on_ok_weaker c.push-2.result
-    (λ shows. step_last (g.K.KnownCharsets.known c.args.known.now) c.args.line.now c.loop-open.start c.args.shown.now c.loop-open.shown c.push-2.new.self _ c.range_from.result.now
+    (λ shows. step_last (g.K.KnownCharsets.known c.args.known.now) c.args.line.now c.loop-open.start c.args.unfolded.now c.loop-open.unfolded c.push-2.new.self _ c.range_from.result.now
     c.in_default.ensures c.outside_token-2.ensures (c.range_from.ensures.value ∙ sym (take_rest c.args.line.now c.loop-open.start)) shows
     c.loop-open.invariant.completes)
     c.push-2.ensures

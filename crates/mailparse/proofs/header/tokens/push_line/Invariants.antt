@@ -2,14 +2,14 @@
 use Rattle.std.proofs.Common.{◌≤◌, ◌-◌, ◌+◌, length}
 use Rattle.std.specs.Str.{IsCharBoundary}
 use Rattle.mailparse.specs.private.Cuts.{KeepsClosing}
-use Rattle.mailparse.proofs.lemmas.Shown.{Completes}
+use Rattle.mailparse.proofs.lemmas.Unfolded.{Completes}
 use Rattle.mailparse.proofs.header.tokens.push_line.Given as goal
 
 abbrev pub invariant-loop-open : goal.invariant-loop-open
 invariant-loop-open g l = record {
   in_line : l.start ≤ length l.line;
   boundary : IsCharBoundary l.line l.start;
-  completes : Completes (g.K.KnownCharsets.known l.known) l.line l.start l.fn.shown l.shown;
+  completes : Completes (g.K.KnownCharsets.known l.known) l.line l.start l.fn.unfolded l.unfolded;
   keeps : KeepsClosing l.line (l.start + 2) l.close;
 }
 

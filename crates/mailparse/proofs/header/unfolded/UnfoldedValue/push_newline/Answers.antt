@@ -2,10 +2,10 @@ use Rattle.std.proofs.Common.{◌≢◌, ℕ, List, ◌∷◌, ◌∙◌, ap, sy
 use lib.Utf8.{encode}
 use Rattle.std.specs.Borrow.{Bor}
 use Rattle.std.specs.String.{string_bytes}
-use Rattle.mailparse.specs.declared.header.shown.Held.TheVariants as held
+use Rattle.mailparse.specs.declared.header.unfolded.Held.TheVariants as held
 use Rattle.mailparse.specs.Value.{newline}
-use Rattle.mailparse.proofs.lemmas.Shown.{shown_of, holds_line_end, holds_whitespace_line_end, takes_line_end}
-use Rattle.mailparse.proofs.header.shown.ShownValue.push_newline.Goals as goal
+use Rattle.mailparse.proofs.lemmas.Unfolded.{shown_of, holds_line_end, holds_whitespace_line_end, takes_line_end}
+use Rattle.mailparse.proofs.header.unfolded.UnfoldedValue.push_newline.Goals as goal
 
 pub returns-in-Word : goal.returns-in-Word
 returns-in-Word c = λ rest.

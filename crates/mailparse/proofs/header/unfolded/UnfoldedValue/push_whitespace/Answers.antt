@@ -1,8 +1,8 @@
 use Rattle.std.proofs.Common.{◌∙◌, ap, sym}
 use Rattle.std.specs.String.{string_bytes}
-use Rattle.mailparse.specs.declared.header.shown.Held.TheVariants as held
-use Rattle.mailparse.proofs.lemmas.Shown.{on_push, shown_of, takes_whitespace}
-use Rattle.mailparse.proofs.header.shown.ShownValue.push_whitespace.Goals as goal
+use Rattle.mailparse.specs.declared.header.unfolded.Held.TheVariants as held
+use Rattle.mailparse.proofs.lemmas.Unfolded.{on_push, shown_of, takes_whitespace}
+use Rattle.mailparse.proofs.header.unfolded.UnfoldedValue.push_whitespace.Goals as goal
 
 pub returns : goal.returns
 returns c =

@@ -3,7 +3,7 @@
 ghost use Rattle.std.specs.Prelude.{◌≡◌, ◌++◌, ◌∷◌, [], List, IfOk, OnOk};
 ghost use Rattle.std.specs.String.{string_bytes};
 ghost use Rattle.mailparse.specs.Value.{Token, newline, shown_tokens, whitespace_token};
-ghost use Rattle.mailparse.specs.private.Shown.{Shows, released, shown_with, token_view};
+ghost use Rattle.mailparse.specs.private.Unfolded.{Shows, released, shown_with, token_view};
 
 use std::alloc::{AllocError, Global};
 
@@ -35,18 +35,21 @@ enum Held<'a> {
 
 /// The unfolded text of a value, up to the last token read.
 #[derive(Drop)]
-pub(crate) struct ShownValue<'a> {
+pub(crate) struct UnfoldedValue<'a> {
     text: String,
     held: Held<'a>,
 }
 
-impl<'a> ShownValue<'a> {
+impl<'a> UnfoldedValue<'a> {
     /// Makes an empty text, with capacity for `length` bytes.
-    pub(crate) fn with_capacity(alloc: Global, length: usize) -> Result<ShownValue<'a>, AllocError>
-        ensures { IfOk result (λ shown. (tokens : List Token) →
-            shown_with shown tokens ≡ shown_tokens tokens) }
+    pub(crate) fn with_capacity(
+        alloc: Global,
+        length: usize,
+    ) -> Result<UnfoldedValue<'a>, AllocError>
+        ensures { IfOk result (λ unfolded. (tokens : List Token) →
+            shown_with unfolded tokens ≡ shown_tokens tokens) }
     {
-        Ok(ShownValue {
+        Ok(UnfoldedValue {
             text: String::with_capacity(alloc, length)?,
             held: Held::Nothing,
         })

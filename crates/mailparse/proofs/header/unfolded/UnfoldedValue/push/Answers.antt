@@ -1,9 +1,9 @@
 use Rattle.std.proofs.Common.{◌++◌, ◌∷◌, ◌∙◌, ap, sym}
 use Rattle.std.specs.String.{string_bytes}
-use Rattle.mailparse.specs.declared.header.shown.Held.TheVariants as held
-use Rattle.mailparse.specs.private.Shown.{shown_with, token_view}
-use Rattle.mailparse.proofs.lemmas.Shown.{on_push, shown_of, takes_text, takes_word}
-use Rattle.mailparse.proofs.header.shown.ShownValue.push.Goals as goal
+use Rattle.mailparse.specs.declared.header.unfolded.Held.TheVariants as held
+use Rattle.mailparse.specs.private.Unfolded.{shown_with, token_view}
+use Rattle.mailparse.proofs.lemmas.Unfolded.{on_push, shown_of, takes_text, takes_word}
+use Rattle.mailparse.proofs.header.unfolded.UnfoldedValue.push.Goals as goal
 
 pub returns-in_ok-release-in-Text : goal.returns-in_ok-release-in-Text
 returns-in_ok-release-in-Text c =

@@ -3,11 +3,11 @@ use Rattle.std.specs.Prelude.{◌≡◌, ℕ, List, [], ◌∷◌, ◌++◌, Som
 use Rattle.mail_codec.specs.Ascii.{space}
 use Rattle.mailparse.specs.Tokens.{plain_text, whitespace, line_end, decoded_word}
 use Rattle.mailparse.specs.Value.{Token, kinds, is_released, newline, shown_after, whitespace_token}
-use Rattle.mailparse.specs.declared.header.shown.Held.{Held}
-use Rattle.mailparse.specs.declared.header.shown.Held.TheVariants as held
-use Rattle.mailparse.specs.declared.header.shown.HeaderToken.{HeaderToken}
-use Rattle.mailparse.specs.declared.header.shown.HeaderToken.TheVariants as code
-use Rattle.mailparse.specs.declared.header.shown.ShownValue.{ShownValue}
+use Rattle.mailparse.specs.declared.header.unfolded.Held.{Held}
+use Rattle.mailparse.specs.declared.header.unfolded.Held.TheVariants as held
+use Rattle.mailparse.specs.declared.header.unfolded.HeaderToken.{HeaderToken}
+use Rattle.mailparse.specs.declared.header.unfolded.HeaderToken.TheVariants as code
+use Rattle.mailparse.specs.declared.header.unfolded.UnfoldedValue.{UnfoldedValue}
 
 -- a token of the code, as the definitions have it
 abbrev pub token_view : HeaderToken → Token
@@ -35,9 +35,9 @@ shown_held (held.LineEnd gap) tokens =
     ++ shown_after None None tokens
 
 -- the text of a value whose tokens so far made this, if these tokens follow
-abbrev pub shown_with : ShownValue → List Token → List ℕ
+abbrev pub shown_with : UnfoldedValue → List Token → List ℕ
 shown_with value tokens = string_bytes value.text ++ shown_held value.held tokens
 
 -- a reader appended these tokens
-abbrev pub Shows : ShownValue → List Token → ShownValue → Type 0
+abbrev pub Shows : UnfoldedValue → List Token → UnfoldedValue → Type 0
 Shows before tokens after = (rest : List Token) → shown_with before (tokens ++ rest) ≡ shown_with after rest

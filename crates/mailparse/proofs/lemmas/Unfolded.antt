@@ -9,26 +9,26 @@ use Rattle.mail_codec.specs.Charset.{Charsets}
 use Rattle.mailparse.specs.EncodedWord.{word_text}
 use Rattle.mailparse.specs.Tokens.{TokenKind, plain_text, whitespace, line_end, decoded_word, TokenRange, IsTokenGroup, AreTokensFrom, no_opening, no_boundary, no_closing, decodes, stays_text, last_group, next_group, opening, closing, begins_with_boundary, boundary_before, is_all_whitespace, outside_range, text_range, word_range, inside}
 use Rattle.mailparse.specs.Value.{Token, is_word, is_whitespace_token, is_held, is_released, kinds, newline, shown_after, shown_tokens, token_of, token_text, line_tokens, outside_token, whitespace_token}
-use Rattle.mailparse.specs.declared.header.shown.Held.{Held}
-use Rattle.mailparse.specs.declared.header.shown.Held.TheVariants as held
-use Rattle.mailparse.specs.declared.header.shown.ShownValue.{ShownValue}
-use Rattle.mailparse.specs.private.Shown.{Shows, released, shown_held, shown_with}
+use Rattle.mailparse.specs.declared.header.unfolded.Held.{Held}
+use Rattle.mailparse.specs.declared.header.unfolded.Held.TheVariants as held
+use Rattle.mailparse.specs.declared.header.unfolded.UnfoldedValue.{UnfoldedValue}
+use Rattle.mailparse.specs.private.Unfolded.{Shows, released, shown_held, shown_with}
 use Rattle.mailparse.proofs.lemmas.Tokens.{token_ranges_only}
 
 pub boundary_of_front : (line front : List ℕ) (v : ℕ) (b : Bool) → front ≡ slice_range line 0 v → b ≡ begins_with_boundary (reverse (chars front)) → boundary_before line v ≡ b
-boundary_of_front line front v b e told =
-    sym (told ∙ ap (λ f. begins_with_boundary (reverse (chars f))) (e ∙ ap (λ n. take n line) (sub-zero v)))
+boundary_of_front line front v b e same =
+    sym (same ∙ ap (λ f. begins_with_boundary (reverse (chars f))) (e ∙ ap (λ n. take n line) (sub-zero v)))
 
 -- ---- one token after another
 
-pub Shows-two : (before middle after : ShownValue) (first second : Token) → Shows before (first ∷ []) middle → Shows middle (second ∷ []) after
+pub Shows-two : (before middle after : UnfoldedValue) (first second : Token) → Shows before (first ∷ []) middle → Shows middle (second ∷ []) after
     → Shows before (first ∷ second ∷ []) after
 Shows-two before middle after first second h i rest = h (second ∷ rest) ∙ i rest
 
-pub Shows-append : (before middle after : ShownValue) (xs ys : List Token) → Shows before xs middle → Shows middle ys after → Shows before (xs ++ ys) after
+pub Shows-append : (before middle after : UnfoldedValue) (xs ys : List Token) → Shows before xs middle → Shows middle ys after → Shows before (xs ++ ys) after
 Shows-append before middle after xs ys h i rest = ap (shown_with before) (append_assoc xs ys rest) ∙ h (ys ++ rest) ∙ i rest
 
-pub Shows-at : (before after : ShownValue) (xs ys : List Token) → xs ≡ ys → Shows before xs after → Shows before ys after
+pub Shows-at : (before after : UnfoldedValue) (xs ys : List Token) → xs ≡ ys → Shows before xs after → Shows before ys after
 Shows-at before after xs ys e h = subst (λ ts. Shows before ts after) e h
 
 -- ---- tokens held back
@@ -159,11 +159,11 @@ takes_line_end text h rest other no_whitespace = ap (λ r. text ++ r) (go h othe
     go (held.LineEnd gap) other no_whitespace = ap (λ r. 32 ∷ r) (settled None (Some line_end) rest refl refl)
 
 -- a reader that starts with nothing gives the text of the tokens
-pub starts_here : (value : ShownValue) (tokens : List Token) → string_bytes value.text ≡ [] → value.held ≡ held.Nothing → shown_with value tokens ≡ shown_tokens tokens
+pub starts_here : (value : UnfoldedValue) (tokens : List Token) → string_bytes value.text ≡ [] → value.held ≡ held.Nothing → shown_with value tokens ≡ shown_tokens tokens
 starts_here value tokens e h = ap (λ t. shown_of t value.held tokens) e ∙ ap (λ h. shown_of [] h tokens) h
 
 -- and what is held back at the end is never shown
-pub ends_here : (value : ShownValue) → shown_with value [] ≡ string_bytes value.text
+pub ends_here : (value : UnfoldedValue) → shown_with value [] ≡ string_bytes value.text
 ends_here value = ap (λ r. string_bytes value.text ++ r) (go value.held) ∙ append-nil (string_bytes value.text)
   where
     go : (h : Held) → shown_held h [] ≡ []
@@ -187,16 +187,16 @@ module _ (known : Charsets) where
   -- ---- a line, group by group
 
   -- the tokens of the line are those up to s, and then those of any ranges that fit the rest of it
-  abbrev pub Completes : List ℕ → ℕ → ShownValue → ShownValue → Type 0
+  abbrev pub Completes : List ℕ → ℕ → UnfoldedValue → UnfoldedValue → Type 0
   Completes line s before value =
       (ranges : List TokenRange) → AreTokensFrom known line s ranges → (rest : List Token)
       → shown_with before (line_tokens known line ++ rest) ≡ shown_with value (map (token_of known line) ranges ++ rest)
 
-  pub Completes_first : (line : List ℕ) (before : ShownValue) → Completes line 0 before before
+  pub Completes_first : (line : List ℕ) (before : UnfoldedValue) → Completes line 0 before before
   Completes_first line before ranges fits rest =
       sym (ap (λ rs. shown_with before (map (token_of known line) rs ++ rest)) (token_ranges_only known line ranges fits))
 
-  pub Completes_next : (line : List ℕ) (s t : ℕ) (group : List TokenRange) (before value new : ShownValue) → IsTokenGroup known line s group (Some t)
+  pub Completes_next : (line : List ℕ) (s t : ℕ) (group : List TokenRange) (before value new : UnfoldedValue) → IsTokenGroup known line s group (Some t)
       → Shows value (map (token_of known line) group) new → Completes line s before value → Completes line t before new
   Completes_next line s t group before value new g shows all ranges fits rest =
       let tokens : List TokenRange → List Token = map (token_of known line) in
@@ -205,12 +205,12 @@ module _ (known : Charsets) where
       ∙ ap (shown_with value) (append_assoc (tokens group) (tokens ranges) rest)
       ∙ shows (tokens ranges ++ rest)
 
-  pub Completes_last : (line : List ℕ) (s : ℕ) (group : List TokenRange) (before value new : ShownValue) → IsTokenGroup known line s group None
+  pub Completes_last : (line : List ℕ) (s : ℕ) (group : List TokenRange) (before value new : UnfoldedValue) → IsTokenGroup known line s group None
       → Shows value (map (token_of known line) group) new → Completes line s before value → Shows before (line_tokens known line) new
   Completes_last line s group before value new g shows all rest = all group (last_group g) rest ∙ shows rest
 
   -- a `=?` after a character that is not a boundary
-  pub step_no_boundary : (line : List ℕ) (s v : ℕ) (before value new : ShownValue) (bytes : List ℕ) → opening line s ≡ v → v ≢ length line
+  pub step_no_boundary : (line : List ℕ) (s v : ℕ) (before value new : UnfoldedValue) (bytes : List ℕ) → opening line s ≡ v → v ≢ length line
       → boundary_before line v ≡ false → bytes ≡ slice_range line s (v + 2) → Shows value (record { kind = plain_text; shown = bytes } ∷ []) new
       → Completes line s before value → Completes line (v + 2) before new
   step_no_boundary line s v before value new bytes at some out b shows all =
@@ -218,7 +218,7 @@ module _ (known : Charsets) where
       (Shows-at value new _ _ (ap (λ b. record { kind = plain_text; shown = b } ∷ []) b) shows) all
 
   -- two tokens, the first of which is outside all words
-  two_tokens : (line : List ℕ) (s v : ℕ) (value middle new : ShownValue) (first second : Token) (front : List ℕ) (range : TokenRange)
+  two_tokens : (line : List ℕ) (s v : ℕ) (value middle new : UnfoldedValue) (first second : Token) (front : List ℕ) (range : TokenRange)
       → first ≡ outside_token front → front ≡ slice_range line s v → second ≡ token_of known line range
       → Shows value (first ∷ []) middle → Shows middle (second ∷ []) new
       → Shows value (map (token_of known line) (outside_range line s v ∷ range ∷ [])) new
@@ -229,7 +229,7 @@ module _ (known : Charsets) where
       (Shows-two value middle new first second h i)
 
   -- a `=?` that no `?=` follows
-  pub step_no_closing : (line : List ℕ) (s v : ℕ) (before value middle new : ShownValue) (first : Token) (front bytes : List ℕ)
+  pub step_no_closing : (line : List ℕ) (s v : ℕ) (before value middle new : UnfoldedValue) (first : Token) (front bytes : List ℕ)
       → opening line s ≡ v → v ≢ length line → boundary_before line v ≡ true → closing line (v + 2) ≡ length line
       → first ≡ outside_token front → front ≡ slice_range line s v → bytes ≡ slice_range line v (v + 2)
       → Shows value (first ∷ []) middle → Shows middle (record { kind = plain_text; shown = bytes } ∷ []) new
@@ -239,7 +239,7 @@ module _ (known : Charsets) where
       (two_tokens line s v value middle new first _ front (text_range v (v + 2)) p f (ap (λ b. record { kind = plain_text; shown = b }) b) h i) all
 
   -- a word that decodes
-  pub step_decoded : (line : List ℕ) (s v e : ℕ) (before value middle new : ShownValue) (first : Token) (front inner shown : List ℕ)
+  pub step_decoded : (line : List ℕ) (s v e : ℕ) (before value middle new : UnfoldedValue) (first : Token) (front inner shown : List ℕ)
       → opening line s ≡ v → v ≢ length line → boundary_before line v ≡ true → closing line (v + 2) ≡ e → e ≢ length line
       → first ≡ outside_token front → front ≡ slice_range line s v → inner ≡ slice_range line (v + 2) e → word_text known inner ≡ Some shown
       → Shows value (first ∷ []) middle → Shows middle (record { kind = decoded_word; shown = shown } ∷ []) new
@@ -253,7 +253,7 @@ module _ (known : Charsets) where
       ∙ ap (λ o. record { kind = decoded_word; shown = unwrap_or o [] }) text)) h k) all
 
   -- a word that does not decode
-  pub step_stays : (line : List ℕ) (s v e : ℕ) (before value middle new : ShownValue) (first : Token) (front inner bytes : List ℕ)
+  pub step_stays : (line : List ℕ) (s v e : ℕ) (before value middle new : UnfoldedValue) (first : Token) (front inner bytes : List ℕ)
       → opening line s ≡ v → v ≢ length line → boundary_before line v ≡ true → closing line (v + 2) ≡ e → e ≢ length line
       → first ≡ outside_token front → front ≡ slice_range line s v → inner ≡ slice_range line (v + 2) e → word_text known inner ≡ None
       → bytes ≡ slice_range line v (e + 2)
@@ -265,7 +265,7 @@ module _ (known : Charsets) where
       (two_tokens line s v value middle new first _ front (text_range v (e + 2)) p f (ap (λ b. record { kind = plain_text; shown = b }) b) h k) all
 
   -- no `=?` is left
-  pub step_last : (line : List ℕ) (s : ℕ) (before value new : ShownValue) (first : Token) (front : List ℕ) → opening line s ≡ length line
+  pub step_last : (line : List ℕ) (s : ℕ) (before value new : UnfoldedValue) (first : Token) (front : List ℕ) → opening line s ≡ length line
       → first ≡ outside_token front → front ≡ slice_range line s (length line) → Shows value (first ∷ []) new
       → Completes line s before value → Shows before (line_tokens known line) new
   step_last line s before value new first front none p f h all =
