@@ -19,7 +19,8 @@ mod strings;
 
 pub use chosen::{Form, Next, Which};
 pub use lines::write_single;
-pub use origin::write_unread;
+pub use mail::write_mail;
+pub use origin::{Origin, write_unread};
 pub use reading::Reading;
 pub use reports::write_recipients;
 pub use stream::{Unwatched, Watch, format_of, write_input};

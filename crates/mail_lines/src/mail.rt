@@ -28,12 +28,25 @@ use mailparse::{KnownCharsets, MailHeaderMap, ParsedMail};
 use std::alloc::Global;
 use std::io::Write;
 
-/// Writes the object of a mail from there. It is a mail as it was parsed.
+/// Writes the object of a mail with this origin, without a line end. The mail is as it was parsed.
 ///
 /// # Errors
 ///
-/// `Fault::Output` where a write fails, and `Fault::Mail` with `MailParseError::Memory` where it runs
-/// out of memory.
+/// `Fault::Output` if a write fails, and `Fault::Mail` with `MailParseError::Memory` if it runs out of
+/// memory.
+///
+/// # Examples
+///
+/// ```rust
+/// use mail_lines::{Origin, Reading, write_mail};
+/// use mailparse::parse_mail;
+///
+/// let mail = parse_mail(alloc, b"Subject: Hi\n\nHello\n")?;
+/// let origin = Origin { file: None, number: None, start: 0, end: 19 };
+/// let mut out = Vec::new(alloc);
+/// write_mail(alloc, &mut out, &mail, &origin, &(), Reading::new())?;
+/// assert!(rt; out.as_slice().starts_with(b"{\"schema\":4,\"file\":null,"));
+/// ```
 pub fn write_mail<W: Write, K: KnownCharsets>(
     alloc: Global,
     out: &mut W,

@@ -11,7 +11,7 @@ use std::alloc::Global;
 use std::io::Write;
 
 /// Where a line is from.
-#[derive(Drop)]
+#[derive(Clone, Copy, Debug)]
 pub struct Origin<'n> {
     /// The name of the file, or `None` for standard input.
     pub file: Option<&'n str>,
