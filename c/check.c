@@ -1,7 +1,7 @@
 /* Tests the C library; tools/check_c.sh builds and runs it, linked so that this file sees each call for memory.
  *
- *   check cases           every code of every call, rooms of every length around the right one, empty inputs, null
- *                         pointers with length 0, and each call for memory refused in turn
+ *   check cases           every code of every call, buffers of every capacity around the right one, empty inputs, null
+ *                         pointers with length 0, and each allocation refused in turn
  *   check threads FILE..  eight threads, each over all cases and files, with the results of one
  *   check lines FILE..    the line of each mail, or that of its refusal, as mail_json --mail writes it
  *
@@ -17,7 +17,7 @@
 
 #define THREADS 8
 
-/* Calls for memory. The linker leads the library's calls here (--wrap). */
+/* Allocation. The linker redirects the library's calls here (--wrap). */
 
 void *__real_malloc(size_t size);
 void *__real_realloc(void *block, size_t size);
@@ -75,7 +75,7 @@ struct test {
     enum kind kind;
     struct bytes input;
     struct bytes name;
-    size_t number; /* of a header, or the code of a reason */
+    size_t number; /* of a header, or the code for a reason */
     uint32_t code;
     struct bytes result;
 };
@@ -85,7 +85,7 @@ struct test {
 #define REPORT "Content-Type: multipart/report; boundary=b\n\n--b\nContent-Type: message/delivery-status\n\n"
 
 static const struct test tests[] = {
-    /* no `result` is compared for JSON: `check lines` does that */
+    /* the result for JSON is not compared here: `check lines` does that */
     { JSON, BYTES("Subject: Hi\n\nHello\n"), NOTHING, 0, ROCKTRAY_DONE, NOTHING },
     { JSON, NOTHING, NOTHING, 0, ROCKTRAY_DONE, NOTHING },
     { JSON, BYTES(" Subject: Hi\n\n"), NOTHING, 0, ROCKTRAY_LEADING_SPACE, NOTHING },
@@ -149,30 +149,30 @@ static const struct test tests[] = {
     { RECIPIENTS, BYTES(" x"), NOTHING, 0, ROCKTRAY_LEADING_SPACE, NOTHING },
     { REASON, NOTHING, NOTHING, ROCKTRAY_TOO_DEEP, ROCKTRAY_DONE, BYTES("Recursion limit reached") },
     { REASON, NOTHING, NOTHING, ROCKTRAY_DATE_MONTH, ROCKTRAY_DONE, BYTES("no month") },
-    { REASON, NOTHING, NOTHING, 1000, ROCKTRAY_DONE, BYTES("no code of this library") },
+    { REASON, NOTHING, NOTHING, 1000, ROCKTRAY_DONE, BYTES("unknown code") },
 };
 
 #define TESTS (sizeof tests / sizeof tests[0])
 
-static uint32_t call(const struct test *test, uint8_t *room, size_t length, size_t *needed)
+static uint32_t call(const struct test *test, uint8_t *buffer, size_t capacity, size_t *needed)
 {
     const struct bytes in = test->input, name = test->name;
     uint32_t code = 0;
     is_library = 1;
     switch (test->kind) {
-    case JSON: code = rocktray_json(in.at, in.length, room, length, needed); break;
-    case CONTENT: code = rocktray_content(in.at, in.length, room, length, needed); break;
-    case TEXT: code = rocktray_text(in.at, in.length, room, length, needed); break;
+    case JSON: code = rocktray_json(in.at, in.length, buffer, capacity, needed); break;
+    case CONTENT: code = rocktray_content(in.at, in.length, buffer, capacity, needed); break;
+    case TEXT: code = rocktray_text(in.at, in.length, buffer, capacity, needed); break;
     case HEADER:
-        code = rocktray_header(in.at, in.length, name.at, name.length, test->number, room, length, needed);
+        code = rocktray_header(in.at, in.length, name.at, name.length, test->number, buffer, capacity, needed);
         break;
     case RAW_HEADER:
-        code = rocktray_raw_header(in.at, in.length, name.at, name.length, test->number, room, length, needed);
+        code = rocktray_raw_header(in.at, in.length, name.at, name.length, test->number, buffer, capacity, needed);
         break;
-    case IDS: code = rocktray_ids(in.at, in.length, true, room, length, needed); break;
-    case OWN_IDS: code = rocktray_ids(in.at, in.length, false, room, length, needed); break;
-    case RECIPIENTS: code = rocktray_recipients(in.at, in.length, room, length, needed); break;
-    case REASON: code = rocktray_reason((uint32_t)test->number, room, length, needed); break;
+    case IDS: code = rocktray_ids(in.at, in.length, true, buffer, capacity, needed); break;
+    case OWN_IDS: code = rocktray_ids(in.at, in.length, false, buffer, capacity, needed); break;
+    case RECIPIENTS: code = rocktray_recipients(in.at, in.length, buffer, capacity, needed); break;
+    case REASON: code = rocktray_reason((uint32_t)test->number, buffer, capacity, needed); break;
     }
     is_library = 0;
     return code;
@@ -190,94 +190,95 @@ static void count(int is_right, const char *what, size_t which)
     }
 }
 
-/* A room of its own block, so that the sanitizer sees each byte beyond it; it is filled, and what comes behind the
- * result has to stay. */
-static uint8_t *filled_room(size_t length)
+/* A buffer in a block of its own, so that the sanitizer sees each access beyond it. It is filled, and the bytes after
+ * the result must not change. */
+static uint8_t *filled_buffer(size_t capacity)
 {
-    uint8_t *room = malloc(length ? length : 1);
-    memset(room, 0xA5, length);
-    return room;
+    uint8_t *buffer = malloc(capacity ? capacity : 1);
+    memset(buffer, 0xA5, capacity);
+    return buffer;
 }
 
-static int is_filled(const uint8_t *room, size_t from, size_t to)
+static int is_filled(const uint8_t *buffer, size_t from, size_t to)
 {
     for (size_t i = from; i < to; i++)
-        if (room[i] != 0xA5)
+        if (buffer[i] != 0xA5)
             return 0;
     return 1;
 }
 
-/* One call in a room of that length: the code, *needed, the result, and what must not be touched. */
-static int goes(const struct test *test, size_t length, uint32_t code, size_t whole)
+/* Makes one call with a buffer of that capacity, and checks the code, *needed, the result, and that nothing else
+ * changed. */
+static int goes(const struct test *test, size_t capacity, uint32_t code, size_t whole)
 {
-    uint8_t *room = length ? filled_room(length) : NULL;
+    uint8_t *buffer = capacity ? filled_buffer(capacity) : NULL;
     size_t needed = 77;
     int is_right;
     blocks = 0;
-    is_right = call(test, room, length, &needed) == code && blocks == 0;
+    is_right = call(test, buffer, capacity, &needed) == code && blocks == 0;
     if (code == ROCKTRAY_DONE)
-        is_right = is_right && needed == whole && is_filled(room, whole, length)
-            && (test->kind == JSON || !whole || memcmp(room, test->result.at, whole) == 0);
+        is_right = is_right && needed == whole && is_filled(buffer, whole, capacity)
+            && (test->kind == JSON || !whole || memcmp(buffer, test->result.at, whole) == 0);
     else
-        is_right = is_right && needed == (code == ROCKTRAY_TOO_SHORT ? whole : 77) && is_filled(room, 0, length);
-    free(room);
+        is_right = is_right && needed == (code == ROCKTRAY_TOO_SHORT ? whole : 77) && is_filled(buffer, 0, capacity);
+    free(buffer);
     return is_right;
 }
 
-static void check_rooms(const struct test *test, size_t which)
+static void check_buffers(const struct test *test, size_t which)
 {
     size_t whole = test->result.length;
     if (test->code != ROCKTRAY_DONE) {
         count(goes(test, 100, test->code, 0), "a refusal", which);
-        count(goes(test, 0, test->code, 0), "a refusal without a room", which);
+        count(goes(test, 0, test->code, 0), "a refusal without a buffer", which);
         return;
     }
     if (test->kind == JSON) {
         call(test, NULL, 0, &whole);
         count(whole > 0, "the length", which);
     }
-    count(goes(test, whole, ROCKTRAY_DONE, whole), "the right room", which);
-    count(goes(test, whole + 100, ROCKTRAY_DONE, whole), "a larger room", which);
+    count(goes(test, whole, ROCKTRAY_DONE, whole), "the right buffer", which);
+    count(goes(test, whole + 100, ROCKTRAY_DONE, whole), "a larger buffer", which);
     if (whole) {
-        count(goes(test, whole - 1, ROCKTRAY_TOO_SHORT, whole), "a room one byte short", which);
-        count(goes(test, 0, ROCKTRAY_TOO_SHORT, whole), "no room", which);
+        count(goes(test, whole - 1, ROCKTRAY_TOO_SHORT, whole), "a buffer one byte short", which);
+        count(goes(test, 0, ROCKTRAY_TOO_SHORT, whole), "no buffer", which);
     }
 }
 
-/* The Nth call for memory is refused, for each N, alone and with all after it. */
+/* The Nth allocation is refused, for each N, alone and with all after it. */
 static void check_memory(const struct test *test, size_t which)
 {
-    uint8_t *room = filled_room(4096);
+    uint8_t *buffer = filled_buffer(4096);
     long all;
     size_t needed;
     calls = 0;
-    call(test, room, 4096, &needed);
+    call(test, buffer, 4096, &needed);
     all = calls;
     for (refuses_all_after = 0; refuses_all_after < 2; refuses_all_after++) {
         for (long at = 1; at <= all; at++) {
             uint32_t code;
-            memset(room, 0xA5, 4096);
+            memset(buffer, 0xA5, 4096);
             needed = 77;
             calls = blocks = 0;
             refuse_at = at;
-            code = call(test, room, 4096, &needed);
+            code = call(test, buffer, 4096, &needed);
             refuse_at = 0;
-            count(code == ROCKTRAY_NO_MEMORY && needed == 77 && is_filled(room, 0, 4096) && blocks == 0,
-                  "a refused call for memory", which);
+            count(code == ROCKTRAY_NO_MEMORY && needed == 77 && is_filled(buffer, 0, 4096) && blocks == 0,
+                  "a refused allocation", which);
         }
     }
-    free(room);
+    free(buffer);
 }
 
 static void check_date(const char *text, uint32_t code, int64_t seconds, bool is_known)
 {
-    int64_t told = -77;
-    bool is_told_known = !is_known;
-    uint32_t given = rocktray_date((const uint8_t *)text, text ? strlen(text) : 0, &told, &is_told_known);
-    if (code == ROCKTRAY_DONE)
-        count(given == code && told == seconds && is_told_known == is_known, text, 0);
-    else
-        count(given == code && told == -77 && is_told_known == !is_known, text ? text : "no date", 0);
+    int64_t given = -77;
+    bool is_zone_known;
+    uint32_t returned;
+    memset(&is_zone_known, 0xA5, sizeof is_zone_known); /* it need not be set */
+    returned = rocktray_date((const uint8_t *)text, text ? strlen(text) : 0, &given, &is_zone_known);
+    count(returned == code && given == (code == ROCKTRAY_DONE ? seconds : -77) && is_zone_known == is_known,
+          text ? text : "no date", 0);
 }
 
 /* RFC 5322, section 3.3 and appendix A; the seconds are those of GNU date */
@@ -292,8 +293,8 @@ static void check_dates(void)
     check_date("1 Jan 1", ROCKTRAY_DATE_YEAR, 0, false);
     check_date("1 Jan 2012 x", ROCKTRAY_DATE_TIME, 0, false);
     check_date("1 Jan 2012 20:57 +9", ROCKTRAY_DATE_ZONE, 0, false);
-    check_date("1 Jan 2012 20:57 +0200 2", ROCKTRAY_DATE_TRAILING_TEXT, 0, true);
-    check_date("\xff", ROCKTRAY_NOT_UTF8, 0, true);
+    check_date("1 Jan 2012 20:57 +0200 2", ROCKTRAY_DATE_TRAILING_TEXT, 0, false);
+    check_date("\xff", ROCKTRAY_NOT_UTF8, 0, false);
 }
 
 /* RFC 4155, appendix A */
@@ -320,7 +321,7 @@ static void check_mailboxes(void)
     count(rocktray_next_mail(NULL, 0, true, &start, &end, &next) == ROCKTRAY_ABSENT && start == 77, "no mailbox", 0);
 }
 
-/* A mail with so many parts within parts. */
+/* A mail with that many levels of parts. */
 static void check_levels(void)
 {
     for (int levels = 100; levels <= 101; levels++) {
@@ -337,12 +338,23 @@ static void check_levels(void)
     }
 }
 
+/* The version of the library as a text. */
+static const char *version_text(void)
+{
+    static char text[40];
+    uint32_t version = rocktray_version();
+    snprintf(text, sizeof text, "%u.%u.%u", version / 10000, version / 100 % 100, version % 100);
+    return text;
+}
+
 static int check_cases(void)
 {
     for (size_t i = 0; i < TESTS; i++) {
-        check_rooms(&tests[i], i);
+        check_buffers(&tests[i], i);
         check_memory(&tests[i], i);
     }
+    count(rocktray_version() == ROCKTRAY_VERSION_NUMBER && strcmp(version_text(), ROCKTRAY_VERSION) == 0,
+          "the version", 0);
     check_dates();
     check_mailboxes();
     check_levels();
@@ -372,17 +384,17 @@ static struct bytes read_file(const char *name)
     return read;
 }
 
-/* The result of a call in a room of its own, or the text of its code. */
+/* The result of a call, in a buffer of its own. */
 static struct bytes result_of(const struct test *test, uint32_t *code)
 {
     struct bytes result = NOTHING;
-    uint8_t *room = NULL;
+    uint8_t *buffer = NULL;
     *code = call(test, NULL, 0, &result.length);
     if (*code == ROCKTRAY_TOO_SHORT) {
-        room = malloc(result.length);
-        *code = call(test, room, result.length, &result.length);
+        buffer = malloc(result.length);
+        *code = call(test, buffer, result.length, &result.length);
     }
-    result.at = room;
+    result.at = buffer;
     return result;
 }
 
@@ -411,7 +423,7 @@ static int write_lines(char **names)
 static struct bytes *files;
 static size_t count_of_files;
 
-/* A number that the results of all calls over all files and tests give. */
+/* A checksum of the results of all calls over all files and tests. */
 static uint64_t run_all(void)
 {
     uint64_t sum = 14695981039346656037u;
@@ -458,14 +470,14 @@ static int check_threads(char **names)
     return 0;
 }
 
-int main(int count_of_words, char **words)
+int main(int argc, char **argv)
 {
-    if (count_of_words == 2 && strcmp(words[1], "cases") == 0)
+    if (argc == 2 && strcmp(argv[1], "cases") == 0)
         check_cases();
-    else if (count_of_words > 1 && strcmp(words[1], "threads") == 0)
-        check_threads(words + 2);
-    else if (count_of_words > 1 && strcmp(words[1], "lines") == 0)
-        return write_lines(words + 2);
+    else if (argc > 1 && strcmp(argv[1], "threads") == 0)
+        check_threads(argv + 2);
+    else if (argc > 1 && strcmp(argv[1], "lines") == 0)
+        return write_lines(argv + 2);
     else
         return 2;
     printf("%ld passed, %ld failed\n", passed, failed);

@@ -1,4 +1,4 @@
-/* Shows the subject of a mail, and the size of its first attachment with the bytes at its front. */
+/* Shows the subject of a mail, and the size and the first bytes of its first attachment. */
 #include <rocktray.h>
 #include <stdio.h>
 #include <stdlib.h>
@@ -6,32 +6,32 @@
 
 typedef uint32_t body_call(const uint8_t *, size_t, uint8_t *, size_t, size_t *);
 
-/* The result of a call in memory of its own, or NULL after a message. */
+/* Returns the result of a call in a new buffer, or prints why there is none and returns NULL. */
 static uint8_t *result_of(body_call *call, const uint8_t *mail, size_t length, size_t *result_length)
 {
-    size_t room_length = length + 64;
-    uint8_t *room = malloc(room_length);
-    uint32_t code = room ? call(mail, length, room, room_length, result_length) : ROCKTRAY_NO_MEMORY;
+    size_t capacity = length + 64;
+    uint8_t *buffer = malloc(capacity);
+    uint32_t code = buffer ? call(mail, length, buffer, capacity, result_length) : ROCKTRAY_NO_MEMORY;
     if (code == ROCKTRAY_TOO_SHORT) { /* now the length is known */
-        free(room);
-        room_length = *result_length;
-        room = malloc(room_length);
-        code = room ? call(mail, length, room, room_length, result_length) : ROCKTRAY_NO_MEMORY;
+        free(buffer);
+        capacity = *result_length;
+        buffer = malloc(capacity);
+        code = buffer ? call(mail, length, buffer, capacity, result_length) : ROCKTRAY_NO_MEMORY;
     }
     if (code == ROCKTRAY_DONE)
-        return room;
+        return buffer;
     uint8_t text[100];
     size_t text_length = 0;
     rocktray_reason(code, text, sizeof text, &text_length);
     fprintf(stderr, "refused: %.*s\n", (int)text_length, (char *)text);
-    free(room);
+    free(buffer);
     return NULL;
 }
 
-int main(int count, char **words)
+int main(int argc, char **argv)
 {
     static uint8_t mail[1 << 20];
-    FILE *file = count == 2 ? fopen(words[1], "rb") : NULL;
+    FILE *file = argc == 2 ? fopen(argv[1], "rb") : NULL;
     if (!file)
         return 2;
     size_t length = fread(mail, 1, sizeof mail, file), subject_length, line_length;
@@ -45,11 +45,11 @@ int main(int count, char **words)
     else if (code == ROCKTRAY_ABSENT)
         printf("no subject\n");
 
-    /* a JSON parser reads the line; here the first of its parts that is an attachment is sought by hand */
+    /* a JSON parser would read the line; here the first attachment is found by hand */
     uint8_t *line = result_of(rocktray_json, mail, length, &line_length);
     if (!line)
         return 1;
-    line[line_length - 1] = 0; /* in place of the LF; the line itself has no NUL */
+    line[line_length - 1] = 0; /* replaces the LF; the line itself contains no NUL */
     char *part = strstr((char *)line, "\"attachment\":true");
     char *start = part ? strstr(part, "\"start\":") : NULL, *end = part ? strstr(part, "\"end\":") : NULL;
     if (start && end) {

@@ -1,8 +1,8 @@
 #!/bin/sh
 # check_c.sh: tests the C library.
 #
-# c/check.c runs under the address and the undefined-behaviour sanitizer: every code, rooms one byte short,
-# empty inputs, null pointers with length 0, each call for memory refused, and eight threads at once. Of the
+# c/check.c runs under the address and the undefined-behaviour sanitizer: every code, buffers one byte short,
+# empty inputs, null pointers with length 0, each allocation refused, and eight threads at once. Of the
 # samples and of 20,000 made mails the library has to write what mail_json writes. The library may need the
 # C library alone, and may export nothing but its calls; rocktray.h has to be C and C++; examples/attachments.c
 # has to compile and to write what docs/C.md shows. It needs gcc, and the program mail_json.
@@ -52,6 +52,8 @@ lines() {
         -e 's/^{"schema":[0-9]*,"file":null,"number":null,"start":0,"end":\([0-9]*\),"error":"\(.*\)"}$/refused \1 \2/'
 }
 
+version=$("$mail_json" --version)
+expect 'the version of the programs' grep -qx "#define ROCKTRAY_VERSION \"${version#* }\"" "$top/c/rocktray.h"
 expect 'rocktray.h as C++' sh -c 'echo "#include \"rocktray.h\"" | g++ -Wall -Werror -I"$1" -x c++ -fsyntax-only -' \
     sh "$top/c"
 expect 'check.c' gcc -std=c11 -g -O1 -Wall -Wextra -Werror -fsanitize=address,undefined -fno-sanitize-recover=all \

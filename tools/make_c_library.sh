@@ -11,7 +11,7 @@ arguments='PREFIX'
 [ -d "$(dirname "$1")" ] || usage "there is no directory $(dirname "$1")"
 crate=$top/crates/mail_c
 archive=$crate/out/libmail_c.a
-version=$(sed -n 's/^pub const VERSION: .* = "\(.*\)";$/\1/p' "$top/crates/mail_program/src/command.rt")
+version=$(sed -n 's/^#define ROCKTRAY_VERSION "\(.*\)"$/\1/p' "$top/c/rocktray.h")
 compiler=${CC:-cc}
 
 # build: proves the crate and builds the archive

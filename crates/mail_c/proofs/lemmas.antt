@@ -1,4 +1,4 @@
-pub mod Room
+pub mod Buffer
 pub mod Ids
 pub mod Mailbox
 pub mod Texts

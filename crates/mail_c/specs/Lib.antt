@@ -1,3 +1,4 @@
 pub mod Codes
-pub mod Room
-pub mod Calls
+pub mod Buffer
+pub mod Results
+pub mod Numbers

@@ -1,55 +1,56 @@
-//! The codes that calls from C return; `rocktray.h` has them under their names.
+//! The codes that the exported calls return; `rocktray.h` names them.
 ghost use Rattle.std.specs.Prelude.{◌≡◌};
-ghost use Rattle.mail_c.specs.Codes.{date_code, error_code, reason, text_code};
+ghost use Rattle.mail_c.specs.Codes.{date_code, error_code, kind_code, reason};
 
 use mail_data::lenient::DateError;
-use mailparse::MailParseError;
+use mailparse::{MailParseError, RefusalKind};
 
-/// The call did what it was asked.
+/// The call succeeded.
 pub(crate) const DONE: u32 = 0;
-/// The room is too short for what was to be written.
+/// The output buffer is too short for the result.
 pub(crate) const TOO_SHORT: u32 = 1;
 /// Memory ran out.
 pub(crate) const NO_MEMORY: u32 = 2;
-/// The mail does not have what was asked for, or there is no further mail.
+/// The mail does not have the header, or there is no further mail.
 pub(crate) const ABSENT: u32 = 3;
-/// A mail is refused for a space where a header should begin.
+/// A space where a header should begin.
 pub(crate) const LEADING_SPACE: u32 = 16;
-/// A mail is refused for a lone CR where a header should begin.
+/// A lone CR where a header should begin.
 pub(crate) const LONE_CARRIAGE_RETURN: u32 = 17;
-/// A mail is refused for a part that is too deep.
+/// A part that is nested too deeply.
 pub(crate) const TOO_DEEP: u32 = 18;
-/// A body is refused, since it is not Base64.
+/// A body that is not Base64.
 pub(crate) const NOT_BASE64: u32 = 19;
-/// A text is refused, since it is not UTF-8.
+/// A text that is not UTF-8.
 pub(crate) const NOT_UTF8: u32 = 20;
+/// A refusal that has no code of its own.
+pub(crate) const REFUSED: u32 = 21;
 
-/// The code of an error. No call returns a fault of quoted-printable.
+/// Returns the code of an error: that of its kind of refusal, or `NO_MEMORY` if it is none.
 pub(crate) fn code_of(error: &MailParseError) -> u32
     ensures { result ≡ error_code error.now }
 {
-    match error {
-        MailParseError::Generic(text) => code_of_text(text),
-        MailParseError::EncodingError(_) => NOT_UTF8,
-        MailParseError::Base64DecodeError(_) => NOT_BASE64,
-        MailParseError::QuotedPrintableDecodeError(_) | MailParseError::Memory(_) => NO_MEMORY,
+    match error.refusal() {
+        Some(kind) => code_of_kind(kind),
+        None => NO_MEMORY,
     }
 }
 
-/// The code of a refusal with this text.
-fn code_of_text(text: &str) -> u32
-    ensures { result ≡ text_code text.now }
+/// Returns the code of a kind of refusal.
+fn code_of_kind(kind: RefusalKind) -> u32
+    ensures { result ≡ kind_code kind }
 {
-    if text == "Recursion limit reached" {
-        TOO_DEEP
-    } else if text == "Headers were followed by an unexpected lone CR character!" {
-        LONE_CARRIAGE_RETURN
-    } else {
-        LEADING_SPACE
+    match kind {
+        RefusalKind::LeadingSpace => LEADING_SPACE,
+        RefusalKind::LoneCarriageReturn => LONE_CARRIAGE_RETURN,
+        RefusalKind::TooDeep => TOO_DEEP,
+        RefusalKind::NotBase64 => NOT_BASE64,
+        RefusalKind::NotText => NOT_UTF8,
+        RefusalKind::Other => REFUSED,
     }
 }
 
-/// The code of what is missing in a date, or wrong in it.
+/// Returns the code for what is missing or wrong in a date.
 pub(crate) fn code_of_date(error: DateError) -> u32
     ensures { result ≡ date_code error }
 {
@@ -63,15 +64,15 @@ pub(crate) fn code_of_date(error: DateError) -> u32
     }
 }
 
-/// What a code says.
+/// Returns the text of a code.
 pub(crate) fn reason(code: u32) -> &'static str
     ensures { result.now ≡ reason code }
 {
     match code {
         0 => "done",
-        1 => "the room is too short",
+        1 => "the buffer is too short",
         2 => "out of memory",
-        3 => "there is none",
+        3 => "not found",
         16 => {
             "Header cannot start with a space; it is likely an overhanging line from a previous header"
         }
@@ -79,12 +80,13 @@ pub(crate) fn reason(code: u32) -> &'static str
         18 => "Recursion limit reached",
         19 => "Base64 decode error",
         20 => "The text is not UTF-8",
+        21 => "The input is refused",
         32 => "no day of the month",
         33 => "no month",
         34 => "no year",
         35 => "no time of day",
         36 => "no zone",
         37 => "text after the zone",
-        _ => "no code of this library",
+        _ => "unknown code",
     }
 }

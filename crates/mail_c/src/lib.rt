@@ -1,61 +1,70 @@
-//! What reads mail, for C: `c/rocktray.h` declares and describes what is exported here.
+//! The C library: `c/rocktray.h` declares and describes the calls that are exported here.
 //!
-//! Each call gets the input, a room and a place for a length. What it finds it writes to the front of
-//! the room, and the length to that place, where a room that is too short has it too. The code that it
-//! returns says how that went (`codes`). After every code but 0 the room is as it was; the length is
-//! told after the codes 0 and 1 alone. No call keeps memory, or anything else.
+//! A call whose result is bytes gets its input, an output buffer and a reference to a length. It writes
+//! the result to the front of the buffer and sets the length to that of the result. If the buffer is too
+//! short it only sets the length. It returns a code (`codes`): after every code but 0 the buffer is
+//! unchanged, and after every code but 0 and 1 the length is too. No call keeps memory or a reference.
 #![tactic(auto)]
 
 ghost use Rattle.std.specs.Prelude.{◌≡◌, length};
 ghost use Rattle.mail_codec.specs.Charset.{Charsets};
 ghost use Rattle.mail_data.specs.Mailbox.{front_length};
 ghost use Rattle.mail_data.specs.MailboxFormats.{entries_in};
-ghost use Rattle.mail_c.specs.Calls.{IsJson, TellsDate, TellsPlaces, content, date, first_places};
-ghost use Rattle.mail_c.specs.Calls.{format_named, ids, raw_value, recipients, text, value};
+ghost use Rattle.mail_c.specs.Buffer.{Ends, filled, written_code};
 ghost use Rattle.mail_c.specs.Codes.{reason};
-ghost use Rattle.mail_c.specs.Room.{Ends, filled, written_code};
+ghost use Rattle.mail_c.specs.Numbers.{ReturnsDate, ReturnsOffsets, date, first_offsets};
+ghost use Rattle.mail_c.specs.Numbers.{format_named};
+ghost use Rattle.mail_c.specs.Results.{IsJson, content, ids, raw_value, recipients, text, value};
 
+mod buffer;
 mod codes;
-mod find;
-mod room;
-mod tell;
+mod numbers;
+mod results;
 
+use buffer::{write_bytes, write_result};
 use codes::reason;
 use mail_charsets::AllCharsets;
-use room::{leave, write};
 use std::alloc::Global;
 
-/// The charsets in which mails are read: all those of the Encoding Standard.
+/// Returns the charsets in which mails are read: all those of the Encoding Standard.
 fn charsets() -> AllCharsets {
     AllCharsets::standard()
 }
 
-/// Writes the line of JSON of a mail, as the program `mail_json` writes it.
+/// Returns the version of the library: 10000 * major + 100 * minor + patch.
+#[unsafe(no_mangle)]
+pub extern "C" fn rocktray_version() -> u32
+    ensures { result ≡ 100 }
+{
+    100
+}
+
+/// Writes a mail as a line of JSON, as the program `mail_json` does.
 #[unsafe(no_mangle)]
 pub extern "C" fn rocktray_json(
     alloc: Global,
     mail: &[u8],
-    room: &mut [u8],
+    buffer: &mut [u8],
     needed: &mut usize,
 ) -> u32
-    ensures { (known : Charsets) ×
-        Ends (IsJson known mail.now) room.old room.new needed.old needed.new result }
+    ensures { (known : Charsets) × Ends buffer.old buffer.new needed.old needed.new result
+        (IsJson known mail.now) }
 {
-    leave(find::json(alloc, mail, &charsets()), room, needed)
+    write_result(buffer, needed, results::json(alloc, mail, &charsets()))
 }
 
-/// Writes the bytes that the body of a mail or a part stands for.
+/// Writes the decoded bytes of the body of a mail or a part.
 #[unsafe(no_mangle)]
 pub extern "C" fn rocktray_content(
     alloc: Global,
     part: &[u8],
-    room: &mut [u8],
+    buffer: &mut [u8],
     needed: &mut usize,
 ) -> u32
-    ensures { Ends (λ found. content part.now ≡ found) room.old room.new
-        needed.old needed.new result }
+    ensures { Ends buffer.old buffer.new needed.old needed.new result
+        (λ found. content part.now ≡ found) }
 {
-    leave(find::content(alloc, part), room, needed)
+    write_result(buffer, needed, results::content(alloc, part))
 }
 
 /// Writes the text of the body of a mail or a part.
@@ -63,100 +72,108 @@ pub extern "C" fn rocktray_content(
 pub extern "C" fn rocktray_text(
     alloc: Global,
     part: &[u8],
-    room: &mut [u8],
+    buffer: &mut [u8],
     needed: &mut usize,
 ) -> u32
-    ensures { (known : Charsets) × Ends (λ found. text known part.now ≡ found) room.old room.new
-        needed.old needed.new result }
+    ensures { (known : Charsets) × Ends buffer.old buffer.new needed.old needed.new result
+        (λ found. text known part.now ≡ found) }
 {
-    leave(find::text(alloc, part, &charsets()), room, needed)
+    write_result(buffer, needed, results::text(alloc, part, &charsets()))
 }
 
-/// Writes the value of the header with a name that so many others with it stand before.
+/// Writes the decoded value of the `number`-th header with this name, counting from 0.
 #[unsafe(no_mangle)]
 pub extern "C" fn rocktray_header(
     alloc: Global,
     part: &[u8],
     name: &[u8],
     number: usize,
-    room: &mut [u8],
+    buffer: &mut [u8],
     needed: &mut usize,
 ) -> u32
-    ensures { (known : Charsets) × Ends (λ found. value known part.now name.now number ≡ found)
-        room.old room.new needed.old needed.new result }
+    ensures { (known : Charsets) × Ends buffer.old buffer.new needed.old needed.new result
+        (λ found. value known part.now name.now number ≡ found) }
 {
-    leave(
-        find::value(alloc, part, name, number, &charsets()),
-        room,
+    write_result(
+        buffer,
         needed,
+        results::value(alloc, part, name, number, &charsets()),
     )
 }
 
-/// Writes that value as it stands in the mail.
+/// Writes the raw value of that header.
 #[unsafe(no_mangle)]
 pub extern "C" fn rocktray_raw_header(
     alloc: Global,
     part: &[u8],
     name: &[u8],
     number: usize,
-    room: &mut [u8],
+    buffer: &mut [u8],
     needed: &mut usize,
 ) -> u32
-    ensures { Ends (λ found. raw_value part.now name.now number ≡ found) room.old room.new
-        needed.old needed.new result }
+    ensures { Ends buffer.old buffer.new needed.old needed.new result
+        (λ found. raw_value part.now name.now number ≡ found) }
 {
-    leave(find::raw_value(alloc, part, name, number), room, needed)
+    write_result(
+        buffer,
+        needed,
+        results::raw_value(alloc, part, name, number),
+    )
 }
 
-/// Writes what a delivery report says of each recipient, as a line with one list.
+/// Writes the recipients of a delivery report, as a line of JSON with one list.
 #[unsafe(no_mangle)]
 pub extern "C" fn rocktray_recipients(
     alloc: Global,
     mail: &[u8],
-    room: &mut [u8],
+    buffer: &mut [u8],
     needed: &mut usize,
 ) -> u32
-    ensures { (known : Charsets) × Ends (λ found. recipients known mail.now ≡ found)
-        room.old room.new needed.old needed.new result }
+    ensures { (known : Charsets) × Ends buffer.old buffer.new needed.old needed.new result
+        (λ found. recipients known mail.now ≡ found) }
 {
-    leave(find::recipients(alloc, mail, &charsets()), room, needed)
+    write_result(
+        buffer,
+        needed,
+        results::recipients(alloc, mail, &charsets()),
+    )
 }
 
-/// Writes what a code says.
+/// Writes the text of a code.
 #[unsafe(no_mangle)]
-pub extern "C" fn rocktray_reason(code: u32, room: &mut [u8], needed: &mut usize) -> u32
-    ensures code { result ≡ written_code (reason code) room.old }
-    ensures written { room.new ≡ filled (reason code) room.old }
+pub extern "C" fn rocktray_reason(code: u32, buffer: &mut [u8], needed: &mut usize) -> u32
+    ensures code { result ≡ written_code buffer.old (reason code) }
+    ensures written { buffer.new ≡ filled buffer.old (reason code) }
     ensures len { needed.new ≡ length (reason code) }
 {
-    write(reason(code).as_bytes(), room, needed)
+    write_bytes(buffer, needed, reason(code).as_bytes())
 }
 
-/// Writes the message ids of a text, each between `<` and `>`.
+/// Writes the message ids in a text, each between `<` and `>`.
 #[unsafe(no_mangle)]
 pub extern "C" fn rocktray_ids(
     alloc: Global,
     text: &[u8],
     needs_at: bool,
-    room: &mut [u8],
+    buffer: &mut [u8],
     needed: &mut usize,
 ) -> u32
-    ensures { Ends (λ found. ids needs_at text.now ≡ found) room.old room.new
-        needed.old needed.new result }
+    ensures { Ends buffer.old buffer.new needed.old needed.new result
+        (λ found. ids needs_at text.now ≡ found) }
 {
-    leave(find::ids(alloc, text, needs_at), room, needed)
+    write_result(buffer, needed, results::ids(alloc, text, needs_at))
 }
 
-/// Tells the date that a text is, in seconds from 1970 on, and whether its zone is known.
+/// Reads the value of a Date header: the seconds since 1970, and whether its zone is known (1 or 0).
 #[unsafe(no_mangle)]
-pub extern "C" fn rocktray_date(text: &[u8], seconds: &mut i64, is_zone_known: &mut bool) -> u32
-    ensures { TellsDate (date text.now) result seconds.old seconds.new
-        is_zone_known.old is_zone_known.new }
+pub extern "C" fn rocktray_date(text: &[u8], seconds: &mut i64, is_zone_known: &mut u8) -> u32
+    ensures { ReturnsDate (date text.now) seconds.old seconds.new is_zone_known.new result }
 {
-    tell::date(text, seconds, is_zone_known)
+    numbers::date(seconds, is_zone_known, text)
 }
 
-/// Tells where the first mail of a mailbox begins and ends, and where what follows it begins.
+/// Finds the first mail of a mailbox: the offsets at which it begins and ends, and that of the next
+/// separator.
 #[unsafe(no_mangle)]
 pub extern "C" fn rocktray_next_mail(
     mailbox: &[u8],
@@ -165,9 +182,9 @@ pub extern "C" fn rocktray_next_mail(
     end: &mut usize,
     next: &mut usize,
 ) -> u32
-    ensures { TellsPlaces
-        (first_places (entries_in (format_named is_counted) mailbox.now) (front_length mailbox.now))
+    ensures { ReturnsOffsets
+        (first_offsets (entries_in (format_named is_counted) mailbox.now) (front_length mailbox.now))
         (start.old, end.old, next.old) (start.new, end.new, next.new) result }
 {
-    tell::next_mail(mailbox, is_counted, start, end, next)
+    numbers::next_mail(start, end, next, mailbox, is_counted)
 }

@@ -1,8 +1,8 @@
 use Rattle.std.proofs.Common.{◌≡◌, refl}
 use Rattle.mail_charsets.specs.All.{all_known}
-use Rattle.mail_c.specs.Calls.{value}
-use Rattle.mail_c.specs.Room.{Found}
-use Rattle.mail_c.proofs.lemmas.Room.{ends, gives}
+use Rattle.mail_c.specs.Results.{value}
+use Rattle.mail_c.specs.Buffer.{Found}
+use Rattle.mail_c.proofs.lemmas.Buffer.{ends, gives}
 use Rattle.mail_c.proofs.rocktray_header.Goals as goal
 
 pub returns : goal.returns
@@ -10,4 +10,4 @@ returns c =
     let known = all_known c.charsets.result in
     let given = value known c.args.part.now c.args.name.now c.args.number in
     let found = gives (λ (found : Found). given ≡ found) given c.value.result refl c.value.ensures in
-    (known, ends (λ (found : Found). given ≡ found) c.value.result _ _ _ _ _ found c.leave.ensures)
+    (known, ends (λ (found : Found). given ≡ found) c.value.result _ _ _ _ _ found c.write_result.ensures)

@@ -1,9 +1,9 @@
 use Rattle.mail_charsets.specs.All.{all_known}
-use Rattle.mail_c.specs.Calls.{IsJson}
-use Rattle.mail_c.proofs.lemmas.Room.{ends}
+use Rattle.mail_c.specs.Results.{IsJson}
+use Rattle.mail_c.proofs.lemmas.Buffer.{ends}
 use Rattle.mail_c.proofs.rocktray_json.Goals as goal
 
 pub returns : goal.returns
 returns c =
     let known = all_known c.charsets.result in
-    (known, ends (IsJson known c.args.mail.now) c.json.result _ _ _ _ _ c.json.ensures c.leave.ensures)
+    (known, ends (IsJson known c.args.mail.now) c.json.result _ _ _ _ _ c.json.ensures c.write_result.ensures)

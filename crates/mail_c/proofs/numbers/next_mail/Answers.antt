@@ -2,14 +2,14 @@ use Rattle.std.proofs.Common.{ap, ◌∙◌}
 use Rattle.mail_data.specs.FormatViews.{left_in}
 use Rattle.mail_data.specs.MailboxFormats.{entries_in}
 use Rattle.mail_data.specs.declared.mailbox.formats.Format.{Format}
-use Rattle.mail_c.specs.Calls.{format_named}
-use Rattle.mail_c.proofs.lemmas.Mailbox.{told_places}
-use Rattle.mail_c.proofs.tell.next_mail.Goals as goal
+use Rattle.mail_c.specs.Numbers.{format_named}
+use Rattle.mail_c.proofs.lemmas.Mailbox.{offsets_returned}
+use Rattle.mail_c.proofs.numbers.next_mail.Goals as goal
 
 pub returns : goal.returns
 returns c =
     let bytes = c.args.mailbox.now in
     let mails = c.read_mailbox_in-mails in
-    told_places (format_named c.args.is_counted) bytes c.front-front.result.now (left_in mails.result) (left_in c.next.new.self) c.in-Some.entry _ _ _ _
+    offsets_returned (format_named c.args.is_counted) bytes c.front-front.result.now (left_in mails.result) (left_in c.next.new.self) c.in-Some.entry _ _ _ _
     (c.front-front.ensures ∙ mails.ensures.front) (mails.ensures.read ∙ ap (λ (f : Format). entries_in f bytes) c.format_named.ensures)
     c.in-Some.ensures.steps c.separator.ensures c.mail.ensures c.ending.ensures

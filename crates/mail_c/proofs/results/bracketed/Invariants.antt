@@ -1,9 +1,9 @@
--- What was made is completed by the ids that are left.
+-- The ids that are left complete the text so far.
 use Rattle.std.proofs.Common.{◌≡◌, ◌++◌, map, drop}
 use Rattle.std.specs.List.{flat_map}
 use Rattle.std.specs.String.{string_bytes}
-use Rattle.mail_c.specs.Calls.{bracketed}
-use Rattle.mail_c.proofs.find.bracketed.Given as goal
+use Rattle.mail_c.specs.Results.{bracketed}
+use Rattle.mail_c.proofs.results.bracketed.Given as goal
 
 abbrev pub invariant-loop-id : goal.invariant-loop-id
 invariant-loop-id l =

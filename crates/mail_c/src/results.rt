@@ -1,20 +1,20 @@
-//! What calls find, under any charsets.
+//! The calls whose results are bytes, under any charsets.
 ghost use Rattle.std.specs.Prelude.{◌≡◌, ◌++◌, IfOk, OnOk, flat_map, map, string_bytes};
 ghost use Rattle.mailparse.specs.Outcome.{Answers, AnswersOrMemory, IsMemory};
 ghost use Rattle.mail_data.specs.lenient.Ids.{found_in};
-ghost use Rattle.mail_c.specs.Calls.{IsJson, bracketed, content, ids, raw_value, recipients};
-ghost use Rattle.mail_c.specs.Calls.{text, text_in, value};
-ghost use Rattle.mail_c.specs.Room.{Gives, bytes_found};
+ghost use Rattle.mail_c.specs.Buffer.{Gives, bytes_found};
+ghost use Rattle.mail_c.specs.Results.{IsJson, bracketed, content, ids, raw_value, recipients};
+ghost use Rattle.mail_c.specs.Results.{text, text_in, value};
 
 use mail_data::lenient::{body_text, ids_in, lenient_body, own_ids_in};
-use mail_lines::{Reading, write_recipients, write_single};
+use mail_lines::{Origin, Reading, write_mail, write_recipients};
 use mailparse::{
     KnownCharsets, MailHeaderMap, MailParseError, parse_headers, parse_mail, parse_mail_in,
 };
 use std::alloc::{AllocError, Global};
 use std::borrow::CowStr;
 
-/// The line of JSON of a mail.
+/// Returns the line of JSON of a mail.
 pub(crate) fn json<K: KnownCharsets>(
     alloc: Global,
     raw: &[u8],
@@ -22,23 +22,29 @@ pub(crate) fn json<K: KnownCharsets>(
 ) -> Result<Option<Vec<u8>>, MailParseError>
     ensures { Gives (IsJson (K.known known.now) raw.now) result }
 {
-    let mut line = Vec::new(alloc);
+    let mail = parse_mail_in(alloc, raw, known)?;
+    let origin = Origin {
+        file: None,
+        number: None,
+        start: 0,
+        end: raw.len(),
+    };
     let reading = Reading {
         hashes: false,
         joins_flowed: false,
     };
-    match write_single(alloc, raw, None, &mut line, known, reading) {
-        Ok(true) => Ok(Some(line)),
-        Ok(false) => match parse_mail_in(alloc, raw, known) {
-            Ok(_) => unreachable!(),
-            Err(error) => Err(error),
-        },
+    let mut line = Vec::new(alloc);
+    match write_mail(alloc, &mut line, &mail, &origin, known, reading) {
+        Ok(()) => {
+            line.push(b'\n')?;
+            Ok(Some(line))
+        }
         Err(_) => Err(MailParseError::Memory(AllocError)),
     }
 }
 
-/// What a delivery report says of each recipient, as JSON.
-#[tactic(auto, unfolding(crate::specs::Calls::recipients))]
+/// Returns the recipients of a delivery report, as a line of JSON.
+#[tactic(auto, unfolding(crate::specs::Results::recipients))]
 pub(crate) fn recipients<K: KnownCharsets>(
     alloc: Global,
     raw: &[u8],
@@ -54,8 +60,8 @@ pub(crate) fn recipients<K: KnownCharsets>(
     }
 }
 
-/// The bytes that the body of a message stands for.
-#[tactic(auto, unfolding(crate::specs::Calls::content))]
+/// Returns the decoded bytes of the body of a message.
+#[tactic(auto, unfolding(crate::specs::Results::content))]
 pub(crate) fn content(alloc: Global, raw: &[u8]) -> Result<Option<Vec<u8>>, MailParseError>
     ensures { AnswersOrMemory bytes_found result (content raw.now) }
 {
@@ -64,8 +70,8 @@ pub(crate) fn content(alloc: Global, raw: &[u8]) -> Result<Option<Vec<u8>>, Mail
     Ok(Some(body.decoded(alloc)?.into_owned(alloc)?))
 }
 
-/// The text of the body of a message.
-#[tactic(auto, unfolding(crate::specs::Calls::text))]
+/// Returns the text of the body of a message.
+#[tactic(auto, unfolding(crate::specs::Results::text))]
 pub(crate) fn text<K: KnownCharsets>(
     alloc: Global,
     raw: &[u8],
@@ -78,9 +84,9 @@ pub(crate) fn text<K: KnownCharsets>(
     Ok(Some(read.text.into_bytes()))
 }
 
-/// The value of the header with a name that so many others with it stand before, as it stands in the
-/// message.
-#[tactic(auto, unfolding(crate::specs::Calls::raw_value))]
+/// Returns the raw value of the `number`-th header with this name, counting from 0, or `None` if there
+/// is no such header.
+#[tactic(auto, unfolding(crate::specs::Results::raw_value))]
 pub(crate) fn raw_value(
     alloc: Global,
     raw: &[u8],
@@ -98,8 +104,8 @@ pub(crate) fn raw_value(
     }
 }
 
-/// The text of that value.
-#[tactic(auto, unfolding(crate::specs::Calls::value))]
+/// Returns the decoded value of that header.
+#[tactic(auto, unfolding(crate::specs::Results::value))]
 pub(crate) fn value<K: KnownCharsets>(
     alloc: Global,
     raw: &[u8],
@@ -119,8 +125,8 @@ pub(crate) fn value<K: KnownCharsets>(
     }
 }
 
-/// The ids of a text, each between its brackets.
-#[tactic(auto, unfolding(crate::specs::Calls::ids))]
+/// Returns the message ids in a text, each between angle brackets.
+#[tactic(auto, unfolding(crate::specs::Results::ids))]
 pub(crate) fn ids(
     alloc: Global,
     text: &[u8],
@@ -133,7 +139,7 @@ pub(crate) fn ids(
     Ok(Some(bracketed(alloc, found.as_slice())?))
 }
 
-/// The ids of a text, each with an `@` where one is needed.
+/// Returns the message ids in a text; only those with an `@` if `needs_at`.
 fn found_in(alloc: Global, text: &str, needs_at: bool) -> Result<Vec<String>, AllocError>
     ensures { IfOk result (λ ids. map string_bytes ids.items ≡ found_in needs_at text.now) }
 {
@@ -144,7 +150,7 @@ fn found_in(alloc: Global, text: &str, needs_at: bool) -> Result<Vec<String>, Al
     }
 }
 
-/// Ids, each between its brackets.
+/// Returns ids, each between angle brackets.
 fn bracketed(alloc: Global, ids: &[String]) -> Result<Vec<u8>, AllocError>
     ensures { IfOk result (λ bytes.
         bytes.items ≡ flat_map bracketed (map string_bytes ids.now)) }
@@ -156,7 +162,7 @@ fn bracketed(alloc: Global, ids: &[String]) -> Result<Vec<u8>, AllocError>
     Ok(bytes)
 }
 
-/// Appends an id between its brackets.
+/// Appends an id between angle brackets.
 fn push_id(bytes: &mut Vec<u8>, id: &[u8]) -> Result<(), AllocError>
     ensures { OnOk result (bytes.new.items ≡ bytes.old.items ++ bracketed id.now) }
 {
@@ -166,7 +172,7 @@ fn push_id(bytes: &mut Vec<u8>, id: &[u8]) -> Result<(), AllocError>
     Ok(())
 }
 
-/// The text that bytes are.
+/// Returns the bytes as a text, or refuses bytes that are not UTF-8.
 pub(crate) fn text_in(bytes: &[u8]) -> Result<&str, MailParseError>
     ensures { Answers (λ text. text.now) result (text_in bytes.now) }
 {

@@ -1,5 +1,5 @@
 use Rattle.mail_c.proofs.lemmas.Texts.{is_no_text, is_text}
-use Rattle.mail_c.proofs.find.text_in.Goals as goal
+use Rattle.mail_c.proofs.results.text_in.Goals as goal
 
 pub returns-in-Ok : goal.returns-in-Ok
 returns-in-Ok c = is_text c.args.bytes.now _ c.in-Ok.ensures.cases.0 c.in-Ok.ensures.cases.1

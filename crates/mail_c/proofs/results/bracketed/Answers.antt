@@ -3,7 +3,7 @@ use Rattle.std.proofs.lemmas.List.{drop_all}
 use Rattle.std.specs.String.{string_bytes}
 use Rattle.mail_lines.proofs.lemmas.Strings.{drop_next}
 use Rattle.mail_c.proofs.lemmas.Ids.{all_made, more}
-use Rattle.mail_c.proofs.find.bracketed.Goals as goal
+use Rattle.mail_c.proofs.results.bracketed.Goals as goal
 
 pub loop-id-preserved : goal.loop-id-preserved
 loop-id-preserved c =

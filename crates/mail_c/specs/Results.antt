@@ -1,0 +1,83 @@
+-- The calls whose results are bytes; the crate's own form.
+use Rattle.std.specs.Prelude.{◌≡◌, ℕ, Bool, true, false, List, ◌++◌, codes, flat_map, slice_get, Option, Some, None, option_map, Ok, Err, if◌then◌else◌}
+use Rattle.std.specs.Str.{is_utf8}
+use Rattle.mail_codec.specs.Charset.{Charsets}
+use Rattle.mailparse.specs.Block.{read_headers}
+use Rattle.mailparse.specs.Body.{decoded}
+use Rattle.mailparse.specs.Header.{Header}
+use Rattle.mailparse.specs.Mail.{read_mail, read_mail_in, root}
+use Rattle.mailparse.specs.Map.{all_with_key}
+use Rattle.mailparse.specs.Refusal.{◌>>=◌, Reads, encoding}
+use Rattle.mailparse.specs.Value.{lenient_value_in}
+use Rattle.mail_data.specs.Bounce as report
+use Rattle.mail_data.specs.lenient.Encoding.{lenient_body_kind}
+use Rattle.mail_data.specs.lenient.Ids.{found_in}
+use Rattle.mail_data.specs.lenient.Texts.{body_text}
+use Rattle.mail_lines.specs.Lines.{IsMailLine}
+use Rattle.mail_lines.specs.Reading.{Reading}
+use Rattle.mail_lines.specs.Reports.{deliveries_text}
+use Rattle.mail_c.specs.Buffer.{Found}
+
+-- the bytes as a text, if they are UTF-8
+abbrev pub text_in : List ℕ → Reads (List ℕ)
+text_in bytes = if is_utf8 bytes then Ok bytes else Err (encoding (codes "The text is not UTF-8"))
+
+-- the decoded bytes of the body of a message
+unfoldable pub content : List ℕ → Found
+content raw = do
+  mail ← read_mail raw
+  let node = root mail
+  bytes ← decoded (lenient_body_kind node) node.body
+  Ok (Some bytes)
+
+-- the header with this name and this number, counting from 0
+abbrev pub header_at : List ℕ → ℕ → List Header → Option Header
+header_at name number headers = slice_get (all_with_key name headers) number
+
+-- its raw value
+unfoldable pub raw_value : List ℕ → List ℕ → ℕ → Found
+raw_value raw name number = do
+  key ← text_in name
+  block ← read_headers raw
+  Ok (option_map (λ header. header.value) (header_at key number block.headers))
+
+-- Under the charsets that are known.
+module _ (known : Charsets) where
+  -- no hashes, and texts as they are
+  abbrev pub plain_reading : Reading
+  plain_reading = record { known = known; hashes = false; joins_flowed = false }
+
+  -- the line of JSON of a mail
+  abbrev pub IsJson : List ℕ → Found → Type 0
+  IsJson raw (Ok (Some line)) = IsMailLine plain_reading None raw true line
+  IsJson raw (Ok None) = ⊥
+  IsJson raw (Err refusal) = read_mail_in known 100 raw ≡ Err refusal
+
+  -- the recipients of a delivery report, as JSON
+  unfoldable pub recipients : List ℕ → Found
+  recipients raw = do
+    mail ← read_mail_in known 100 raw
+    Ok (Some (deliveries_text (report.recipients known mail)))
+
+  -- the text of the body of a message
+  unfoldable pub text : List ℕ → Found
+  text raw = do
+    mail ← read_mail_in known 100 raw
+    Ok (Some (body_text known (root mail)).text)
+
+  -- the decoded value of that header
+  unfoldable pub value : List ℕ → List ℕ → ℕ → Found
+  value raw name number = do
+    key ← text_in name
+    block ← read_headers raw
+    Ok (option_map (λ header. lenient_value_in known header.value) (header_at key number block.headers))
+
+-- an id between angle brackets
+abbrev pub bracketed : List ℕ → List ℕ
+bracketed id = codes "<" ++ (id ++ codes ">")
+
+-- the ids in a text, each between angle brackets; only those with an `@` if one is needed
+unfoldable pub ids : Bool → List ℕ → Found
+ids needs_at bytes = do
+  text ← text_in bytes
+  Ok (Some (flat_map bracketed (found_in needs_at text)))
