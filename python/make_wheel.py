@@ -1,6 +1,7 @@
 """Makes the wheel of the module: pip's build backend (PEP 517), which needs nothing beyond Python.
 
-The library is that of ROCKTRAY_LIBRARY, or tools/make_c_library.sh of the checkout makes it, which needs the kit.
+The library is the file that ROCKTRAY_LIBRARY names; otherwise tools/make_c_library.sh of the checkout makes it, which
+needs the kit.
 """
 
 import base64
@@ -17,7 +18,7 @@ HERE = Path(__file__).resolve().parent
 
 
 def library_bytes():
-    """The library."""
+    """The bytes of the library."""
     named = os.environ.get("ROCKTRAY_LIBRARY")
     if named:
         return Path(named).read_bytes()
@@ -27,7 +28,7 @@ def library_bytes():
 
 
 def tag_of(library):
-    """The tag of a wheel with this library: it needs a C library at least as new as the newest name that it asks for."""
+    """The tag of a wheel with this library: it needs a C library at least as new as the newest symbol that it imports."""
     newest = max([17, *(int(minor) for minor in re.findall(rb"GLIBC_2\.(\d+)", library))])
     return f"py3-none-manylinux_2_{newest}_{platform.machine()}"
 
@@ -39,11 +40,12 @@ def record_line(name, data):
 
 
 def build_wheel(wheel_directory, config_settings=None, metadata_directory=None):
-    """Writes the wheel into a folder, and returns its name. The same sources and library give the same bytes."""
+    """Writes the wheel to a directory, and returns its name. The same sources and library give the same bytes."""
     library = library_bytes()
     tag = tag_of(library)
     sources = {path.name: path.read_bytes() for path in sorted((HERE / "rocktray").glob("*")) if path.suffix in (".py", ".typed")}
-    version = re.search(rb'^__version__ = "(.+)"$', sources["__init__.py"], re.M).group(1).decode()
+    header = (HERE.parent / "c" / "rocktray.h").read_text()
+    version = re.search(r'^#define ROCKTRAY_VERSION "(.+)"$', header, re.M).group(1)
     info = f"rocktray-{version}.dist-info"
     metadata = (
         f"Metadata-Version: 2.1\nName: rocktray\nVersion: {version}\nSummary: Reads mail: a proved MIME reader\n"
@@ -63,5 +65,5 @@ def build_wheel(wheel_directory, config_settings=None, metadata_directory=None):
 
 
 def build_sdist(sdist_directory, config_settings=None):
-    """There is none: the library is made of the whole checkout."""
+    """There is none: the library is made from the whole checkout."""
     raise NotImplementedError("rocktray has no source distribution: install from a checkout, or the wheel")

@@ -5,9 +5,10 @@
 >>> mail.subject, mail.text
 ('café', 'At noon?\\n')
 
-All is safe to use from several threads at once, and no call waits for Python's lock while it reads.
+Everything is safe to use from several threads at once, and Python's lock is not held while a mail is read.
 """
 
+from . import _library
 from ._library import Refused
 from ._mail import Address, Header, Mail, Part, Recipient, parse
 from ._mailbox import Mailbox, open_mailbox
@@ -26,8 +27,8 @@ __all__ = [
     "read_date",
     "read_ids",
 ]
-__version__ = "0.1.0"
+__version__ = _library.version()
 
 for _name in __all__:
-    # the name that users import, for messages and pickles
+    # the name under which users import it, for messages and pickles
     globals()[_name].__module__ = "rocktray"

@@ -1,4 +1,4 @@
-"""The calls of librocktray.so (c/rocktray.h) as functions over bytes, by ctypes."""
+"""The calls of librocktray.so (c/rocktray.h) as functions on bytes, by ctypes."""
 
 from __future__ import annotations
 
@@ -10,12 +10,13 @@ import threading
 from typing import Any, Optional, Tuple
 
 DONE, TOO_SHORT, NO_MEMORY, ABSENT = range(4)
-# how long a room may be that is kept for the next call
+NOT_BASE64 = 19
+# the greatest capacity of a buffer that is kept for the next call
 KEPT = 1 << 20
 
 
 class Refused(ValueError):
-    """The library refuses the input; the text says why, and `number` is the reason's number (rocktray.h)."""
+    """The library refuses the input. The text says why, and `number` is the code of the reason (rocktray.h)."""
 
     def __init__(self, text: str, number: int = 0) -> None:
         super().__init__(text, number)
@@ -27,7 +28,7 @@ class Refused(ValueError):
 
 
 def _found() -> str:
-    """Where the library is: beside this file, or where ROCKTRAY_LIBRARY says, or where the system has it."""
+    """The path of the library: that in ROCKTRAY_LIBRARY, or beside this file, or one of the system."""
     named = os.environ.get("ROCKTRAY_LIBRARY")
     if named:
         return named
@@ -37,85 +38,92 @@ def _found() -> str:
     installed = ctypes.util.find_library("rocktray")
     if installed:
         return installed
-    raise ImportError("librocktray.so is not beside this module: install the wheel, or name it in ROCKTRAY_LIBRARY")
+    raise ImportError("librocktray.so is not beside this module: install the wheel, or set ROCKTRAY_LIBRARY to its path")
 
 
 _LIBRARY = ctypes.CDLL(_found())
 _BYTES = [ctypes.c_char_p, ctypes.c_size_t]
-_PLACE = ctypes.POINTER(ctypes.c_size_t)
-_ROOM = [ctypes.c_void_p, ctypes.c_size_t, _PLACE]
+_SIZE = ctypes.POINTER(ctypes.c_size_t)
+_BUFFER = [ctypes.c_void_p, ctypes.c_size_t, _SIZE]
 
 
 def _call(name: str, *arguments: Any) -> Any:
-    """The call of this name, which takes these arguments."""
+    """The call with this name and these types of arguments."""
     call = getattr(_LIBRARY, name)
     call.restype = ctypes.c_uint32
     call.argtypes = arguments
     return call
 
 
-_json = _call("rocktray_json", *_BYTES, *_ROOM)
-_content = _call("rocktray_content", *_BYTES, *_ROOM)
-_text = _call("rocktray_text", *_BYTES, *_ROOM)
-_header = _call("rocktray_header", *_BYTES, *_BYTES, ctypes.c_size_t, *_ROOM)
-_raw_header = _call("rocktray_raw_header", *_BYTES, *_BYTES, ctypes.c_size_t, *_ROOM)
-_ids = _call("rocktray_ids", *_BYTES, ctypes.c_bool, *_ROOM)
-_recipients = _call("rocktray_recipients", *_BYTES, *_ROOM)
-_reason = _call("rocktray_reason", ctypes.c_uint32, *_ROOM)
+_version = _call("rocktray_version")
+_json = _call("rocktray_json", *_BYTES, *_BUFFER)
+_content = _call("rocktray_content", *_BYTES, *_BUFFER)
+_text = _call("rocktray_text", *_BYTES, *_BUFFER)
+_header = _call("rocktray_header", *_BYTES, *_BYTES, ctypes.c_size_t, *_BUFFER)
+_raw_header = _call("rocktray_raw_header", *_BYTES, *_BYTES, ctypes.c_size_t, *_BUFFER)
+_ids = _call("rocktray_ids", *_BYTES, ctypes.c_bool, *_BUFFER)
+_recipients = _call("rocktray_recipients", *_BYTES, *_BUFFER)
+_reason = _call("rocktray_reason", ctypes.c_uint32, *_BUFFER)
 _date = _call("rocktray_date", *_BYTES, ctypes.POINTER(ctypes.c_int64), ctypes.POINTER(ctypes.c_bool))
-_next_mail = _call("rocktray_next_mail", ctypes.c_void_p, ctypes.c_size_t, ctypes.c_bool, _PLACE, _PLACE, _PLACE)
+_next_mail = _call("rocktray_next_mail", ctypes.c_void_p, ctypes.c_size_t, ctypes.c_bool, _SIZE, _SIZE, _SIZE)
 
 
-class _Rooms(threading.local):
-    """A room of each thread, for its next call."""
+class _Buffers(threading.local):
+    """A buffer for each thread, for its next call."""
 
-    room: Any = None
-
-
-_ROOMS = _Rooms()
+    buffer: Any = None
 
 
-def _new_room(least: int) -> Any:
-    """A room of at least that length: a power of two, so that ctypes makes few types. A large one is of pages of its own,
-    which take no memory and no time before they are written to.
+_BUFFERS = _Buffers()
+
+
+def _new_buffer(least: int) -> Any:
+    """A buffer of at least that capacity: a power of two, so that ctypes makes few types. A large one has pages of its
+    own, which take no memory and no time before they are written to.
     """
-    room = ctypes.c_char * (1 << max(least - 1, 4095).bit_length())
-    if ctypes.sizeof(room) <= KEPT:
-        return room()
-    return room.from_buffer(mmap.mmap(-1, ctypes.sizeof(room)))
+    buffer = ctypes.c_char * (1 << max(least - 1, 4095).bit_length())
+    if ctypes.sizeof(buffer) <= KEPT:
+        return buffer()
+    return buffer.from_buffer(mmap.mmap(-1, ctypes.sizeof(buffer)))
 
 
 def _code_and_result(call: Any, inputs: Tuple[Any, ...], guess: int) -> Tuple[int, bytes]:
-    """The code of a call, and what it wrote."""
-    # taken out meanwhile, so that a call within this one, by a signal or a finalizer, takes another
-    room, _ROOMS.room = _ROOMS.room, None
-    if room is None or len(room) < guess:
-        room = _new_room(guess)
+    """The code of a call, and its result."""
+    # removed meanwhile, so that a call within this one, by a signal or a finalizer, takes another
+    buffer, _BUFFERS.buffer = _BUFFERS.buffer, None
+    if buffer is None or len(buffer) < guess:
+        buffer = _new_buffer(guess)
     needed = ctypes.c_size_t()
-    code = call(*inputs, room, len(room), ctypes.byref(needed))
+    code = call(*inputs, buffer, len(buffer), ctypes.byref(needed))
     if code == TOO_SHORT:
-        room = _new_room(needed.value)
-        code = call(*inputs, room, len(room), ctypes.byref(needed))
-    result = ctypes.string_at(room, needed.value) if code == DONE else b""
-    if len(room) <= KEPT:
-        _ROOMS.room = room
+        buffer = _new_buffer(needed.value)
+        code = call(*inputs, buffer, len(buffer), ctypes.byref(needed))
+    result = ctypes.string_at(buffer, needed.value) if code == DONE else b""
+    if len(buffer) <= KEPT:
+        _BUFFERS.buffer = buffer
     return code, result
 
 
+def version() -> str:
+    """The version of the library."""
+    number = _version()
+    return f"{number // 10000}.{number // 100 % 100}.{number % 100}"
+
+
 def reason(code: int) -> str:
-    """What a code says, in English."""
+    """The text of a code, in English."""
     return _code_and_result(_reason, (code,), 0)[1].decode()
 
 
 def _refuse(code: int) -> None:
-    """Raises what a code says that is not `DONE`."""
+    """Raises the exception for a code other than `DONE`."""
     if code == NO_MEMORY:
         raise MemoryError("rocktray ran out of memory")
     raise Refused(reason(code), code)
 
 
 def _result(call: Any, inputs: Tuple[Any, ...], guess: int) -> bytes:
-    """What a call wrote."""
+    """The result of a call."""
     code, result = _code_and_result(call, inputs, guess)
     if code != DONE:
         _refuse(code)
@@ -123,7 +131,7 @@ def _result(call: Any, inputs: Tuple[Any, ...], guess: int) -> bytes:
 
 
 def _found_value(call: Any, inputs: Tuple[Any, ...], guess: int) -> Optional[bytes]:
-    """What a call wrote, or `None` where there is nothing."""
+    """The result of a call, or `None` if there is none."""
     code, result = _code_and_result(call, inputs, guess)
     if code == ABSENT:
         return None
@@ -138,7 +146,7 @@ def json_line(mail: bytes) -> bytes:
 
 
 def content(part: bytes) -> bytes:
-    """The bytes that the body of a part stands for."""
+    """The decoded bytes of the body of a part."""
     return _result(_content, (part, len(part)), len(part))
 
 
@@ -148,14 +156,14 @@ def text(part: bytes) -> str:
 
 
 def header(part: bytes, name: str, number: int = 0) -> Optional[str]:
-    """The value of the header with this name that so many others with it stand before."""
+    """The value of the header with this name and number, counting from 0."""
     key = name.encode()
     value = _found_value(_header, (part, len(part), key, len(key), number), 4096)
     return None if value is None else value.decode()
 
 
 def raw_header(part: bytes, name: str, number: int = 0) -> Optional[bytes]:
-    """The same as it stands in the mail."""
+    """The raw value of that header."""
     key = name.encode()
     return _found_value(_raw_header, (part, len(part), key, len(key), number), 4096)
 
@@ -168,7 +176,7 @@ def ids(text_of_ids: str, needs_at: bool) -> "list[str]":
 
 
 def recipients(mail: bytes) -> bytes:
-    """The list of JSON of the recipients that a delivery report names."""
+    """The recipients of a delivery report, as a list in JSON."""
     return _result(_recipients, (mail, len(mail)), 4096)
 
 
@@ -183,7 +191,7 @@ def date(value: str) -> Tuple[int, bool]:
 
 
 def next_mail(address: int, length: int, is_counted: bool) -> Optional[Tuple[int, int, int]]:
-    """Where the first mail of a mailbox at an address begins and ends, and where what follows it begins."""
+    """The offsets at which the first mail of a mailbox begins and ends, and that of the next separator."""
     start, end, after = ctypes.c_size_t(), ctypes.c_size_t(), ctypes.c_size_t()
     code = _next_mail(address, length, is_counted, ctypes.byref(start), ctypes.byref(end), ctypes.byref(after))
     if code == ABSENT:

@@ -16,14 +16,14 @@ _FORWARDING = ("message/rfc822", "message/global")
 
 
 class Address(NamedTuple):
-    """A mailbox: the name that it shows, and the address. What is no address has its text as the name, and no address."""
+    """A mailbox: its display name and its address. Text that is no address is a name with an empty address."""
 
     name: str
     address: str
 
 
 class Recipient(NamedTuple):
-    """What a delivery report says of one recipient (RFC 3464); a field that is missing is `None`."""
+    """A recipient of a delivery report (RFC 3464). A missing field is `None`."""
 
     final_recipient: Optional[str]
     original_recipient: Optional[str]
@@ -33,7 +33,7 @@ class Recipient(NamedTuple):
 
 
 def _addresses(value: Any) -> List[Address]:
-    """The mailboxes of a member of the JSON, those of groups among them."""
+    """The mailboxes in a member of the JSON, including those of groups."""
     found: List[Address] = []
     for item in value:
         if "members" in item:
@@ -46,23 +46,23 @@ def _addresses(value: Any) -> List[Address]:
 
 
 def _own_parts(value: Dict[str, Any]) -> List[Dict[str, Any]]:
-    """The objects of the mail and of its parts. Those of the mails inside it come after them: the first is at the path of a
-    part that holds one, or right below it.
+    """The objects of the mail and of its parts. Those of the mails inside it come after them: the first has the path of a
+    part that contains a mail, or one directly below it.
     """
     parts = cast("List[Dict[str, Any]]", value["parts"])
-    holders = {inside["path"] for inside in value["forwarded"]}
-    if holders:
+    containers = {inside["path"] for inside in value["forwarded"]}
+    if containers:
         seen = set()
         for index, part in enumerate(parts):
             path = part["path"]
-            if path in seen or path.rpartition(".")[0] in holders:
+            if path in seen or path.rpartition(".")[0] in containers:
                 return parts[:index]
             seen.add(path)
     return parts
 
 
 class Header:
-    """A header of a part: its `name`, its decoded `value`, and its `raw` value as it stands in the mail.
+    """A header of a part: its `name`, its decoded `value`, and its `raw` value.
 
     >>> mail = parse(b"Subject: =?utf-8?q?caf=C3=A9?=\\r\\n at noon\\r\\n\\r\\n")
     >>> mail.headers[0].name, mail.headers[0].value, mail.headers[0].raw
@@ -79,7 +79,7 @@ class Header:
 
     @property
     def raw(self) -> bytes:
-        """The value as it stands in the mail. The header block is read for it."""
+        """The raw value, without decoding. The header block is read for it."""
         found = _library.raw_header(self._part, self.name, self._number)
         return b"" if found is None else found
 
@@ -96,8 +96,8 @@ class Header:
         return f"Header({self.name!r}, {self.value!r})"
 
 
-# the encodings under which a body stands for its own bytes
-_AS_IT_STANDS = ("7bit", "8bit", "binary")
+# the encodings that leave the bytes of a body as they are
+_IDENTITY = ("7bit", "8bit", "binary")
 
 
 class Part:
@@ -118,12 +118,12 @@ class Part:
 
     @property
     def path(self) -> str:
-        """Where it stands, as IMAP numbers parts: '' for a mail with parts, '1' for one without, then as '2.1'."""
+        """The path, as IMAP numbers parts: '' for a mail with parts, '1' for one without, and then for example '2.1'."""
         return cast(str, self._object["path"])
 
     @property
     def content_type(self) -> str:
-        """The type in lower case, as 'text/plain'."""
+        """The type in lower case, such as 'text/plain'."""
         return cast(str, self._object["type"])
 
     @property
@@ -133,27 +133,27 @@ class Part:
 
     @property
     def charset(self) -> str:
-        """The label of the charset, 'us-ascii' where none is given. `text_charset` is the one that was used."""
+        """The label of the charset, or 'us-ascii' if none is given. `text_charset` is the one that was used."""
         return cast(str, self._object["charset"])
 
     @property
     def disposition(self) -> Optional[str]:
-        """The disposition in lower case, as 'attachment', or `None` without such a header."""
+        """The disposition in lower case, such as 'attachment', or `None` without that header."""
         return cast("Optional[str]", self._object["disposition"])
 
     @property
     def file_name(self) -> Optional[str]:
-        """The name of the file as the sender wrote it, or `None`. It may hold slashes: never open it as it is."""
+        """The name of the file as the sender wrote it, or `None`. It may contain slashes: never open it as it is."""
         return cast("Optional[str]", self._object["file_name"])
 
     @property
     def is_attachment(self) -> bool:
-        """Whether it is a file."""
+        """Whether the part is an attachment."""
         return cast(bool, self._object["attachment"])
 
     @property
     def encoding(self) -> str:
-        """The transfer encoding of the body, as 'base64'."""
+        """The transfer encoding of the body, such as 'base64'."""
         return cast(str, self._object["encoding"])
 
     @property
@@ -176,27 +176,27 @@ class Part:
 
     @property
     def content(self) -> bytes:
-        """The bytes that the body stands for, without its transfer encoding. `Refused` where that is not Base64."""
+        """The decoded bytes of the body, without its transfer encoding. Raises `Refused` if it is not valid Base64."""
         value = self._object
         if "error" in value:
-            raise Refused(value["error"], 19)
-        if value["encoding"] in _AS_IT_STANDS and not value["type"].startswith("multipart"):
+            raise Refused(value["error"], _library.NOT_BASE64)
+        if value["encoding"] in _IDENTITY and not value["type"].startswith("multipart"):
             return self._mail.raw[value["end"] - value["size"] : value["end"]]
         return _library.content(self.raw)
 
     @property
     def text(self) -> Optional[str]:
-        """The text, where the part is one and no attachment; otherwise `None`. A damaged one is read as far as it goes."""
+        """The text, if the part is a text and no attachment; otherwise `None`. A damaged text is read up to the damage."""
         return cast("Optional[str]", self._object["text"])
 
     @property
     def text_charset(self) -> Optional[str]:
-        """The charset in which the text was read, or `None` where there is none."""
+        """The charset in which the text was read, or `None` if there is no text."""
         return cast("Optional[str]", self._object.get("text_charset"))
 
     @property
     def is_damaged(self) -> bool:
-        """Whether the body is in Base64 and its text is only that of its front."""
+        """Whether the body is damaged Base64, so that the text is incomplete."""
         return cast(bool, self._object.get("damaged", False))
 
     def __eq__(self, other: object) -> bool:
@@ -213,7 +213,7 @@ class Part:
 
 
 class Mail:
-    """A mail. Its bytes are read when something is asked for; `parse` reads them at once.
+    """A mail. Its bytes are read when it is first used; `parse` reads them at once.
 
     >>> mail = parse(b"Subject: Hi\\nDate: Fri, 21 Nov 1997 09:55:06 -0600\\n\\nHello\\n")
     >>> mail.subject, mail.date.isoformat(), mail.text
@@ -225,7 +225,7 @@ class Mail:
     raw: bytes
     """The bytes of the mail."""
     place: Optional[Tuple[int, int]]
-    """Where it begins and ends in its mailbox, or `None` outside of one."""
+    """The offsets at which it begins and ends in its mailbox, or `None` outside of one."""
     _read: Union[None, Dict[str, Any], Refused]
 
     def __init__(self, raw: bytes, place: Optional[Tuple[int, int]] = None) -> None:
@@ -249,7 +249,7 @@ class Mail:
 
     @property
     def error(self) -> Optional[str]:
-        """Why the mail is refused, or `None`. Everything else that is asked of a refused mail raises `Refused`."""
+        """Why the mail is refused, or `None`. Everything else about a refused mail raises `Refused`."""
         try:
             self._object
         except Refused as error:
@@ -258,7 +258,7 @@ class Mail:
 
     @property
     def json(self) -> Dict[str, Any]:
-        """What the program `mail_json` writes of the mail (docs/mail_json.schema.json)."""
+        """The object that the program `mail_json` writes for the mail (docs/mail_json.schema.json)."""
         return self._object
 
     @property
@@ -292,7 +292,7 @@ class Mail:
 
     @property
     def sender(self) -> List[Address]:
-        """The mailbox in Sender, which a mail has whose From names several, or that another sent."""
+        """The mailbox in Sender: who sent the mail, if that is not its only author."""
         return _addresses(self._object["sender"])
 
     @property
@@ -302,7 +302,7 @@ class Mail:
 
     @property
     def date(self) -> Optional[datetime]:
-        """The time of the first Date, in UTC, or `None` where there is none that can be read: `date_error` says why."""
+        """The time in the first Date, in UTC, or `None` if it is missing or cannot be read: `date_error` says why."""
         seconds = self._object["date"]
         if seconds is None:
             return None
@@ -313,12 +313,12 @@ class Mail:
 
     @property
     def date_error(self) -> Optional[str]:
-        """What is missing in the first Date, or wrong in it; otherwise `None`."""
+        """What is missing or wrong in the first Date; otherwise `None`."""
         return cast("Optional[str]", self._object.get("date_error"))
 
     @property
     def is_date_zone_known(self) -> bool:
-        """Whether the date says its zone, where otherwise UTC is taken."""
+        """Whether the date gives its zone. Otherwise it is read as UTC."""
         return not self._object.get("date_zone_unknown", False)
 
     @property
@@ -343,7 +343,7 @@ class Mail:
         return next(self.walk()).headers
 
     def header(self, name: str, number: int = 0) -> Optional[str]:
-        """The value of the header with this name that `number` others with it stand before, or `None`.
+        """The value of the header with this name and number, counting from 0, or `None`.
 
         >>> parse(b"Received: one\\nReceived: two\\n\\n").header("received", 1)
         'two'
@@ -351,11 +351,11 @@ class Mail:
         return _library.header(self.raw, name, number)
 
     def _bytes_of(self, value: Dict[str, Any]) -> bytes:
-        """The bytes of the part of this object."""
+        """The bytes of the part with this object."""
         return self.raw[value["start"] : value["end"]]
 
     def walk(self) -> Iterator[Part]:
-        """The mail itself and then its parts, each before its own parts; `forwarded` has the mails inside it.
+        """The mail itself and then its parts, each before its own parts. `forwarded` has the mails inside it.
 
         >>> raw = b"Content-Type: multipart/mixed; boundary=b\\n\\n--b\\n\\none\\n--b\\n\\ntwo\\n--b--\\n"
         >>> [(part.path, part.content_type, part.text) for part in parse(raw).walk()]
@@ -365,7 +365,7 @@ class Mail:
             yield Part(self, value, index)
 
     def attachments(self) -> List[Part]:
-        """The parts that are files.
+        """The parts that are attachments.
 
         >>> raw = b'Content-Disposition: attachment; filename="a.txt"\\n\\ntext'
         >>> [(file.file_name, file.content) for file in parse(raw).attachments()]
@@ -374,7 +374,7 @@ class Mail:
         return [part for part in self.walk() if part.is_attachment]
 
     def _text_of(self, content_type: str) -> Optional[str]:
-        """The text of the first part of a type that is no file, otherwise of the first that is a text."""
+        """The text of the first part of this type that is no attachment, otherwise of the first one with a text."""
         texts = [p for p in self.walk() if p.text is not None and _text_type(p.content_type) == content_type]
         for part in texts:
             if not part.is_attachment:
@@ -392,7 +392,7 @@ class Mail:
         return self._text_of("text/html")
 
     def forwarded(self) -> List["Mail"]:
-        """The mails that parts of this mail forward. Each is read when something is asked of it.
+        """The mails that are forwarded in parts of this mail. Each is read when it is first used.
 
         >>> inside = parse(b"Content-Type: message/rfc822\\n\\nSubject: inside\\n\\n").forwarded()
         >>> inside[0].subject
@@ -401,7 +401,7 @@ class Mail:
         return [Mail(part.content) for part in self.walk() if part.content_type in _FORWARDING]
 
     def bounces(self) -> List[Recipient]:
-        """What the mail says of each recipient, where it is a delivery report (RFC 3464); otherwise nothing.
+        """The recipients of a delivery report (RFC 3464). The list is empty if the mail is none.
 
         >>> raw = b"Content-Type: multipart/report; boundary=b\\n\\n--b\\nContent-Type: message/delivery-status\\n\\n"
         >>> raw += b"Reporting-MTA: dns; mx\\n\\nFinal-Recipient: rfc822; a@b\\nAction: failed\\nStatus: 5.1.1\\n\\n--b--\\n"
@@ -411,7 +411,7 @@ class Mail:
         return [Recipient(**value) for value in json.loads(_library.recipients(self.raw))]
 
     def to_email(self) -> email.message.EmailMessage:
-        """The same mail as Python's `email` reads it, for code that needs that."""
+        """The same mail as Python's `email` reads it, for code that needs an `EmailMessage`."""
         return cast(email.message.EmailMessage, email.message_from_bytes(self.raw, policy=email.policy.default))
 
     def __eq__(self, other: object) -> bool:
@@ -429,17 +429,17 @@ class Mail:
 
 
 def _text_type(content_type: str) -> str:
-    """The type of a text: `text` alone is plain."""
+    """The type of a text: `text` without a subtype is plain."""
     return "text/plain" if content_type == "text" else content_type
 
 
 def _part_of(mail: Mail, index: int) -> Part:
-    """A part of a mail, by its number."""
+    """A part of a mail, by its index."""
     return Part(mail, mail._object["parts"][index], index)
 
 
 def parse(raw: Union[bytes, bytearray, memoryview]) -> Mail:
-    """Reads a mail. Raises `Refused` where it is refused, and never anything else but `MemoryError`.
+    """Reads a mail. Raises `Refused` if it is refused, and no other exception except `MemoryError`.
 
     >>> parse(b"Subject: Hi\\n\\nHello").subject
     'Hi'

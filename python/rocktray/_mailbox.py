@@ -17,7 +17,7 @@ _QUOTED = re.compile(rb"^>(>*From )", re.MULTILINE)
 
 
 class Mailbox:
-    """The mails of a mailbox, as `open_mailbox` opens it: an iterator, and a context manager that closes the file."""
+    """The mails of a mailbox, as `open_mailbox` returns it: an iterator, and a context manager that closes the file."""
 
     def __init__(self, path: Union[str, "os.PathLike[str]"], format: str = "mbox") -> None:
         if format not in FORMATS:
@@ -49,7 +49,7 @@ class Mailbox:
         return Mail(_QUOTED.sub(rb"\1", raw) if self._format == "mboxrd" else raw, (start, end))
 
     def close(self) -> None:
-        """Closes the file; no further mail is read."""
+        """Closes the file. No further mail is read."""
         if self._view is not None:
             self._view = None
             self._map.close()
@@ -64,10 +64,10 @@ class Mailbox:
 
 
 def open_mailbox(path: Union[str, "os.PathLike[str]"], format: str = "mbox") -> Mailbox:
-    """The mails of a mailbox, one after another, each read when something is asked of it.
+    """The mails of a mailbox, one after another, each read when it is first used.
 
     `format` is 'mbox' (RFC 4155), 'mboxrd', or 'mboxcl' for a mailbox whose mails have a Content-Length. A mail that is
-    refused is there too: its `error` says why, and whatever else is asked of it raises `Refused`.
+    refused is there too: its `error` says why, and everything else about it raises `Refused`.
 
     >>> import os, tempfile
     >>> with tempfile.NamedTemporaryFile(delete=False) as file:

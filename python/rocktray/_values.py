@@ -1,4 +1,4 @@
-"""Values of headers by themselves."""
+"""Single values of headers."""
 
 from __future__ import annotations
 
@@ -9,7 +9,7 @@ from . import _library
 
 
 def read_date(text: str) -> datetime:
-    """The time that the value of a Date header is, in UTC. Raises `Refused` where it is none.
+    """The time in the value of a Date header, in UTC. Raises `Refused` if there is none.
 
     >>> read_date("Fri, 21 Nov 1997 09:55:06 -0600").isoformat()
     '1997-11-21T15:55:06+00:00'

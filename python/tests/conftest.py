@@ -1,4 +1,4 @@
-"""Folders and mails that the tests share."""
+"""Paths and mails that the tests share."""
 
 import subprocess
 import sys
@@ -18,7 +18,7 @@ def samples():
 
 @pytest.fixture(scope="session")
 def hostile(tmp_path_factory):
-    """Made mails with faults on purpose."""
-    folder = tmp_path_factory.mktemp("mails")
-    subprocess.run([sys.executable, TOP / "tools" / "make_mails.py", "2000", "42", folder], check=True)
-    return [path.read_bytes() for path in sorted(folder.glob("*.eml"))]
+    """Generated mails with deliberate faults."""
+    directory = tmp_path_factory.mktemp("mails")
+    subprocess.run([sys.executable, TOP / "tools" / "make_mails.py", "2000", "42", directory], check=True)
+    return [path.read_bytes() for path in sorted(directory.glob("*.eml"))]

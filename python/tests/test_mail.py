@@ -8,12 +8,13 @@ import pickle
 import threading
 
 import pytest
+from conftest import TOP
 
 import rocktray
 
 
 def read_all(mail):
-    """All that a mail has."""
+    """Everything that a mail has."""
     parts = []
     for part in mail.walk():
         try:
@@ -39,6 +40,11 @@ def forwarded(mail):
         return mail.forwarded()
     except rocktray.Refused:
         return []
+
+
+def test_version():
+    header = (TOP / "c" / "rocktray.h").read_text()
+    assert f'#define ROCKTRAY_VERSION "{rocktray.__version__}"' in header.splitlines()
 
 
 def test_sample(samples):
@@ -89,7 +95,7 @@ def test_bounce(samples):
         ("iso-2022-jp", "請求書のテスト"),
     ],
 )
-def test_charsets_of_several_bytes(charset, text):
+def test_multi_byte_charsets(charset, text):
     label, raw = charset.encode(), text.encode(charset)
     word = b"=?" + label + b"?b?" + base64.b64encode(raw) + b"?="
     name = b"".join(b"%%%02X" % byte for byte in raw)
@@ -101,11 +107,11 @@ def test_charsets_of_several_bytes(charset, text):
 
 
 @pytest.mark.parametrize("kind", [bytes, bytearray, memoryview])
-def test_kinds_of_bytes(kind):
+def test_bytes_like_input(kind):
     assert rocktray.parse(kind(b"Subject: Hi\n\n")).subject == "Hi"
 
 
-def test_nothing():
+def test_empty_mail():
     mail = rocktray.parse(b"")
     assert (mail.subject, mail.from_, mail.date, mail.message_id, mail.references) == (None, [], None, None, [])
     assert [part.content for part in mail.walk()] == [b""]
@@ -128,7 +134,7 @@ def test_to_email(samples):
         assert rocktray.parse(raw).to_email()["Subject"] == email.message_from_bytes(raw, policy=email.policy.default)["Subject"]
 
 
-def test_dates_that_datetime_cannot_hold():
+def test_dates_out_of_range_for_datetime():
     assert rocktray.parse(b"Date: 1 Jan 123456789 00:00 GMT\n\n").date is None
     mail = rocktray.parse(b"Date: 1 Foo 2020 00:00 GMT\n\n")
     assert (mail.date, mail.date_error) == (None, "no month")
@@ -177,13 +183,13 @@ def test_threads(hostile):
 
 
 def resident():
-    """The bytes of memory that the process holds."""
+    """The resident memory of the process, in bytes."""
     with open("/proc/self/statm") as file:
         return int(file.read().split()[1]) * 4096
 
 
 def test_memory(samples):
-    """100,000 mails leave nothing behind."""
+    """Reading 100,000 mails leaks no memory."""
     mails = list(samples.values())
 
     def run(count):
@@ -198,7 +204,7 @@ def test_memory(samples):
     assert resident() - before < 1 << 20
 
 
-def test_mailbox_goes_on_after_a_refusal(tmp_path):
+def test_mailbox_continues_after_a_refusal(tmp_path):
     path = tmp_path / "box"
     line = b"From a Fri Jul  8 12:08:34 2011\n"
     path.write_bytes(line + b" refused\n\n" + line + b"Subject: 2\n\n")

@@ -1,4 +1,4 @@
-"""Real mails beside Python's `email`: those of the folder that ROCKTRAY_REAL names, as tools/fetch_real.sh makes it."""
+"""Real mails compared with Python's `email`: those in the directory that ROCKTRAY_REAL names (tools/fetch_real.sh)."""
 
 import email
 import email.policy
@@ -9,12 +9,12 @@ import pytest
 
 import rocktray
 
-FOLDER = os.environ.get("ROCKTRAY_REAL")
-pytestmark = pytest.mark.skipif(not FOLDER, reason="ROCKTRAY_REAL names no folder of mails")
+DIRECTORY = os.environ.get("ROCKTRAY_REAL")
+pytestmark = pytest.mark.skipif(not DIRECTORY, reason="ROCKTRAY_REAL names no directory of mails")
 
 
 def real_mails():
-    return [path.read_bytes() for path in sorted(Path(FOLDER).rglob("*")) if path.is_file()]
+    return [path.read_bytes() for path in sorted(Path(DIRECTORY).rglob("*")) if path.is_file()]
 
 
 def share(judged):
@@ -23,14 +23,14 @@ def share(judged):
 
 
 def own_leaves(message):
-    """The leaves of a message of `email` that are in no mail inside it."""
+    """The leaves of an `email` message that are not in a mail inside it."""
     if message.get_content_maintype() == "multipart" and message.is_multipart():
         return [leaf for part in message.iter_parts() for leaf in own_leaves(part)]
     return [] if message.is_multipart() else [message]
 
 
 def test_types_and_bytes():
-    """Nearly all leaves have the type and the bytes that `email` finds; DIFFERENCES.md has the reasons for the others."""
+    """Nearly all leaves have the type and the bytes that `email` finds. DIFFERENCES.md explains the others."""
 
     def is_same(raw):
         try:

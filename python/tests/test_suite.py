@@ -1,4 +1,4 @@
-"""The rows of the suite that the module can make (crates/mail_vectors/data)."""
+"""The rows of the suite whose calls the module has (crates/mail_vectors/data)."""
 
 import re
 from pathlib import Path
@@ -41,14 +41,13 @@ def attachments(raw):
 
 
 def entries(raw, tmp_path, format):
-    """The front of a mailbox, and of each mail its separator, its bytes and its ending."""
+    """The offsets and the bytes of each mail of a mailbox."""
     path = tmp_path / "box"
     path.write_bytes(raw)
-    places = [(mail.place, mail.raw) for mail in rocktray.open_mailbox(path, format)]
-    return places
+    return [(mail.place, mail.raw) for mail in rocktray.open_mailbox(path, format)]
 
 
-# By call: what the module returns for the inputs.
+# What the module returns for the inputs, by call.
 CALLS = {
     "get_value": lambda row: value(row.inputs[0]),
     "date_of": lambda row: date(row.inputs[0]),
@@ -68,7 +67,7 @@ ROWS = rows()
 
 
 def is_of_a_table(row):
-    """Whether an encoded word names a charset beyond the four, which the module knows and these calls do not."""
+    """Whether an encoded word names a charset other than the four, which the module knows and these calls do not."""
     return row.call in ("get_value", "mail") and any(not FOUR.fullmatch(label) for label in LABEL.findall(row.inputs[0]))
 
 
@@ -81,10 +80,10 @@ def test_rows(call):
             found = CALLS[call](row)
         except rocktray.Refused as error:
             if call == "get_value":
-                continue  # what follows the value is no header, and `parse` reads it too
+                continue  # the text after the value is no header, and `parse` reads it too
             found = refusal(error)
         except UnicodeDecodeError:
-            continue  # a text of the module is UTF-8
+            continue  # texts of the module are UTF-8
         if call == "date_of" and row.wanted[0] == "error":
             assert found[0] == "error", row.place
         else:
@@ -110,7 +109,7 @@ def test_headers_of_mails():
 
 
 def test_raw_headers():
-    """Each header as it stands in the mail."""
+    """The raw value of each header."""
     made = 0
     for row in ROWS:
         if row.call != "parse_headers":
