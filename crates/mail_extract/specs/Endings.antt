@@ -1,4 +1,4 @@
--- The endings of the names of files by their types, as those who registered the types name them (IANA, Media Types).
+-- The endings of the names of files, by type (IANA, Media Types).
 use Rattle.std.specs.Prelude.{ℕ, List, [], ◌∷◌, codes}
 use Rattle.std.specs.Option.{unwrap_or}
 use Rattle.mail_codec.specs.Names.{look_up}
@@ -29,10 +29,10 @@ endings =
     ∷ (codes "video/mp4", codes ".mp4")
     ∷ []
 
--- the ending of a type, ignoring ASCII case; empty where none is known
+-- the ending for a type, ignoring ASCII case; empty if none is known
 abbrev pub type_ending : List ℕ → List ℕ
 type_ending mimetype = unwrap_or (look_up endings mimetype) []
 
--- the ending of a message by its type
+-- the ending for the type of a message
 abbrev pub ending_of : Node → List ℕ
 ending_of node = type_ending node.ctype.mimetype

@@ -1,9 +1,10 @@
 pub mod Endings
 pub mod Names
-pub mod Folder
+pub mod Directory
+pub mod Hash
 pub mod Content
 pub mod Chosen
 pub mod Save
 pub mod SaveViews
-pub mod Lines
-pub mod LineViews
+pub mod Report
+pub mod ReportViews

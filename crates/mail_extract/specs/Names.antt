@@ -5,27 +5,27 @@ use Rattle.std.specs.Str.{IsCharBoundary, NoCharPasses}
 use Rattle.mail_codec.specs.Places.{begins}
 use Rattle.mail_data.specs.FileNames.{safe_name}
 
--- a character that a name of ours does not begin with: `.`, which hides a file, and `-`, which makes its name an option
+-- a character with which no saved name begins: `.`, which hides a file, and `-`, which makes its name an option
 abbrev pub is_refused_first : ℕ → Bool
 is_refused_first c = c == 46 || c == 45
 
--- a name made safe, after `_` where it begins with such a character
+-- a safe name, with `_` before one that begins with such a character
 unfoldable pub visible_name : List ℕ → List ℕ
 visible_name name = safe_name (if begins is_refused_first name then codes "_" ++ name else name)
 
--- the name that is wanted for a file: the sender's; where there is none, `unnamed` with an ending
+-- the wanted name of a file: the sender's, or `unnamed` with an ending if there is none
 abbrev pub wanted_name : Option (List ℕ) → List ℕ → List ℕ
 wanted_name name ending = visible_name (unwrap_or name (codes "unnamed" ++ ending))
 
 abbrev pub is_dot : ℕ → Bool
 is_dot c = c == 46
 
--- the ending of a name: its last `.` and what follows, or nothing where it has none
+-- the ending of a name: its last `.` and the rest, or nothing if it has no `.`
 abbrev pub IsEnding : List ℕ → List ℕ → Type 0
 IsEnding name [] = NoCharPasses is_dot name
 IsEnding name (b ∷ rest) = (b ≡ 46) × NoCharPasses is_dot rest
 
--- the front of a text: as many whole characters as have at most so many bytes
+-- the longest front of a text that consists of whole characters and has at most `most` bytes
 pub record IsFrontOf (most : ℕ) (text front : List ℕ) : Type 0 where
   pub count : ℕ
   pub taken : front ≡ take count text
@@ -33,7 +33,7 @@ pub record IsFrontOf (most : ℕ) (text front : List ℕ) : Type 0 where
   pub whole : IsCharBoundary text count
   pub longest : (n : ℕ) → count < n → n ≤ most → ¬ (IsCharBoundary text n)
 
--- a text with a hyphen and a number before an ending; of the text at most 200 bytes stay, so there is room for the number
+-- a text with a hyphen and a number before an ending; at most 200 bytes of the text are kept, so that the number fits
 abbrev pub IsNumberedBefore : List ℕ → List ℕ → ℕ → List ℕ → Type 0
 IsNumberedBefore stem ending number text =
     (front : List ℕ) × IsFrontOf 200 stem front × (text ≡ safe_name (front ++ (codes "-" ++ (decimal number ++ ending))))

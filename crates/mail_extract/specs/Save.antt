@@ -1,5 +1,5 @@
--- What saving the files of a mail does to a folder; the program's own rule.
-use Rattle.std.specs.Prelude.{◌≡◌, ℕ, ◌+◌, ◌-◌, ◌^◌, ◌<◌, ◌≤◌, ◌⊎◌, Bool, true, false, List, [], ◌∷◌, ◌++◌, length, filter, flat_map, map, Option, Some, None, is_some, option_map, if◌then◌else◌}
+-- What saving the files of a mail does to a directory; the program's own rule.
+use Rattle.std.specs.Prelude.{◌≡◌, ℕ, ◌+◌, ◌-◌, ◌^◌, ◌<◌, ◌≤◌, ◌⊎◌, Bool, true, false, List, [], ◌∷◌, ◌++◌, length, filter, flat_map, map, Option, Some, None, is_some, option_and_then}
 use Rattle.std.specs.Option.{option_map_or}
 use Rattle.std.specs.Result.{result_ok}
 use Rattle.mail_codec.specs.Charset.{Charsets}
@@ -11,18 +11,19 @@ use Rattle.mail_data.specs.PartPlaces.{Place, places}
 use Rattle.mail_extract.specs.Chosen.{is_saved}
 use Rattle.mail_extract.specs.Content.{Content, content}
 use Rattle.mail_extract.specs.Endings.{ending_of}
-use Rattle.mail_extract.specs.Folder.{File, has_file}
-use Rattle.mail_program.specs.Hash.{hash_text}
+use Rattle.mail_extract.specs.Directory.{File, has_file}
+use Rattle.mail_extract.specs.Hash.{wanted_hash}
+use Rattle.mail_extract.specs.declared.hash.Hashing.{Hashing}
 use Rattle.mail_extract.specs.Names.{IsNumbered, wanted_name}
 
--- a file that is to be saved: the path of its part, the name that is wanted, and its content
+-- a file that is to be saved: the path of its part, the wanted name, and its content
 pub record Wanted : Type 0 where
   pub path : List ℕ
   pub name : List ℕ
   pub content : Content
 
--- what became of it: its path, the name under which it was saved if it was, how many bytes it has, their SHA-256 if it is told, and whether there
--- is an error
+-- the outcome: the path, the name under which it was saved, if it was, the number of its bytes, their SHA-256, if it is hashed, and whether there is
+-- an error
 pub record Outcome : Type 0 where
   pub path : List ℕ
   pub saved : Option (List ℕ)
@@ -30,35 +31,35 @@ pub record Outcome : Type 0 where
   pub sha256 : Option (List ℕ)
   pub has_error : Bool
 
--- Of a folder that may fail or not, and the name that is wanted for a file.
+-- For a directory that may fail or not, and the wanted name of a file.
 module _ (can_fail : Bool) (name : List ℕ) where
-  -- the name with each number from there on and below a bound is taken
+  -- the name with each number from `from` onwards and below a bound is taken
   abbrev pub AreTaken : List File → ℕ → ℕ → Type 0
   AreTaken files from bound = (n : ℕ) → from ≤ n → n < bound → (text : List ℕ) × IsNumbered name n text × (has_file text files ≡ true)
 
-  -- a file was saved under the name with the least number from there on that is free; or it was not, since the folder failed or no such number is
-  -- below 2^64 - 1. The next number is the one after it
+  -- a file was saved under the name with the least free number from `from` onwards; or it was not, since the directory failed or no number below
+  -- 2^64 - 1 is free. The next number is the one after it
   abbrev pub IsKeptNumbered : List File → List ℕ → ℕ → Option (List ℕ) → ℕ → List File → Type 0
   IsKeptNumbered files bytes from (Some text) next now =
       (n : ℕ) × (next ≡ n + 1) × (from ≤ n) × AreTaken files from n × IsNumbered name n text × (has_file text files ≡ false)
       × (now ≡ files ++ (text, bytes) ∷ [])
   IsKeptNumbered files bytes from None next now = (now ≡ files) × ((can_fail ≡ true) ⊎ AreTaken files from (2 ^ 64 - 1))
 
-  -- the same under the name itself where that is free
+  -- the same, but under the name itself if that is free
   abbrev pub IsKept : List File → List ℕ → ℕ → Option (List ℕ) → ℕ → List File → Type 0
   IsKept files bytes from saved next now =
       ((has_file name files ≡ false) × (saved ≡ Some name) × (next ≡ from) × (now ≡ files ++ (name, bytes) ∷ []))
       ⊎ ((has_file name files ≡ true) × IsKeptNumbered files bytes from saved next now)
       ⊎ ((can_fail ≡ true) × (saved ≡ None) × (now ≡ files))
 
--- Of a folder that may fail or not, where files are hashed or not.
-module _ (can_fail hashes : Bool) where
-  -- a file was saved, and this was said of it
+-- For a directory that may fail or not, and files that are hashed or not.
+module _ (can_fail : Bool) (hashing : Hashing) where
+  -- a file was saved with this outcome
   pub record IsSaved (files : List File) (wanted : Wanted) (from : ℕ) (outcome : Outcome) (next : ℕ) (now : List File) : Type 0 where
     pub kept : IsKept can_fail wanted.name files wanted.content.bytes from outcome.saved next now
     pub path : outcome.path ≡ wanted.path
     pub size : outcome.size ≡ length wanted.content.bytes
-    pub hash : outcome.sha256 ≡ (if hashes then option_map (λ name. hash_text wanted.content.bytes) outcome.saved else None)
+    pub hash : outcome.sha256 ≡ option_and_then (λ name. wanted_hash hashing wanted.content.bytes) outcome.saved
     pub damaged : is_some wanted.content.refusal ≡ true → outcome.has_error ≡ true
     pub failed : outcome.saved ≡ None → outcome.has_error ≡ true
 
@@ -69,7 +70,7 @@ module _ (can_fail hashes : Bool) where
       (mid : List File) × (number : ℕ) × IsSaved files wanted from outcome number mid × AreSaved mid others number outcomes next now
   AreSaved files _ from _ next now = ⊥
 
--- Under the charsets that are known.
+-- Under the known charsets.
 module _ (known : Charsets) where
   -- a part as it is to be saved
   abbrev pub wanted : Place → Wanted
@@ -88,6 +89,6 @@ module _ (known : Charsets) where
   wanted_inside inner =
       option_map_or (λ t. wanted_among (places_under inner.path t (placements 0 t))) (result_ok (read_mail_in known 100 inner.bytes)) []
 
-  -- the files of a mail whose parts stand there, and then those of the mails inside it, as they are to be saved
+  -- the files of a mail whose parts have these placements, and then those of the mails inside it, as they are to be saved
   abbrev pub wanted_files : Tree → List Placement → List Wanted
   wanted_files t found = wanted_among (places t found) ++ flat_map wanted_inside (inner_mails known 100 [] (Some 0) t found)

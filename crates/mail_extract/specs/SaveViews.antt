@@ -1,4 +1,4 @@
--- What a contract sees of a content, and of a file that was saved or was not.
+-- What a contract sees of a content, and of a file that was saved or could not be.
 use Rattle.std.specs.Prelude.{ℕ, List, Option, Some, None, option_and_then, is_some, string_bytes}
 use Rattle.mailparse.specs.Map.{text_found}
 use Rattle.mailparse.specs.Outcome.{refusal_of}
@@ -9,7 +9,7 @@ use Rattle.mail_extract.specs.declared.save.Kept.{Kept}
 use Rattle.mail_extract.specs.declared.save.Kept.TheVariants.{As, Nowhere}
 use Rattle.mail_extract.specs.declared.save.Saved.{Saved}
 
--- the bytes, and why there are no more
+-- the bytes, and the refusal of the others
 abbrev pub content_view : Content → words.Content
 content_view content = record { bytes = content.bytes.items; refusal = option_and_then refusal_of content.error }
 
@@ -18,7 +18,7 @@ abbrev pub kept_name : Kept → Option (List ℕ)
 kept_name (As name) = Some (string_bytes name)
 kept_name (Nowhere error) = None
 
--- what became of a file
+-- the outcome of saving a file
 abbrev pub outcome : Saved → Outcome
 outcome saved = record {
   path = string_bytes saved.path;

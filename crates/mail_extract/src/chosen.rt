@@ -1,4 +1,4 @@
-//! The parts that are saved.
+//! Which parts are saved.
 ghost use Rattle.std.specs.Prelude.{◌≡◌, Ok};
 ghost use Rattle.mailparse.specs.Mail.{root};
 ghost use Rattle.mailparse.specs.Outcome.{AnswersOrMemory};
@@ -9,7 +9,11 @@ use mail_data::files::{is_attachment, is_leaf};
 use mailparse::{KnownCharsets, MailParseError, ParsedMail};
 use std::alloc::Global;
 
-/// Whether a part is saved, its disposition read under the charsets that are known.
+/// Returns whether a part is saved. Its disposition is read under the known charsets.
+///
+/// # Errors
+///
+/// `MailParseError::Memory` if it runs out of memory.
 pub fn is_saved<K: KnownCharsets>(
     alloc: Global,
     part: &ParsedMail<'_>,
@@ -24,7 +28,7 @@ pub fn is_saved<K: KnownCharsets>(
     is_attachment(alloc, part, known)
 }
 
-/// Whether a part is a text that readers show.
+/// Returns whether a part is a text that mail readers show.
 fn is_shown(part: &ParsedMail<'_>) -> bool
     ensures { result ≡ is_shown (root (tree_of part.now)) }
 {

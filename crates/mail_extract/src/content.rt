@@ -13,7 +13,7 @@ use mailparse::{MailParseError, ParsedMail};
 use std::alloc::Global;
 
 /// The bytes of a file, and why there are no more, where its body is damaged.
-#[derive(Drop)]
+#[derive(Debug, Drop)]
 pub struct Content {
     /// The bytes.
     pub bytes: Vec<u8>,

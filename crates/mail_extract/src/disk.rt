@@ -1,38 +1,38 @@
-//! A folder of the file system.
+//! A directory of the file system.
 ghost use Rattle.std.specs.Prelude.{true, None};
 
-use crate::folder::{Created, Folder};
+use crate::directory::{Created, Directory};
 use std::alloc::AllocError;
 use std::fs::{self, File};
 use std::io::{self, ErrorKind, Write};
 use std::rt::Files;
 
-/// What is said of a file of which a part stays.
-const STAYS: &str = "the file could not be written to its end, and not be removed";
+/// The error of an incomplete file that could not be removed.
+const STAYS: &str = "the file could neither be written completely nor removed";
 
-/// A folder of the file system. No contract sees what it holds.
+/// A directory of the file system. No contract sees its files.
 #[derive(Drop)]
 pub struct Disk<'r, R> {
-    /// What reaches the file system.
+    /// The runtime, for the file system.
     pub rt: &'r R,
-    /// The path of the folder.
+    /// The path of the directory.
     pub path: &'r str,
 }
 
-impl<'r, R: Files + AllocGlobal> Folder for Disk<'r, R> {
+impl<'r, R: Files + AllocGlobal> Directory for Disk<'r, R> {
     ghost held = { λ disk. None };
 
     ghost can_fail = { true };
 
-    /// A file that could not be written to its end is taken away again, or the error says that it is there.
+    /// A file that could not be written completely is removed, or the error says that it is there.
     fn create(&mut self, name: &str, bytes: &[u8]) -> Result<Created, AllocError> {
-        let folder = self.path;
-        let path = format!(in self.rt.alloc(); "{folder}/{name}")?;
+        let directory = self.path;
+        let path = format!(in self.rt.alloc(); "{directory}/{name}")?;
         Ok(write_new(self.rt, path.as_str(), bytes))
     }
 }
 
-/// Makes a file at this path, unless something is there.
+/// Creates a file at this path, unless something is there.
 fn write_new(rt: &impl Files, path: &str, bytes: &[u8]) -> Created {
     let mut file = match File::create_new(rt, path) {
         Ok(file) => file,

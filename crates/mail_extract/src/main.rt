@@ -1,14 +1,14 @@
-//! Saves the files that mails carry: `mail_extract [--into FOLDER] [--hash] [FILE..]`.
+//! Saves the files in mails: `mail_extract [--into DIRECTORY] [--hash] [FILE..]`.
 #![tactic(auto)]
 
 mod chosen;
 mod content;
+mod directory;
 mod disk;
 mod endings;
-mod folder;
 mod hash;
-mod lines;
 mod names;
+mod report;
 mod request;
 mod run;
 mod save;
@@ -20,22 +20,22 @@ use std::process::ExitCode;
 use std::rt::Files;
 
 fn main(rt: HostRuntime) -> ExitCode {
-    let words = match arguments(&rt) {
-        Ok(words) => words,
+    let arguments = match arguments(&rt) {
+        Ok(arguments) => arguments,
         Err(error) => {
             let _ = eprintln!(rt; "mail_extract: the arguments could not be read: {error}");
             return ExitCode::FAILURE;
         }
     };
-    status_of(&rt, "mail_extract", answer(&rt, words.as_slice()))
+    status_of(&rt, "mail_extract", answer(&rt, arguments.as_slice()))
 }
 
-/// Does what the arguments ask for, and returns the status.
+/// Does what the arguments request, and returns the exit status.
 fn answer(
     rt: &(impl Files + Input + Print + Eprint + AllocGlobal),
-    words: &[String],
+    arguments: &[String],
 ) -> Result<ExitCode, Fault> {
-    let request = request_of(rt.alloc(), words)?;
+    let request = request_of(rt.alloc(), arguments)?;
     match request.task {
         Task::Help => rt.print(HELP)?,
         Task::Version => println!(rt; "mail_extract {VERSION}")?,

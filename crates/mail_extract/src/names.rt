@@ -9,11 +9,15 @@ ghost use Rattle.mail_extract.specs.Names.{visible_name, wanted_name};
 use mail_data::files::safe_file_name;
 use std::alloc::{AllocError, Global};
 
-/// The most bytes of a name that stay before a number.
+/// The greatest number of bytes of a name before a number.
 const MOST_STEM: usize = 200;
 
-/// The name that is wanted for a file to which its sender gave this name; one without a name gets
+/// Returns the wanted name of a file with this name from its sender, or of one without a name and with
 /// this ending.
+///
+/// # Errors
+///
+/// If it runs out of memory.
 pub fn wanted_name(alloc: Global, name: Option<String>, ending: &str) -> Result<String, AllocError>
     ensures read { IfOk result (λ text.
         string_bytes text ≡ wanted_name (text_found name) ending.now) }
@@ -29,7 +33,7 @@ pub fn wanted_name(alloc: Global, name: Option<String>, ending: &str) -> Result<
     }
 }
 
-/// A name made safe, after `_` where it begins with `.` or `-`.
+/// Returns a safe name, with `_` before one that begins with `.` or `-`.
 #[tactic(auto, unfolding(crate::specs::Names::visible_name))]
 fn visible_name(alloc: Global, name: &str) -> Result<String, AllocError>
     ensures read { IfOk result (λ text. string_bytes text ≡ visible_name name.now) }
@@ -44,7 +48,7 @@ fn visible_name(alloc: Global, name: &str) -> Result<String, AllocError>
     Ok(safe)
 }
 
-/// Whether a name begins with `.` or `-`.
+/// Returns whether a name begins with `.` or `-`.
 fn is_refused_first(name: &[u8]) -> bool
     ensures { result ≡ begins is_refused_first name.now }
 {
@@ -54,7 +58,11 @@ fn is_refused_first(name: &[u8]) -> bool
     }
 }
 
-/// A name with a hyphen and a number before its ending.
+/// Returns a name with a hyphen and a number before its ending.
+///
+/// # Errors
+///
+/// If it runs out of memory.
 pub fn numbered(alloc: Global, name: &str, number: u64) -> Result<String, AllocError>
     ensures read { IfOk result (λ text. IsNumbered name.now number (string_bytes text)) }
     ensures safe { IfOk result (λ text. IsSafeName (string_bytes text)) }
@@ -72,7 +80,7 @@ pub fn numbered(alloc: Global, name: &str, number: u64) -> Result<String, AllocE
     }
 }
 
-/// A text with a hyphen and a number before an ending.
+/// Returns a text with a hyphen and a number before an ending.
 fn numbered_before(
     alloc: Global,
     stem: &str,

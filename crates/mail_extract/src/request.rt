@@ -1,35 +1,36 @@
-//! What the arguments ask for.
+//! What the arguments request.
 
+use crate::hash::Hashing;
 use mail_program::Word;
 use std::alloc::{AllocError, Global};
 
 /// What `--help` prints.
-pub const HELP: &str = "Saves the files that mails carry, and writes a line of JSON for each.
+pub const HELP: &str = "Saves the files in mails, and writes a line of JSON for each.
 
     mail_extract [OPTION..] < INPUT      those of the mail or the mailbox on standard input
     mail_extract [OPTION..] FILE..       those of each file; `-` is standard input
 
-An input that begins with a separator of a mailbox is a mailbox, any other is one mail.
+An input that begins with a mailbox separator is a mailbox, any other is one mail.
 
-    --into FOLDER                where to save, the current folder if it is left out
-    --hash                       give each line the SHA-256 of the bytes that were saved
+    --into DIRECTORY             where to save; the current directory by default
+    --hash                       give each line the SHA-256 of the saved bytes
     --version, --help            print the version, or this help
-    --                           what follows are names of files
+    --                           the arguments after it are names of files
 
-A file is saved under the name that its sender gave it, made safe; where that is taken, with a
-number. Nothing is written over. Parts without a name are saved too, but for plain text and HTML,
-and so are forwarded mails and the files in them. A file whose Base64 is damaged is saved up to the
-damage, and its line has an `error`; so has that of a mail that is refused and of an input that
-cannot be read.
-The status is 0 where all was saved, 3 where mails were refused or files were damaged, 1 where
-something could not be read, saved or written, and 2 where the arguments are wrong.
+A file is saved under the name that its sender gave it, made safe. If that is taken, a number is
+added. No file is overwritten. Parts without a name are saved too, except plain text and HTML, and
+so are forwarded mails and the files in them. A file with damaged Base64 is saved up to the damage,
+and its line has an `error`. So has the line of a mail that is refused, and of an input that cannot
+be read.
+The exit status is 0 if everything was saved, 3 if mails were refused or files were damaged, 1 if
+something could not be read, saved or written, and 2 if the arguments are wrong.
 ";
 
 /// What wrong arguments print.
-pub const USAGE: &str = "usage: mail_extract [--into FOLDER] [--hash] [FILE..]";
+pub const USAGE: &str = "usage: mail_extract [--into DIRECTORY] [--hash] [FILE..]";
 
 /// What a run is to do.
-#[derive(Clone, Copy, PartialEq, Eq)]
+#[derive(Clone, Copy, Debug, PartialEq, Eq)]
 pub enum Task {
     /// Save the files of the inputs.
     Save,
@@ -37,61 +38,65 @@ pub enum Task {
     Help,
     /// Print the version.
     Version,
-    /// Say how the program is called.
+    /// Print the usage.
     Wrong,
 }
 
-/// What the arguments ask for.
-#[derive(Drop)]
-pub struct Request<'w> {
+/// What the arguments request.
+#[derive(Debug, Drop)]
+pub struct Request<'a> {
     /// What the run is to do.
     pub task: Task,
     /// Where to save.
-    pub folder: &'w str,
-    /// Whether lines have the SHA-256 of what was saved.
-    pub hashes: bool,
+    pub directory: &'a str,
+    /// Whether saved files are hashed.
+    pub hashing: Hashing,
     /// The inputs: `None` for standard input, otherwise a file.
-    pub inputs: Vec<Option<&'w str>>,
-    /// Whether the next word is the folder.
-    is_folder_next: bool,
-    /// Whether `--` came.
+    pub inputs: Vec<Option<&'a str>>,
+    /// Whether the next argument is the directory.
+    is_directory_next: bool,
+    /// Whether the arguments are names of files, after `--`.
     are_names: bool,
 }
 
-/// What these arguments ask for: the first that asks for help, for the version, or is wrong decides.
-pub fn request_of<'w>(alloc: Global, words: &'w [String]) -> Result<Request<'w>, AllocError> {
+/// Returns what the arguments request. The first that is wrong or requests help or the version decides.
+///
+/// # Errors
+///
+/// If it runs out of memory.
+pub fn request_of<'a>(alloc: Global, arguments: &'a [String]) -> Result<Request<'a>, AllocError> {
     let mut request = Request {
         task: Task::Save,
-        folder: ".",
-        hashes: false,
+        directory: ".",
+        hashing: Hashing::Off,
         inputs: Vec::new(alloc),
-        is_folder_next: false,
+        is_directory_next: false,
         are_names: false,
     };
-    for word in words {
-        request.take(word.as_str())?;
+    for argument in arguments {
+        request.take(argument.as_str())?;
     }
-    if request.is_folder_next {
+    if request.is_directory_next {
         request.decide(Task::Wrong);
     }
     Ok(request)
 }
 
-impl<'w> Request<'w> {
-    /// Takes the next word.
-    fn take(&mut self, word: &'w str) -> Result<(), AllocError> {
-        if self.is_folder_next && !word.is_empty() {
-            self.is_folder_next = false;
-            self.folder = word;
+impl<'a> Request<'a> {
+    /// Takes the next argument.
+    fn take(&mut self, argument: &'a str) -> Result<(), AllocError> {
+        if self.is_directory_next && !argument.is_empty() {
+            self.is_directory_next = false;
+            self.directory = argument;
             return Ok(());
         }
-        match Word::new(word, self.are_names) {
+        match Word::new(argument, self.are_names) {
             Word::Help => self.decide(Task::Help),
             Word::Version => self.decide(Task::Version),
             Word::Empty => self.decide(Task::Wrong),
             Word::Names => self.are_names = true,
-            Word::Option("--into") => self.is_folder_next = true,
-            Word::Option("--hash") => self.hashes = true,
+            Word::Option("--into") => self.is_directory_next = true,
+            Word::Option("--hash") => self.hashing = Hashing::On,
             Word::Option(_) => self.decide(Task::Wrong),
             Word::Input => self.inputs.push(None)?,
             Word::File(name) => self.inputs.push(Some(name))?,
@@ -99,7 +104,7 @@ impl<'w> Request<'w> {
         Ok(())
     }
 
-    /// Sets what the run is to do, unless an earlier word has.
+    /// Sets what the run is to do, unless an earlier argument has.
     fn decide(&mut self, task: Task) {
         if self.task == Task::Save {
             self.task = task;

@@ -1,7 +1,8 @@
 //! A run over the inputs.
 
 use crate::disk::Disk;
-use crate::lines::{Line, write_line};
+use crate::hash::Hashing;
+use crate::report::{Line, write_line};
 use crate::request::Request;
 use crate::save::{Saved, save_files};
 use mail_charsets::AllCharsets;
@@ -13,29 +14,31 @@ use std::fs;
 use std::io::{self, BufWriter, ErrorKind, Read, Write};
 use std::rt::Files;
 
-/// The first number that a name gets that is taken.
+/// The first number that is added to a taken name.
 const FIRST_NUMBER: u64 = 2;
 
-/// Saves the files of the inputs that are asked for, and reports on standard error what could not
-/// be read.
+/// Saves the files of the requested inputs. Reports inputs that cannot be read on standard error.
 ///
 /// # Errors
 ///
-/// `Fault::Output` where a write fails, and `Fault::Mail` where memory runs out.
+/// `Fault::Output` if a write fails, and `Fault::Mail` if it runs out of memory.
 pub fn run(
     rt: &(impl Files + Input + Print + Eprint + AllocGlobal),
     request: &Request<'_>,
 ) -> Result<Outcome, Fault> {
-    let folder = request.folder;
-    if let Err(error) = check_folder(rt, folder) {
-        let _ = eprintln!(rt; "mail_extract: {folder}: {error}");
+    let directory = request.directory;
+    if let Err(error) = check_directory(rt, directory) {
+        let _ = eprintln!(rt; "mail_extract: {directory}: {error}");
         return Ok(Outcome::Failed);
     }
     let mut saver = Saver {
         rt,
-        disk: Disk { rt, path: folder },
+        disk: Disk {
+            rt,
+            path: directory,
+        },
         number: FIRST_NUMBER,
-        hashes: request.hashes,
+        hashing: request.hashing,
         known: AllCharsets::standard(),
         out: BufWriter::new(rt.alloc(), io::writer(rt))?,
     };
@@ -54,8 +57,8 @@ pub fn run(
     Ok(outcome)
 }
 
-/// Refuses a path that is no folder.
-fn check_folder(rt: &impl Files, path: &str) -> io::Result<()> {
+/// Refuses a path that is no directory.
+fn check_directory(rt: &impl Files, path: &str) -> io::Result<()> {
     if fs::metadata(rt, path)?.is_dir() {
         Ok(())
     } else {
@@ -63,25 +66,25 @@ fn check_folder(rt: &impl Files, path: &str) -> io::Result<()> {
     }
 }
 
-/// What saves: where it saves files, and where it writes their lines.
+/// The state of a run.
 #[derive(Drop)]
 struct Saver<'r, R, W> {
-    /// What reaches files and standard error.
+    /// The runtime, for files and standard error.
     rt: &'r R,
-    /// The folder that files are saved into.
+    /// The directory in which files are saved.
     disk: Disk<'r, R>,
-    /// The next number for a name that is taken.
+    /// The next number for a taken name.
     number: u64,
-    /// Whether lines have the SHA-256 of what was saved.
-    hashes: bool,
-    /// The charsets that mails are read in.
+    /// Whether saved files are hashed.
+    hashing: Hashing,
+    /// The charsets in which mails are read.
     known: AllCharsets,
-    /// What takes the lines.
+    /// The writer of the lines.
     out: W,
 }
 
 impl<'r, R: Files + Eprint + AllocGlobal, W: Write> Saver<'r, R, W> {
-    /// Saves the files of the mails of a file.
+    /// Saves the files of the mails in a file.
     fn save_file(&mut self, name: &str) -> Result<Outcome, Fault> {
         match fs::open(self.rt, name) {
             Ok(mut file) => self.save_input(Some(name), &mut file),
@@ -89,7 +92,7 @@ impl<'r, R: Files + Eprint + AllocGlobal, W: Write> Saver<'r, R, W> {
         }
     }
 
-    /// Saves the files of the mails of an input: of one mail, or of those of a mailbox.
+    /// Saves the files of an input: of one mail, or of each mail of a mailbox.
     fn save_input<I: Read>(
         &mut self,
         file: Option<&str>,
@@ -105,15 +108,15 @@ impl<'r, R: Files + Eprint + AllocGlobal, W: Write> Saver<'r, R, W> {
             return self.save_mail(file, None, input.as_slice());
         }
         let mut outcome = Outcome::Clean;
-        let mut place = 0usize;
+        let mut number = 0usize;
         for entry in mails {
-            place = place.saturating_add(1);
-            outcome = outcome.and(self.save_mail(file, Some(place), entry.mail())?);
+            number = number.saturating_add(1);
+            outcome = outcome.and(self.save_mail(file, Some(number), entry.mail())?);
         }
         Ok(outcome)
     }
 
-    /// Writes the line of an input that could not be read, and says the same on standard error.
+    /// Reports an input that could not be read, in a line and on standard error.
     fn fail(&mut self, file: Option<&str>, error: &io::Error) -> Result<Outcome, Fault> {
         let text = format!(in self.rt.alloc(); "{error}")?;
         let name = file.unwrap_or("input failed");
@@ -137,8 +140,8 @@ impl<'r, R: Files + Eprint + AllocGlobal, W: Write> Saver<'r, R, W> {
                     alloc,
                     &mut self.disk,
                     number,
-                    self.hashes,
                     &parsed,
+                    self.hashing,
                     &self.known,
                 )?;
                 let saved = self.write_lines(file, mail, extracted.saved.as_slice())?;
@@ -153,7 +156,7 @@ impl<'r, R: Files + Eprint + AllocGlobal, W: Write> Saver<'r, R, W> {
         }
     }
 
-    /// Writes the lines of the mails inside a mail that are refused.
+    /// Writes the lines of the refused mails inside a mail.
     fn write_refused(
         &mut self,
         file: Option<&str>,
@@ -171,8 +174,8 @@ impl<'r, R: Files + Eprint + AllocGlobal, W: Write> Saver<'r, R, W> {
         Ok(outcome)
     }
 
-    /// Writes the line of an error that is none of a file, with the path of the part that holds the
-    /// mail inside a mail that is refused.
+    /// Writes the line of an input or a mail that is refused. `path` is the part that contains the mail,
+    /// for one inside a mail.
     fn write_error<'l>(
         &mut self,
         file: Option<&'l str>,
@@ -217,7 +220,7 @@ impl<'r, R: Files + Eprint + AllocGlobal, W: Write> Saver<'r, R, W> {
     }
 }
 
-/// How the saving of a file went.
+/// Returns the outcome of saving a file.
 fn outcome_of(saved: &Saved) -> Outcome {
     match (&saved.name, &saved.error) {
         (None, _) => Outcome::Failed,

@@ -1,4 +1,4 @@
-//! Saving the files of a mail into a folder.
+//! Saving the files of a mail in a directory.
 ghost use Rattle.std.specs.Prelude.{◌≡◌, ◌++◌, [], List, Some, is_some, map, option_map, string_bytes, All, IfErr, IfOk, IfSome, OnOk};
 ghost use Rattle.std.specs.Result.{result_ok};
 ghost use Rattle.mailparse.specs.Mail.{read_mail_in};
@@ -9,16 +9,16 @@ ghost use Rattle.mail_data.specs.FileNames.{IsSafeName};
 ghost use Rattle.mail_data.specs.InnerMails.{inner_mails};
 ghost use Rattle.mail_data.specs.InnerMailViews.{inner_view};
 ghost use Rattle.mail_data.specs.PlaceViews.{place_view};
-ghost use Rattle.mail_extract.specs.Folder.{File};
+ghost use Rattle.mail_extract.specs.Directory.{File};
 ghost use Rattle.mail_extract.specs.Save.{AreSaved, IsKept, IsKeptNumbered, IsSaved, Outcome};
 ghost use Rattle.mail_extract.specs.Save.{wanted, wanted_among, wanted_files, wanted_inside};
 ghost use Rattle.mail_extract.specs.SaveViews.{kept_name, outcome};
 
 use crate::chosen::is_saved;
 use crate::content::content_of;
+use crate::directory::{Created, Directory};
 use crate::endings::ending_of;
-use crate::folder::{Created, Folder};
-use crate::hash::hash_if;
+use crate::hash::{Hashing, wanted_hash};
 use crate::names::{numbered, wanted_name};
 use mail_data::files::file_name;
 use mail_data::inner_mails::{InnerMail, inner_mails, places_under};
@@ -27,57 +27,56 @@ use mailparse::{KnownCharsets, MailParseError, ParsedMail, parse_mail_in};
 use std::alloc::{AllocError, Global};
 use std::io::{self, ErrorKind};
 
-/// What became of the files of a mail.
+/// The files of a mail, after saving them.
 #[derive(Drop)]
 pub struct Extracted {
-    /// Each file: those of the mail itself, then those of each mail inside it.
+    /// The files of the mail itself, then those of each mail inside it.
     pub saved: Vec<Saved>,
-    /// The mails inside it, among them those that are refused.
+    /// The mails inside it, including those that are refused.
     pub inside: Vec<InnerMail>,
 }
 
-/// What became of a file of a mail.
-#[derive(Drop)]
+/// A file of a mail that was saved or could not be.
+#[derive(Debug, Drop)]
 pub struct Saved {
-    /// Where its part stands in the mail, as IMAP numbers parts.
+    /// The path of its part in the mail, as IMAP numbers parts.
     pub path: String,
-    /// The name under which it was saved, if it was.
+    /// The name under which it was saved, or `None`.
     pub name: Option<String>,
-    /// How many bytes could be read of it.
+    /// The number of bytes that could be read.
     pub size: usize,
-    /// The SHA-256 of the bytes that were saved, in hexadecimal, if that is wanted.
+    /// The SHA-256 of the saved bytes in hexadecimal, if files are hashed.
     pub sha256: Option<String>,
-    /// Why it was not saved, or not wholly.
+    /// Why it was not saved, or not completely.
     pub error: Option<String>,
 }
 
-/// Where bytes were kept.
-#[derive(Drop)]
+/// The result of saving bytes.
+#[derive(Debug, Drop)]
 enum Kept {
-    /// Under this name.
+    /// They were saved under this name.
     As(String),
-    /// Nowhere, for this reason.
+    /// They were not saved.
     Nowhere(io::Error),
 }
 
-/// Saves the files of a mail and of the mails inside it into a folder, their names read under the
-/// charsets that are known. A name that is taken gets a number, the next one to be tried. Where it
-/// is wanted, files are hashed.
+/// Saves the files of a mail and of the mails inside it in a directory. File names are decoded under
+/// the known charsets. If a name is taken, a number is added to it; `number` is the next to be tried.
 ///
 /// # Errors
 ///
-/// `MailParseError::Memory` where it runs out of memory.
-pub fn save_files<F: Folder, K: KnownCharsets>(
+/// `MailParseError::Memory` if it runs out of memory.
+pub fn save_files<D: Directory, K: KnownCharsets>(
     alloc: Global,
-    folder: &mut F,
+    directory: &mut D,
     number: &mut u64,
-    hashes: bool,
     mail: &ParsedMail<'_>,
+    hashing: Hashing,
     known: &K,
 ) -> Result<Extracted, MailParseError>
-    ensures saved { IfOk result (λ extracted. (files : List File) → F.held folder.old ≡ Some files →
-        (now : List File) × (F.held folder.new ≡ Some now)
-        × AreSaved F.can_fail hashes files
+    ensures saved { IfOk result (λ extracted. (files : List File) → D.held directory.old ≡ Some files →
+        (now : List File) × (D.held directory.new ≡ Some now)
+        × AreSaved D.can_fail hashing files
         (wanted_files (K.known known.now) (tree_of mail.now) (placements_of mail.now))
         number.old (map outcome extracted.saved.items) number.new now) }
     ensures inside { IfOk result (λ extracted. map inner_view extracted.inside.items
@@ -93,34 +92,34 @@ pub fn save_files<F: Folder, K: KnownCharsets>(
     let mut saved = Vec::new(alloc);
     save_places(
         alloc,
-        folder,
+        directory,
         number,
-        hashes,
-        found.as_slice(),
-        known,
         &mut saved,
+        found.as_slice(),
+        hashing,
+        known,
     )?;
     for inner in &inside {
-        save_inner(alloc, folder, number, hashes, inner, known, &mut saved)?;
+        save_inner(alloc, directory, number, &mut saved, inner, hashing, known)?;
     }
     Ok(Extracted { saved, inside })
 }
 
-/// Saves the files of a mail inside a mail, unless it is refused, and adds what became of them.
-fn save_inner<F: Folder, K: KnownCharsets>(
+/// Saves the files of a mail inside a mail, unless it is refused, and adds them to `saved`.
+fn save_inner<D: Directory, K: KnownCharsets>(
     alloc: Global,
-    folder: &mut F,
+    directory: &mut D,
     number: &mut u64,
-    hashes: bool,
-    inner: &InnerMail,
-    known: &K,
     saved: &mut Vec<Saved>,
+    inner: &InnerMail,
+    hashing: Hashing,
+    known: &K,
 ) -> Result<(), MailParseError>
-    ensures saved { OnOk result ((files : List File) → F.held folder.old ≡ Some files →
-        (now : List File) × (F.held folder.new ≡ Some now)
+    ensures saved { OnOk result ((files : List File) → D.held directory.old ≡ Some files →
+        (now : List File) × (D.held directory.new ≡ Some now)
         × (outcomes : List Outcome)
         × (map outcome saved.new.items ≡ map outcome saved.old.items ++ outcomes)
-        × AreSaved F.can_fail hashes files
+        × AreSaved D.can_fail hashing files
         (wanted_inside (K.known known.now) (inner_view inner.now))
         number.old outcomes number.new now) }
     ensures safe { All (λ file. IfSome file.name (λ name. IsSafeName (string_bytes name)))
@@ -134,12 +133,12 @@ fn save_inner<F: Folder, K: KnownCharsets>(
             let found = places_under(alloc, &mail, inner.path.as_str())?;
             save_places(
                 alloc,
-                folder,
+                directory,
                 number,
-                hashes,
-                found.as_slice(),
-                known,
                 saved,
+                found.as_slice(),
+                hashing,
+                known,
             )?;
             Ok(())
         }
@@ -147,7 +146,7 @@ fn save_inner<F: Folder, K: KnownCharsets>(
     }
 }
 
-/// A mail inside a mail, read, unless it is refused.
+/// Reads a mail inside a mail. Returns `None` if it is refused.
 fn mail_of<'i, K: KnownCharsets>(
     alloc: Global,
     inner: &'i InnerMail,
@@ -166,21 +165,21 @@ fn mail_of<'i, K: KnownCharsets>(
     }
 }
 
-/// Saves the files among some parts, and adds what became of them.
-fn save_places<F: Folder, K: KnownCharsets>(
+/// Saves the files among some parts and adds them to `saved`.
+fn save_places<D: Directory, K: KnownCharsets>(
     alloc: Global,
-    folder: &mut F,
+    directory: &mut D,
     number: &mut u64,
-    hashes: bool,
-    places: &[Place<'_, '_>],
-    known: &K,
     saved: &mut Vec<Saved>,
+    places: &[Place<'_, '_>],
+    hashing: Hashing,
+    known: &K,
 ) -> Result<(), MailParseError>
-    ensures saved { OnOk result ((files : List File) → F.held folder.old ≡ Some files →
-        (now : List File) × (F.held folder.new ≡ Some now)
+    ensures saved { OnOk result ((files : List File) → D.held directory.old ≡ Some files →
+        (now : List File) × (D.held directory.new ≡ Some now)
         × (outcomes : List Outcome)
         × (map outcome saved.new.items ≡ map outcome saved.old.items ++ outcomes)
-        × AreSaved F.can_fail hashes files
+        × AreSaved D.can_fail hashing files
         (wanted_among (K.known known.now) (map place_view places.now))
         number.old outcomes number.new now) }
     ensures safe { All (λ file. IfSome file.name (λ name. IsSafeName (string_bytes name)))
@@ -191,24 +190,24 @@ fn save_places<F: Folder, K: KnownCharsets>(
 {
     for place in places {
         if is_saved(alloc, place.part, known)? {
-            saved.push(save_file(alloc, folder, number, hashes, place, known)?)?;
+            saved.push(save_file(alloc, directory, number, place, hashing, known)?)?;
         }
     }
     Ok(())
 }
 
 /// Saves a file.
-fn save_file<F: Folder, K: KnownCharsets>(
+fn save_file<D: Directory, K: KnownCharsets>(
     alloc: Global,
-    folder: &mut F,
+    directory: &mut D,
     number: &mut u64,
-    hashes: bool,
     place: &Place<'_, '_>,
+    hashing: Hashing,
     known: &K,
 ) -> Result<Saved, MailParseError>
-    ensures saved { IfOk result (λ saved. (files : List File) → F.held folder.old ≡ Some files →
-        (now : List File) × (F.held folder.new ≡ Some now)
-        × IsSaved F.can_fail hashes files (wanted (K.known known.now) (place_view place.now))
+    ensures saved { IfOk result (λ saved. (files : List File) → D.held directory.old ≡ Some files →
+        (now : List File) × (D.held directory.new ≡ Some now)
+        × IsSaved D.can_fail hashing files (wanted (K.known known.now) (place_view place.now))
         number.old (outcome saved) number.new now) }
     ensures safe { IfOk result (λ saved.
         IfSome saved.name (λ name. IsSafeName (string_bytes name))) }
@@ -218,8 +217,8 @@ fn save_file<F: Folder, K: KnownCharsets>(
     let name = file_name(alloc, place.part, known)?;
     let wanted = wanted_name(alloc, name, ending_of(place.part))?;
     let bytes = content.bytes.as_slice();
-    let sha256 = hash_if(alloc, hashes, bytes)?;
-    let kept = keep(alloc, folder, number, wanted, bytes)?;
+    let sha256 = wanted_hash(alloc, bytes, hashing)?;
+    let kept = keep(alloc, directory, number, wanted, bytes)?;
     let path = String::from_str(alloc, place.path.as_str())?;
     let size = bytes.len();
     match kept {
@@ -246,7 +245,7 @@ fn save_file<F: Folder, K: KnownCharsets>(
     }
 }
 
-/// The text of an error.
+/// Returns the text of an error.
 fn text_of(alloc: Global, error: Option<MailParseError>) -> Result<Option<String>, AllocError>
     ensures { IfOk result (λ text. is_some text ≡ is_some error) }
 {
@@ -256,46 +255,46 @@ fn text_of(alloc: Global, error: Option<MailParseError>) -> Result<Option<String
     }
 }
 
-/// Makes a file of this name, or where that is taken, of the name with the next free number.
-fn keep<F: Folder>(
+/// Creates a file with this name, or if that is taken, with the name and the next free number.
+fn keep<D: Directory>(
     alloc: Global,
-    folder: &mut F,
+    directory: &mut D,
     number: &mut u64,
     name: String,
     bytes: &[u8],
 ) -> Result<Kept, AllocError>
     requires { IsSafeName (string_bytes name) }
-    ensures kept { IfOk result (λ kept. (files : List File) → F.held folder.old ≡ Some files →
-        (now : List File) × (F.held folder.new ≡ Some now)
-        × IsKept F.can_fail (string_bytes name) files bytes.now number.old
+    ensures kept { IfOk result (λ kept. (files : List File) → D.held directory.old ≡ Some files →
+        (now : List File) × (D.held directory.new ≡ Some now)
+        × IsKept D.can_fail (string_bytes name) files bytes.now number.old
         (kept_name kept) number.new now) }
     ensures safe { IfOk result (λ kept. IfSome (kept_name kept) IsSafeName) }
 {
-    match folder.create(name.as_str(), bytes)? {
+    match directory.create(name.as_str(), bytes)? {
         Created::Made => Ok(Kept::As(name)),
-        Created::Taken => keep_numbered(alloc, folder, number, name.as_str(), bytes),
+        Created::Taken => keep_numbered(alloc, directory, number, name.as_str(), bytes),
         Created::Failed(error) => Ok(Kept::Nowhere(error)),
     }
 }
 
-/// Makes a file of this name with the next free number.
-fn keep_numbered<F: Folder>(
+/// Creates a file with this name and the next free number.
+fn keep_numbered<D: Directory>(
     alloc: Global,
-    folder: &mut F,
+    directory: &mut D,
     number: &mut u64,
     name: &str,
     bytes: &[u8],
 ) -> Result<Kept, AllocError>
-    ensures kept { IfOk result (λ kept. (files : List File) → F.held folder.old ≡ Some files →
-        (now : List File) × (F.held folder.new ≡ Some now)
-        × IsKeptNumbered F.can_fail name.now files bytes.now number.old
+    ensures kept { IfOk result (λ kept. (files : List File) → D.held directory.old ≡ Some files →
+        (now : List File) × (D.held directory.new ≡ Some now)
+        × IsKeptNumbered D.can_fail name.now files bytes.now number.old
         (kept_name kept) number.new now) }
     ensures safe { IfOk result (λ kept. IfSome (kept_name kept) IsSafeName) }
 {
     for next in *number..u64::MAX {
         *number = next + 1;
         let name = numbered(alloc, name, next)?;
-        match folder.create(name.as_str(), bytes)? {
+        match directory.create(name.as_str(), bytes)? {
             Created::Made => return Ok(Kept::As(name)),
             Created::Taken => {}
             Created::Failed(error) => return Ok(Kept::Nowhere(error)),

@@ -7,7 +7,7 @@ use Rattle.mail_data.specs.Files.{file_name_in}
 use Rattle.mail_extract.specs.Names.{wanted_name}
 use Rattle.mail_extract.specs.Save.{wanted}
 use Rattle.mail_extract.specs.SaveViews.{content_view, kept_name}
-use Rattle.mail_extract.proofs.lemmas.Save.{hash_kept, none_either, read_value, saved_file, some_of}
+use Rattle.mail_extract.proofs.lemmas.Save.{hash_kept, read_value, saved_file, some_of}
 use Rattle.mail_extract.proofs.save.save_file.Goals as goal
 
 pub returns-in_ok-error-in-As-clause-saved : goal.returns-in_ok-error-in-As-clause-saved
@@ -19,11 +19,11 @@ returns-in_ok-error-in-As-clause-saved g c = λ files e.
     ∙ ap (wanted_name (file_name_in known node)) c.ending_of.ensures in
     let path = c.in_ok-path.ensures.ok ∙ c.as_str.ensures.value in
     let is = sym (read_value _ _ c.in_ok-content.ensures) in
-    let hash = c.in_ok-sha256.ensures ∙ ap (λ (b : List ℕ). hash_kept c.args.hashes (Some (string_bytes c.in-As.name)) b) c.as_slice-bytes.ensures.value in
+    let hash = c.in_ok-sha256.ensures ∙ ap (λ (b : List ℕ). hash_kept c.args.hashing (Some (string_bytes c.in-As.name)) b) c.as_slice-bytes.ensures.value in
     let size = ap (λ (b : List ℕ). length b) c.as_slice-bytes.ensures.value in (
       kept.0,
       kept.1,
-      saved_file g.F.Folder.can_fail c.args.hashes files kept.0 (wanted known (place_view c.args.place.now)) c.args.number.now c.keep.new.number _ _ _ _ _
+      saved_file g.D.Directory.can_fail c.args.hashing files kept.0 (wanted known (place_view c.args.place.now)) c.args.number.now c.keep.new.number _ _ _ _ _
           (Some (string_bytes c.in-As.name)) _ (content_view c.in_ok-content.content) _ name is c.as_slice-bytes.ensures.value (ap kept_name c.in-As.is) path size hash
           (λ some. c.in_ok-error-in-As.ensures ∙ some_of refusal_of c.in_ok-content.content.error some) (λ none. cc) kept.2,
     )
@@ -40,8 +40,7 @@ returns-in_ok-error-in-Nowhere-clause-saved g c = λ files e.
     let size = ap (λ (b : List ℕ). length b) c.as_slice-bytes.ensures.value in (
       kept.0,
       kept.1,
-      saved_file g.F.Folder.can_fail c.args.hashes files kept.0 (wanted known (place_view c.args.place.now)) c.args.number.now c.keep.new.number _ _ _ _ _ None None
+      saved_file g.D.Directory.can_fail c.args.hashing files kept.0 (wanted known (place_view c.args.place.now)) c.args.number.now c.keep.new.number _ _ _ _ _ None None
           (content_view c.in_ok-content.content) _ name is c.as_slice-bytes.ensures.value (ap kept_name c.in-Nowhere.is) path size
-          (none_either c.args.hashes) (λ some. refl)
-          (λ none. refl) kept.2,
+          refl (λ some. refl) (λ none. refl) kept.2,
     )

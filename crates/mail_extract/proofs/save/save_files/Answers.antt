@@ -28,7 +28,7 @@ loop-inner-init g c =
           let first = c.in_ok-save_places.ensures.saved files e in (
             first.0,
             first.1,
-            saved_first g.F.Folder.can_fail c.args.hashes files all c.args.number.now _ others first.2 _ c.save_places.new.number first.0
+            saved_first g.D.Directory.can_fail c.args.hashing files all c.args.number.now _ others first.2 _ c.save_places.new.number first.0
                 (ap (λ (ws : List Wanted). ws ++ others) own ∙ ap (λ (mails : List InnerMail). wanted_among known (places (tree_of c.args.mail.now) (placements_of c.args.mail.now)) ++ flat_map (wanted_inside known) mails) inside)
                 (first.3 ∙ ap (λ saved. map outcome saved ++ first.2) c.new-saved.ensures.items) first.4,
           );
@@ -48,7 +48,7 @@ loop-inner-preserved g c =
           let some = c.in_ok-save_inner.ensures.saved here.0 here.1 in (
             some.0,
             some.1,
-            inner_more g.F.Folder.can_fail c.args.hashes files (wanted_files known (tree_of c.args.mail.now) (placements_of c.args.mail.now)) c.args.number.now known _
+            inner_more g.D.Directory.can_fail c.args.hashing files (wanted_files known (tree_of c.args.mail.now) (placements_of c.args.mail.now)) c.args.number.now known _
                 (map inner_view (drop (i + 1) items)) (inner_view c.inner-item.result) (map outcome c.loop-inner.saved.items) some.2 _ c.loop-inner.number
                 c.save_inner.new.number here.0 some.0 left some.3 some.4 here.2,
           );
@@ -62,6 +62,6 @@ returns-clause-saved g c = λ files e.
     let here = c.loop-inner.invariant.all files e in (
       here.0,
       here.1,
-      saved_end g.F.Folder.can_fail c.args.hashes files (wanted_files known (tree_of c.args.mail.now) (placements_of c.args.mail.now)) c.args.number.now
+      saved_end g.D.Directory.can_fail c.args.hashing files (wanted_files known (tree_of c.args.mail.now) (placements_of c.args.mail.now)) c.args.number.now
           (map outcome c.loop-inner.saved.items) _ c.loop-inner.number here.0 (ap (λ mails. flat_map (wanted_inside known) (map inner_view mails)) none) here.2,
     )

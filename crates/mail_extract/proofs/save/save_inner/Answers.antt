@@ -23,7 +23,7 @@ returns-in_ok-save_places-in-Some-clause-saved g c = λ files e.
       some.1,
       some.2,
       some.3,
-      subst (λ (ws : List Wanted). AreSaved g.F.Folder.can_fail c.args.hashes files ws c.args.number.now some.2 c.save_places.new.number some.0) same some.4,
+      subst (λ (ws : List Wanted). AreSaved g.D.Directory.can_fail c.args.hashing files ws c.args.number.now some.2 c.save_places.new.number some.0) same some.4,
     )
 
 pub returns-in-None-clause-saved : goal.returns-in-None-clause-saved
@@ -35,6 +35,6 @@ returns-in-None-clause-saved g c = λ files e.
       e,
       [],
       sym (append-nil _),
-      subst (λ (ws : List Wanted). AreSaved g.F.Folder.can_fail c.args.hashes files ws c.args.number.now [] c.args.number.now files) (inside_refused known inner read)
+      subst (λ (ws : List Wanted). AreSaved g.D.Directory.can_fail c.args.hashing files ws c.args.number.now [] c.args.number.now files) (inside_refused known inner read)
           (refl, refl),
     )

@@ -30,12 +30,12 @@ loop-place-preserved g c =
                 let here = c.loop-place.invariant.all files e in
                 let one = w.in_ok-save_file.ensures.saved here.0 here.1 in (
                   one.0,
-                  ap (λ folder. g.F.Folder.held folder) w.folder-is ∙ one.1,
+                  ap (λ directory. g.D.Directory.held directory) w.directory-is ∙ one.1,
                   here.2 ++ outcome file ∷ [],
                   ap (λ saved. map outcome saved.items) w.saved-is ∙ made_more outcome _ _ file _ here.2 w.in_ok-push.ensures.items here.3,
-                  subst (λ (n : ℕ). Continues g.F.Folder.can_fail c.args.hashes files all c.args.number.now (here.2 ++ outcome file ∷ []) (wanted_among known rest) n one.0)
+                  subst (λ (n : ℕ). Continues g.D.Directory.can_fail c.args.hashing files all c.args.number.now (here.2 ++ outcome file ∷ []) (wanted_among known rest) n one.0)
                       (sym w.number-is)
-                      (place_more g.F.Folder.can_fail c.args.hashes files all c.args.number.now known _ rest place here.2 c.loop-place.number
+                      (place_more g.D.Directory.can_fail c.args.hashing files all c.args.number.now known _ rest place here.2 c.loop-place.number
                       w.save_file.new.number here.0 one.0 (outcome file) left (is ∙ w.if-branch.true) one.2 here.4),
                 );
             each = λ old.
@@ -48,12 +48,12 @@ loop-place-preserved g c =
             all = λ files e.
                 let here = c.loop-place.invariant.all files e in (
                   here.0,
-                  ap (λ folder. g.F.Folder.held folder) w.folder-is ∙ here.1,
+                  ap (λ directory. g.D.Directory.held directory) w.directory-is ∙ here.1,
                   here.2,
                   ap (λ saved. map outcome saved.items) w.saved-is ∙ here.3,
-                  subst (λ (n : ℕ). Continues g.F.Folder.can_fail c.args.hashes files all c.args.number.now here.2 (wanted_among known rest) n here.0)
+                  subst (λ (n : ℕ). Continues g.D.Directory.can_fail c.args.hashing files all c.args.number.now here.2 (wanted_among known rest) n here.0)
                       (sym w.number-is)
-                      (place_none g.F.Folder.can_fail c.args.hashes files all c.args.number.now known _ rest place here.2 c.loop-place.number here.0 left
+                      (place_none g.D.Directory.can_fail c.args.hashing files all c.args.number.now known _ rest place here.2 c.loop-place.number here.0 left
                       (is ∙ w.if-branch.false) here.4),
                 );
             each = λ old.
@@ -72,6 +72,6 @@ returns-clause-saved g c = λ files e.
       here.1,
       here.2,
       here.3,
-      saved_end g.F.Folder.can_fail c.args.hashes files (wanted_among known (map place_view items)) c.args.number.now here.2 _ c.loop-place.number here.0
+      saved_end g.D.Directory.can_fail c.args.hashing files (wanted_among known (map place_view items)) c.args.number.now here.2 _ c.loop-place.number here.0
           (ap (λ ps. wanted_among known (map place_view ps)) none) here.4,
     )

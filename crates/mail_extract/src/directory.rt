@@ -1,33 +1,33 @@
-//! A folder that files are saved into.
+//! A directory in which files are saved.
 ghost use Rattle.std.specs.Prelude.{◌≡◌, Bool, List, Option, Some, IfOk};
-ghost use Rattle.mail_extract.specs.Folder.{Creates, File};
+ghost use Rattle.mail_extract.specs.Directory.{Creates, File};
 
 use std::alloc::AllocError;
 use std::io;
 
-/// What came of making a file.
-#[derive(Drop)]
+/// The result of creating a file.
+#[derive(Debug, Drop)]
 pub enum Created {
-    /// It was made.
+    /// The file was created.
     Made,
-    /// Something of its name is there.
+    /// The name is taken.
     Taken,
-    /// It could not be made.
+    /// The file could not be created.
     Failed(io::Error),
 }
 
-/// A folder that files are saved into. A contract sees its files, where the folder tells them, and
-/// whether making a file may fail.
-pub trait Folder {
+/// A directory in which files are saved. A contract sees its files, if the directory shows them, and
+/// whether creating a file may fail.
+pub trait Directory {
     ghost held: { Self → Option (List File) };
 
     ghost can_fail: { Bool };
 
-    /// Makes a file of this name with these bytes, unless something of its name is there.
+    /// Creates a file with this name and these bytes, unless the name is taken.
     ///
     /// # Errors
     ///
-    /// Where it runs out of memory.
+    /// If it runs out of memory.
     fn create(&mut self, name: &str, bytes: &[u8]) -> Result<Created, AllocError>
         ensures { (files : List File) → held self.old ≡ Some files → IfOk result
             (Creates files name.now bytes.now can_fail (held self.new)) };

@@ -1,9 +1,9 @@
--- What a contract sees of what a line says.
+-- What a contract sees of the members of a line.
 use Rattle.std.specs.Prelude.{option_map}
-use Rattle.mail_extract.specs.Lines as words
-use Rattle.mail_extract.specs.declared.lines.Line.{Line}
+use Rattle.mail_extract.specs.Report as words
+use Rattle.mail_extract.specs.declared.report.Line.{Line}
 
--- the same as the program holds it
+-- the members, seen as texts and numbers
 abbrev pub line_view : Line → words.Line
 line_view line = record {
   file = option_map (λ text. text.now) line.file;

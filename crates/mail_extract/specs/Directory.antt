@@ -1,21 +1,21 @@
--- What making a file does to a folder; the program's own words.
+-- What creating a file does to a directory; the program's own words.
 use Rattle.std.specs.Prelude.{◌≡◌, ℕ, Bool, true, false, List, [], ◌∷◌, ◌++◌, Option, Some}
 use Rattle.std.specs.List.{list_any}
 use Rattle.std.specs.Str.{bytes_eq}
-use Rattle.mail_extract.specs.declared.folder.Created.{Created}
-use Rattle.mail_extract.specs.declared.folder.Created.TheVariants.{Made, Taken, Failed}
+use Rattle.mail_extract.specs.declared.directory.Created.{Created}
+use Rattle.mail_extract.specs.declared.directory.Created.TheVariants.{Made, Taken, Failed}
 
 -- a file: its name and its bytes
 abbrev pub File : Type 0
 File = List ℕ × List ℕ
 
--- a file of that name is among them
+-- a file with that name is among them
 abbrev pub has_file : List ℕ → List File → Bool
 has_file name files = list_any (λ file. bytes_eq file.0 name) files
 
--- The folder has these files, and a file of this name with these bytes is to be made.
+-- The directory has these files, and a file with this name and these bytes is to be created.
 module _ (files : List File) (name bytes : List ℕ) where
-  -- it is there now, and was not before; one of its name is there; or it could not be made. The other files are as they were
+  -- it is there now, and was not before; or the name is taken; or it could not be created. The other files are unchanged
   abbrev pub Creates : Bool → Option (List File) → Created → Type 0
   Creates can_fail now Made = (has_file name files ≡ false) × (now ≡ Some (files ++ (name, bytes) ∷ []))
   Creates can_fail now Taken = (has_file name files ≡ true) × (now ≡ Some files)
