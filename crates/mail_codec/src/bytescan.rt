@@ -2,13 +2,13 @@
 ghost use Rattle.std.specs.Prelude.{◌≡◌, ◌∷◌, [], IfOk};
 ghost use Rattle.mail_codec.specs.Places.{byte_place, either_place, text_place, without_ascii_whitespace};
 
-mod either;
+mod alternatives;
 mod pairs;
 pub(crate) mod runs;
 mod single;
 pub(crate) mod words;
 
-use either::either_len;
+use alternatives::either_len;
 use pairs::{WIDE, pair_len};
 use runs::{RunEnd, push_runs};
 use single::byte_len;

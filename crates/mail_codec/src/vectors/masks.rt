@@ -17,7 +17,7 @@ const WHITESPACE: [u8; 16] = [
 #[inline(always)]
 pub(crate) fn equal_lanes<const N: usize>(bytes: Simd<u8, N>, wanted: u8) -> u64
     requires { N ≤ 64 }
-    ensures { result ≡ lane_mask (λ b. b == wanted) bytes }
+    ensures { result ≡ lane_mask (λ b. b == wanted) bytes.entry }
 {
     bytes.simd_eq(Simd::splat(wanted)).to_bitmask()
 }
@@ -26,7 +26,7 @@ pub(crate) fn equal_lanes<const N: usize>(bytes: Simd<u8, N>, wanted: u8) -> u64
 #[inline(always)]
 pub(crate) fn either_lanes<const N: usize>(bytes: Simd<u8, N>, first: u8, second: u8) -> u64
     requires { N ≤ 64 }
-    ensures { result ≡ lane_mask (λ b. b == first || b == second) bytes }
+    ensures { result ≡ lane_mask (λ b. b == first || b == second) bytes.entry }
 {
     let matches = bytes.simd_eq(Simd::splat(first)) | bytes.simd_eq(Simd::splat(second));
     matches.to_bitmask()

@@ -1,6 +1,6 @@
 use Rattle.std.proofs.Common.{Bool, ℕ, ◌==◌, ◌||◌, sym, ◌∙◌, arith}
 use Rattle.mail_codec.proofs.lemmas.PlacesSearches.{lane_is, found_front}
-use Rattle.mail_codec.proofs.bytescan.either.either_len.Goals as goal
+use Rattle.mail_codec.proofs.bytescan.alternatives.either_len.Goals as goal
 
 abbrev is_either : ℕ → ℕ → ℕ → Bool
 is_either first second b = b == first || b == second

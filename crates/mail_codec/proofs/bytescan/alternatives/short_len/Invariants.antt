@@ -1,7 +1,7 @@
 use Rattle.std.proofs.Common.{◌==◌, ◌||◌}
 use Rattle.mail_codec.specs.Places.{begins, first_place}
 use Rattle.mail_codec.proofs.lemmas.Places.{PassedTo}
-use Rattle.mail_codec.proofs.bytescan.either.short_len.Given as goal
+use Rattle.mail_codec.proofs.bytescan.alternatives.short_len.Given as goal
 
 abbrev pub invariant-loop-place : goal.invariant-loop-place
 invariant-loop-place l =

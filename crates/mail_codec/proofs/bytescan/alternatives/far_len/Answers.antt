@@ -1,7 +1,7 @@
 use Rattle.std.proofs.Common.{Bool, ℕ, ◌==◌, ◌||◌, ◌-◌, length, take, refl, sym, arith}
 use Rattle.mail_codec.specs.Places.{begins, first_place}
 use Rattle.mail_codec.proofs.lemmas.PlacesSearches.{PassedTo-chunk, lane_is, lane_found, lane_passed, last_chunk}
-use Rattle.mail_codec.proofs.bytescan.either.far_len.Goals as goal
+use Rattle.mail_codec.proofs.bytescan.alternatives.far_len.Goals as goal
 
 abbrev is_either : ℕ → ℕ → ℕ → Bool
 is_either first second b = b == first || b == second
