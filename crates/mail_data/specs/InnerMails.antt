@@ -1,43 +1,48 @@
--- The mails inside a mail and inside those, with the paths of the parts that hold them; the paths of their parts (RFC 3501,
+-- The mails inside a mail and inside those, with the paths of the parts that contain them; the paths of their parts (RFC 3501,
 -- section 6.4.5).
-use Rattle.std.specs.Prelude.{ℕ, zero, suc, ◌+◌, ◌-◌, ◌^◌, Bool, true, false, ◌&&◌, ◌==◌, min, nat_lt, List, [], ◌∷◌, length, filter, flat_map, Option, Some, None, if◌then◌else◌}
+use Rattle.std.specs.Prelude.{ℕ, zero, suc, ◌+◌, ◌-◌, ◌^◌, Bool, true, false, ◌&&◌, ◌||◌, ◌==◌, min, nat_lt, List, [], ◌∷◌, length, filter, flat_map, Option, Some, None, codes, if◌then◌else◌}
 use Rattle.std.specs.Option.{option_map_or}
 use Rattle.std.specs.Result.{result_err, result_ok}
+use Rattle.std.specs.Str.{bytes_eq}
 use Rattle.mail_codec.specs.Charset.{Charsets}
 use Rattle.mailparse.specs.Body.{BodyKind, in_base64, in_quoted_printable, in_7bit, in_8bit, in_binary}
-use Rattle.mailparse.specs.Mail.{Tree, read_mail_in, root}
+use Rattle.mailparse.specs.Mail.{Node, Tree, read_mail_in, root}
 use Rattle.mailparse.specs.Placement.{Placement, placements}
 use Rattle.mailparse.specs.Refusal.{Reads, Refusal}
 use Rattle.mail_data.specs.Files.{is_leaf, path_under, with_paths}
-use Rattle.mail_data.specs.Forwarding.{forwards, readable}
 use Rattle.mail_data.specs.PartPlaces.{Place, placed}
+use Rattle.mail_data.specs.lenient.Content.{message_content}
 use Rattle.mail_data.specs.lenient.Encoding.{lenient_body_kind}
 
 -- ---- paths
 
--- the path of a mail that the part with this path holds: that of the part; where the mail has no parts, that of its body
+-- the path of a mail inside the part with this path: that of the part, or if the mail has no parts, that of its body
 unfoldable pub path_within : List ℕ → Tree → List ℕ
 path_within path t = if is_leaf t then path_under path 1 else path
 
--- a mail that the part with this path holds, and then its parts, which stand in it in this order
+-- a mail inside the part with this path, and then its parts, given their places in this order
 unfoldable pub places_under : List ℕ → Tree → List Placement → List Place
 places_under path mail found = placed (with_paths (path_within path mail) mail) found
 
--- how many dots a path has: one less than numbers
+-- the number of dots in a path, one less than its numbers
 unfoldable pub dot_count : List ℕ → ℕ
 dot_count path = length (filter (λ c. c == 46) path)
 
 -- ---- mails
 
--- a part holds a mail that is read: it forwards one, and its path has fewer than 100 numbers
+-- a part forwards a mail: its type is `message/rfc822` (RFC 2046, section 5.2.1) or `message/global` (RFC 6532, section 3.7)
+abbrev pub forwards : Node → Bool
+forwards node = bytes_eq node.ctype.mimetype (codes "message/rfc822") || bytes_eq node.ctype.mimetype (codes "message/global")
+
+-- a part contains a mail that is read: it forwards one, and its path has fewer than 100 numbers
 unfoldable pub holds_mail : Place → Bool
 holds_mail place = forwards (root place.part) && nat_lt (dot_count place.path) 99
 
--- the bytes of the mail that a part holds: its transfer encoding is undone
-unfoldable pub mail_bytes : Place → List ℕ
-mail_bytes place = let node = root place.part in readable (lenient_body_kind node) node.body
+-- the bytes of the mail in a part, without its transfer encoding
+abbrev pub mail_bytes : Place → List ℕ
+mail_bytes place = (message_content (root place.part)).bytes
 
--- a body in this encoding stands for its own bytes
+-- a body in this encoding is not encoded
 abbrev pub is_plain : BodyKind → Bool
 is_plain in_base64 = false
 is_plain in_quoted_printable = false
@@ -45,13 +50,13 @@ is_plain in_7bit = true
 is_plain in_8bit = true
 is_plain in_binary = true
 
--- where the mail that a part holds begins, by where the mail begins whose part it is: nowhere, if it is encoded or that one stands nowhere
+-- the offset of the mail in a part, given that of the mail that contains the part: none if it is encoded or that one has none
 unfoldable pub mail_start : Option ℕ → Place → Option ℕ
 mail_start None place = None
 mail_start (Some start) place =
     if is_plain (lenient_body_kind (root place.part)) then Some (min (start + place.placement.body.start) (2 ^ 64 - 1)) else None
 
--- a mail inside: the path of the part that holds it, its bytes, where they begin in the whole mail, if they stand there, and why it is refused
+-- a mail inside: the path of the part that contains it, its bytes, their offset in the whole mail, if they occur there, and its refusal
 pub record InnerMail : Type 0 where
   pub path : List ℕ
   pub bytes : List ℕ
@@ -60,11 +65,11 @@ pub record InnerMail : Type 0 where
 
 -- Under the charsets that are known.
 module _ (known : Charsets) where
-  -- the reading of the mail that a part holds
+  -- the reading of the mail in a part
   abbrev pub mail_read : Place → Reads Tree
   mail_read place = read_mail_in known 100 (mail_bytes place)
 
-  -- the mail that a part holds whose mail begins there
+  -- the mail in a part, given the offset of the mail that contains the part
   abbrev pub held_mail : Option ℕ → Place → InnerMail
   held_mail start place = record {
     path = place.path;
@@ -73,8 +78,8 @@ module _ (known : Charsets) where
     refusal = result_err (mail_read place);
   }
 
-  -- the mails inside a mail that the part with this path holds and that begins there, no more than so many mails deep: those that its parts
-  -- hold, in order, after each of them those inside it
+  -- the mails inside a mail, at most `most` mails deep, given the path of the part that contains that mail and its offset: those in its
+  -- parts, in order, and after each of them those inside it
   abbrev pub inner_mails : ℕ → List ℕ → Option ℕ → Tree → List Placement → List InnerMail
   inner_mails zero path start mail found = []
   inner_mails (suc most) path start mail found = flat_map (λ place.

@@ -1,18 +1,20 @@
-//! The mails inside a mail, with the paths of the parts that hold them.
-ghost use Rattle.std.specs.Prelude.{◌≡◌, ◌++◌, [], ◌∷◌, map, option_and_then, string_bytes};
+//! The mails inside a mail, with the paths of the parts that contain them.
+ghost use Rattle.std.specs.Prelude.{◌≡◌, ◌||◌, ◌++◌, [], ◌∷◌, map, option_and_then, string_bytes};
 ghost use Rattle.std.specs.Prelude.{Some, IfErr, IfOk, OnOk, Ok};
 ghost use Rattle.mailparse.specs.Body.{BodyKind};
-ghost use Rattle.mailparse.specs.BodyViews.{Content, IsBody};
+ghost use Rattle.mailparse.specs.BodyViews.{Content, IsBody, content_of};
+ghost use Rattle.mailparse.specs.Mail.{root};
 ghost use Rattle.mailparse.specs.Outcome.{AnswersOrMemory, IsMemory, refusal_of};
 ghost use Rattle.mailparse.specs.Views.{placements_of, tree_of};
-ghost use Rattle.mail_data.specs.InnerMails.{holds_mail, inner_mails, is_plain, mail_bytes};
+ghost use Rattle.mail_data.specs.InnerMails.{forwards, holds_mail, inner_mails, is_plain};
 ghost use Rattle.mail_data.specs.InnerMails.{dot_count, mail_start, path_within, places_under};
 ghost use Rattle.mail_data.specs.InnerMailViews.{inner_view};
 ghost use Rattle.mail_data.specs.PlaceViews.{place_view};
+ghost use Rattle.mail_data.specs.lenient.Content.{lenient_content};
+ghost use Rattle.mail_data.specs.lenient.Encoding.{lenient_body_kind};
 
 use crate::files::{is_leaf, path_under};
-use crate::forwarding::{forwards, readable_bytes};
-use crate::lenient::lenient_body;
+use crate::lenient::{lenient_body, lenient_content};
 use crate::places::{Place, push_places};
 use mail_codec::charset::KnownCharsets;
 use mailparse::body::Body;
@@ -20,33 +22,34 @@ use mailparse::{MAX_LEVELS, MailParseError, ParsedMail, parse_mail_in};
 use std::alloc::{AllocError, Global};
 
 /// A mail inside a mail, as `inner_mails` returns it.
-#[derive(Drop)]
+#[derive(Debug, Drop)]
 pub struct InnerMail {
-    /// The path of the part that holds it, as IMAP numbers parts (RFC 3501, section 6.4.5): `2.1`
-    /// is the first part of the mail in the second part.
+    /// The path of the part that contains it, as IMAP numbers parts (RFC 3501, section 6.4.5):
+    /// `2.1` is the first part of the mail in the second part.
     pub path: String,
     /// Its bytes, without a transfer encoding: `parse_mail_in` reads them, and `places_under`
     /// lists its parts.
     pub bytes: Vec<u8>,
-    /// The offset at which these bytes begin in the whole mail, or `None` where they do not stand
-    /// there, since the mail, or one that it stands in, is encoded.
+    /// The offset of these bytes in the whole mail, or `None` if they do not occur there, since the
+    /// mail, or one that contains it, is encoded.
     pub start: Option<usize>,
-    /// Why the mail is refused, or `None` where it can be read.
+    /// The refusal of the mail, or `None` if it can be read.
     pub error: Option<MailParseError>,
 }
 
 /// Returns the mails inside a mail: those that its parts forward, in order, each before those inside
-/// it (RFC 2046, section 5.2.1; RFC 6532, section 3.7). A transfer encoding is undone, as
-/// `forwarding::forwarded_bytes` does, and each mail is read as `parse_mail_in` reads it in the
-/// charsets that are given.
+/// it. A part forwards a mail if its type is `message/rfc822` (RFC 2046, section 5.2.1) or
+/// `message/global` (RFC 6532, section 3.7). A transfer encoding is removed as
+/// `lenient::lenient_content` does, and each mail is read as `parse_mail_in` reads it in the
+/// charsets `known`.
 ///
-/// A mail that is refused is in the list with its error, and none inside it is. A part whose path
-/// has `MAX_LEVELS` numbers or more is not looked into, so the time grows with the bytes and the
-/// levels alone. Takes memory for the list, the paths and a copy of each mail.
+/// A mail that is refused is in the list with its error, but none inside it is. A part whose path
+/// has `MAX_LEVELS` numbers or more is not searched, so the time grows with the bytes and the levels
+/// alone. Allocates the list, the paths and a copy of each mail.
 ///
 /// # Errors
 ///
-/// `MailParseError::Memory` where it runs out of memory.
+/// `MailParseError::Memory` if it runs out of memory.
 ///
 /// # Examples
 ///
@@ -79,8 +82,8 @@ pub fn inner_mails<K: KnownCharsets>(
     Ok(mails)
 }
 
-/// Adds the mails inside a mail that the part with this path holds and that begins there, no more
-/// than so many mails deep.
+/// Appends the mails inside a mail, at most `most` mails deep, given the path of the part that
+/// contains that mail and its offset.
 fn push_inner<K: KnownCharsets>(
     alloc: Global,
     mail: &ParsedMail<'_>,
@@ -101,8 +104,9 @@ fn push_inner<K: KnownCharsets>(
     let places = places_under(alloc, mail, path)?;
     for place in &places {
         if holds_mail(place) {
-            let bytes = readable_bytes(alloc, place.part)?;
-            let at = mail_start(alloc, start, place)?;
+            let body = lenient_body(alloc, place.part)?;
+            let bytes = held_bytes(alloc, &body)?;
+            let at = mail_start(start, place, &body);
             match parse_mail_in(alloc, bytes.as_slice(), known) {
                 Ok(inside) => {
                     push_mail(alloc, place, bytes.as_slice(), at, None, mails)?;
@@ -123,7 +127,17 @@ fn push_inner<K: KnownCharsets>(
     Ok(())
 }
 
-/// Adds a mail that is refused with this error, unless memory ran out.
+/// Returns the bytes of the mail in a body.
+fn held_bytes(alloc: Global, body: &Body<'_>) -> Result<Vec<u8>, MailParseError>
+    ensures read { (kind : BodyKind) (given : Content) → IsBody kind given body.now →
+        IfOk result (λ bytes. bytes.items ≡ (lenient_content kind given.raw).bytes) }
+    ensures only_memory { IfErr result IsMemory }
+{
+    let content = lenient_content(alloc, body)?;
+    Ok(content.bytes.into_owned(alloc)?)
+}
+
+/// Appends a mail that is refused with this error, unless that is out of memory.
 fn push_refused(
     alloc: Global,
     place: &Place<'_, '_>,
@@ -148,7 +162,7 @@ fn push_refused(
     }
 }
 
-/// Adds a mail that a part holds.
+/// Appends the mail in a part.
 fn push_mail(
     alloc: Global,
     place: &Place<'_, '_>,
@@ -174,7 +188,7 @@ fn push_mail(
     Ok(())
 }
 
-/// Whether a part holds a mail that is to be read.
+/// Returns whether a part contains a mail that is to be read.
 #[tactic(auto, unfolding(crate::specs::InnerMails::holds_mail))]
 fn holds_mail(place: &Place<'_, '_>) -> bool
     ensures { result ≡ holds_mail (place_view place.now) }
@@ -182,7 +196,17 @@ fn holds_mail(place: &Place<'_, '_>) -> bool
     forwards(place.part) && dot_count(place.path.as_str()) < 99
 }
 
-/// How many dots a path has: one less than numbers.
+/// Returns whether a part forwards a mail.
+fn forwards(part: &ParsedMail<'_>) -> bool
+    ensures { result ≡ forwards (root (tree_of part.now)) }
+{
+    matches!(
+        part.ctype.mimetype.as_str(),
+        "message/rfc822" | "message/global"
+    )
+}
+
+/// Returns the number of dots in a path, one less than its numbers.
 #[tactic(auto, unfolding(crate::specs::InnerMails::dot_count))]
 fn dot_count(path: &str) -> usize
     ensures { result ≡ dot_count path.now }
@@ -190,51 +214,44 @@ fn dot_count(path: &str) -> usize
     path.as_bytes().iter().filter(|byte| **byte == b'.').count()
 }
 
-/// Where the mail that a part holds begins in the whole mail, by where the mail begins whose part it
-/// is.
+/// Returns the offset of the mail in the body of a part, given the offset of the mail that contains
+/// the part, or `None` if it does not occur in the whole mail.
 #[tactic(auto, unfolding(crate::specs::InnerMails::mail_start))]
-fn mail_start(
-    alloc: Global,
-    start: Option<usize>,
-    place: &Place<'_, '_>,
-) -> Result<Option<usize>, MailParseError>
-    ensures read { IfOk result (λ at. at ≡ mail_start start (place_view place.now)) }
-    ensures only_memory { IfErr result IsMemory }
+fn mail_start(start: Option<usize>, place: &Place<'_, '_>, body: &Body<'_>) -> Option<usize>
+    ensures { let node = root (tree_of place.now.part.now) in
+        IsBody (lenient_body_kind node) (content_of node) body.now →
+        result ≡ mail_start start (place_view place.now) }
 {
     let Some(start) = start else {
-        return Ok(None);
+        return None;
     };
-    let body = lenient_body(alloc, place.part)?;
-    if !is_plain(&body) {
-        return Ok(None);
+    if !is_plain(body) {
+        return None;
     }
-    Ok(Some(start.saturating_add(place.body_range.start)))
+    Some(start.saturating_add(place.body_range.start))
 }
 
-/// Whether a body stands for its own bytes.
+/// Returns whether a body is not encoded.
 fn is_plain(body: &Body<'_>) -> bool
     ensures { (kind : BodyKind) (given : Content) → IsBody kind given body.now →
         result ≡ is_plain kind }
 {
     match body {
-        Body::Base64(_) => false,
-        Body::QuotedPrintable(_) => false,
-        Body::SevenBit(_) => true,
-        Body::EightBit(_) => true,
-        Body::Binary(_) => true,
+        Body::Base64(_) | Body::QuotedPrintable(_) => false,
+        Body::SevenBit(_) | Body::EightBit(_) | Body::Binary(_) => true,
     }
 }
 
-/// Returns a mail that the part with this path holds, and all its parts, in the order of `places`,
-/// with their paths and with where they stand in that mail (RFC 3501, section 6.4.5).
+/// Returns a mail inside the part with this path, and all parts of that mail, in the order of
+/// `places`, with their paths and their ranges in that mail (RFC 3501, section 6.4.5).
 ///
-/// The path of the mail itself is that of the part, since both are what IMAP calls by it. Where the
-/// mail has no parts, it is that of its body: below `2` it is `2.1`. With an empty path the result is
-/// that of `places`. Takes memory for the list and the paths.
+/// The path of the mail itself is that of the part, since IMAP has one name for both. If the mail
+/// has no parts, it is that of its body: below `2` it is `2.1`. With an empty path the result is that
+/// of `places`. Allocates the list and the paths.
 ///
 /// # Errors
 ///
-/// `AllocError` where it runs out of memory.
+/// `AllocError` if it runs out of memory.
 ///
 /// # Examples
 ///
@@ -262,7 +279,7 @@ pub fn places_under<'m, 'a>(
     Ok(found)
 }
 
-/// The path of a mail that the part with this path holds.
+/// Returns the path of a mail inside the part with this path.
 #[tactic(auto, unfolding(crate::specs::InnerMails::path_within))]
 fn path_within(alloc: Global, path: &str, mail: &ParsedMail<'_>) -> Result<String, AllocError>
     ensures { IfOk result (λ text. string_bytes text ≡ path_within path.now (tree_of mail.now)) }

@@ -1,6 +1,7 @@
-//! Lenient readings that recover what they can where the strict calls of `mailparse` refuse.
+//! Lenient readings that recover what they can when the strict calls of `mailparse` refuse.
 mod base64;
 mod comments;
+mod content;
 pub(crate) mod date;
 mod encoding;
 mod ids;
@@ -8,7 +9,9 @@ mod texts;
 
 pub use base64::{Base64Front, base64_front};
 pub(crate) use comments::without_comments;
-pub use date::{DateError, date_in, date_of};
+pub use content::{Content, ContentFault, lenient_content};
+pub use date::{DateError, date_of, zoned_date_of};
 pub use encoding::lenient_body;
-pub use ids::{ids_in, own_ids_in};
+pub(crate) use encoding::raw_body;
+pub use ids::{IdRule, find_ids};
 pub use texts::{BodyText, body_text, charset_used, lenient_text};

@@ -5,11 +5,12 @@ use Rattle.std.specs.Result.{result_ok}
 use Rattle.mail_codec.specs.Charset.{Charsets}
 use Rattle.mailparse.specs.Mail.{Tree, read_mail_in, root}
 use Rattle.mailparse.specs.Placement.{Placement, placements}
-use Rattle.mail_data.specs.Files.{file_name_in}
+use Rattle.mail_data.specs.Files.{file_name}
 use Rattle.mail_data.specs.InnerMails.{InnerMail, inner_mails, places_under}
 use Rattle.mail_data.specs.PartPlaces.{Place, places}
+use Rattle.mail_data.specs.lenient.Content.{Content}
 use Rattle.mail_extract.specs.Chosen.{is_saved}
-use Rattle.mail_extract.specs.Content.{Content, content}
+use Rattle.mail_extract.specs.Content.{content}
 use Rattle.mail_extract.specs.Endings.{ending_of}
 use Rattle.mail_extract.specs.Directory.{File, has_file}
 use Rattle.mail_extract.specs.Hash.{wanted_hash}
@@ -60,7 +61,7 @@ module _ (can_fail : Bool) (hashing : Hashing) where
     pub path : outcome.path ≡ wanted.path
     pub size : outcome.size ≡ length wanted.content.bytes
     pub hash : outcome.sha256 ≡ option_and_then (λ name. wanted_hash hashing wanted.content.bytes) outcome.saved
-    pub damaged : is_some wanted.content.refusal ≡ true → outcome.has_error ≡ true
+    pub damaged : is_some wanted.content.fault ≡ true → outcome.has_error ≡ true
     pub failed : outcome.saved ≡ None → outcome.has_error ≡ true
 
   -- files were saved one after another
@@ -76,7 +77,7 @@ module _ (known : Charsets) where
   abbrev pub wanted : Place → Wanted
   wanted place = record {
     path = place.path;
-    name = wanted_name (file_name_in known (root place.part)) (ending_of (root place.part));
+    name = wanted_name (file_name known (root place.part)) (ending_of (root place.part));
     content = content (root place.part);
   }
 

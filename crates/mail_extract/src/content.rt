@@ -1,43 +1,33 @@
 //! The bytes of a file that can be read.
-ghost use Rattle.std.specs.Prelude.{◌≡◌, List, ℕ, Ok};
+ghost use Rattle.std.specs.Prelude.{◌≡◌, IfErr, IfOk};
 ghost use Rattle.mailparse.specs.Mail.{root};
-ghost use Rattle.mailparse.specs.Outcome.{AnswersOrMemory};
+ghost use Rattle.mailparse.specs.Outcome.{IsMemory};
 ghost use Rattle.mailparse.specs.Views.{tree_of};
-ghost use Rattle.mail_extract.specs.Content.{after_headers, content, readable, whole};
-ghost use Rattle.mail_extract.specs.SaveViews.{content_view};
-ghost use Rattle.mailparse.specs.Refusal.{Reads};
+ghost use Rattle.mail_data.specs.lenient.ContentViews.{content_view};
+ghost use Rattle.mail_extract.specs.Content.{after_headers, content};
 
-use mail_data::lenient::{base64_front, lenient_body};
-use mailparse::body::Body;
+use mail_data::lenient::{Content, lenient_body, lenient_content};
 use mailparse::{MailParseError, ParsedMail};
 use std::alloc::Global;
-
-/// The bytes of a file, and why there are no more, where its body is damaged.
-#[derive(Debug, Drop)]
-pub struct Content {
-    /// The bytes.
-    pub bytes: Vec<u8>,
-    /// Why there are no more.
-    pub error: Option<MailParseError>,
-}
+use std::borrow::CowSlice;
 
 /// What can be read of a part. Where its body is empty, as that of a multipart whose delimiter never
 /// comes, it is all that follows its headers.
-#[tactic(auto, unfolding(mailparse::specs::Body::decoded))]
-pub fn content_of(alloc: Global, part: &ParsedMail<'_>) -> Result<Content, MailParseError>
-    ensures { AnswersOrMemory content_view result (Ok (content (root (tree_of part.now)))) }
+pub fn content_of<'m>(
+    alloc: Global,
+    part: &'m ParsedMail<'_>,
+) -> Result<Content<'m>, MailParseError>
+    ensures read { IfOk result (λ read. content_view read ≡ content (root (tree_of part.now))) }
+    ensures only_memory { IfErr result IsMemory }
 {
     let body = lenient_body(alloc, part)?;
     if body.get_raw().is_empty() {
-        return Ok(whole(after_headers(part).to_vec(alloc)?));
+        return Ok(Content {
+            bytes: CowSlice::Borrowed(after_headers(part)),
+            fault: None,
+        });
     }
-    match body {
-        Body::Base64(body) => readable(alloc, body.get_decoded(alloc), body.get_raw()),
-        Body::QuotedPrintable(body) => Ok(whole(body.get_decoded(alloc)?)),
-        Body::SevenBit(body) => Ok(whole(body.get_raw().to_vec(alloc)?)),
-        Body::EightBit(body) => Ok(whole(body.get_raw().to_vec(alloc)?)),
-        Body::Binary(body) => Ok(whole(body.get_raw().to_vec(alloc)?)),
-    }
+    lenient_content(alloc, &body)
 }
 
 /// The bytes of a part that follow its headers.
@@ -50,30 +40,4 @@ fn after_headers<'a>(part: &ParsedMail<'a>) -> &'a [u8]
         Some(rest) => rest,
         None => &[],
     }
-}
-
-/// All bytes of a body in Base64, and where it is refused, those before the first invalid group.
-fn readable(
-    alloc: Global,
-    bytes: Result<Vec<u8>, MailParseError>,
-    raw: &[u8],
-) -> Result<Content, MailParseError>
-    ensures { (given : Reads (List ℕ)) → AnswersOrMemory (λ b. b.items) bytes given →
-        AnswersOrMemory content_view result (Ok (readable given raw.now)) }
-{
-    match bytes {
-        Ok(bytes) => Ok(whole(bytes)),
-        Err(MailParseError::Memory(error)) => Err(MailParseError::Memory(error)),
-        Err(error) => Ok(Content {
-            bytes: base64_front(alloc, raw)?.bytes,
-            error: Some(error),
-        }),
-    }
-}
-
-/// Bytes that were all read.
-fn whole(bytes: Vec<u8>) -> Content
-    ensures { content_view result ≡ whole bytes.items }
-{
-    Content { bytes, error: None }
 }

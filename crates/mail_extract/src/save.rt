@@ -22,6 +22,7 @@ use crate::hash::{Hashing, wanted_hash};
 use crate::names::{numbered, wanted_name};
 use mail_data::files::file_name;
 use mail_data::inner_mails::{InnerMail, inner_mails, places_under};
+use mail_data::lenient::ContentFault;
 use mail_data::places::{Place, places};
 use mailparse::{KnownCharsets, MailParseError, ParsedMail, parse_mail_in};
 use std::alloc::{AllocError, Global};
@@ -223,7 +224,7 @@ fn save_file<D: Directory, K: KnownCharsets>(
     let size = bytes.len();
     match kept {
         Kept::As(name) => {
-            let error = text_of(alloc, content.error)?;
+            let error = text_of(alloc, content.fault)?;
             Ok(Saved {
                 path,
                 name: Some(name),
@@ -245,12 +246,15 @@ fn save_file<D: Directory, K: KnownCharsets>(
     }
 }
 
-/// Returns the text of an error.
-fn text_of(alloc: Global, error: Option<MailParseError>) -> Result<Option<String>, AllocError>
-    ensures { IfOk result (λ text. is_some text ≡ is_some error) }
+/// The text of a fault.
+fn text_of(alloc: Global, fault: Option<ContentFault>) -> Result<Option<String>, AllocError>
+    ensures { IfOk result (λ text. is_some text ≡ is_some fault) }
 {
-    match error {
-        Some(error) => Ok(Some(format!(in alloc; "{error}")?)),
+    match fault {
+        Some(fault) => {
+            let error = MailParseError::from(fault);
+            Ok(Some(format!(in alloc; "{error}")?))
+        }
         None => Ok(None),
     }
 }

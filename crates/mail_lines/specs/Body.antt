@@ -1,7 +1,6 @@
 -- What a body is; the program's own form.
-use Rattle.std.specs.Prelude.{ℕ, List, length, Ok, codes}
-use Rattle.mailparse.specs.Body.{BodyKind, in_base64, in_quoted_printable, in_7bit, in_8bit, in_binary, decoded}
-use Rattle.mailparse.specs.Refusal.{◌>>=◌, Reads}
+use Rattle.std.specs.Prelude.{ℕ, List, codes}
+use Rattle.mailparse.specs.Body.{BodyKind, in_base64, in_quoted_printable, in_7bit, in_8bit, in_binary}
 
 -- the name of a transfer encoding
 abbrev pub encoding_text : BodyKind → List ℕ
@@ -10,9 +9,3 @@ encoding_text in_quoted_printable = codes "quoted-printable"
 encoding_text in_7bit = codes "7bit"
 encoding_text in_8bit = codes "8bit"
 encoding_text in_binary = codes "binary"
-
--- how many bytes a body stands for
-abbrev pub decoded_size : BodyKind → List ℕ → Reads ℕ
-decoded_size kind body = do
-  bytes ← decoded kind body
-  Ok (length bytes)

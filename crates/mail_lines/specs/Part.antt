@@ -1,5 +1,5 @@
 -- The text that is written of each part of a mail; the program's own form.
-use Rattle.std.specs.Prelude.{◌≡◌, ℕ, ◌+◌, ◌^◌, ◌-◌, min, Bool, true, false, not, ◌&&◌, List, [], ◌∷◌, ◌++◌, length, map, Option, Some, None, Ok, Err, codes}
+use Rattle.std.specs.Prelude.{◌≡◌, ℕ, ◌+◌, ◌^◌, ◌-◌, min, Bool, true, false, not, ◌&&◌, List, [], ◌∷◌, ◌++◌, length, map, Option, Some, None, codes}
 use Rattle.std.specs.Cmp.Lexicographic.{slice_cmp}
 use Rattle.std.specs.List.Sorted.{IsStrictlySortedBy}
 use Rattle.std.specs.Map.{lookup}
@@ -7,22 +7,21 @@ use Rattle.std.specs.Ordering.{nat_cmp}
 use Rattle.std.specs.Str.{bytes_eq}
 use Rattle.mail_codec.specs.Charset.{Charsets}
 use Rattle.mail_codec.specs.Places.{has_prefix}
-use Rattle.mailparse.specs.Body.{BodyKind}
-use Rattle.mailparse.specs.BodyViews.{Content, content_of}
 use Rattle.mailparse.specs.ContentType.{ContentType}
 use Rattle.mailparse.specs.Disposition.{Disposition}
 use Rattle.mailparse.specs.Header.{Header, key_text}
 use Rattle.mailparse.specs.Mail.{Node, Tree, root, shown_as_in}
 use Rattle.mailparse.specs.Pairs.{Texts}
-use Rattle.mailparse.specs.Refusal.{Reads}
+use Rattle.mailparse.specs.Refusal.{Refusal}
 use Rattle.mailparse.specs.Value.{lenient_value_in}
 use Rattle.mail_data.specs.Files.{describes_attachment, is_attachment_disposition, is_leaf, name_in}
 use Rattle.mail_data.specs.Flowed.{unflowed_of}
 use Rattle.mail_data.specs.PartPlaces.{Place}
 use Rattle.mail_data.specs.Texts.{text_type}
+use Rattle.mail_data.specs.lenient.Content.{Content, message_content}
 use Rattle.mail_data.specs.lenient.Encoding.{lenient_body_kind}
-use Rattle.mail_data.specs.lenient.Texts.{BodyText, charset_used, lenient_bytes, lenient_text, text_read}
-use Rattle.mail_lines.specs.Body.{encoding_text, decoded_size}
+use Rattle.mail_data.specs.lenient.Texts.{BodyText, text_read}
+use Rattle.mail_lines.specs.Body.{encoding_text}
 use Rattle.mail_lines.specs.Fields.{refusal_text, disposition_name}
 use Rattle.mail_lines.specs.Origin.{number_or_null}
 use Rattle.mail_lines.specs.Reading.{Reading}
@@ -84,15 +83,15 @@ place_text name start end size =
     codes ",\"encoding\":\"" ++ name ++ codes "\",\"start\":" ++ number_or_null start ++ codes ",\"end\":" ++ number_or_null end
     ++ codes ",\"size\":" ++ number_text size
 
--- the member of how many bytes a body stands for, or of why it is refused
-abbrev pub size_text : Reads ℕ → List ℕ
-size_text (Ok size) = codes ",\"decoded_size\":" ++ number_text size
-size_text (Err refusal) = codes ",\"decoded_size\":null,\"error\":" ++ json_text (refusal_text refusal)
+-- the member of the size of a decoded body, or of why the body is refused
+abbrev pub size_text : Option Refusal → ℕ → List ℕ
+size_text None size = codes ",\"decoded_size\":" ++ number_text size
+size_text (Some refusal) size = codes ",\"decoded_size\":null,\"error\":" ++ json_text (refusal_text refusal)
 
--- the hash of what can be read of a body, if it is wanted
-abbrev pub hash_of : Bool → BodyKind → List ℕ → Option (List ℕ)
-hash_of true kind body = Some (hash_text (lenient_bytes kind body).bytes)
-hash_of false kind body = None
+-- the hash of bytes, if it is wanted
+abbrev pub hash_of : Bool → List ℕ → Option (List ℕ)
+hash_of true bytes = Some (hash_text bytes)
+hash_of false bytes = None
 
 -- the member of the hash
 abbrev pub sha256_text : Option (List ℕ) → List ℕ
@@ -128,15 +127,11 @@ module _ (known : Charsets) where
   abbrev pub headers_text : List Header → List ℕ
   headers_text headers = codes ",\"headers\":[" ++ joined header_text headers ++ codes "]"
 
-  -- the members of the text of bytes under a label
-  abbrev pub shown_text : List ℕ → List ℕ → Bool → List ℕ
-  shown_text label bytes is_damaged = text_text true (lenient_text known label bytes) (charset_used known label bytes) is_damaged
-
   -- the members of the text of a body that is to be read or not; paragraphs that flow are one line each, if that is wanted
-  abbrev pub body_text : Bool → Bool → BodyKind → Content → List ℕ
-  body_text joins shows kind body =
-      let read = text_read known body.ctype.charset (lenient_bytes kind body.raw) in
-      text_text shows (text_shown joins body.ctype read.text) read.charset read.is_damaged
+  abbrev pub body_text : Bool → Bool → ContentType → Content → List ℕ
+  body_text joins shows ctype content =
+      let read = text_read known ctype.charset content in
+      text_text shows (text_shown joins ctype read.text) read.charset read.is_damaged
 
 -- For what is asked.
 module _ (reading : Reading) where
@@ -144,14 +139,14 @@ module _ (reading : Reading) where
   abbrev pub part_text : Option ℕ → Place → List ℕ → List ℕ
   part_text start place type =
       let node = root place.part in
-      let kind = lenient_body_kind node in
+      let content = message_content node in
       let disposition = shown_as_in reading.known node in
       let attached = is_attachment place.part disposition in
       codes "{\"path\":" ++ json_text place.path ++ type ++ disposition_text disposition node attached
-      ++ place_text (encoding_text kind) (place_in start place.placement.whole.start) (place_in start place.placement.whole.end) (length node.body)
-      ++ size_text (decoded_size kind node.body) ++ sha256_text (hash_of (reading.hashes && attached) kind node.body)
+      ++ place_text (encoding_text (lenient_body_kind node)) (place_in start place.placement.whole.start) (place_in start place.placement.whole.end) (length node.body)
+      ++ size_text content.fault (length content.bytes) ++ sha256_text (hash_of (reading.hashes && attached) content.bytes)
       ++ headers_text reading.known node.headers
-      ++ body_text reading.known reading.joins_flowed (is_read place.part disposition) kind (content_of node) ++ codes "}"
+      ++ body_text reading.known reading.joins_flowed (is_read place.part disposition) node.ctype content ++ codes "}"
 
   -- a text is that of the object of a part of a mail that begins there
   abbrev pub IsPartText : Option ℕ → Place → List ℕ → Type 0

@@ -7,24 +7,25 @@ use Rattle.json.specs.Value.{items_of}
 use Rattle.mail_codec.specs.Charset.{Charsets}
 use Rattle.mail_codec.specs.Latin1.{latin1_text}
 use Rattle.mailparse.specs.Body.{BodyKind}
-use Rattle.mailparse.specs.BodyViews.{Content, content_of}
+use Rattle.mailparse.specs.ContentType.{ContentType}
 use Rattle.mailparse.specs.Disposition.{Disposition}
 use Rattle.mailparse.specs.Header.{Header, key_text}
 use Rattle.mailparse.specs.Mail.{Node, Tree, root, shown_as_in}
 use Rattle.mailparse.specs.Map.{first_with_key}
 use Rattle.mailparse.specs.Placement.{placements}
-use Rattle.mailparse.specs.Refusal.{Reads}
+use Rattle.mailparse.specs.Refusal.{Reads, Refusal}
 use Rattle.mailparse.specs.Value.{lenient_value_in}
 use Rattle.mail_data.specs.Files.{name_in}
 use Rattle.mail_data.specs.PartPlaces.{Place, places}
-use Rattle.mail_data.specs.lenient.Date.{Dated, Zoned, date_in}
+use Rattle.mail_data.specs.lenient.Date.{Dated, Zoned, zoned_date_of}
+use Rattle.mail_data.specs.lenient.Content.{Content, message_content}
 use Rattle.mail_data.specs.lenient.Encoding.{lenient_body_kind}
-use Rattle.mail_data.specs.lenient.Texts.{lenient_bytes, text_read}
+use Rattle.mail_data.specs.lenient.Texts.{text_read}
 use Rattle.mail_address.specs.Addresses.{Element, Single, single, group}
 use Rattle.mail_address.specs.Headers.{addresses_of}
 use Rattle.mail_address.specs.Mailbox.{Parts}
 use Rattle.mail_lines.specs.Addresses.{canonical, name_of, unless_empty}
-use Rattle.mail_lines.specs.Body.{encoding_text, decoded_size}
+use Rattle.mail_lines.specs.Body.{encoding_text}
 use Rattle.mail_lines.specs.Fields.{refusal_text, disposition_name, value_of, ids_of}
 use Rattle.mail_data.specs.InnerMails.{InnerMail}
 use Rattle.mail_lines.specs.Inside.{inside_start, mails_inside, parts_inside}
@@ -123,10 +124,10 @@ place_members kind start end size =
     ++ one (codes "end") (number_or_null_value end)
     ++ one (codes "size") (number_value size)
 
--- the member of how many bytes a body stands for, or of why it is refused
-abbrev pub size_members : Reads ℕ → List Member
-size_members (Ok size) = one (codes "decoded_size") (number_value size)
-size_members (Err refusal) = one (codes "decoded_size") null ++ one (codes "error") (string (refusal_text refusal))
+-- the member of the size of a decoded body, or of why the body is refused
+abbrev pub size_members : Option Refusal → ℕ → List Member
+size_members None size = one (codes "decoded_size") (number_value size)
+size_members (Some refusal) size = one (codes "decoded_size") null ++ one (codes "error") (string (refusal_text refusal))
 
 -- the object of a mail inside
 abbrev pub inner_value : ℕ → InnerMail → Json
@@ -195,10 +196,10 @@ module _ (known : Charsets) where
   header_value header = list_of (string (key_text header) ∷ string (lenient_value_in known header.value) ∷ [])
 
   -- the members of the text of a body that is to be read or not
-  abbrev pub body_members : Bool → Bool → BodyKind → Content → List Member
-  body_members joins shows kind body =
-      let read = text_read known body.ctype.charset (lenient_bytes kind body.raw) in
-      text_members shows (text_shown joins body.ctype read.text) read.charset read.is_damaged
+  abbrev pub body_members : Bool → Bool → ContentType → Content → List Member
+  body_members joins shows ctype content =
+      let read = text_read known ctype.charset content in
+      text_members shows (text_shown joins ctype read.text) read.charset read.is_damaged
 
   -- the members of a part of a mail that begins there, whose type has these parameters: those before its sizes, and those after them
   abbrev pub front_members : Option ℕ → Place → List (List ℕ × List ℕ) → List Member
@@ -264,7 +265,7 @@ module _ (known : Charsets) where
   abbrev pub mail_members : Origin → Node → List InnerMail → List Json → List Member
   mail_members origin node inside parts =
       origin_members origin ++ values_members node ++ one (codes "raw") (object_of (raw_members node))
-      ++ date_members (option_map date_in (value_of known (codes "Date") node)) ++ ids_members node ++ one (codes "parts") (list_of parts)
+      ++ date_members (option_map zoned_date_of (value_of known (codes "Date") node)) ++ ids_members node ++ one (codes "parts") (list_of parts)
       ++ forwarded_members origin.start inside
 
 -- For what is asked.
@@ -272,16 +273,15 @@ module _ (reading : Reading) where
   abbrev pub content_members : Place → List Member
   content_members place =
       let node = root place.part in
-      let kind = lenient_body_kind node in
+      let content = message_content node in
       let disposition = shown_as_in reading.known node in
-      sha256_members (hash_of (reading.hashes && is_attachment place.part disposition) kind node.body)
-      ++ headers_member reading.known place
-      ++ body_members reading.known reading.joins_flowed (is_read place.part disposition) kind (content_of node)
+      sha256_members (hash_of (reading.hashes && is_attachment place.part disposition) content.bytes) ++ headers_member reading.known place
+      ++ body_members reading.known reading.joins_flowed (is_read place.part disposition) node.ctype content
 
   abbrev pub part_members : Option ℕ → Place → List (List ℕ × List ℕ) → List Member
   part_members start place pairs =
-      let node = root place.part in
-      front_members reading.known start place pairs ++ size_members (decoded_size (lenient_body_kind node) node.body) ++ content_members place
+      let content = message_content (root place.part) in
+      front_members reading.known start place pairs ++ size_members content.fault (length content.bytes) ++ content_members place
 
   -- a value is the object of a part of a mail that begins there
   abbrev pub IsPartValue : Option ℕ → Place → Json → Type 0

@@ -1,26 +1,21 @@
 //! The objects of the parts.
-ghost use Rattle.std.specs.Prelude.{◌&&◌, ◌≡◌, ℕ, List, IfOk, Some, map, true, false};
-ghost use Rattle.std.specs.Cow.{cow_slice_items};
-ghost use Rattle.mailparse.specs.Body.{BodyKind, decoded};
-ghost use Rattle.mailparse.specs.BodyViews.{Content, content_of};
+ghost use Rattle.std.specs.Prelude.{◌&&◌, ◌≡◌, length, IfOk, Some, map, true, false};
 ghost use Rattle.mailparse.specs.Mail.{root};
-ghost use Rattle.mailparse.specs.Outcome.{AnswersOrMemory, IsMemory};
 ghost use Rattle.mailparse.specs.Views as views;
 ghost use Rattle.mailparse.specs.Views.{content_type, placements_of, tree_of};
 ghost use Rattle.mail_data.specs.PartPlaces.{places};
-ghost use Rattle.mail_data.specs.lenient.Base64.{base64_front};
-ghost use Rattle.mail_data.specs.lenient.Encoding.{lenient_body_kind};
+ghost use Rattle.mail_data.specs.lenient.Content.{message_content};
+ghost use Rattle.mail_data.specs.lenient.ContentViews.{content_view};
 ghost use Rattle.mail_data.specs.PlaceViews.{place_view};
-ghost use Rattle.mail_lines.specs.Body.{decoded_size};
 ghost use Rattle.mail_lines.specs.Part.{AreItems, AreJoined, IsPartText, IsTypeText, body_text, damaged_text};
-ghost use Rattle.mail_lines.specs.Part.{hash_of, place_in, sha256_text, shown_text};
+ghost use Rattle.mail_lines.specs.Part.{hash_of, place_in, sha256_text};
 ghost use Rattle.mail_lines.specs.Reading.{reading_of};
 ghost use Rattle.mail_program.specs.Hash.{hash_text};
 ghost use Rattle.mail_lines.specs.Part.{disposition_text, flag_text, header_text, headers_text};
 ghost use Rattle.mail_lines.specs.Part.{is_attachment, is_read, parameter_text, place_text, size_text};
 ghost use Rattle.mail_lines.specs.Written.{Writes, WritesOne};
 
-use crate::body::{decoded, encoding_name};
+use crate::body::encoding_name;
 use crate::fields::{disposition_name, refusal_text};
 use crate::origin::{write_number, write_number_or_null};
 use crate::reading::Reading;
@@ -29,7 +24,7 @@ use crate::strings::{
 };
 use mail_data::files::{describes_attachment, is_attachment_disposition, is_leaf, named_file};
 use mail_data::flowed::flowed_text;
-use mail_data::lenient::{base64_front, charset_used, lenient_body, lenient_text};
+use mail_data::lenient::{Content, charset_used, lenient_body, lenient_content, lenient_text};
 use mail_data::places::{Place, places};
 use mail_data::texts::text_type;
 use mail_program::{Fault, sha256_text};
@@ -38,7 +33,6 @@ use mailparse::{
     ParsedMail,
 };
 use std::alloc::{AllocError, Global};
-use std::borrow::CowSlice;
 use std::io::Write;
 
 /// Writes the objects of a mail that begins at this offset of the input and of its parts, a comma
@@ -129,22 +123,13 @@ pub fn write_part<W: Write, K: KnownCharsets>(
     let begin = place_in(start, place.byte_range.start);
     let end = place_in(start, place.byte_range.end);
     write_place(out, encoding_name(&body), begin, end, body.get_raw().len())?;
-    let bytes = decoded(alloc, &body);
-    write_decoded_size(alloc, out, &bytes)?;
+    let content = lenient_content(alloc, &body)?;
+    write_decoded_size(alloc, out, &content)?;
     let is_hashed = is_hashed(reading.hashes, is_attachment);
-    write_hash(alloc, out, &bytes, body.get_raw(), is_hashed)?;
+    write_hash(alloc, out, content.bytes.as_slice(), is_hashed)?;
     write_headers(alloc, out, part.headers.as_slice(), known)?;
     let is_read = is_read(part, &disposition);
-    write_part_text(
-        alloc,
-        out,
-        bytes,
-        body.get_raw(),
-        part,
-        is_read,
-        known,
-        reading,
-    )?;
+    write_part_text(alloc, out, &content, part, is_read, known, reading)?;
     write_word(out, "}")
 }
 
@@ -272,54 +257,44 @@ fn flag_text(flag: bool) -> &'static str
     if flag { "true" } else { "false" }
 }
 
-/// Writes how many bytes the body stands for, or `null` where it is refused, and then why.
+/// Writes how many bytes the decoded body has, or `null` if it is refused, and then why.
 fn write_decoded_size<W: Write>(
     alloc: Global,
     out: &mut W,
-    bytes: &Result<CowSlice<'_, u8>, MailParseError>,
+    content: &Content<'_>,
 ) -> Result<(), Fault>
-    ensures { (kind : BodyKind) (raw : List ℕ) →
-        AnswersOrMemory cow_slice_items bytes.now (decoded kind raw) →
+    ensures { let content = content_view content.now in
         Writes (W.contents out.old) (W.contents out.new) result
-        (size_text (decoded_size kind raw)) }
+        (size_text content.fault (length content.bytes)) }
 {
-    match bytes {
-        Ok(decoded) => {
-            let size = decoded.len();
+    match content.fault {
+        None => {
+            let size = content.bytes.len();
             write!(out, ",\"decoded_size\":{size}")?;
             Ok(())
         }
-        Err(error) => {
-            let text = refusal_text(alloc, error)?;
+        Some(fault) => {
+            let text = refusal_text(alloc, &MailParseError::from(fault))?;
             write_word(out, ",\"decoded_size\":null,\"error\":")?;
             write_text(alloc, out, text.as_str())
         }
     }
 }
 
-/// Writes the hash of what can be read of a body, or `null` where it is not wanted.
+/// Writes the hash of bytes, or `null` if it is not wanted.
 fn write_hash<W: Write>(
     alloc: Global,
     out: &mut W,
-    bytes: &Result<CowSlice<'_, u8>, MailParseError>,
-    raw: &[u8],
+    bytes: &[u8],
     is_wanted: bool,
 ) -> Result<(), Fault>
-    ensures { (kind : BodyKind) →
-        AnswersOrMemory cow_slice_items bytes.now (decoded kind raw.now) →
-        Writes (W.contents out.old) (W.contents out.new) result
-        (sha256_text (hash_of is_wanted kind raw.now)) }
+    ensures { Writes (W.contents out.old) (W.contents out.new) result
+        (sha256_text (hash_of is_wanted bytes.now)) }
 {
     if !is_wanted {
         return write_word(out, ",\"sha256\":null");
     }
-    match bytes {
-        Ok(decoded) => write_sha256(alloc, out, decoded.as_slice()),
-        Err(error) => {
-            let front = front_bytes(alloc, error, raw)?;
-            write_sha256(alloc, out, front.as_slice())
-        }
-    }
+    write_sha256(alloc, out, bytes)
 }
 
 /// Writes the member of the hash of bytes.
@@ -336,24 +311,21 @@ fn write_sha256<W: Write>(alloc: Global, out: &mut W, bytes: &[u8]) -> Result<()
 fn write_part_text<W: Write, K: KnownCharsets>(
     alloc: Global,
     out: &mut W,
-    bytes: Result<CowSlice<'_, u8>, MailParseError>,
-    raw: &[u8],
+    content: &Content<'_>,
     part: &ParsedMail<'_>,
     is_read: bool,
     known: &K,
     reading: Reading,
 ) -> Result<(), Fault>
-    ensures { AnswersOrMemory cow_slice_items bytes.entry
-        (decoded (lenient_body_kind (root (tree_of part.now))) (root (tree_of part.now)).body) →
-        (root (tree_of part.now)).body ≡ raw.now →
-        Writes (W.contents out.old) (W.contents out.new) result
-        (body_text (K.known known.now) reading.joins_flowed is_read
-        (lenient_body_kind (root (tree_of part.now))) (content_of (root (tree_of part.now)))) }
+    ensures { let node = root (tree_of part.now) in
+        content_view content.now ≡ message_content node →
+        Writes (W.contents out.old) (W.contents out.new) result (body_text
+        (K.known known.now) reading.joins_flowed is_read node.ctype (message_content node)) }
 {
     if reading.joins_flowed {
         return write_flowed(alloc, out, part, is_read, known);
     }
-    write_body_text(alloc, out, bytes, raw, &part.ctype, is_read, known)
+    write_body_text(alloc, out, content, &part.ctype, is_read, known)
 }
 
 /// Does what `write_part_text` does, with each paragraph that flows as one line.
@@ -365,8 +337,8 @@ fn write_flowed<W: Write, K: KnownCharsets>(
     known: &K,
 ) -> Result<(), Fault>
     ensures { Writes (W.contents out.old) (W.contents out.new) result
-        (body_text (K.known known.now) true is_read
-        (lenient_body_kind (root (tree_of part.now))) (content_of (root (tree_of part.now)))) }
+        (body_text (K.known known.now) true is_read (root (tree_of part.now)).ctype
+        (message_content (root (tree_of part.now)))) }
 {
     if !is_read {
         return write_word(out, ",\"text\":null");
@@ -379,64 +351,29 @@ fn write_flowed<W: Write, K: KnownCharsets>(
     write_word(out, damaged_text(read.is_damaged))
 }
 
-/// Writes the members of the text of a body that is to be read, or `null` where it is not to be.
+/// Writes the members of the text of a body that is to be read, or `null` where it is not to be: the
+/// text, the charset in which it is read, and whether the body is damaged.
 fn write_body_text<W: Write, K: KnownCharsets>(
     alloc: Global,
     out: &mut W,
-    bytes: Result<CowSlice<'_, u8>, MailParseError>,
-    raw: &[u8],
+    content: &Content<'_>,
     ctype: &ParsedContentType,
     is_read: bool,
     known: &K,
 ) -> Result<(), Fault>
-    ensures { (kind : BodyKind) (given : Content) →
-        AnswersOrMemory cow_slice_items bytes.entry (decoded kind given.raw) →
-        given.raw ≡ raw.now → given.ctype ≡ content_type ctype.now →
-        Writes (W.contents out.old) (W.contents out.new) result
-        (body_text (K.known known.now) false is_read kind given) }
+    ensures { Writes (W.contents out.old) (W.contents out.new) result (body_text
+        (K.known known.now) false is_read (content_type ctype.now) (content_view content.now)) }
 {
     if !is_read {
         return write_word(out, ",\"text\":null");
     }
-    match bytes {
-        Ok(decoded) => write_read_text(alloc, out, decoded.as_slice(), ctype, false, known),
-        Err(error) => {
-            let front = front_bytes(alloc, &error, raw)?;
-            write_read_text(alloc, out, front.as_slice(), ctype, true, known)
-        }
-    }
-}
-
-/// The bytes of the front of a body in Base64 that is refused.
-fn front_bytes(alloc: Global, error: &MailParseError, raw: &[u8]) -> Result<Vec<u8>, AllocError>
-    ensures read { IfOk result (λ front. front.items ≡ (base64_front raw.now).bytes) }
-    ensures passed_on { IfOk result (λ front. IsMemory error.now → ⊥) }
-{
-    match error {
-        MailParseError::Memory(_) => Err(AllocError),
-        _ => Ok(base64_front(alloc, raw)?.bytes),
-    }
-}
-
-/// Writes the members of a text: the text, the charset in which it is read, and whether its body is
-/// damaged.
-fn write_read_text<W: Write, K: KnownCharsets>(
-    alloc: Global,
-    out: &mut W,
-    bytes: &[u8],
-    ctype: &ParsedContentType,
-    is_damaged: bool,
-    known: &K,
-) -> Result<(), Fault>
-    ensures { Writes (W.contents out.old) (W.contents out.new) result (shown_text
-        (K.known known.now) (content_type ctype.now).charset bytes.now is_damaged) }
-{
+    let bytes = content.bytes.as_slice();
     write_word(out, ",\"text\":")?;
     let text = lenient_text(alloc, bytes, ctype, known)?;
     write_owned(alloc, out, text)?;
     write_word(out, ",\"text_charset\":")?;
     write_text(alloc, out, charset_used(bytes, ctype, known))?;
-    write_word(out, damaged_text(is_damaged))
+    write_word(out, damaged_text(content.fault.is_some()))
 }
 
 /// The member that says that a body is damaged, where it is.

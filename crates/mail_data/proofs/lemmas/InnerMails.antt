@@ -13,20 +13,19 @@ use Rattle.mailparse.specs.Placement.{Placement, placements}
 use Rattle.mailparse.specs.Refusal.{Reads, Refusal, generic, encoding, base64_fault}
 use Rattle.mailparse.specs.declared.error.MailParseError.{MailParseError}
 use Rattle.mailparse.specs.declared.error.MailParseError.TheVariants.{QuotedPrintableDecodeError, Base64DecodeError, EncodingError, Generic, Memory}
-use Rattle.mail_data.specs.Forwarding.{readable}
 use Rattle.mail_data.specs.InnerMails.{InnerMail, held_mail, holds_mail, inner_mails, is_plain, mail_bytes, mail_read, mail_start, places_under}
 use Rattle.mail_data.specs.PartPlaces.{Place}
 use Rattle.mail_data.specs.lenient.Encoding.{lenient_body_kind}
 
--- a mail inside by what is said of it
+-- a mail inside, given its fields
 abbrev pub inner_with : List ℕ → List ℕ → Option ℕ → Option Refusal → InnerMail
 inner_with path bytes start refusal = record { path = path; bytes = bytes; start = start; refusal = refusal }
 
--- the mails that the mails inside such a reading are, below a path and from a place on
+-- the mails inside a mail that was read so, given its path and its offset
 abbrev pub mails_below : Charsets → ℕ → List ℕ → Option ℕ → Reads Tree → List InnerMail
 mails_below known most path at read = option_map_or (λ inside. inner_mails known most path at inside (placements 0 inside)) (result_ok read) []
 
--- the mail that a part holds, if it does, and those inside it
+-- the mail in a part, if there is one, and those inside it
 abbrev pub mails_in_place : Charsets → ℕ → Option ℕ → Place → List InnerMail
 mails_in_place known most start place =
     if holds_mail place
@@ -52,7 +51,7 @@ held-read known most start at place bytes read h same there e =
     ∙ ap (λ (b : List ℕ). inner_with place.path b (mail_start start place) (result_err read) ∷ mails_below known most place.path (mail_start start place) read) (sym same)
     ∙ ap (λ (s : Option ℕ). inner_with place.path bytes s (result_err read) ∷ mails_below known most place.path s read) (sym there)
 
--- what an error says that is not that memory ran out
+-- the refusal in an error that is not out of memory
 refused-is : (e : MailParseError) (given : Reads Tree) → (IsMemory e → ⊥) → IsRefusalOrMemory e given
     → (r : Refusal) × (refusal_of e ≡ Some r) × (given ≡ Err r)
 refused-is (QuotedPrintableDecodeError fault) given passed is = absurd is
@@ -61,21 +60,21 @@ refused-is (EncodingError text) given passed is = (encoding (cow_str_bytes text)
 refused-is (Generic text) given passed is = (generic text.now, refl, is)
 refused-is (Memory e) given passed is = absurd (passed tt)
 
--- what a step adds, before those that are left
+-- the mails that a step adds, before the remaining ones
 pub next : {A B : Type 0} (f : A → List B) (done new all : List B) (x : A) (left rest : List A) (xs : List B) → left ≡ x ∷ rest → f x ≡ xs → new ≡ done ++ xs
     → done ++ flat_map f left ≡ all → new ++ flat_map f rest ≡ all
 next {A = A} {B = B} f done new all x left rest xs is one made here =
     ap (λ (t : List B). t ++ flat_map f rest) (made ∙ ap (λ (t : List B). done ++ t) (sym one))
     ∙ append_assoc done (f x) (flat_map f rest) ∙ ap (λ (l : List A). done ++ flat_map f l) (sym is) ∙ here
 
--- a part that holds no mail
+-- a part without a mail
 pub next-none : (known : Charsets) (most : ℕ) (start : Option ℕ) (place : Place) (left rest : List Place) (done all : List InnerMail) → left ≡ place ∷ rest
     → holds_mail place ≡ false → done ++ flat_map (mails_in_place known most start) left ≡ all
     → done ++ flat_map (mails_in_place known most start) rest ≡ all
 next-none known most start place left rest done all is h here =
     next (mails_in_place known most start) done done all place left rest [] is (held-none known most start place h) (sym (append-nil done)) here
 
--- a part that holds a mail that is read
+-- a part with a mail that is read
 pub next-read : (known : Charsets) (most : ℕ) (start at : Option ℕ) (place : Place) (left rest : List Place) (bytes : List ℕ) (t : Tree) (found : List Placement)
     (done mid new all : List InnerMail) → left ≡ place ∷ rest → holds_mail place ≡ true → bytes ≡ mail_bytes place → at ≡ mail_start start place
     → read_mail_in known 100 bytes ≡ Ok t → found ≡ placements 0 t → mid ≡ done ++ inner_with place.path bytes at None ∷ []
@@ -87,7 +86,7 @@ next-read known most start at place left rest bytes t found done mid new all is 
     ∙ ap (λ (l : List InnerMail). l ++ inner_mails known most place.path at t (placements 0 t)) one
     ∙ append_assoc done (inner_with place.path bytes at None ∷ []) (inner_mails known most place.path at t (placements 0 t))) here
 
--- a part that holds a mail that is refused
+-- a part with a mail that is refused
 pub next-refused : (known : Charsets) (most : ℕ) (start at : Option ℕ) (place : Place) (left rest : List Place) (bytes : List ℕ) (e : MailParseError)
     (done new all : List InnerMail) → left ≡ place ∷ rest → holds_mail place ≡ true → bytes ≡ mail_bytes place → at ≡ mail_start start place
     → IsRefusalOrMemory e (read_mail_in known 100 bytes) → (IsMemory e → ⊥) → new ≡ done ++ inner_with place.path bytes at (refusal_of e) ∷ []
@@ -97,12 +96,7 @@ next-refused known most start at place left rest bytes e done new all is h same 
     next (mails_in_place known most start) done new all place left rest _ is (held-read known most start at place bytes (Err r.0) h same there r.2)
     (made ∙ ap (λ (o : Option Refusal). done ++ inner_with place.path bytes at o ∷ []) r.1) here
 
--- ---- the bytes of a mail, and where it begins
-
-pub mail_bytes-is : (place : Place) (bytes : List ℕ)
-    → ◌≡◌ {A = Reads (List ℕ)} (Ok (readable (lenient_body_kind (root place.part)) (root place.part).body)) (Ok bytes) → bytes ≡ mail_bytes place
-unfolding mail_bytes
-mail_bytes-is place bytes e = let same : readable (lenient_body_kind (root place.part)) (root place.part).body ≡ bytes = cc in sym same
+-- ---- the offset of a mail
 
 -- the first of the items that are left
 pub drop_next : {A : Type 0} (xs : List A) (i : ℕ) (x : A) → i < length xs → x ≡ get_or xs i x → drop i xs ≡ x ∷ drop (i + 1) xs

@@ -2,6 +2,6 @@
 use Rattle.mail_data.specs.lenient.Base64.{Front}
 use Rattle.mail_data.specs.declared.lenient.base64.Base64Front.{Base64Front}
 
--- what was read, and the number of the first invalid group
+-- the bytes that were read, and the index of the first invalid group
 abbrev pub front_of : Base64Front → Front
 front_of front = record { bytes = front.bytes.items; fault = front.fault }

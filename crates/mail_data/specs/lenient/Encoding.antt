@@ -1,4 +1,4 @@
--- The transfer encoding of a body where more stands beside its name: whitespace, a comment or a parameter (RFC 2045, section
+-- The transfer encoding of a body with more text beside its name: whitespace, a comment or a parameter (RFC 2045, section
 -- 6.1; RFC 5322, section 3.2.2).
 use Rattle.std.specs.Prelude.{ℕ, Bool, not, ◌||◌, ◌==◌, List, take, Option, option_map, codes}
 use Rattle.std.specs.Char.{is_ascii_whitespace}
@@ -20,10 +20,10 @@ name_at text =
     let rest = trimmed_at_start is_ascii_whitespace text in
     take (prefix_len (λ b. not (ends_name b)) rest) rest
 
--- the encoding that a text names so, in any case
+-- the encoding that a text names, ignoring case
 unfoldable pub lenient_kind : Option (List ℕ) → BodyKind
 lenient_kind value = kind_named (option_map (λ text. name_at (str_to_ascii_lowercase text)) value)
 
--- the transfer encoding of a message's body, by its first `Content-Transfer-Encoding`
+-- the transfer encoding of the body of a message, by its first `Content-Transfer-Encoding`
 abbrev pub lenient_body_kind : Node → BodyKind
 lenient_body_kind node = lenient_kind (first_value (codes "Content-Transfer-Encoding") node.headers)

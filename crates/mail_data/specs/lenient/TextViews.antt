@@ -2,12 +2,7 @@
 use Rattle.std.specs.Prelude.{string_bytes}
 use Rattle.mail_data.specs.lenient.Texts as read
 use Rattle.mail_data.specs.declared.lenient.texts.BodyText.{BodyText}
-use Rattle.mail_data.specs.declared.lenient.texts.ReadBytes.{ReadBytes}
 
 -- the text, its charset, and whether it is damaged
 abbrev pub text_view : BodyText → read.BodyText
 text_view body = record { text = string_bytes body.text; charset = string_bytes body.charset; is_damaged = body.is_damaged }
-
--- what a body stands for
-abbrev pub bytes_view : ReadBytes → read.Read
-bytes_view body = record { bytes = body.bytes.items; is_damaged = body.is_damaged }

@@ -1,16 +1,14 @@
--- The text of a body whose label says nothing of its bytes, and of a Base64 body that is damaged; the crate's own rule.
-use Rattle.std.specs.Prelude.{ℕ, Bool, true, false, not, ◌||◌, ◌&&◌, List, is_some, Ok, Err, codes, if◌then◌else◌}
+-- The text of a body with a wrong label, and of a damaged body; the crate's own rule.
+use Rattle.std.specs.Prelude.{ℕ, Bool, not, ◌||◌, ◌&&◌, List, is_some, codes, if◌then◌else◌}
 use Rattle.std.specs.Option.{option_map_or}
 use Rattle.std.specs.Str.{is_utf8, str_eq_ignore_ascii_case}
 use Rattle.mail_codec.specs.Charset.{Charsets, mark_at_start, marked_text_of}
 use Rattle.mail_codec.specs.declared.charset.built_in.Charset.{Charset}
 use Rattle.mail_codec.specs.declared.charset.built_in.Charset.TheVariants.{Utf8, Windows1252, Utf16Le, Utf16Be}
-use Rattle.mailparse.specs.Body.{BodyKind, decoded, text_under_in}
+use Rattle.mailparse.specs.Body.{text_under_in}
 use Rattle.mailparse.specs.ContentType.{default_charset}
 use Rattle.mailparse.specs.Mail.{Node}
-use Rattle.mailparse.specs.Refusal.{Reads}
-use Rattle.mail_data.specs.lenient.Base64.{base64_front}
-use Rattle.mail_data.specs.lenient.Encoding.{lenient_body_kind}
+use Rattle.mail_data.specs.lenient.Content.{Content, message_content}
 
 -- the name of a charset
 abbrev pub charset_name : Charset → List ℕ
@@ -19,7 +17,7 @@ charset_name Windows1252 = codes "windows-1252"
 charset_name Utf16Le = codes "utf-16le"
 charset_name Utf16Be = codes "utf-16be"
 
--- a label is the one that stands where none is given
+-- a label is the default, which means no charset
 abbrev pub is_default : List ℕ → Bool
 is_default label = str_eq_ignore_ascii_case label default_charset
 
@@ -33,24 +31,12 @@ module _ (known : Charsets) where
   unfoldable pub lenient_text : List ℕ → List ℕ → List ℕ
   lenient_text label bytes = if is_read_as_utf8 label bytes then marked_text_of Utf8 bytes else text_under_in known label bytes
 
-  -- the name of the charset in which they are read: of a byte order mark, or the label; under a label that is unknown only ASCII is read
+  -- the name of the charset in which they are read: of a byte order mark, or the label; under an unknown label only ASCII is read
   unfoldable pub charset_used : List ℕ → List ℕ → List ℕ
   charset_used label bytes =
       if is_read_as_utf8 label bytes then codes "utf-8" else
       if not (is_some (known label)) then default_charset else
       option_map_or (λ mark. charset_name mark.0) (mark_at_start bytes) (if is_default label then codes "windows-1252" else label)
-
--- what a body stands for, and whether it is damaged: where it is refused, it is Base64, and its front is read
-pub record Read : Type 0 where
-  pub bytes : List ℕ
-  pub is_damaged : Bool
-
-abbrev pub read_or_front : List ℕ → Reads (List ℕ) → Read
-read_or_front raw (Ok bytes) = record { bytes = bytes; is_damaged = false }
-read_or_front raw (Err refusal) = record { bytes = (base64_front raw).bytes; is_damaged = true }
-
-unfoldable pub lenient_bytes : BodyKind → List ℕ → Read
-lenient_bytes kind raw = read_or_front raw (decoded kind raw)
 
 -- the text of a body, the charset in which it is read, and whether it is damaged
 pub record BodyText : Type 0 where
@@ -58,13 +44,13 @@ pub record BodyText : Type 0 where
   pub charset : List ℕ
   pub is_damaged : Bool
 
-abbrev pub text_read : Charsets → List ℕ → Read → BodyText
-text_read known label read = record {
-  text = lenient_text known label read.bytes;
-  charset = charset_used known label read.bytes;
-  is_damaged = read.is_damaged;
+abbrev pub text_read : Charsets → List ℕ → Content → BodyText
+text_read known label content = record {
+  text = lenient_text known label content.bytes;
+  charset = charset_used known label content.bytes;
+  is_damaged = is_some content.fault;
 }
 
--- the same of a message
+-- the same of the body of a message
 abbrev pub body_text : Charsets → Node → BodyText
-body_text known node = text_read known node.ctype.charset (lenient_bytes (lenient_body_kind node) node.body)
+body_text known node = text_read known node.ctype.charset (message_content node)

@@ -9,12 +9,12 @@ use mail_codec::bytescan::strip_ascii_whitespace;
 use mail_codec::transfer::decode_base64_body;
 use std::alloc::{AllocError, Global};
 
-/// What could be read of a Base64 body, as `base64_front` returns it.
-#[derive(Drop)]
+/// The part of a Base64 body that could be read, as `base64_front` returns it.
+#[derive(Debug, Drop)]
 pub struct Base64Front {
     /// The bytes of the groups before the first invalid one.
     pub bytes: Vec<u8>,
-    /// The index of that group, counted from 0, or `None` where all was read.
+    /// The index of that group, counted from 0, or `None` if all was read.
     pub fault: Option<usize>,
 }
 
@@ -22,14 +22,13 @@ pub struct Base64Front {
 /// of that group (RFC 4648, section 4; RFC 2045, section 6.8).
 ///
 /// ASCII whitespace is ignored. Two or three letters at the end, or two and one `=`, are read as a
-/// group whose padding is missing; one letter alone is invalid. Where `decode_base64_body` reads
-/// the body, the bytes are the same and there is no invalid group. `Body::get_raw` returns the body
-/// of a mail as it stands. Takes memory for the bytes, and where a group is invalid for a copy of
-/// the body.
+/// group whose padding is missing; one letter alone is invalid. If `decode_base64_body` reads the
+/// body, the bytes are the same and there is no invalid group. `lenient_content` calls this for the
+/// body of a mail. Allocates the bytes, and a copy of the body if a group is invalid.
 ///
 /// # Errors
 ///
-/// Where it runs out of memory.
+/// `AllocError` if it runs out of memory.
 ///
 /// # Examples
 ///
@@ -48,24 +47,16 @@ pub fn base64_front(alloc: Global, body: &[u8]) -> Result<Base64Front, AllocErro
     ensures same { (bytes : List ℕ) → base64 (without_ascii_whitespace body.now) ≡ Ok bytes →
         IfOk result (λ front. front_of front ≡ record { bytes = bytes; fault = None }) }
 {
-    read_front(alloc, body)
-}
-
-/// What can be read of a body.
-fn read_front(alloc: Global, body: &[u8]) -> Result<Base64Front, AllocError>
-    ensures { IfOk result (λ front. front_of front ≡ base64_front body.now) }
-{
     match decode_base64_body(alloc, body)? {
         Ok(bytes) => Ok(Base64Front { bytes, fault: None }),
         Err(group) => {
             let letters = strip_ascii_whitespace(alloc, body)?;
-            let front = front_before(alloc, letters.as_slice(), group)?;
-            Ok(front)
+            front_before(alloc, letters.as_slice(), group)
         }
     }
 }
 
-/// What can be read of a text without whitespace whose first invalid group has this index.
+/// Reads the front of a text without whitespace whose first invalid group has this index.
 #[tactic(auto, using(crate::proofs::lemmas::lenient::Base64::cut_fits))]
 fn front_before(alloc: Global, letters: &[u8], group: usize) -> Result<Base64Front, AllocError>
     requires clean { without_ascii_whitespace letters.now ≡ letters.now }
@@ -88,9 +79,9 @@ fn front_before(alloc: Global, letters: &[u8], group: usize) -> Result<Base64Fro
     })
 }
 
-/// Appends the bytes of what follows the whole groups and returns true, where these are two or
-/// three letters; otherwise returns false. The group there, whose index is handed in, is invalid as
-/// it stands.
+/// Appends the bytes of the text after the whole groups and returns true, if it consists of two or
+/// three letters; otherwise returns false. The group there, which has this index, is invalid without
+/// its padding.
 fn push_last(
     alloc: Global,
     bytes: &mut Vec<u8>,
@@ -119,7 +110,7 @@ fn push_last(
     Ok(true)
 }
 
-/// The third letter, or padding in its place.
+/// Returns the third letter, or padding in its place.
 fn third_letter(rest: &[u8]) -> u8
     ensures { result ≡ (if length rest.now == 3 then slice_index rest.now 2 else padding) }
 {

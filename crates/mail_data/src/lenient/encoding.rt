@@ -1,4 +1,4 @@
-//! Transfer encodings whose name is followed by other text.
+//! Transfer encodings with other text after their names.
 ghost use Rattle.std.specs.Prelude.{◌≡◌, ◌≢◌, ◌≤◌, codes, length, not, Some, IfErr, IfOk};
 ghost use Rattle.std.specs.Char.{is_ascii_whitespace};
 ghost use Rattle.std.specs.List.{prefix_len};
@@ -10,7 +10,6 @@ ghost use Rattle.mailparse.specs.Outcome.{IsMemory};
 ghost use Rattle.mailparse.specs.Views.{tree_of};
 ghost use Rattle.mail_data.specs.lenient.Encoding.{ends_name, lenient_body_kind, lenient_kind, name_at};
 
-use crate::forwarding::raw_body;
 use mailparse::body::Body;
 use mailparse::{MailHeaderMap, MailParseError, ParsedMail};
 use std::alloc::{AllocError, Global};
@@ -19,12 +18,12 @@ use std::alloc::{AllocError, Global};
 /// the name of the encoding ends at ASCII whitespace, `(` or `;` (RFC 2045, section 6.1).
 ///
 /// So `base64 (a comment)` and `base64` with a space after it are Base64, and not `7bit`. If
-/// `get_body_encoded` finds an encoding other than `7bit`, this call finds the same one. Takes
-/// memory for the name of the encoding.
+/// `get_body_encoded` finds an encoding other than `7bit`, this call finds the same one. Allocates
+/// the name of the encoding.
 ///
 /// # Errors
 ///
-/// `MailParseError::Memory` where it runs out of memory.
+/// `MailParseError::Memory` if it runs out of memory.
 ///
 /// # Examples
 ///
@@ -49,7 +48,7 @@ pub fn lenient_body<'m>(alloc: Global, part: &'m ParsedMail<'_>) -> Result<Body<
     body_named(alloc, part)
 }
 
-/// The body of a part in that encoding.
+/// Returns the body of a part in that encoding.
 fn body_named<'m>(alloc: Global, part: &'m ParsedMail<'_>) -> Result<Body<'m>, MailParseError>
     ensures read { let node = root (tree_of part.now) in
         IfOk result (IsBody (lenient_body_kind node) (content_of node)) }
@@ -63,7 +62,18 @@ fn body_named<'m>(alloc: Global, part: &'m ParsedMail<'_>) -> Result<Body<'m>, M
     Ok(Body::new(raw, &part.ctype, &name))
 }
 
-/// A name of the encoding that a text names.
+/// Returns the bytes of the body of a part, with their transfer encoding.
+pub(crate) fn raw_body<'m>(
+    alloc: Global,
+    part: &'m ParsedMail<'_>,
+) -> Result<&'m [u8], MailParseError>
+    ensures read { IfOk result (λ raw. raw.now ≡ (root (tree_of part.now)).body) }
+    ensures only_memory { IfErr result IsMemory }
+{
+    Ok(part.get_body_encoded(alloc)?.get_raw())
+}
+
+/// Returns the exact name of the encoding that a text names.
 #[tactic(auto, unfolding(crate::specs::lenient::Encoding::lenient_kind))]
 fn lenient_name(alloc: Global, value: Option<String>) -> Result<Option<String>, AllocError>
     ensures { IfOk result (λ name. kind_named (name_of name) ≡ lenient_kind (text_found value)) }
@@ -76,7 +86,7 @@ fn lenient_name(alloc: Global, value: Option<String>) -> Result<Option<String>, 
     Ok(Some(name))
 }
 
-/// The name of the same encoding.
+/// Returns the exact name of the encoding with this name.
 #[tactic(auto, unfolding(mailparse::specs::Body::kind_named))]
 fn known_name(name: &[u8]) -> &'static str
     ensures { kind_named (Some result.now) ≡ kind_named (Some name.now) }
@@ -96,17 +106,16 @@ fn known_name(name: &[u8]) -> &'static str
     "7bit"
 }
 
-/// The name at the front of a text, after whitespace.
+/// Returns the name at the front of a text, after whitespace.
 #[tactic(auto, unfolding(crate::specs::lenient::Encoding::name_at))]
 fn name_at(text: &[u8]) -> &[u8]
     ensures { result.now ≡ name_at text.now }
 {
-    let (_, rest) = text.split_at(whitespace_len(text));
-    let (name, _) = rest.split_at(name_len(rest));
-    name
+    let rest = &text[whitespace_len(text)..];
+    &rest[..name_len(rest)]
 }
 
-/// How many bytes of whitespace stand at the front.
+/// Returns the length of the whitespace at the front.
 fn whitespace_len(text: &[u8]) -> usize
     ensures value { result ≡ prefix_len is_ascii_whitespace text.now }
     ensures bounds { result ≤ length text.now }
@@ -116,7 +125,7 @@ fn whitespace_len(text: &[u8]) -> usize
         .count()
 }
 
-/// How many bytes stand before the first that ends a name.
+/// Returns the number of bytes before the first that ends a name.
 fn name_len(text: &[u8]) -> usize
     ensures value { result ≡ prefix_len (λ b. not (ends_name b)) text.now }
     ensures bounds { result ≤ length text.now }
@@ -124,7 +133,7 @@ fn name_len(text: &[u8]) -> usize
     text.iter().take_while(|byte| !ends_name(**byte)).count()
 }
 
-/// Whether a byte ends the name of an encoding.
+/// Returns whether a byte ends the name of an encoding.
 fn ends_name(byte: u8) -> bool
     ensures { result ≡ ends_name byte }
 {

@@ -1,51 +1,42 @@
-//! Texts whose label says nothing of their bytes, and damaged ones.
-ghost use Rattle.std.specs.Prelude.{◌≡◌, false, is_some, IfErr, IfOk, Ok};
+//! Texts with a wrong label, and damaged texts.
+ghost use Rattle.std.specs.Prelude.{◌≡◌, is_some, Ok};
 ghost use Rattle.std.specs.Str.{is_utf8};
-ghost use Rattle.mailparse.specs.Body.{BodyKind, in_base64, text_under_in};
-ghost use Rattle.mailparse.specs.BodyViews.{Content, IsBody};
+ghost use Rattle.mailparse.specs.Body.{text_under_in};
 ghost use Rattle.mailparse.specs.Mail.{root};
-ghost use Rattle.mailparse.specs.Outcome.{AnswersOrMemory, GivesText, IsMemory};
+ghost use Rattle.mailparse.specs.Outcome.{AnswersOrMemory, GivesText};
 ghost use Rattle.mailparse.specs.Views.{content_type, tree_of};
 ghost use Rattle.mail_data.specs.lenient.Texts.{body_text, charset_name, charset_used, is_default};
-ghost use Rattle.mail_data.specs.lenient.Texts.{is_read_as_utf8, lenient_bytes, lenient_text};
-ghost use Rattle.mail_data.specs.lenient.TextViews.{bytes_view, text_view};
+ghost use Rattle.mail_data.specs.lenient.Texts.{is_read_as_utf8, lenient_text};
+ghost use Rattle.mail_data.specs.lenient.TextViews.{text_view};
 
-use super::base64::base64_front;
+use super::content::lenient_content;
 use super::encoding::lenient_body;
 use mail_codec::charset::{Charset, KnownCharsets};
-use mail_codec::transfer::{decode_base64_body, decode_quoted_printable};
 use mailparse::body::Body;
 use mailparse::{MailParseError, ParsedContentType, ParsedMail};
-use std::alloc::{AllocError, Global};
+use std::alloc::Global;
 
 /// The text of a body, as `body_text` returns it.
-#[derive(Drop)]
+#[derive(Debug, Drop)]
 pub struct BodyText {
     /// The text.
     pub text: String,
-    /// The name of the charset in which it was read, as `utf-8`.
+    /// The name of the charset in which it was read, such as `utf-8`.
     pub charset: String,
-    /// Whether the body is in Base64 and could not be read whole: the text is that of the bytes
-    /// before the first invalid group.
+    /// Whether the body is damaged, as `lenient_content` reports it: the text is that of the bytes
+    /// before the damage.
     pub is_damaged: bool,
 }
 
-/// What a body stands for.
-#[derive(Drop)]
-struct ReadBytes {
-    bytes: Vec<u8>,
-    is_damaged: bool,
-}
-
 /// Returns the text of the body of a part, read leniently: the transfer encoding as `lenient_body`
-/// reads it, damaged Base64 as `base64_front` does, and the charset as `lenient_text` does (RFC
+/// reads it, damaged bytes as `lenient_content` does, and the charset as `lenient_text` does (RFC
 /// 2045, sections 5.2 and 6; RFC 2046, section 4.1.2).
 ///
-/// Takes memory for the bytes, the text and the name of the charset.
+/// Allocates the bytes, the text and the name of the charset.
 ///
 /// # Errors
 ///
-/// `MailParseError::Memory` where it runs out of memory.
+/// `MailParseError::Memory` if it runs out of memory.
 ///
 /// # Examples
 ///
@@ -67,65 +58,26 @@ pub fn body_text<K: KnownCharsets>(
         (Ok (body_text (K.known known.now) (root (tree_of part.now)))) }
 {
     let body = lenient_body(alloc, part)?;
-    let read = lenient_bytes(alloc, &body)?;
-    let text = lenient_text(alloc, read.bytes.as_slice(), &part.ctype, known)?;
-    let charset = charset_used(read.bytes.as_slice(), &part.ctype, known);
+    let content = lenient_content(alloc, &body)?;
+    let bytes = content.bytes.as_slice();
+    let text = lenient_text(alloc, bytes, &part.ctype, known)?;
+    let charset = charset_used(bytes, &part.ctype, known);
     Ok(BodyText {
         text,
         charset: String::from_str(alloc, charset)?,
-        is_damaged: read.is_damaged,
+        is_damaged: content.fault.is_some(),
     })
 }
 
-/// What a body stands for; where it is damaged, what its front stands for.
-#[tactic(auto, unfolding(crate::specs::lenient::Texts::lenient_bytes, mailparse::specs::Body::decoded))]
-fn lenient_bytes(alloc: Global, body: &Body<'_>) -> Result<ReadBytes, MailParseError>
-    ensures read { (kind : BodyKind) (given : Content) → IsBody kind given body.now →
-        IfOk result (λ read. bytes_view read ≡ lenient_bytes kind given.raw) }
-    ensures only_memory { IfErr result IsMemory }
-{
-    match body {
-        Body::Base64(body) => Ok(read_base64(alloc, body.get_raw())?),
-        Body::QuotedPrintable(body) => Ok(whole(decode_quoted_printable(alloc, body.get_raw())?)),
-        Body::SevenBit(body) => Ok(whole(body.get_raw().to_vec(alloc)?)),
-        Body::EightBit(body) => Ok(whole(body.get_raw().to_vec(alloc)?)),
-        Body::Binary(body) => Ok(whole(body.get_raw().to_vec(alloc)?)),
-    }
-}
-
-/// What a body in Base64 stands for; where it is damaged, what its front stands for.
-#[tactic(auto, unfolding(crate::specs::lenient::Texts::lenient_bytes, mailparse::specs::Body::decoded))]
-fn read_base64(alloc: Global, raw: &[u8]) -> Result<ReadBytes, AllocError>
-    ensures { IfOk result (λ read. bytes_view read ≡ lenient_bytes in_base64 raw.now) }
-{
-    match decode_base64_body(alloc, raw)? {
-        Ok(bytes) => Ok(whole(bytes)),
-        Err(_) => Ok(ReadBytes {
-            bytes: base64_front(alloc, raw)?.bytes,
-            is_damaged: true,
-        }),
-    }
-}
-
-/// Bytes that were all read.
-fn whole(bytes: Vec<u8>) -> ReadBytes
-    ensures { bytes_view result ≡ record { bytes = bytes.items; is_damaged = false } }
-{
-    ReadBytes {
-        bytes,
-        is_damaged: false,
-    }
-}
-
-/// Returns the text of decoded bytes of this type. Where the charset of the type is missing,
+/// Returns the text of decoded bytes of this type. If the charset of the type is missing,
 /// `us-ascii` or unknown and the bytes are UTF-8, they are read as UTF-8; otherwise as
 /// `get_as_string_in` reads them (RFC 2045, section 5.2; RFC 2046, section 4.1.2).
 ///
-/// Takes memory for the text.
+/// Allocates the text.
 ///
 /// # Errors
 ///
-/// `MailParseError::Memory` where it runs out of memory.
+/// `MailParseError::Memory` if it runs out of memory.
 ///
 /// # Examples
 ///
@@ -148,17 +100,15 @@ pub fn lenient_text<K: KnownCharsets>(
         (lenient_text (K.known known.now) (content_type ctype.now).charset bytes.now) }
 {
     if is_read_as_utf8(bytes, ctype.charset.as_str(), known) {
-        let text = Charset::Utf8.decode(alloc, bytes)?;
-        return Ok(text);
+        return Ok(Charset::Utf8.decode(alloc, bytes)?);
     }
-    let text = text_under(alloc, bytes, ctype, known)?;
-    Ok(text)
+    text_under(alloc, bytes, ctype, known)
 }
 
 /// Returns the name of the charset in which `lenient_text` reads bytes of this type (RFC 2045,
-/// section 5.2): that of a byte order mark, `utf-8` where they are read as UTF-8 in spite of their
-/// label, `windows-1252` for `us-ascii`, otherwise the label; and `us-ascii` where the label is
-/// unknown, since only ASCII is then read. Takes no memory.
+/// section 5.2): `utf-8` if they are read as UTF-8 in spite of their label, `us-ascii` if the label
+/// is unknown, since only ASCII is read then, that of a byte order mark, `windows-1252` for
+/// `us-ascii`, and otherwise the label. Does not allocate.
 ///
 /// # Examples
 ///
@@ -195,7 +145,7 @@ pub fn charset_used<'c, K: KnownCharsets>(
     label
 }
 
-/// Whether bytes are read as UTF-8 in spite of their label.
+/// Returns whether bytes are read as UTF-8 in spite of their label.
 #[tactic(auto, unfolding(crate::specs::lenient::Texts::is_read_as_utf8))]
 fn is_read_as_utf8<K: KnownCharsets>(bytes: &[u8], label: &str, known: &K) -> bool
     ensures { result ≡ is_read_as_utf8 (K.known known.now) label.now bytes.now }
@@ -203,24 +153,21 @@ fn is_read_as_utf8<K: KnownCharsets>(bytes: &[u8], label: &str, known: &K) -> bo
     (is_default(label) || !is_known(label, known)) && is_utf8(bytes)
 }
 
-/// Whether bytes are UTF-8.
+/// Returns whether bytes are UTF-8.
 fn is_utf8(bytes: &[u8]) -> bool
     ensures { result ≡ is_utf8 bytes.now }
 {
-    match str::from_utf8(bytes) {
-        Ok(_) => true,
-        Err(_) => false,
-    }
+    str::from_utf8(bytes).is_ok()
 }
 
-/// Whether a label is the one that stands where none is given.
+/// Returns whether a label is the default, which means no charset.
 fn is_default(label: &str) -> bool
     ensures { result ≡ is_default label.now }
 {
     label.eq_ignore_ascii_case("us-ascii")
 }
 
-/// Whether a charset has the label.
+/// Returns whether the label of a charset is known.
 fn is_known<K: KnownCharsets>(label: &str, known: &K) -> bool
     ensures { result ≡ is_some (K.known known.now label.now) }
 {
@@ -239,7 +186,7 @@ fn charset_name(charset: Charset) -> &'static str
     }
 }
 
-/// The text of decoded bytes of this type, under its label.
+/// Returns the text of decoded bytes of this type, in the charset of its label.
 #[tactic(auto, unfolding(mailparse::specs::Body::kind_named))]
 fn text_under<K: KnownCharsets>(
     alloc: Global,

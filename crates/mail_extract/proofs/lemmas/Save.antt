@@ -14,8 +14,8 @@ use Rattle.mailparse.specs.Placement.{Placement, placements}
 use Rattle.mailparse.specs.Refusal.{Reads}
 use Rattle.mail_data.specs.InnerMails.{InnerMail, places_under}
 use Rattle.mail_data.specs.PartPlaces.{Place}
+use Rattle.mail_data.specs.lenient.Content.{Content}
 use Rattle.mail_extract.specs.Chosen.{is_saved}
-use Rattle.mail_extract.specs.Content.{Content}
 use Rattle.mail_extract.specs.Directory.{Creates, File, has_file}
 use Rattle.mail_extract.specs.Hash.{wanted_hash}
 use Rattle.mail_extract.specs.declared.hash.Hashing.{Hashing}
@@ -46,7 +46,7 @@ hash_kept hashing saved bytes = option_and_then (λ name. wanted_hash hashing by
 pub saved_file : (can_fail : Bool) (hashing : Hashing) (files now : List File) (wanted : Wanted) (from next size : ℕ) (name bytes path : List ℕ)
     (kept saved sha256 : Option (List ℕ)) (content : Content) (has_error : Bool) → name ≡ wanted.name → content ≡ wanted.content → bytes ≡ content.bytes
     → kept ≡ saved → path ≡ wanted.path → size ≡ length content.bytes → sha256 ≡ hash_kept hashing saved content.bytes
-    → (is_some content.refusal ≡ true → has_error ≡ true) → (saved ≡ None → has_error ≡ true) → IsKept can_fail name files bytes from kept next now
+    → (is_some content.fault ≡ true → has_error ≡ true) → (saved ≡ None → has_error ≡ true) → IsKept can_fail name files bytes from kept next now
     → IsSaved can_fail hashing files wanted from (record { path = path; saved = saved; size = size; sha256 = sha256; has_error = has_error }) next now
 saved_file can_fail hashing files now wanted from next size name bytes path kept saved sha256 content has_error is_name is_content is_bytes is_saved is_path is_size is_hash damaged failed h =
     record {
@@ -56,7 +56,7 @@ saved_file can_fail hashing files now wanted from next size name bytes path kept
       path = is_path;
       size = is_size ∙ ap (λ (c : Content). length c.bytes) is_content;
       hash = is_hash ∙ ap (λ (c : Content). hash_kept hashing saved c.bytes) is_content;
-      damaged = λ some. damaged (ap (λ (c : Content). is_some c.refusal) is_content ∙ some);
+      damaged = λ some. damaged (ap (λ (c : Content). is_some c.fault) is_content ∙ some);
       failed = failed;
     }
 

@@ -11,13 +11,12 @@ use Rattle.json.specs.Json.{Json, null, boolean, string}
 use Rattle.mail_codec.specs.Charset.{Charsets}
 use Rattle.mail_codec.specs.Latin1.{latin1_text}
 use Rattle.mailparse.specs.Body.{BodyKind, in_base64, in_quoted_printable, in_7bit, in_8bit, in_binary}
-use Rattle.mailparse.specs.BodyViews.{content_of}
 use Rattle.mailparse.specs.Disposition.{Disposition}
 use Rattle.mailparse.specs.Header.{Header, key_text}
 use Rattle.mailparse.specs.Mail.{Forest, Node, Tree, tree, root, shown_as_in, read_mail_in}
 use Rattle.mailparse.specs.Map.{first_with_key}
 use Rattle.mailparse.specs.Placement.{placements}
-use Rattle.mailparse.specs.Refusal.{Reads}
+use Rattle.mailparse.specs.Refusal.{Reads, Refusal}
 use Rattle.mailparse.specs.Value.{lenient_value_in}
 use Rattle.mail_data.specs.Files.{name_in}
 use Rattle.mail_data.specs.Mailbox.{front_length}
@@ -25,14 +24,15 @@ use Rattle.mail_data.specs.MailboxFormats.{entries_in, mail_in}
 use Rattle.mail_data.specs.MailboxParts.{Placed, in_range, part_start, placed_from}
 use Rattle.mail_data.specs.PartPlaces.{Place, places}
 use Rattle.mail_data.specs.declared.mailbox.formats.Format.{Format}
-use Rattle.mail_data.specs.lenient.Date.{Dated, Zoned, date_in}
+use Rattle.mail_data.specs.lenient.Date.{Dated, Zoned, zoned_date_of}
+use Rattle.mail_data.specs.lenient.Content.{message_content}
 use Rattle.mail_data.specs.lenient.Encoding.{lenient_body_kind}
-use Rattle.mail_data.specs.lenient.Texts.{lenient_bytes, text_read}
+use Rattle.mail_data.specs.lenient.Texts.{text_read}
 use Rattle.mail_address.specs.Addresses.{Element, Single, single, group}
 use Rattle.mail_address.specs.Headers.{addresses_of}
 use Rattle.mail_address.specs.Mailbox.{Parts}
 use Rattle.mail_lines.specs.Addresses.{addresses_text, canonical, element_text, group_text, mailbox_text, name_of, single_or_unknown, single_text, unknown_text, unless_empty}
-use Rattle.mail_lines.specs.Body.{encoding_text, decoded_size}
+use Rattle.mail_lines.specs.Body.{encoding_text}
 use Rattle.mail_lines.specs.Fields.{refusal_text, disposition_name, value_of, ids_of}
 use Rattle.mail_data.specs.InnerMails.{InnerMail}
 use Rattle.mail_lines.specs.Inside.{AreInside, forwarded_text, inner_text, inside_start, mails_inside, parts_inside}
@@ -126,12 +126,12 @@ place_written d kind start end size =
     let second = more_written d _ _ (codes "end") refl (number_or_null_value end) (number_or_null end) grouped (number_or_null_written d end) in
     more_written d _ _ (codes "size") refl (number_value size) (number_text size) second (number_written d size)
 
-size_written : (d : ℕ) (size : Reads ℕ) → AreWritten d (size_members size) (size_text size)
-size_written d (Ok size) = one_written d (codes "decoded_size") refl (number_value size) (number_text size) (number_written d size)
-size_written d (Err refusal) =
+size_written : (d : ℕ) (fault : Option Refusal) (size : ℕ) → AreWritten d (size_members fault size) (size_text fault size)
+size_written d None size = one_written d (codes "decoded_size") refl (number_value size) (number_text size) (number_written d size)
+size_written d (Some refusal) size =
     let why = refusal_text refusal in
-    let size = one_written d (codes "decoded_size") refl null (codes "null") (null_written d) in
-    more_written d _ _ (codes "error") refl (string why) (json_text why) size (string_written d why)
+    let unknown = one_written d (codes "decoded_size") refl null (codes "null") (null_written d) in
+    more_written d _ _ (codes "error") refl (string why) (json_text why) unknown (string_written d why)
 
 sha256_written : (d : ℕ) (hash : Option (List ℕ)) → AreWritten d (sha256_members hash) (sha256_text hash)
 sha256_written d hash = one_written d (codes "sha256") refl (string_or_null hash) (text_or_null hash) (optional_written d hash)
@@ -208,16 +208,16 @@ module _ (known : Charsets) where
 
 module _ (reading : Reading) where
   -- no name comes twice, whether the size is known or not, and whatever is said of the text
-  part_distinct : (start : Option ℕ) (place : Place) (pairs : List (List ℕ × List ℕ)) (size : Reads ℕ) (hash : Option (List ℕ)) (shows : Bool)
+  part_distinct : (start : Option ℕ) (place : Place) (pairs : List (List ℕ × List ℕ)) (fault : Option Refusal) (size : ℕ) (hash : Option (List ℕ)) (shows : Bool)
       (text charset : List ℕ) (is_damaged : Bool)
-      → all_distinct (names (front_members reading.known start place pairs ++ size_members size
+      → all_distinct (names (front_members reading.known start place pairs ++ size_members fault size
       ++ (sha256_members hash ++ headers_member reading.known place ++ text_members shows text charset is_damaged))) ≡ true
-  part_distinct start place pairs (Ok size) hash false text charset is_damaged = refl
-  part_distinct start place pairs (Ok size) hash true text charset true = refl
-  part_distinct start place pairs (Ok size) hash true text charset false = refl
-  part_distinct start place pairs (Err refusal) hash false text charset is_damaged = refl
-  part_distinct start place pairs (Err refusal) hash true text charset true = refl
-  part_distinct start place pairs (Err refusal) hash true text charset false = refl
+  part_distinct start place pairs None size hash false text charset is_damaged = refl
+  part_distinct start place pairs None size hash true text charset true = refl
+  part_distinct start place pairs None size hash true text charset false = refl
+  part_distinct start place pairs (Some refusal) size hash false text charset is_damaged = refl
+  part_distinct start place pairs (Some refusal) size hash true text charset true = refl
+  part_distinct start place pairs (Some refusal) size hash true text charset false = refl
 
   -- the members of a part, each after a comma
   part_commas : (start : Option ℕ) (place : Place) (pairs : List (List ℕ × List ℕ)) → IsStrictlySortedBy (slice_cmp nat_cmp) (map (λ p. p.0) pairs)
@@ -235,23 +235,24 @@ module _ (reading : Reading) where
       let type = then_written 2 _ _ _ _ path (type_written 1 node.ctype.mimetype node.ctype.charset pairs ordered) in
       let shown = then_written 2 _ _ _ _ type (disposition_written 2 disposition node attached) in
       let front = then_written 2 _ _ _ _ shown (place_written 2 kind from to (length node.body)) in
-      let size = size_members (decoded_size kind node.body) in
-      let sized = then_written 2 (front_members reading.known start place pairs) size _ _ front (size_written 2 (decoded_size kind node.body)) in
-      let read = text_read reading.known node.ctype.charset (lenient_bytes kind node.body) in
+      let body = message_content node in
+      let size = size_members body.fault (length body.bytes) in
+      let sized = then_written 2 (front_members reading.known start place pairs) size _ _ front (size_written 2 body.fault (length body.bytes)) in
+      let read = text_read reading.known node.ctype.charset body in
       let text = text_shown reading.joins_flowed node.ctype read.text in
-      let hash = hash_of (reading.hashes && attached) kind node.body in
+      let hash = hash_of (reading.hashes && attached) body.bytes in
       let hashed = then_written 2 (sha256_members hash) (headers_member reading.known place) _ _ (sha256_written 2 hash) (headers_written reading.known 0 node.headers) in
       let content = then_written 2 (sha256_members hash ++ headers_member reading.known place) (text_members shows text read.charset read.is_damaged) _ _ hashed
       (text_written 2 shows text read.charset read.is_damaged) in
       let all = then_written 2 (front_members reading.known start place pairs ++ size) (content_members reading place) _ _ sized content in
       let before : List ℕ = codes ",\"path\":" ++ json_text place.path ++ type_text node.ctype.mimetype node.ctype.charset pairs
-      ++ disposition_text disposition node attached ++ place_text (encoding_text kind) from to (length node.body) ++ size_text (decoded_size kind node.body) in
+      ++ disposition_text disposition node attached ++ place_text (encoding_text kind) from to (length node.body) ++ size_text body.fault (length body.bytes) in
       let hash_words : List ℕ = sha256_text hash in
       let headers : List ℕ = headers_text reading.known node.headers in
-      let body : List ℕ = body_text reading.known reading.joins_flowed shows kind (content_of node) in
-      let grouped : (before ++ hash_words ++ headers) ++ body ≡ before ++ (hash_words ++ headers ++ body) =
-      ap (λ (t : List ℕ). t ++ body) (append_assoc before hash_words headers) ∙ append_assoc before (hash_words ++ headers) body in (
-        before ++ (hash_words ++ headers ++ body),
+      let shown_text : List ℕ = body_text reading.known reading.joins_flowed shows node.ctype body in
+      let grouped : (before ++ hash_words ++ headers) ++ shown_text ≡ before ++ (hash_words ++ headers ++ shown_text) =
+      ap (λ (t : List ℕ). t ++ shown_text) (append_assoc before hash_words headers) ∙ append_assoc before (hash_words ++ headers) shown_text in (
+        before ++ (hash_words ++ headers ++ shown_text),
         all,
         ap (λ (t : List ℕ). 123 ∷ (drop 1 t ++ (125 ∷ []))) (sym grouped),
       )
@@ -264,11 +265,12 @@ module _ (reading : Reading) where
       let commas = part_commas start place pairs type.1.ordered in
       let node = root place.part in
       let disposition = shown_as_in reading.known node in
-      let read = text_read reading.known node.ctype.charset (lenient_bytes (lenient_body_kind node) node.body) in
+      let content = message_content node in
+      let read = text_read reading.known node.ctype.charset content in
       let object = object_written 2 (part_members reading start place pairs) commas.0 commas.1
       (distinct_names (names (part_members reading start place pairs))
-      (part_distinct start place pairs (decoded_size (lenient_body_kind node) node.body)
-      (hash_of (reading.hashes && is_attachment place.part disposition) (lenient_body_kind node) node.body) (is_read place.part disposition)
+      (part_distinct start place pairs content.fault (length content.bytes)
+      (hash_of (reading.hashes && is_attachment place.part disposition) content.bytes) (is_read place.part disposition)
       (text_shown reading.joins_flowed node.ctype read.text) read.charset read.is_damaged)) in (
         object_of (part_members reading start place pairs),
         (pairs, type.1, refl),
@@ -432,7 +434,7 @@ module _ (reading : Reading) where
       → (value : Json) × IsMailValue reading origin mail value × IsWritten 5 value text
   mail_written origin (tree node forest) text is =
       let inside = mails_inside reading.known (tree node forest) in
-      let date = option_map date_in (value_of reading.known (codes "Date") node) in
+      let date = option_map zoned_date_of (value_of reading.known (codes "Date") node) in
       let parts = all_parts origin.start node forest inside is.0 is.1 is.2 is.3 in
       let values = parts.0 ++ parts.1 in
       let members = mail_members reading.known origin node inside values in

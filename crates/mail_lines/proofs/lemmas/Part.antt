@@ -1,5 +1,5 @@
 -- Lemmas on the texts of parts, and on the parameters of a type.
-use Rattle.std.proofs.Common.{◌≡◌, ℕ, Bool, true, false, List, [], ◌∷◌, ◌++◌, map, Option, Some, Result, Ok, Err, option_map, cond, String, refl, sym, ap, subst, ◌∙◌, append_assoc}
+use Rattle.std.proofs.Common.{◌≡◌, ℕ, Bool, true, false, List, [], ◌∷◌, ◌++◌, map, Option, Some, Result, option_map, cond, String, refl, sym, ap, subst, ◌∙◌, append_assoc}
 use Rattle.std.proofs.lemmas.List.{append-nil}
 use Rattle.std.proofs.lemmas.Map.Text.{is_eq-slice_cmp}
 use Rattle.std.specs.Prelude.{codes}
@@ -19,14 +19,11 @@ use Rattle.mailparse.specs.declared.mail.message.ParsedMail.{ParsedMail}
 use Rattle.mailparse.specs.declared.mail.message.ParsedMail.TheFolds.{fold_out-ParsedMail}
 use Rattle.mailparse.specs.declared.mail.message.ParsedMail.TheViews.{out-ParsedMail}
 use Rattle.mail_codec.specs.Charset.{Charsets}
-use Rattle.mailparse.specs.Body.{BodyKind, decoded}
-use Rattle.mailparse.specs.BodyViews.{Content, content_of}
-use Rattle.mailparse.specs.Refusal.{Refusal}
-use Rattle.mail_data.specs.lenient.Base64.{base64_front}
+use Rattle.mailparse.specs.ContentType.{ContentType}
 use Rattle.mail_data.specs.Flowed.{flowed_text}
-use Rattle.mail_data.specs.lenient.Encoding.{lenient_body_kind}
-use Rattle.mail_data.specs.lenient.Texts.{BodyText, Read, lenient_bytes, read_or_front, text_read}
-use Rattle.mail_lines.specs.Part.{Lists, AreAfterCommas, AreItems, body_text, hash_of, read_text, sha256_text, shown_text, text_text}
+use Rattle.mail_data.specs.lenient.Content.{Content, message_content}
+use Rattle.mail_data.specs.lenient.Texts.{BodyText, text_read}
+use Rattle.mail_lines.specs.Part.{Lists, AreAfterCommas, AreItems, body_text, hash_of, read_text, sha256_text}
 use Rattle.mail_program.specs.Hash.{hash_text}
 use Rattle.mail_lines.specs.Strings.{comma}
 use Rattle.mail_lines.specs.Written.{WritesOne}
@@ -119,54 +116,25 @@ lists-entries m h = record { ordered = sorted-pairs m.entries h; same = λ name.
 
 -- ---- the text of a body
 
-pub text-hidden : (known : Charsets) (joins shows : Bool) (kind : BodyKind) (given : Content) → shows ≡ false
-    → codes ",\"text\":null" ≡ body_text known joins shows kind given
-text-hidden known joins shows kind given e = rw e refl
+pub text-hidden : (known : Charsets) (joins shows : Bool) (ctype : ContentType) (content : Content) → shows ≡ false
+    → codes ",\"text\":null" ≡ body_text known joins shows ctype content
+text-hidden known joins shows ctype content e = rw e refl
 
-shown-read : (known : Charsets) (label : List ℕ) (a b : Read) → a ≡ b
-    → text_text true (text_read known label a).text (text_read known label a).charset (text_read known label a).is_damaged
-    ≡ text_text true (text_read known label b).text (text_read known label b).charset (text_read known label b).is_damaged
-shown-read known label a b e = ap (λ (r : Read). text_text true (text_read known label r).text (text_read known label r).charset (text_read known label r).is_damaged) e
-
--- the text of a body that is read whole
-pub text-whole : (known : Charsets) (shows : Bool) (kind : BodyKind) (given : Content) (bytes : List ℕ) → shows ≡ true → decoded kind given.raw ≡ Ok bytes
-    → shown_text known given.ctype.charset bytes false ≡ body_text known false shows kind given
-unfolding lenient_bytes
-text-whole known shows kind given bytes e is =
-    shown-read known given.ctype.charset (read_or_front given.raw (Ok bytes)) (lenient_bytes kind given.raw) (ap (read_or_front given.raw) (sym is)) ∙ rw e refl
-
--- the text of the front of one that is refused
-pub text-front : (known : Charsets) (shows : Bool) (kind : BodyKind) (given : Content) (bytes : List ℕ) (refusal : Refusal) → shows ≡ true
-    → decoded kind given.raw ≡ Err refusal → bytes ≡ (base64_front given.raw).bytes → shown_text known given.ctype.charset bytes true ≡ body_text known false shows kind given
-unfolding lenient_bytes
-text-front known shows kind given bytes refusal e is front =
-    ap (λ (b : List ℕ). shown_text known given.ctype.charset b true) front
-    ∙ shown-read known given.ctype.charset (read_or_front given.raw (Err refusal)) (lenient_bytes kind given.raw) (ap (read_or_front given.raw) (sym is)) ∙ rw e refl
+-- the text of a body that is read as it is
+pub text-shown : (known : Charsets) (shows : Bool) (ctype : ContentType) (content : Content) → shows ≡ true
+    → read_text (text_read known ctype.charset content) ≡ body_text known false shows ctype content
+text-shown known shows ctype content e = rw e refl
 
 -- the text of one whose paragraphs flow
 pub text-flowed : (known : Charsets) (shows : Bool) (node : Node) (read : BodyText) → shows ≡ true → read ≡ flowed_text known node
-    → read_text read ≡ body_text known true shows (lenient_body_kind node) (content_of node)
+    → read_text read ≡ body_text known true shows node.ctype (message_content node)
 unfolding flowed_text
 text-flowed known shows node read e is = ap read_text is ∙ rw e refl
 
--- ---- the hash of a body
+-- ---- the hash of bytes
 
-pub hash-hidden : (wanted : Bool) (kind : BodyKind) (raw : List ℕ) → wanted ≡ false → codes ",\"sha256\":null" ≡ sha256_text (hash_of wanted kind raw)
-hash-hidden wanted kind raw e = rw e refl
+pub hash-hidden : (wanted : Bool) (bytes : List ℕ) → wanted ≡ false → codes ",\"sha256\":null" ≡ sha256_text (hash_of wanted bytes)
+hash-hidden wanted bytes e = rw e refl
 
-hash-read : (a b : Read) → a ≡ b → sha256_text (Some (hash_text a.bytes)) ≡ sha256_text (Some (hash_text b.bytes))
-hash-read a b e = ap (λ (r : Read). sha256_text (Some (hash_text r.bytes))) e
-
--- that of a body that is read whole
-pub hash-whole : (wanted : Bool) (kind : BodyKind) (raw bytes : List ℕ) → wanted ≡ true → decoded kind raw ≡ Ok bytes
-    → sha256_text (Some (hash_text bytes)) ≡ sha256_text (hash_of wanted kind raw)
-unfolding lenient_bytes
-hash-whole wanted kind raw bytes e is = hash-read (read_or_front raw (Ok bytes)) (lenient_bytes kind raw) (ap (read_or_front raw) (sym is)) ∙ rw e refl
-
--- that of the front of one that is refused
-pub hash-front : (wanted : Bool) (kind : BodyKind) (raw bytes : List ℕ) (refusal : Refusal) → wanted ≡ true → decoded kind raw ≡ Err refusal
-    → bytes ≡ (base64_front raw).bytes → sha256_text (Some (hash_text bytes)) ≡ sha256_text (hash_of wanted kind raw)
-unfolding lenient_bytes
-hash-front wanted kind raw bytes refusal e is front =
-    ap (λ (b : List ℕ). sha256_text (Some (hash_text b))) front
-    ∙ hash-read (read_or_front raw (Err refusal)) (lenient_bytes kind raw) (ap (read_or_front raw) (sym is)) ∙ rw e refl
+pub hash-shown : (wanted : Bool) (bytes : List ℕ) → wanted ≡ true → sha256_text (Some (hash_text bytes)) ≡ sha256_text (hash_of wanted bytes)
+hash-shown wanted bytes e = rw e refl

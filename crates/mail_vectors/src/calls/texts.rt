@@ -1,24 +1,22 @@
 //! The calls on the texts of mails, on paragraphs that flow, and on the mails inside mails; and
 //! `text_type TYPE => TYPE`.
 
-use crate::calls::files::part_at;
 use crate::calls::tables::all_tables;
 use crate::notation::{Answer, Row};
-use mail_data::flowed::{flowed_text, unflowed};
-use mail_data::forwarding::{forwarded, forwarded_bytes, mails_inside};
+use mail_data::flowed::{DelSp, flowed_text, unflowed};
 use mail_data::inner_mails::{InnerMail, inner_mails, places_under};
 use mail_data::places::Place;
 use mail_data::texts::{text_part, text_type};
-use mailparse::{KnownCharsets, MAX_LEVELS, MailParseError, ParsedMail, parse_mail_in};
+use mailparse::{KnownCharsets, MailParseError, ParsedMail, parse_mail_in};
 use std::alloc::{AllocError, Global};
 
 /// Makes the call of a row, if it is one of these.
 pub fn make(alloc: Global, row: &Row, answer: &mut Answer) -> bool {
     match row.call.as_str() {
-        "text_part" | "forwarded" | "forwarded_bytes" | "mails_inside" | "last_inner_mail" => {
+        "text_part" | "inner_mail_bytes" | "last_inner_mail" => {
             read_mail(alloc, row, answer, &());
         }
-        "text_part_with" | "forwarded_with" | "inner_mails" | "flowed_text" => {
+        "text_part_with" | "inner_mails" | "flowed_text" => {
             read_mail(alloc, row, answer, &all_tables());
         }
         "text_type" => answer.text(text_type(row.text(0))),
@@ -30,7 +28,12 @@ pub fn make(alloc: Global, row: &Row, answer: &mut Answer) -> bool {
 
 /// `unflowed TEXT DELETES => TEXT`, where DELETES is 1 for `delsp=yes` and otherwise 0.
 fn join_lines(alloc: Global, row: &Row, answer: &mut Answer) {
-    answer.made(unflowed(alloc, row.text(0), row.number(1) == 1));
+    let del_sp = if row.number(1) == 1 {
+        DelSp::Yes
+    } else {
+        DelSp::No
+    };
+    answer.made(unflowed(alloc, row.text(0), del_sp));
 }
 
 /// Reads a mail, and writes the result of a call on it. The calls that end in `_with`, `inner_mails` and
@@ -54,10 +57,7 @@ fn write_of<K: KnownCharsets>(
 ) -> Result<(), MailParseError> {
     match row.call.as_str() {
         "text_part" | "text_part_with" => find_text(alloc, answer, mail, known),
-        "forwarded" => read_forwarded(alloc, row, answer, mail, known),
-        "forwarded_with" => read_named_forwarded(alloc, answer, mail, known),
-        "forwarded_bytes" => copy_forwarded(alloc, answer, mail),
-        "mails_inside" => list_mails(alloc, row, answer, mail, known),
+        "inner_mail_bytes" => copy_inner(alloc, answer, mail, known),
         "inner_mails" => list_inner(alloc, answer, mail, known),
         "last_inner_mail" => find_last_inner(alloc, answer, mail, known),
         _ => read_flowed(alloc, answer, mail, known),
@@ -78,54 +78,6 @@ fn find_text<K: KnownCharsets>(
     Ok(())
 }
 
-/// `forwarded MAIL PART LEVELS => BODY`, the bytes that `get_body_raw` returns of the mail inside,
-/// or `none`. The whole mail is part 0.
-fn read_forwarded<K: KnownCharsets>(
-    alloc: Global,
-    row: &Row,
-    answer: &mut Answer,
-    mail: &ParsedMail<'_>,
-    known: &K,
-) -> Result<(), MailParseError> {
-    let part = part_at(alloc, mail, row.number(1))?;
-    match forwarded(alloc, part, row.levels(2).min(MAX_LEVELS), known)? {
-        Some(inside) => answer.bytes_or_refusal(inside.get_body_raw(alloc)),
-        None => answer.word("none"),
-    }
-    Ok(())
-}
-
-/// `forwarded_with MAIL => NAME BODY`, the parameter `name` of the mail inside or `none`, and the
-/// bytes of its body; or `none`.
-fn read_named_forwarded<K: KnownCharsets>(
-    alloc: Global,
-    answer: &mut Answer,
-    mail: &ParsedMail<'_>,
-    known: &K,
-) -> Result<(), MailParseError> {
-    match forwarded(alloc, mail, MAX_LEVELS, known)? {
-        Some(inside) => {
-            answer.optional_text(inside.ctype.params.get("name").map(String::as_str));
-            answer.bytes_or_refusal(inside.get_body_raw(alloc));
-        }
-        None => answer.word("none"),
-    }
-    Ok(())
-}
-
-/// `forwarded_bytes MAIL => BYTES`, or `none`.
-fn copy_forwarded(
-    alloc: Global,
-    answer: &mut Answer,
-    mail: &ParsedMail<'_>,
-) -> Result<(), MailParseError> {
-    match forwarded_bytes(alloc, mail)? {
-        Some(bytes) => answer.bytes(bytes.as_slice()),
-        None => answer.word("none"),
-    }
-    Ok(())
-}
-
 /// `flowed_text MAIL => TEXT` of the whole mail.
 fn read_flowed<K: KnownCharsets>(
     alloc: Global,
@@ -137,16 +89,15 @@ fn read_flowed<K: KnownCharsets>(
     Ok(())
 }
 
-/// `mails_inside MAIL MOST => BYTES` for each mail.
-fn list_mails<K: KnownCharsets>(
+/// `inner_mail_bytes MAIL => BYTES` for each mail.
+fn copy_inner<K: KnownCharsets>(
     alloc: Global,
-    row: &Row,
     answer: &mut Answer,
     mail: &ParsedMail<'_>,
     known: &K,
 ) -> Result<(), MailParseError> {
-    for inside in &mails_inside(alloc, mail, row.levels(1), known)? {
-        answer.bytes(inside.as_slice());
+    for inside in &inner_mails(alloc, mail, known)? {
+        answer.bytes(inside.bytes.as_slice());
     }
     Ok(())
 }

@@ -1,13 +1,15 @@
 use Rattle.std.proofs.Common.{◌≢◌, ◌++◌, ◌-◌, ◌+◌, List, [], ◌∷◌, ℕ, None, drop, map, sym, ap, subst, ◌∙◌, arith}
 use Rattle.std.specs.Prelude.{flat_map}
-use Rattle.mailparse.specs.Mail.{read_mail_in}
+use Rattle.mailparse.specs.BodyViews.{content_of}
+use Rattle.mailparse.specs.Mail.{read_mail_in, root}
 use Rattle.mailparse.specs.Outcome.{IsRefusalOrMemory, refusal_of}
 use Rattle.mailparse.specs.Views.{placements_of, tree_of}
 use Rattle.mail_data.specs.InnerMails.{InnerMail, inner_mails}
 use Rattle.mail_data.specs.InnerMailViews.{inner_view}
 use Rattle.mail_data.specs.PlaceViews.{place_view}
-use Rattle.mail_data.proofs.lemmas.InnerMails.{drop_next, inner_mails-some, inner_with, mail_bytes-is, mails_in_place, next-none, next-read, next-refused}
-use Rattle.mail_data.proofs.inner_mails.«+push_inner».Goals.{then-holds_mail+in_ok-bytes+in_ok-at, in-Ok+in_ok-push_mail-in-Ok+in_ok-push_inner-in-Ok, in-Err+in_ok-push_refused-in-Err, else-holds_mail}
+use Rattle.mail_data.specs.lenient.Encoding.{lenient_body_kind}
+use Rattle.mail_data.proofs.lemmas.InnerMails.{drop_next, inner_mails-some, inner_with, mails_in_place, next-none, next-read, next-refused}
+use Rattle.mail_data.proofs.inner_mails.«+push_inner».Goals.{then-holds_mail+in_ok-body+in_ok-bytes, in-Ok+in_ok-push_mail-in-Ok+in_ok-push_inner-in-Ok, in-Err+in_ok-push_refused-in-Err, else-holds_mail}
 use Rattle.mail_data.proofs.inner_mails.«+push_inner».Goals as goal
 
 pub loop-place-init : goal.loop-place-init
@@ -32,12 +34,13 @@ loop-place-preserved g t c =
     let done = map inner_view c.loop-place.mails.items in
     let here = c.loop-place.invariant in
     elim c.if-holds_mail.branch [
-      | then-holds_mail+in_ok-bytes+in_ok-at w ↦
+      | then-holds_mail+in_ok-body+in_ok-bytes w ↦
+          let node = root place.part in
           let bytes = w.in_ok-bytes.bytes.items in
-          let at = w.in_ok-at.at in
+          let at = w.mail_start-at.result in
           let holds = sym c.holds_mail.ensures ∙ w.if-holds_mail.true in
-          let same = mail_bytes-is place bytes w.in_ok-bytes.ensures in
-          let there = w.in_ok-at.ensures.read in
+          let same = w.in_ok-bytes.ensures.read (lenient_body_kind node) (content_of node) w.in_ok-body.ensures.read in
+          let there = w.mail_start-at.ensures w.in_ok-body.ensures.read in
           elim w.match-parse_mail_in.branch [
             | in-Ok+in_ok-push_mail-in-Ok+in_ok-push_inner-in-Ok v ↦
                 let inside = v.in-Ok.inside in

@@ -1,4 +1,4 @@
--- The mails so far, and then those of the parts that are left, are what was there and the mails inside the mail.
+-- The mails so far, and then those of the remaining parts, are the old mails and then those inside the mail.
 use Rattle.std.proofs.Common.{◌≡◌, ◌++◌, ◌-◌, drop, map}
 use Rattle.std.specs.Prelude.{flat_map}
 use Rattle.mailparse.specs.Views.{placements_of, tree_of}

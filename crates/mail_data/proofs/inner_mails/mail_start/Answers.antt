@@ -8,18 +8,17 @@ use Rattle.mail_data.specs.lenient.Encoding.{lenient_body_kind}
 use Rattle.mail_data.proofs.lemmas.InnerMails.{start-encoded, start-plain}
 use Rattle.mail_data.proofs.inner_mails.mail_start.Goals as goal
 
-pub returns-then-not-is_plain-clause-read : goal.returns-then-not-is_plain-clause-read
-returns-then-not-is_plain-clause-read c =
+pub returns-then-not-is_plain : goal.returns-then-not-is_plain
+returns-then-not-is_plain c = λ is.
     let node = root (tree_of c.args.place.now.part.now) in
     let place = place_view c.args.place.now in
-    let plain = c.is_plain.ensures (lenient_body_kind node) (content_of node) c.in_ok-body.ensures.read in
-    start-encoded c.in-Some.start place c.is_plain.result plain c.if-not-is_plain.true
+    start-encoded c.in-Some.start place c.is_plain.result (c.is_plain.ensures (lenient_body_kind node) (content_of node) is) c.if-not-is_plain.true
     ∙ ap (λ (s : Option ℕ). mail_start s place) (sym c.in-Some.is)
 
-pub returns-clause-read : goal.returns-clause-read
-returns-clause-read c =
+pub returns : goal.returns
+returns c = λ is.
     let node = root (tree_of c.args.place.now.part.now) in
     let place = place_view c.args.place.now in
-    let plain = c.is_plain.ensures (lenient_body_kind node) (content_of node) c.in_ok-body.ensures.read in
-    start-plain c.in-Some.start c.saturating_add.result place c.is_plain.result plain c.if-not-is_plain.false c.saturating_add.ensures
+    start-plain c.in-Some.start c.saturating_add.result place c.is_plain.result (c.is_plain.ensures (lenient_body_kind node) (content_of node) is)
+    c.if-not-is_plain.false c.saturating_add.ensures
     ∙ ap (λ (s : Option ℕ). mail_start s place) (sym c.in-Some.is)

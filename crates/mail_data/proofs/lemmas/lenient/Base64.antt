@@ -37,7 +37,7 @@ clean-append : (l m : List ℕ) → Clean l → Clean m → Clean (l ++ m)
 clean-append l m h k =
     filter-append (λ b. not (is_ascii_whitespace b)) l m ∙ ap (λ (x : List ℕ). x ++ without_ascii_whitespace m) h ∙ ap (λ (x : List ℕ). l ++ x) k
 
--- what a clean text is read as
+-- the reading of a clean text
 pub base64-clean : (l : List ℕ) → Clean l → base64 (without_ascii_whitespace l) ≡ groups_from 0 l
 base64-clean l h = base64_without_whitespace l ∙ ap (groups_from 0) h
 
@@ -134,7 +134,7 @@ fault-low k m (p ∷ q ∷ r ∷ s ∷ l) h = go (group_bytes p q r s) h (fault-
     go None f later = let e = err-is k m f in omega arith
     go (Some c) f later = let more = later (prepend_err c m (groups_from (suc k) l) f) in omega arith
 
--- nothing from a number on
+-- nothing is read from an index onwards
 abbrev pub stopped : ℕ → Front
 stopped n = record { bytes = []; fault = Some n }
 
@@ -228,7 +228,7 @@ cut_fits l n h = (cut 0 n n l (omega arith) h).fits
 pub cut-fault : (l : List ℕ) (n : ℕ) → groups_from 0 l ≡ Err n → groups_from n (drop (4 * n) l) ≡ Err n
 cut-fault l n h = (cut 0 n n l (omega arith) h).fault
 
--- what the strict reading refuses
+-- a text that the strict reading refuses
 pub strict-err : (body letters : List ℕ) (n : ℕ) → Err n ≡ base64 (without_ascii_whitespace body) → letters ≡ without_ascii_whitespace body → groups_from 0 letters ≡ Err n
 strict-err body letters n e is = ap (groups_from 0) is ∙ sym (base64_without_whitespace body) ∙ sym e
 
@@ -239,7 +239,7 @@ pub letters-front : (body letters : List ℕ) → letters ≡ without_ascii_whit
 unfolding base64_front
 letters-front body letters e = ap (front_from 0) e
 
--- what the last group left, by whether it was read
+-- the front after the last group, by whether that was read
 pub branch-read : (items : List ℕ) (n : ℕ) (b : Bool) (g : Front) → b ≡ true
     → ◌≡◌ {A = Front} (record { bytes = items; fault = (if b then None else Some n) }) g → whole items ≡ g
 branch-read items n true g e h = h

@@ -1,37 +1,37 @@
-use Rattle.std.proofs.Common.{ℕ, true, false, List, sym, ap, subst, ◌∙◌}
-use Rattle.std.specs.Cow.{cow_slice_items}
-use Rattle.mailparse.specs.Body.{decoded}
-use Rattle.mailparse.specs.ContentType.{ContentType}
-use Rattle.mailparse.specs.Outcome.{AnswersOrMemory}
+use Rattle.std.proofs.Common.{Bool, List, ℕ, true, false, sym, ap, ◌∙◌}
+use Rattle.std.proofs.KnownBytes.{Appends-trans}
 use Rattle.mailparse.specs.Views.{content_type}
-use Rattle.mail_data.specs.lenient.Base64.{base64_front}
-use Rattle.mail_lines.specs.Part.{shown_text}
-use Rattle.mail_lines.proofs.lemmas.Fields.{refused_or_memory}
-use Rattle.mail_lines.proofs.lemmas.Part.{text-hidden, text-whole, text-front}
-use Rattle.mail_lines.proofs.lemmas.Written.{writes_as}
+use Rattle.mail_data.specs.lenient.ContentViews.{content_view, fault_view}
+use Rattle.mail_data.specs.lenient.Texts.{charset_used, lenient_text}
+use Rattle.mail_data.proofs.lemmas.lenient.Texts.{some-mapped}
+use Rattle.mail_lines.specs.Part.{text_text}
+use Rattle.mail_lines.specs.Strings.{json_text}
+use Rattle.mail_lines.proofs.lemmas.Fields.{ok_same}
+use Rattle.mail_lines.proofs.lemmas.Part.{text-hidden, text-shown}
+use Rattle.mail_lines.proofs.lemmas.Written.{appends_as, writes_as, writes_then}
 use Rattle.mail_lines.proofs.part.write_body_text.Goals as goal
 
 pub returns-then-not-is_read : goal.returns-then-not-is_read
-returns-then-not-is_read g c = λ kind given is raw type.
-    writes_as _ _ c.write_word.result _ _ (text-hidden (g.K.KnownCharsets.known c.args.known.now) false c.args.is_read kind given c.if-not-is_read.true) c.write_word.ensures
+returns-then-not-is_read g c =
+    writes_as _ _ c.write_word.result _ _
+    (text-hidden (g.K.KnownCharsets.known c.args.known.now) false c.args.is_read (content_type c.args.ctype.now) (content_view c.args.content.now) c.if-not-is_read.true)
+    c.write_word.ensures
 
-pub returns-in-Ok : goal.returns-in-Ok
-returns-in-Ok g c = λ kind given is raw type.
+pub returns : goal.returns
+returns g c =
     let known = g.K.KnownCharsets.known c.args.known.now in
-    let whole = subst (λ r. AnswersOrMemory (cow_slice_items {X = ℕ}) r (decoded kind given.raw)) c.in-Ok.is is in
-    let same =
-    ap (λ (b : List ℕ). shown_text known (content_type c.args.ctype.now).charset b false) c.as_slice.ensures.value
-    ∙ ap (λ (t : ContentType). shown_text known t.charset (cow_slice_items c.in-Ok.decoded) false) (sym type)
-    ∙ text-whole known c.args.is_read kind given (cow_slice_items c.in-Ok.decoded) c.if-not-is_read.false whole in
-    writes_as _ _ c.write_read_text.result _ _ same c.write_read_text.ensures
-
-pub returns-in_ok-front-in-Err : goal.returns-in_ok-front-in-Err
-returns-in_ok-front-in-Err g c = λ kind given is raw type.
-    let known = g.K.KnownCharsets.known c.args.known.now in
-    let refused = subst (λ r. AnswersOrMemory (cow_slice_items {X = ℕ}) r (decoded kind given.raw)) c.in-Err.is is in
-    let refusal = refused_or_memory c.in-Err.error (decoded kind given.raw) c.in_ok-front-in-Err.ensures.passed_on refused in
-    let front = c.as_slice-in-Err.ensures.value ∙ c.in_ok-front-in-Err.ensures.read ∙ ap (λ (b : List ℕ). (base64_front b).bytes) (sym raw) in
-    let same =
-    ap (λ (t : ContentType). shown_text known t.charset c.as_slice-in-Err.result.now true) (sym type)
-    ∙ text-front known c.args.is_read kind given c.as_slice-in-Err.result.now refusal.0 c.if-not-is_read.false refusal.2 front in
-    writes_as _ _ c.write_read_text-in-Err.result _ _ same c.write_read_text-in-Err.ensures
+    let ctype = content_type c.args.ctype.now in
+    let content = content_view c.args.content.now in
+    let bytes = c.as_slice-bytes.result.now in
+    let text = ap json_text (sym (ok_same _ _ c.in_ok-text.ensures)) in
+    let charset = ap json_text c.charset_used.ensures in
+    let one = Appends-trans _ _ _ _ _ c.in_ok-write_word.ensures (appends_as _ _ _ _ text c.in_ok-write_owned.ensures) in
+    let two = Appends-trans _ _ _ _ _ one c.in_ok-write_word-2.ensures in
+    let three = Appends-trans _ _ _ _ _ two (appends_as _ _ _ _ charset c.in_ok-write_text.ensures) in
+    let written = writes_then _ _ _ _ _ _ three (writes_as _ _ c.write_word-4.result _ _ c.damaged_text.ensures c.write_word-4.ensures) in
+    let shown : List ℕ → Bool → List ℕ =
+    λ b is_damaged. text_text true (lenient_text known ctype.charset b) (charset_used known ctype.charset b) is_damaged in
+    writes_as _ _ c.write_word-4.result _ _
+    (ap (λ (b : List ℕ). shown b c.is_some.result) c.as_slice-bytes.ensures.value
+    ∙ ap (shown content.bytes) (c.is_some.ensures ∙ some-mapped fault_view c.args.content.now.fault)
+    ∙ text-shown known c.args.is_read ctype content c.if-not-is_read.false) written

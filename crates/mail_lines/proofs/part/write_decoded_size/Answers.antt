@@ -1,30 +1,32 @@
-use Rattle.std.proofs.Common.{◌++◌, ℕ, List, Ok, length, sym, ap, subst, ◌∙◌}
+use Rattle.std.proofs.Common.{◌++◌, Option, None, length, option_map, sym, ap, ◌∙◌}
 use Rattle.std.specs.Prelude.{codes}
 use Rattle.std.specs.Cow.{cow_slice_items}
-use Rattle.mailparse.specs.Body.{decoded}
-use Rattle.mailparse.specs.Outcome.{AnswersOrMemory}
-use Rattle.mailparse.specs.Refusal.{◌>>=◌}
+use Rattle.mailparse.specs.Outcome.{refusal_of}
+use Rattle.mail_data.specs.declared.lenient.content.ContentFault.{ContentFault}
+use Rattle.mail_data.specs.lenient.ContentViews.{fault_view}
+use Rattle.mail_data.proofs.lemmas.lenient.Content.{fault-refusal}
 use Rattle.mail_lines.specs.Strings.{json_text}
 use Rattle.mail_lines.specs.Part.{size_text}
-use Rattle.mail_lines.proofs.lemmas.Fields.{refused_or_memory}
 use Rattle.mail_lines.proofs.lemmas.Strings.{number_text-fits}
 use Rattle.mail_lines.proofs.lemmas.Written.{appends_as, writes_as, writes_then}
 use Rattle.mail_lines.proofs.part.write_decoded_size.Goals as goal
 
-pub returns-in_ok-write-in-Ok : goal.returns-in_ok-write-in-Ok
-returns-in_ok-write-in-Ok g c = λ kind raw is.
-    let given = subst (λ r. AnswersOrMemory (cow_slice_items {X = ℕ}) r (decoded kind raw)) c.in-Ok.is is in
-    let size = ap (λ r. r >>= (λ (bytes : List ℕ). Ok (length bytes))) given in
-    let why = size ∙ ap Ok (sym c.len-size.ensures) in
-    appends_as _ _ _ _ (ap (λ t. codes ",\"decoded_size\":" ++ t) (number_text-fits c.len-size.result c.len-size.type_inv) ∙ ap size_text (sym why)) c.in_ok-write-in-Ok.ensures.bytes
+pub returns-in_ok-write-in-None : goal.returns-in_ok-write-in-None
+returns-in_ok-write-in-None g c =
+    let size = length (cow_slice_items c.args.content.now.bytes) in
+    appends_as _ _ _ _
+    (ap (λ t. codes ",\"decoded_size\":" ++ t) (number_text-fits c.len-size.result c.len-size.type_inv) ∙ ap (size_text None) c.len-size.ensures
+    ∙ ap (λ (f : Option ContentFault). size_text (option_map fault_view f) size) (sym c.in-None.is)) c.in_ok-write-in-None.ensures.bytes
 
-pub returns-in_ok-write_word-in-Err : goal.returns-in_ok-write_word-in-Err
-returns-in_ok-write_word-in-Err g c = λ kind raw is.
-    let given = subst (λ r. AnswersOrMemory (cow_slice_items {X = ℕ}) r (decoded kind raw)) c.in-Err.is is in
-    let refusal = refused_or_memory c.in-Err.error (decoded kind raw) c.in_ok-text-in-Err.ensures.passed_on given in
-    let size = ap (λ r. r >>= (λ (bytes : List ℕ). Ok (length bytes))) refusal.2 in
-    let why = c.as_str.ensures.value ∙ c.in_ok-text-in-Err.ensures.read refusal.0 refusal.1 in
+pub returns-in_ok-write_word-in-Some : goal.returns-in_ok-write_word-in-Some
+returns-in_ok-write_word-in-Some g c =
+    let size = length (cow_slice_items c.args.content.now.bytes) in
+    let fault = c.in-Some.fault in
+    let why =
+    c.as_str.ensures.value
+    ∙ c.in_ok-text-in-Some.ensures.read (fault_view fault) (ap refusal_of c.from.ensures ∙ fault-refusal fault) in
     writes_as _ _ c.write_text.result _ _
-    (ap (λ t. codes ",\"decoded_size\":null,\"error\":" ++ json_text t) why ∙ ap size_text (sym size))
-    (writes_then _ _ _ c.write_text.result (codes ",\"decoded_size\":null,\"error\":") (json_text c.as_str.result.now) c.in_ok-write_word-in-Err.ensures
+    (ap (λ t. codes ",\"decoded_size\":null,\"error\":" ++ json_text t) why
+    ∙ ap (λ (f : Option ContentFault). size_text (option_map fault_view f) size) (sym c.in-Some.is))
+    (writes_then _ _ _ c.write_text.result (codes ",\"decoded_size\":null,\"error\":") (json_text c.as_str.result.now) c.in_ok-write_word-in-Some.ensures
     c.write_text.ensures)

@@ -1,9 +1,8 @@
 use Rattle.std.proofs.Common.{true, sym, ap}
 use Rattle.std.proofs.KnownBytes.{Appends-trans}
-use Rattle.mailparse.specs.BodyViews.{content_of}
 use Rattle.mailparse.specs.Mail.{root}
 use Rattle.mailparse.specs.Views.{tree_of}
-use Rattle.mail_data.specs.lenient.Encoding.{lenient_body_kind}
+use Rattle.mail_data.specs.lenient.Content.{message_content}
 use Rattle.mail_data.specs.lenient.TextViews.{text_view}
 use Rattle.mail_lines.specs.Strings.{json_text}
 use Rattle.mail_lines.proofs.lemmas.Fields.{ok_same}
@@ -15,7 +14,7 @@ pub returns-then-not-is_read : goal.returns-then-not-is_read
 returns-then-not-is_read g c =
     let node = root (tree_of c.args.part.now) in
     writes_as _ _ c.write_word.result _ _
-    (text-hidden (g.K.KnownCharsets.known c.args.known.now) true c.args.is_read (lenient_body_kind node) (content_of node) c.if-not-is_read.true) c.write_word.ensures
+    (text-hidden (g.K.KnownCharsets.known c.args.known.now) true c.args.is_read node.ctype (message_content node) c.if-not-is_read.true) c.write_word.ensures
 
 pub returns : goal.returns
 returns g c =

@@ -1,10 +1,6 @@
-use Rattle.std.proofs.Common.{sym}
-use Rattle.std.proofs.lemmas.Str.{is_utf8-from_IsUtf8}
-use Rattle.mail_data.proofs.lemmas.FileTexts.{is_utf8-false}
+use Rattle.std.proofs.Common.{◌∙◌}
+use Rattle.mail_data.proofs.lemmas.lenient.Texts.{utf8-decided}
 use Rattle.mail_data.proofs.lenient.texts.is_utf8.Goals as goal
 
-pub returns-in-Ok : goal.returns-in-Ok
-returns-in-Ok c = sym (is_utf8-from_IsUtf8 c.args.bytes.now c.in-Ok.ensures.cases.1)
-
-pub returns-in-Err : goal.returns-in-Err
-returns-in-Err c = sym (is_utf8-false c.args.bytes.now (λ utf8. c.in-Err.ensures.cases.0 utf8))
+pub returns : goal.returns
+returns c = c.is_ok.ensures.value ∙ utf8-decided _ c.args.bytes.now _ c.from_utf8.ensures.cases

@@ -1,0 +1,63 @@
+-- Lemmas on the content of a body.
+use Rattle.std.proofs.Common.{◌≡◌, ℕ, List, Some, None, Result, Ok, Err, refl, sym, ap, ◌∙◌}
+use Rattle.std.specs.Cow.{cow_str_bytes}
+use Rattle.mail_codec.specs.Base64.{base64}
+use Rattle.mail_codec.specs.Places.{without_ascii_whitespace}
+use Rattle.mailparse.specs.Body.{BodyKind, in_base64, in_quoted_printable, in_7bit, in_8bit, in_binary, base64_bytes, decoded}
+use Rattle.mailparse.specs.Outcome.{IsMemory, IsRefusalOrMemory, refusal_of}
+use Rattle.mailparse.specs.Refusal.{Reads, Refusal, generic, encoding, base64_fault}
+use Rattle.mailparse.specs.declared.error.Base64Fault.{Base64Fault}
+use Rattle.mailparse.specs.declared.error.MailParseError.{MailParseError}
+use Rattle.mailparse.specs.declared.error.MailParseError.TheVariants.{QuotedPrintableDecodeError, Base64DecodeError, EncodingError, Generic, Memory}
+use Rattle.mail_data.specs.lenient.Base64.{base64_front}
+use Rattle.mail_data.specs.lenient.Content.{Content, lenient_content, read_or_front}
+use Rattle.mail_data.specs.lenient.ContentViews.{error_of, fault_view}
+use Rattle.mail_data.specs.declared.lenient.content.ContentFault.{ContentFault}
+use Rattle.mail_data.specs.declared.lenient.content.ContentFault.TheVariants.{Base64}
+
+pub content-whole : (kind : BodyKind) (raw bytes : List ℕ) → decoded kind raw ≡ Ok bytes
+    → ◌≡◌ {A = Content} (lenient_content kind raw) (record { bytes = bytes; fault = None })
+unfolding lenient_content
+content-whole kind raw bytes e = ap (read_or_front raw) e
+
+front_with : Refusal → List ℕ → Content
+front_with refusal bytes = record { bytes = bytes; fault = Some refusal }
+
+pub content-front : (kind : BodyKind) (raw front : List ℕ) (refusal : Refusal) → decoded kind raw ≡ Err refusal → front ≡ (base64_front raw).bytes
+    → ◌≡◌ {A = Content} (lenient_content kind raw) (record { bytes = front; fault = Some refusal })
+unfolding lenient_content front_with
+content-front kind raw front refusal e is = ap (read_or_front raw) e ∙ ap (front_with refusal) (sym is)
+
+-- a body is refused as Base64 alone
+refused-base64 : (kind : BodyKind) (raw : List ℕ) (refusal : Refusal) → decoded kind raw ≡ Err refusal → (group : ℕ) × (refusal ≡ base64_fault group)
+unfolding decoded
+refused-base64 in_base64 raw refusal e = go (base64 (without_ascii_whitespace raw)) e
+  where
+    go : (r : Result (List ℕ) ℕ) → ◌≡◌ {A = Reads (List ℕ)} (base64_bytes r) (Err refusal) → (group : ℕ) × (refusal ≡ base64_fault group)
+    go (Ok bytes) f = absurd (cc)
+    go (Err group) f = (group, cc)
+refused-base64 in_quoted_printable raw refusal e = absurd (cc)
+refused-base64 in_7bit raw refusal e = absurd (cc)
+refused-base64 in_8bit raw refusal e = absurd (cc)
+refused-base64 in_binary raw refusal e = absurd (cc)
+
+-- the refusal in the error for a fault
+pub fault-refusal : (fault : ContentFault) → refusal_of (error_of fault) ≡ Some (fault_view fault)
+fault-refusal (Base64 fault) = refl
+
+-- any other error is out of memory
+pub other-memory : (error : MailParseError) (kind : BodyKind) (raw : List ℕ) → IsRefusalOrMemory error (decoded kind raw)
+    → ((fault : Base64Fault) → error ≡ Base64DecodeError fault → ⊥) → IsMemory error
+other-memory (QuotedPrintableDecodeError fault) kind raw h other = absurd h
+other-memory (Base64DecodeError fault) kind raw h other = absurd (other fault refl)
+other-memory (EncodingError text) kind raw h other =
+    let r = refused-base64 kind raw (encoding (cow_str_bytes text)) h in absurd (wrong r.0 r.1)
+  where
+    wrong : (group : ℕ) → encoding (cow_str_bytes text) ≡ base64_fault group → ⊥
+    wrong group e = cc
+other-memory (Generic text) kind raw h other =
+    let r = refused-base64 kind raw (generic text.now) h in absurd (wrong r.0 r.1)
+  where
+    wrong : (group : ℕ) → generic text.now ≡ base64_fault group → ⊥
+    wrong group e = cc
+other-memory (Memory e) kind raw h other = tt
