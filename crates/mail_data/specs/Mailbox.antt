@@ -1,9 +1,9 @@
--- Mailboxes of mails one after another: the mbox format (RFC 4155, appendix A), where a line `From `, an address and a
--- time separates mails if it is the first line or follows an empty line.
+-- Mailboxes: the mbox format (RFC 4155, appendix A), in which a line of `From `, an address and a time separates mails if it
+-- is the first line or follows an empty line.
 use Rattle.std.specs.Prelude.{◌≡◌, ◌⊎◌, ℕ, zero, suc, ◌+◌, Bool, ◌&&◌, ◌||◌, nat_lt, Option, Some, None, List, [], ◌∷◌, ◌++◌, length, take, drop, if◌then◌else◌}
 use Rattle.mail_codec.specs.Ascii.{carriage_return, line_feed}
 use Rattle.mail_codec.specs.Places.{is_empty}
-use Rattle.mail_data.specs.Lines.{after_empty_line, after_line, empty_line, is_empty_line, line_length, line_place}
+use Rattle.mail_data.specs.LineEnds.{after_empty_line, after_line, empty_line, is_empty_line, line_length, line_place}
 use Rattle.mail_data.specs.Separator.{is_separator}
 
 -- a mail ends at this line: it is empty, and a separator or nothing follows it
@@ -12,7 +12,7 @@ ends_mail bytes =
     let after = after_empty_line bytes in
     is_empty_line bytes && (is_empty after || is_separator after)
 
--- the mail goes up to the first line at which a mail ends, or to the end of the bytes
+-- the length of the mail at the front: up to the first line at which a mail ends, or to the end of the bytes
 unfoldable pub mail_length : List ℕ → ℕ
 mail_length bytes = line_place ends_mail bytes
 
@@ -26,11 +26,11 @@ pub record Entry : Type 0 where
 abbrev pub entry_bytes : Entry → List ℕ
 entry_bytes entry = entry.separator ++ (entry.mail ++ entry.ending)
 
--- what follows the mail at the front, where a function says how long a mail is
+-- the bytes after the mail at the front, given the function that returns the length of a mail
 abbrev pub after_by : (List ℕ → ℕ) → List ℕ → List ℕ
 after_by length_of bytes = drop (length_of bytes) bytes
 
--- the mail whose separator stands at the front
+-- the mail whose separator is at the front
 abbrev pub entry_by : (List ℕ → ℕ) → List ℕ → Entry
 entry_by length_of bytes =
     let body = after_line bytes in
@@ -41,11 +41,11 @@ entry_by length_of bytes =
       ending = take (empty_line after) after;
     }
 
--- what follows that mail
+-- the bytes after that mail
 abbrev pub next_by : (List ℕ → ℕ) → List ℕ → List ℕ
 next_by length_of bytes = after_empty_line (after_by length_of (after_line bytes))
 
--- the mails of bytes that begin with a separator, or of none: no more than so many
+-- the mails of bytes that begin with a separator, at most `most` of them, or none
 abbrev pub entries_within : (List ℕ → ℕ) → ℕ → List ℕ → List Entry
 entries_within length_of zero bytes = []
 entries_within length_of (suc most) bytes =
@@ -56,23 +56,23 @@ entries_within length_of (suc most) bytes =
 unfoldable pub entries_by : (List ℕ → ℕ) → List ℕ → List Entry
 entries_by length_of bytes = entries_within length_of (length bytes) bytes
 
--- what follows the mail at the front, in a mailbox of the mbox format
+-- the bytes after the mail at the front, in a mailbox of the mbox format
 abbrev pub after_mail : List ℕ → List ℕ
 after_mail bytes = after_by mail_length bytes
 
--- in this format, the mail whose separator stands at the front
+-- in this format, the mail whose separator is at the front
 abbrev pub entry_at : List ℕ → Entry
 entry_at bytes = entry_by mail_length bytes
 
--- what follows that mail
+-- the bytes after that mail
 abbrev pub next_entry : List ℕ → List ℕ
 next_entry bytes = next_by mail_length bytes
 
--- the mails of bytes that begin with a separator, or of none
+-- the mails of bytes that begin with a separator, or none
 abbrev pub entries_from : List ℕ → List Entry
 entries_from bytes = entries_by mail_length bytes
 
--- the bytes before the first separator, the empty line before it among them
+-- the number of bytes before the first separator, including the empty line before it
 unfoldable pub front_length : List ℕ → ℕ
 front_length bytes = if is_separator bytes then 0 else mail_length bytes + empty_line (after_mail bytes)
 
@@ -91,19 +91,14 @@ pub record EndsEmpty (bytes : List ℕ) : Type 0 where
   pub is_empty : IsEmptyLine line
   pub whole : bytes ≡ front ++ (line_feed ∷ line)
 
--- the first line is here whole, with at least one byte more
+-- the first line is whole, with at least one more byte
 abbrev pub has_line : List ℕ → Bool
 has_line bytes = nat_lt (line_length bytes) (length bytes)
 
--- a separator stands here with its whole line and at least one byte more
+-- a separator is at the front with its whole line and at least one more byte
 unfoldable pub is_before_text : List ℕ → Bool
 is_before_text bytes = is_separator bytes && has_line bytes
 
--- what stands before the first separator is here whole: that separator follows it, with its whole line and at least one byte more
+-- the bytes before the first separator are whole: that separator follows them, with its whole line and at least one more byte
 unfoldable pub has_front : List ℕ → Bool
 has_front bytes = is_before_text (drop (front_length bytes) bytes)
-
--- the mail at the front and what follows it, if the next separator follows so that it was read to its end
-unfoldable pub settled_entry : List ℕ → Option (Entry × List ℕ)
-settled_entry bytes =
-    if is_separator bytes && is_before_text (next_entry bytes) then Some (entry_at bytes, next_entry bytes) else None

@@ -7,7 +7,7 @@ pub record Placed : Type 0 where
   pub start : ℕ
   pub entry : Entry
 
--- mails with their places, where the first one begins at a place
+-- mails with their places, the first of which begins at this place
 abbrev pub placed_from : ℕ → List Entry → List Placed
 placed_from start [] = []
 placed_from start (entry ∷ rest) =
@@ -17,7 +17,7 @@ placed_from start (entry ∷ rest) =
 abbrev pub placed : List ℕ → List Placed
 placed bytes = placed_from (front_length bytes) (entries bytes)
 
--- the mails of bytes that stand in a mailbox from a place on, with their places
+-- the mails of bytes of a mailbox that begin at this place, with their places
 abbrev pub placed_at : ℕ → List ℕ → List Placed
 placed_at start bytes = placed_from (start + front_length bytes) (entries bytes)
 
@@ -29,7 +29,7 @@ begins_in from to mail = not (nat_lt mail.start from) && nat_lt mail.start to
 abbrev pub in_range : ℕ → ℕ → List Placed → List Placed
 in_range from to mails = filter (begins_in from to) mails
 
--- where the k-th of so many equal parts of a mailbox begins, counted from 0
+-- the place of the k-th of `count` equal parts of a mailbox, counted from 0
 abbrev pub part_start : List ℕ → ℕ → ℕ → ℕ
 part_start bytes count k = length bytes * k / count
 

@@ -7,7 +7,7 @@ use crate::request::Request;
 use crate::save::{Saved, save_files};
 use mail_charsets::AllCharsets;
 use mail_data::inner_mails::InnerMail;
-use mail_data::mailbox::read_mailbox;
+use mail_data::mailbox::{Format, read_mailbox};
 use mail_program::{Fault, Outcome, read_input};
 use mailparse::{MailParseError, parse_mail_in};
 use std::fs;
@@ -103,7 +103,7 @@ impl<'r, R: Files + Eprint + AllocGlobal, W: Write> Saver<'r, R, W> {
             Err(Fault::Input(error)) => return self.fail(file, &error),
             Err(fault) => return Err(fault),
         };
-        let mails = read_mailbox(input.as_slice());
+        let mails = read_mailbox(input.as_slice(), Format::Plain);
         if input.is_empty() || !mails.front().is_empty() {
             return self.save_mail(file, None, input.as_slice());
         }

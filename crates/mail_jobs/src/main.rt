@@ -11,7 +11,7 @@ mod indexer;
 mod report;
 mod threads;
 
-use mail_data::mailbox::read_mailbox;
+use mail_data::mailbox::{Format, read_mailbox};
 use report::report;
 use std::io::Read;
 
@@ -19,7 +19,7 @@ fn main(rt: HostRuntime) -> anyhow::Result<()> {
     let alloc = rt.alloc();
     let mut mailbox = Vec::new(alloc);
     rt.reader().read_to_end(&mut mailbox)?;
-    let mails = read_mailbox(mailbox.as_slice());
+    let mails = read_mailbox(mailbox.as_slice(), Format::Plain);
     if !mails.front().trim_ascii().is_empty() {
         println!(rt; "refused: The mailbox does not begin with a line `From `\n")?;
     }

@@ -1,6 +1,6 @@
 //! What the arguments ask for.
 
-use mail_data::mailbox::formats::Format;
+use mail_data::mailbox::Format;
 use mail_lines::Form;
 use mail_lines::range::FilePart;
 use mail_program::Word;

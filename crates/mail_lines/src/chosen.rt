@@ -5,8 +5,7 @@ ghost use Rattle.mail_lines.specs.Chosen.{Fits, is_past, is_wanted, next_which, 
 ghost use Rattle.mail_lines.specs.Lines.{after_entry};
 ghost use Rattle.mail_lines.specs.declared.chosen.Which.TheVariants.{Within};
 
-use mail_data::mailbox::MailboxEntry;
-use mail_data::mailbox::formats::Format;
+use mail_data::mailbox::{Format, MailboxEntry};
 
 /// What an input is.
 #[derive(Clone, Copy, PartialEq, Eq)]

@@ -3,7 +3,7 @@ ghost use Rattle.std.specs.Prelude.{◌≡◌, option_map};
 ghost use Rattle.std.specs.Char.{is_ascii_whitespace};
 ghost use Rattle.std.specs.List.{list_all};
 ghost use Rattle.mail_lines.specs.Reading.{reading_of};
-ghost use Rattle.mail_data.specs.FormatViews.{left_in};
+ghost use Rattle.mail_data.specs.MailboxViews.{entries_left};
 ghost use Rattle.mail_data.specs.MailboxFormats.{mail_in};
 ghost use Rattle.mail_data.specs.MailboxParts.{placed_from};
 ghost use Rattle.mail_lines.specs.Chosen.{AreChosen, AreMailboxChosen, IsEntryLine, number_of};
@@ -16,9 +16,8 @@ use crate::mail::write_mail;
 use crate::origin::{Origin, write_error};
 use crate::reading::Reading;
 use crate::strings::write_word;
-use mail_data::mailbox::MailboxEntry;
-use mail_data::mailbox::formats::{Format, MailboxIn, read_mailbox_in};
 use mail_data::mailbox::quoted::unquoted;
+use mail_data::mailbox::{Format, Mailbox, MailboxEntry, read_mailbox};
 use mail_program::Fault;
 use mailparse::{KnownCharsets, parse_mail_in};
 use std::alloc::Global;
@@ -85,7 +84,7 @@ pub fn write_mailbox<W: Write, K: KnownCharsets>(
         (AreMailboxChosen (reading_of (K.known known.now) reading) format
         (option_map (λ name. name.now) file.entry) which input.now) }
 {
-    let mails = read_mailbox_in(format, input);
+    let mails = read_mailbox(input, format);
     let front = mails.front();
     let is_all_whitespace = write_front(alloc, front, file, out)?;
     let first = Next {
@@ -146,7 +145,7 @@ fn is_all_whitespace(bytes: &[u8]) -> bool
 /// out of memory.
 pub fn write_mails<W: Write, K: KnownCharsets>(
     alloc: Global,
-    mails: MailboxIn<'_>,
+    mails: Mailbox<'_>,
     format: Format,
     first: Next,
     file: Option<&str>,
@@ -157,7 +156,7 @@ pub fn write_mails<W: Write, K: KnownCharsets>(
     ensures { WritesLines (W.contents out.old) (W.contents out.new) result
         (AreChosen (reading_of (K.known known.now) reading) format
         (option_map (λ name. name.now) file.entry) first.which
-        (placed_from first.at (left_in mails.entry))) }
+        (placed_from first.at (entries_left mails.entry))) }
 {
     let mut next = first;
     let mut is_clean = true;

@@ -9,7 +9,7 @@ use crate::chosen::{Form, Next, Which};
 use crate::lines::write_mails;
 use crate::reading::Reading;
 use crate::stream::{Wanted, Watch, is_mailbox, read_until, write_chosen, write_rest};
-use mail_data::mailbox::formats::{Format, read_mailbox_in};
+use mail_data::mailbox::{Format, read_mailbox};
 use mail_program::Fault;
 use mailparse::KnownCharsets;
 use std::alloc::Global;
@@ -167,7 +167,7 @@ pub fn write_first_part<R: Read, W: Write, M: Watch, K: KnownCharsets>(
 /// # Examples
 ///
 /// ```rust
-/// use mail_data::mailbox::formats::Format;
+/// use mail_data::mailbox::Format;
 /// use mail_lines::{Reading, Unwatched};
 /// use mail_lines::range::{Range, write_range};
 ///
@@ -202,7 +202,7 @@ pub fn write_range<R: Read, W: Write, M: Watch, K: KnownCharsets>(
 {
     let mut read = Vec::new(alloc);
     let has_ended = read_until(alloc, reader, &mut read, Wanted::Front)?;
-    let mails = read_mailbox_in(format, read.as_slice());
+    let mails = read_mailbox(read.as_slice(), format);
     let front = mails.front();
     let first = Next {
         which: Which::within(range.from, range.to),

@@ -14,8 +14,7 @@ ghost use Rattle.mail_lines.specs.Written.{IsEnd, Writes};
 use crate::chosen::{Form, Next, Which};
 use crate::lines::{write_entry, write_front, write_mailbox, write_mails, write_single};
 use crate::reading::Reading;
-use mail_data::mailbox::formats::{Format, read_mailbox_in, settled_entry_in};
-use mail_data::mailbox::{self, has_front, has_line};
+use mail_data::mailbox::{self, Format, has_front, has_line, read_mailbox, settled_entry};
 use mail_program::{Fault, read_more};
 use mailparse::KnownCharsets;
 use std::alloc::{AllocError, Global};
@@ -208,7 +207,7 @@ pub fn is_mailbox(form: Form, input: &[u8]) -> bool
 /// # Examples
 ///
 /// ```rust
-/// use mail_data::mailbox::formats::Format;
+/// use mail_data::mailbox::Format;
 /// use mail_lines::{Form, format_of};
 ///
 /// assert!(rt; format_of(Form::Either) == Format::Plain);
@@ -264,7 +263,7 @@ fn is_there(wanted: Wanted, bytes: &[u8]) -> bool
     match wanted {
         Wanted::FirstLine => has_line(bytes),
         Wanted::Front => has_front(bytes),
-        Wanted::FirstMail(format) => settled_entry_in(format, bytes).is_some(),
+        Wanted::FirstMail(format) => settled_entry(bytes, format).is_some(),
         Wanted::End => false,
     }
 }
@@ -290,7 +289,7 @@ fn write_following<R: Read, W: Write, M: Watch, K: KnownCharsets>(
         which
         (read.now ++ more)) }
 {
-    let front = read_mailbox_in(format, read).front();
+    let front = read_mailbox(read, format).front();
     let is_all_whitespace = write_front(alloc, front, file, out)?;
     let first = Next {
         which,
@@ -337,7 +336,7 @@ pub fn write_rest<R: Read, W: Write, M: Watch, K: KnownCharsets>(
         }
         let has_ended = read_until(alloc, reader, &mut pending, Wanted::FirstMail(format))?;
         if has_ended {
-            let mails = read_mailbox_in(format, pending.as_slice());
+            let mails = read_mailbox(pending.as_slice(), format);
             let are_read = write_mails(alloc, mails, format, next, file, out, known, reading)?;
             return Ok(is_clean & are_read);
         }
@@ -372,7 +371,7 @@ fn write_settled<'a, W: Write, K: KnownCharsets>(
     let mut rest = bytes;
     let mut next = first;
     let mut is_clean = true;
-    'mails: while let Some((entry, after)) = settled_entry_in(format, rest) {
+    'mails: while let Some((entry, after)) = settled_entry(rest, format) {
         let is_read = write_entry(alloc, &entry, format, next, file, out, known, reading)?;
         is_clean &= is_read;
         next = next.after(&entry);

@@ -3,7 +3,7 @@
 use mail_charsets::{Encoding, Indexes};
 use mail_codec::bytescan::{find, find_byte, strip_ascii_whitespace};
 use mail_codec::transfer::{decode_base64, decode_base64_body, decode_quoted_printable};
-use mail_data::mailbox::read_mailbox;
+use mail_data::mailbox::{Format, read_mailbox};
 use mailparse::{MailParseError, ParsedMail, parse_mail};
 use std::alloc::{AllocError, Global};
 
@@ -73,7 +73,7 @@ fn length_of(decoded: Result<Vec<u8>, usize>) -> Result<usize, MailParseError> {
 /// Reads each message of a mailbox on its own. Tells how much all made.
 fn mails(alloc: Global, is_full: bool, mailbox: &[u8]) -> Result<usize, MailParseError> {
     let mut made = 0usize;
-    for entry in read_mailbox(mailbox) {
+    for entry in read_mailbox(mailbox, Format::Plain) {
         made = made.saturating_add(mail(alloc, is_full, entry.mail())?);
     }
     Ok(made)

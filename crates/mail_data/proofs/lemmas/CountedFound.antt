@@ -1,4 +1,4 @@
--- Lemmas on a counted mail that was read with what decides where it ends: it stays the same whatever follows.
+-- Lemmas on a counted mail that was read with the bytes that decide its end: it does not change whatever follows.
 use Rattle.std.proofs.Common.{◌≡◌, ℕ, ◌+◌, ◌<◌, ◌≤◌, Bool, true, false, cond, List, [], ◌∷◌, ◌++◌, ◌&&◌, ◌||◌, Option, Some, None, length, take, drop, refl, sym, ap, subst, ◌∙◌, arith, length-append, length-drop, inl, inr}
 use Rattle.std.specs.Prelude.{nat_eq, nat_le, nat_lt, option_and_then}
 use Rattle.std.specs.Option.{unwrap_or}
@@ -6,11 +6,11 @@ use Rattle.std.proofs.lemmas.Bool.{and_left, and_parts, cases_lt, false≢true, 
 use Rattle.std.proofs.lemmas.List.{drop-append-le, length-take, take-append-le}
 use Rattle.mail_codec.specs.Places.{is_empty}
 use Rattle.mail_codec.proofs.lemmas.Places.{least-before, least-is, least-passes}
-use Rattle.mail_data.specs.CountedMails.{block_length, block_place, content_length, counted_length, counted_place, is_count_known, is_known, is_place_known, is_short_separator, may_end, settled_counted}
-use Rattle.mail_data.specs.Lines.{after_empty_line, after_line, empty_line, is_empty_line, line_length, line_place, starts_line}
-use Rattle.mail_data.specs.Mailbox.{Entry, after_by, is_before_text, mail_length, next_by, next_entry}
+use Rattle.mail_data.specs.CountedMails.{block_length, block_place, content_length, counted_length, counted_place, is_count_known, is_known, is_place_known, is_short_separator, may_end}
+use Rattle.mail_data.specs.LineEnds.{after_empty_line, after_line, empty_line, is_empty_line, line_length, line_place, starts_line}
+use Rattle.mail_data.specs.Mailbox.{Entry, after_by, entry_by, is_before_text, mail_length, next_by, next_entry}
 use Rattle.mail_data.specs.Separator.{is_separator}
-use Rattle.mail_data.proofs.lemmas.Lines.{first_place-more, has_feed, is_line, line_length-more, line_length-some_bytes, starts-stays}
+use Rattle.mail_data.proofs.lemmas.LineEnds.{first_place-more, has_feed, is_line, line_length-more, line_length-some_bytes, starts-stays}
 use Rattle.mail_data.proofs.lemmas.Mailbox.{mail_length-≤, mails, has_prefix-some}
 use Rattle.mail_data.proofs.lemmas.MailboxFound.{before-text, found, separator-stays, settled-by}
 use Rattle.mail_data.proofs.lemmas.MailboxJoined.{Joined, Stays, drop-joined, joined-by}
@@ -67,7 +67,7 @@ block-stays mail more low =
 
 -- ---- the place
 
--- what is known is not empty, nor a single byte
+-- bytes that decide are at least two
 known-some : (bytes : List ℕ) → is_known bytes ≡ true → (2 ≤ length (after_empty_line bytes)) × (2 ≤ length bytes)
 unfolding is_known
 known-some bytes h =
@@ -107,9 +107,9 @@ known-stays bytes more h =
     let many = some.0 in
     let size = length-drop (empty_line bytes) bytes in
     let line = empty_line-stays bytes more some.1 in
-    let behind : after_empty_line (bytes ++ more) ≡ after ++ more =
+    let beyond : after_empty_line (bytes ++ more) ≡ after ++ more =
     ap (λ (n : ℕ). drop n (bytes ++ more)) line ∙ drop-append-le (empty_line bytes) bytes more (omega arith) in
-    ap (λ (r : List ℕ). is_empty r || is_short_separator r) behind
+    ap (λ (r : List ℕ). is_empty r || is_short_separator r) beyond
     ∙ ap (λ (t : Bool). t || is_short_separator (after ++ more)) (not_empty after more (omega arith))
     ∙ ap (λ (t : Bool). is_empty after || t) (short-stays after more h)
   where
@@ -189,9 +189,10 @@ kept bytes more known marked past =
     joined-by counted_length bytes more (separator-stays bytes more low) line (record { same = count; within = omega arith })
     (record { same = empty_line-stays rest more (omega arith); within = omega arith })
 
-pub settled-stays : (bytes more rest : List ℕ) (entry : Entry) → settled_counted bytes ≡ Some (entry, rest)
+pub settled-stays : (bytes more rest : List ℕ) (entry : Entry)
+    → cond {A = Option (Entry × List ℕ)} (is_separator bytes && (is_count_known (after_line bytes) && is_before_text (next_by counted_length bytes)))
+    (Some (entry_by counted_length bytes, next_by counted_length bytes)) None ≡ Some (entry, rest)
     → mails counted_length (bytes ++ more) ≡ entry ∷ mails counted_length (rest ++ more)
-unfolding settled_counted
 settled-stays bytes more rest entry is =
     let next = next_by counted_length bytes in
     let known = is_count_known (after_line bytes) in

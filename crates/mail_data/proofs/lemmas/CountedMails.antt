@@ -11,7 +11,7 @@ use Rattle.std.proofs.lemmas.List.{drop_all, drop_min, length-take, take_min, ta
 use Rattle.std.proofs.lemmas.Str.Ascii.{trim_ascii_is}
 use Rattle.mail_codec.specs.Places.{begins, first_place, is_empty, trimmed_at_end, trimmed_at_start}
 use Rattle.mail_data.specs.CountedMails.{block_length, block_place, content_length, counted_length, counted_place, field_start, field_text, is_field, is_known, is_place_known, is_short_separator, may_end}
-use Rattle.mail_data.specs.Lines.{after_empty_line, empty_line, line_length}
+use Rattle.mail_data.specs.LineEnds.{after_empty_line, empty_line, line_length}
 use Rattle.mail_data.specs.Mailbox.{after_by, mail_length}
 use Rattle.mail_data.specs.Separator.{is_separator}
 use Rattle.mail_data.proofs.lemmas.Mailbox.{Opens, after_opens, opens}
@@ -31,10 +31,10 @@ pub field_text-trimmed : (field s r : List ℕ) (n m : ℕ) → n ≡ line_lengt
     → take (length (take n field) - m) (drop m (take n field)) ≡ s → IsTrimAscii s r → r ≡ field_text field
 unfolding field_text
 field_text-trimmed field s r n m is cut same trims =
-    let behind : s ≡ drop 15 (take (line_length field) field) =
+    let beyond : s ≡ drop 15 (take (line_length field) field) =
     sym same ∙ take_rest (take n field) m ∙ ap (λ (k : ℕ). drop k (take n field)) (cut ∙ swapped (length (take n field)) 15) ∙ drop_min 15 (take n field) ∙ ap (λ (k : ℕ). drop 15 (take k field)) is in
     trim_ascii_is s r (drop (prefix_len is_ascii_whitespace s) s) refl trims
-    ∙ ap (λ (t : List ℕ). trimmed_at_end is_ascii_whitespace (trimmed_at_start is_ascii_whitespace t)) behind
+    ∙ ap (λ (t : List ℕ). trimmed_at_end is_ascii_whitespace (trimmed_at_start is_ascii_whitespace t)) beyond
 
 pub all_digits : (text : List ℕ) → list_all is_ascii_digit text ≡ true → AllDigits 10 text
 all_digits [] h = tt
@@ -92,7 +92,7 @@ pub known-none : (mail : List ℕ) (count : Option ℕ) → count ≡ None → t
 unfolding is_place_known
 known-none mail count none = sym (ap (is_place_known mail) none)
 
--- ---- what stands behind a mail
+-- ---- the bytes after a mail
 
 may_end-opens : (bytes : List ℕ) → may_end bytes ≡ true → opens (after_empty_line bytes) ≡ true
 unfolding may_end is_short_separator

@@ -5,10 +5,10 @@ use Rattle.std.specs.List.{flat_map}
 use Rattle.std.proofs.lemmas.Bool.{cond-true, cond-false, cases_Bool, lt-ltb, ltb-true, ne_eqb, and_parts, and_left, or_right, false≢true}
 use Rattle.std.proofs.lemmas.List.{append_assoc, drop-drop, drop_all, take_rest, take-append-drop}
 use Rattle.mail_codec.specs.Places.{is_empty}
-use Rattle.mail_data.specs.Lines.{after_empty_line, after_line, empty_line, line_length}
+use Rattle.mail_data.specs.LineEnds.{after_empty_line, after_line, empty_line, line_length}
 use Rattle.mail_data.specs.Mailbox.{Entry, ends_mail, mail_length, entry_bytes, after_by, after_mail, entry_by, next_by, entries_within, entries_by, front_length}
 use Rattle.mail_data.specs.Separator.{is_separator}
-use Rattle.mail_data.proofs.lemmas.Lines.{line_place-≤, line_place-passes, line_length-some_bytes}
+use Rattle.mail_data.proofs.lemmas.LineEnds.{line_place-≤, line_place-passes, line_length-some_bytes}
 
 -- ---- where a mail ends
 
@@ -64,7 +64,7 @@ pub after_empty_line-nil : after_empty_line [] ≡ []
 unfolding empty_line
 after_empty_line-nil = refl
 
--- after a mail and its empty line stands a separator or nothing
+-- a separator or nothing follows a mail and its empty line
 pub after_opens : (bytes : List ℕ) → opens (after_empty_line (after_mail bytes)) ≡ true
 after_opens bytes = elim (cases_Bool (nat_lt (mail_length bytes) (length bytes))) [
   | inl l ↦ ends_mail-opens (after_mail bytes) (mail_ended bytes (ltb-true (mail_length bytes) (length bytes) l))
@@ -133,7 +133,7 @@ entry-spans length_of bytes =
     (append_assoc mail ending (next_by length_of bytes) ∙ ap (λ (r : List ℕ). mail ++ r) (take-append-drop (empty_line after) after) ∙ take-append-drop (length_of body) body)
     ∙ take-append-drop (line_length bytes) bytes
 
--- after a mail of this length and its empty line stands a separator or nothing
+-- a separator or nothing follows a mail of this length and its empty line
 abbrev pub Opens : (List ℕ → ℕ) → Type 0
 Opens length_of = (mail : List ℕ) → opens (after_empty_line (after_by length_of mail)) ≡ true
 
@@ -143,13 +143,13 @@ nothing (b ∷ bytes) fails h = absurd (false≢true (sym fails ∙ h))
 
 entries-span : (length_of : List ℕ → ℕ) (n : ℕ) (bytes : List ℕ) → Opens length_of → length bytes ≤ n → opens bytes ≡ true
     → flat_map entry_bytes (entries_within length_of n bytes) ≡ bytes
-entries-span length_of zero [] behind fits h = refl
-entries-span length_of zero (b ∷ bytes) behind fits h = absurd (omega arith)
-entries-span length_of (suc n) bytes behind fits h = elim (cases_Bool (is_separator bytes)) [
+entries-span length_of zero [] beyond fits h = refl
+entries-span length_of zero (b ∷ bytes) beyond fits h = absurd (omega arith)
+entries-span length_of (suc n) bytes beyond fits h = elim (cases_Bool (is_separator bytes)) [
   | inl is ↦ let less = next-shorter length_of bytes is in
       let next = next_by length_of bytes in
       ap (flat_map entry_bytes) (cond-true _ _ _ is)
-      ∙ ap (λ (r : List ℕ). entry_bytes (entry_by length_of bytes) ++ r) (entries-span length_of n next behind (omega arith) (behind (after_line bytes)))
+      ∙ ap (λ (r : List ℕ). entry_bytes (entry_by length_of bytes) ++ r) (entries-span length_of n next beyond (omega arith) (beyond (after_line bytes)))
       ∙ entry-spans length_of bytes
   | inr fails ↦
       ap (flat_map entry_bytes) (cond-false (is_separator bytes) (entry_by length_of bytes ∷ entries_within length_of n (next_by length_of bytes)) [] fails)
@@ -170,19 +170,19 @@ mails length_of bytes = entries_by length_of (drop (front_length bytes) bytes)
 
 pub mailbox-spans : (length_of : List ℕ → ℕ) (bytes : List ℕ) → Opens length_of → take (front_length bytes) bytes ++ flat_map entry_bytes (mails length_of bytes) ≡ bytes
 unfolding entries_by
-mailbox-spans length_of bytes behind =
+mailbox-spans length_of bytes beyond =
     let rest = drop (front_length bytes) bytes in
-    ap (λ (r : List ℕ). take (front_length bytes) bytes ++ r) (entries-span length_of (length rest) rest behind (omega arith) (front-opens bytes))
+    ap (λ (r : List ℕ). take (front_length bytes) bytes ++ r) (entries-span length_of (length rest) rest beyond (omega arith) (front-opens bytes))
     ∙ take-append-drop (front_length bytes) bytes
 
 pub mailbox-whole : (length_of : List ℕ → ℕ) (bytes front rest : List ℕ) (n : ℕ) → Opens length_of → n ≡ front_length bytes → front ≡ take n bytes → rest ≡ drop n bytes
     → front ++ flat_map entry_bytes (entries_by length_of rest) ≡ bytes
-mailbox-whole length_of bytes front rest n behind is before after =
+mailbox-whole length_of bytes front rest n beyond is before after =
     ap (λ (f : List ℕ). f ++ flat_map entry_bytes (entries_by length_of rest)) (before ∙ ap (λ k. take k bytes) is)
     ∙ ap (λ (r : List ℕ). take (front_length bytes) bytes ++ flat_map entry_bytes (entries_by length_of r)) (after ∙ ap (λ k. drop k bytes) is)
-    ∙ mailbox-spans length_of bytes behind
+    ∙ mailbox-spans length_of bytes beyond
 
--- ---- what stands before the first separator
+-- ---- the bytes before the first separator
 
 pub front_length-none : (bytes : List ℕ) → true ≡ is_separator bytes → 0 ≡ front_length bytes
 unfolding front_length

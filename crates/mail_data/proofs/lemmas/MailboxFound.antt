@@ -6,15 +6,15 @@ use Rattle.std.proofs.lemmas.Bool.{and_parts, cases_Bool, cases_lt, cond-false, 
 use Rattle.std.proofs.lemmas.List.{append_assoc, drop-append-le, drop-drop, drop_all, take-append-drop}
 use Rattle.mail_codec.specs.Places.{begins, first_place, has_prefix}
 use Rattle.mail_codec.proofs.lemmas.Places.{first_place-passes, least-passes, true_not_false}
-use Rattle.mail_data.specs.Lines.{after_empty_line, after_line, empty_line, line_length, line_place, starts_line}
-use Rattle.mail_data.specs.Mailbox.{EndsEmpty, Entry, IsEmptyLine, after_mail, ends_mail, entries, entries_by, entry_at, entry_by, front_length, has_front, is_before_text, mail_length, next_by, next_entry, settled_entry}
+use Rattle.mail_data.specs.LineEnds.{after_empty_line, after_line, empty_line, line_length, line_place, starts_line}
+use Rattle.mail_data.specs.Mailbox.{EndsEmpty, Entry, IsEmptyLine, after_mail, ends_mail, entries, entries_by, entry_at, entry_by, front_length, has_front, is_before_text, mail_length, next_by, next_entry}
 use Rattle.mail_data.specs.Separator.{is_separator}
-use Rattle.mail_data.proofs.lemmas.Lines.{has_feed, is_line}
+use Rattle.mail_data.proofs.lemmas.LineEnds.{has_feed, is_line}
 use Rattle.mail_data.proofs.lemmas.Mailbox.{after_empty_line-nil, entries-here, entries-some, front_length-none, mails, opens}
 use Rattle.mail_data.proofs.lemmas.MailboxJoined.{Joined, after_place, before_last, closed, closed-bytes, closed-line, front-joined, is_separator-joined, is_separator-more, length-closed, unmarked-nil}
 use Rattle.mail_data.proofs.lemmas.MailboxParts.{front_length-≤}
 
--- ---- what stands at the end of a line and of a mail
+-- ---- the ends of a line and of a mail
 
 line_feed_first : (bytes : List ℕ) → begins (λ b. b == 10) bytes ≡ true → bytes ≡ 10 ∷ drop 1 bytes
 line_feed_first [] h = absurd (false≢true h)
@@ -35,7 +35,7 @@ mail-end body low =
     let rest = drop (line_place ends_mail body) body in
     (found.0, (and_parts (nat_lt 0 (empty_line rest)) (opens (after_empty_line rest)) found.1).0)
 
--- so many bytes at the front, if not none, are an empty line
+-- the bytes at the front, if there are any, are an empty line
 abbrev Shape : List ℕ → ℕ → Type 0
 Shape rest n = nat_lt 0 n ≡ true → IsEmptyLine (take n rest)
 
@@ -62,7 +62,7 @@ mail-low body marked = elim (cases_lt (mail_length body) (length body)) [
       absurd (true_not_false marked (ap is_separator none ∙ unmarked-nil))
 ]
 
--- a LF stands before the empty line that ends the mail
+-- a LF precedes the empty line that ends the mail
 feed-before : (bytes : List ℕ) → is_separator (next_entry bytes) ≡ true
     → (begins (λ b. b == 10) (drop (line_length bytes + mail_length (after_line bytes) - 1) bytes) ≡ true) × (0 < line_length bytes)
 feed-before bytes marked =
@@ -96,7 +96,7 @@ cut-found bytes marked =
     let some = feed.1 in
     let place : q + 1 ≡ l + m = omega arith in
     let end = take (empty_line rest) rest in
-    let behind : drop 1 (drop q bytes) ≡ rest = drop-drop 1 q bytes ∙ ap (λ (k : ℕ). drop k bytes) place ∙ sym (drop-drop m l bytes) in
+    let beyond : drop 1 (drop q bytes) ≡ rest = drop-drop 1 q bytes ∙ ap (λ (k : ℕ). drop k bytes) place ∙ sym (drop-drop m l bytes) in
     let split : rest ≡ end ++ next_entry bytes = sym (take-append-drop (empty_line rest) rest) in
     record {
       first = take q bytes ++ (10 ∷ end);
@@ -104,7 +104,7 @@ cut-found bytes marked =
       whole =
           append_assoc (take q bytes) (10 ∷ end) (next_entry bytes)
           ∙ ap (λ (r : List ℕ). take q bytes ++ (10 ∷ r)) (sym split)
-          ∙ ap (λ (r : List ℕ). take q bytes ++ (10 ∷ r)) (sym behind)
+          ∙ ap (λ (r : List ℕ). take q bytes ++ (10 ∷ r)) (sym beyond)
           ∙ ap (λ (r : List ℕ). take q bytes ++ r) (sym (line_feed_first (drop q bytes) feed.0))
           ∙ take-append-drop q bytes;
     }
@@ -116,7 +116,7 @@ separator-stays bytes more low = is_separator-more bytes more (has_feed bytes lo
 
 -- ---- the mail
 
--- what the cut of the mail at the front says, whatever follows
+-- the cut of the mail at the front, whatever follows
 pub found : (bytes more : List ℕ) → is_separator (next_entry bytes) ≡ true → line_length (next_entry bytes) < length (next_entry bytes) → Joined mail_length bytes more
 found bytes more marked past =
     let cut = cut-found bytes marked in
@@ -139,7 +139,7 @@ before-text bytes h =
     let parts = and_parts (is_separator bytes) (nat_lt (line_length bytes) (length bytes)) h in
     (parts.0, ltb-true (line_length bytes) (length bytes) parts.1)
 
--- a separator stands at the front, the mail there stays as it is, and the next separator was read
+-- a separator is at the front, the mail there does not change, and the next separator was read
 pub record Settled (length_of : List ℕ → ℕ) (bytes more : List ℕ) : Type 0 where
   pub first : is_separator bytes ≡ true
   pub before : is_before_text (next_by length_of bytes) ≡ true
@@ -164,8 +164,9 @@ settled-by length_of bytes more rest entry true is settled =
     settled-first length_of bytes more (settled refl) ∙ ap (λ (p : Entry × List ℕ). p.0 ∷ mails length_of (p.1 ++ more)) pair
 settled-by length_of bytes more rest entry false is settled = absurd (cc)
 
-pub settled-stays : (bytes more rest : List ℕ) (entry : Entry) → settled_entry bytes ≡ Some (entry, rest) → entries (bytes ++ more) ≡ entry ∷ entries (rest ++ more)
-unfolding settled_entry
+pub settled-stays : (bytes more rest : List ℕ) (entry : Entry)
+    → cond {A = Option (Entry × List ℕ)} (is_separator bytes && is_before_text (next_entry bytes)) (Some (entry_at bytes, next_entry bytes)) None ≡ Some (entry, rest)
+    → entries (bytes ++ more) ≡ entry ∷ entries (rest ++ more)
 settled-stays bytes more rest entry is =
     settled-by mail_length bytes more rest entry (is_separator bytes && is_before_text (next_entry bytes)) is
     (λ yes_it_is.
@@ -173,7 +174,7 @@ settled-stays bytes more rest entry is =
     let before = before-text (next_entry bytes) parts.1 in
     record { first = parts.0; before = parts.1; joined = found bytes more before.0 before.1 })
 
--- ---- what stands before the first separator
+-- ---- the bytes before the first separator
 
 line_length-feed : (bytes : List ℕ) → line_length (10 ∷ bytes) ≡ 1
 unfolding line_length
@@ -204,7 +205,7 @@ none-stays bytes more marked =
     ap (λ (r : List ℕ). is_separator (r ++ more)) body ∙ ap is_separator (append_assoc (closed (drop 1 before)) next more)
     ∙ is_separator-joined (drop 1 before) (next ++ more) ∙ sym (is_separator-joined (drop 1 before) next) ∙ ap is_separator (sym body)
 
--- where no mail begins at the front, what follows the front is what follows that mail
+-- if no mail begins at the front, the bytes after the front are those after that mail
 pub front-next : (bytes more : List ℕ) → is_separator bytes ≡ false → is_separator (bytes ++ more) ≡ false → Joined mail_length (10 ∷ bytes) more
     → (front_length (bytes ++ more) ≡ front_length bytes) × (drop (front_length (bytes ++ more)) (bytes ++ more) ≡ drop (front_length bytes) bytes ++ more)
 front-next bytes more fails all_fails joined =
@@ -241,10 +242,10 @@ front-same bytes more h =
       | inr fails ↦ front_later bytes more fails before.0 before.1
     ]
 
--- the mails behind a front that was read are the same whatever follows
-pub front-behind : (length_of : List ℕ → ℕ) (bytes more : List ℕ) → has_front bytes ≡ true → mails length_of (bytes ++ more) ≡ mails length_of (drop (front_length bytes) bytes ++ more)
+-- the mails after a front that was read are the same whatever follows
+pub front-beyond : (length_of : List ℕ → ℕ) (bytes more : List ℕ) → has_front bytes ≡ true → mails length_of (bytes ++ more) ≡ mails length_of (drop (front_length bytes) bytes ++ more)
 unfolding has_front
-front-behind length_of bytes more h =
+front-beyond length_of bytes more h =
     let n = front_length bytes in
     let before = before-text (drop n bytes) h in
     ap (λ (k : ℕ). entries_by length_of (drop k (bytes ++ more))) (front-same bytes more h)
@@ -253,4 +254,4 @@ front-behind length_of bytes more h =
 
 pub front-stays : (bytes more : List ℕ) → has_front bytes ≡ true
     → (front_length (bytes ++ more) ≡ front_length bytes) × (entries (bytes ++ more) ≡ entries (drop (front_length bytes) bytes ++ more))
-front-stays bytes more h = (front-same bytes more h, front-behind mail_length bytes more h)
+front-stays bytes more h = (front-same bytes more h, front-beyond mail_length bytes more h)

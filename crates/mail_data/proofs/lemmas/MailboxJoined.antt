@@ -1,4 +1,4 @@
--- Lemmas on a mailbox that is cut before a separator behind an empty line: the mails of the two halves are those of the whole.
+-- Lemmas on a mailbox that is cut before a separator after an empty line: the mails of the two halves are those of the whole.
 use Rattle.std.proofs.Common.{◌≡◌, ℕ, zero, suc, ◌+◌, ◌-◌, ◌<◌, ◌≤◌, Bool, true, false, cond, List, [], ◌∷◌, ◌++◌, ◌&&◌, length, take, drop, refl, sym, ap, subst, ◌∙◌, arith, length-append, inl, inr}
 use Rattle.std.specs.Prelude.{nat_eq, nat_lt, ◌==◌}
 use Rattle.std.specs.List.{list_any}
@@ -7,13 +7,13 @@ use Rattle.std.proofs.lemmas.List.{append_assoc, drop-append-le, drop-drop, drop
 use Rattle.std.proofs.Math.Seq.{drop-append_seam, drop-append-add}
 use Rattle.mail_codec.specs.Places.{begins, first_place, is_empty, has_prefix}
 use Rattle.mail_codec.proofs.lemmas.Places.{first_place-past, least-before, least-is, least-passes, true_not_false}
-use Rattle.mail_data.specs.Lines.{after_empty_line, after_line, empty_line, line_length, line_place, starts_line}
+use Rattle.mail_data.specs.LineEnds.{after_empty_line, after_line, empty_line, line_length, line_place, starts_line}
 use Rattle.mail_data.specs.Mailbox.{EndsEmpty, Entry, IsEmptyLine, after_by, after_mail, ends_mail, entries, entries_from, entry_at, entry_by, mail_length, next_by, next_entry}
 use Rattle.mail_data.specs.Separator.{has_time, is_separator, mark}
-use Rattle.mail_data.proofs.lemmas.Lines.{empty_line-≤, is_line, line_length-more, line_length-≤, starts-stays}
+use Rattle.mail_data.proofs.lemmas.LineEnds.{empty_line-≤, is_line, line_length-more, line_length-≤, starts-stays}
 use Rattle.mail_data.proofs.lemmas.Mailbox.{after_opens, entries-here, entries-none, entries-some, next-shorter, nothing, opens}
 
--- ---- bytes that end in LF, with more bytes behind them
+-- ---- bytes that end in LF, with more bytes after them
 
 -- the bytes with a LF at their end
 abbrev pub closed : List ℕ → List ℕ
@@ -31,7 +31,7 @@ empty_line-joined [] more = refl
 empty_line-joined (b ∷ []) more = refl
 empty_line-joined (b ∷ c ∷ front) more = refl
 
--- the first LF stands no later than any other
+-- the first LF is no later than any other
 first_place-low : (front rest : List ℕ) → first_place (begins (λ b. b == 10)) (front ++ (10 ∷ rest)) ≤ length front
 first_place-low [] rest = omega arith
 first_place-low (b ∷ front) rest =
@@ -48,7 +48,7 @@ line_length-low front rest = let low = first_place-low front rest in omega arith
 feed-low : (front : List ℕ) → first_place (begins (λ b. b == 10)) (closed front) < length (closed front)
 feed-low front = let low = first_place-low front [] in let size = length-closed front in omega arith
 
--- ---- what a length says of the bytes, with more bytes behind them
+-- ---- lengths of the bytes, with more bytes after them
 
 -- the length stays as it is, within the bytes
 pub record Stays (length_of : List ℕ → ℕ) (bytes more : List ℕ) : Type 0 where
@@ -83,7 +83,7 @@ joined-by length_of bytes more separator line mail end =
     let same : entry_by length_of whole ≡ entry_by length_of bytes = λ i. record { separator = s i; mail = t i; ending = u i } in
     record { separator = separator; entry = same; next = ap after_empty_line rest_more ∙ drop-joined empty_line rest more end }
 
--- a text without a LF stands in bytes with a LF, or does not, whatever follows them
+-- whether a text without a LF begins bytes with a LF does not depend on the bytes after them
 has_prefix-more : (text bytes more : List ℕ) → list_any (λ t. t == 10) text ≡ false → first_place (begins (λ b. b == 10)) bytes < length bytes
     → has_prefix text (bytes ++ more) ≡ has_prefix text bytes
 has_prefix-more [] bytes more none low = refl
@@ -131,7 +131,7 @@ ends_mail-joined front more marked =
     ap (λ (k : ℕ). nat_lt 0 k && opens (drop k (closed front ++ more))) (empty_line-joined front more)
     ∙ ap (λ (t : Bool). nat_lt 0 (empty_line (closed front)) && t) (opens-joined front more (empty_line (closed front)) (empty_line-≤ (closed front)) marked)
 
--- what follows a place within the bytes
+-- the bytes after a place within them
 pub after_place : (front more : List ℕ) (n : ℕ) → n ≤ length front → drop n (closed front ++ more) ≡ closed (drop n front) ++ more
 after_place front more n within =
     let size = length-closed front in
@@ -178,7 +178,7 @@ unmarked line zero (inr e) = ap is_separator e
 unmarked line (suc zero) (inr e) = ap (λ (r : List ℕ). is_separator (drop 1 r)) e
 unmarked line (suc (suc n)) (inr e) = ap (λ (r : List ℕ). is_separator (drop (suc (suc n)) r)) e ∙ ap is_separator (drop_all {X = ℕ} n [] (omega arith))
 
--- what stands before the last LF of the bytes
+-- the bytes before the last LF
 abbrev pub before_last : List ℕ → List ℕ → List ℕ
 before_last front line = front ++ take (length line) (10 ∷ line)
 
@@ -190,7 +190,7 @@ pub closed-bytes : (front line : List ℕ) → IsEmptyLine line → front ++ (10
 closed-bytes front line is =
     ap (λ (r : List ℕ). front ++ r) (closed-line line is).0 ∙ sym (append_assoc front (take (length line) (10 ∷ line)) (10 ∷ []))
 
--- behind a line that ends no later than the last LF but one, a mail ends before the end
+-- after a line that ends no later than the last LF but one, a mail ends before the end
 body-low : (front line : List ℕ) (n : ℕ) → IsEmptyLine line → n ≤ length front + 1
     → mail_length (drop n (front ++ (10 ∷ line))) < length (drop n (front ++ (10 ∷ line)))
 body-low front line n is within = elim (cases_lt (length front) n) [
@@ -248,7 +248,7 @@ front-joined bytes more ends marked =
 
 -- ---- all mails
 
--- what begins with a separator behind the front of such bytes ends as they do
+-- bytes after the front of such bytes that begin with a separator end as they do
 pub ends-later : (bytes : List ℕ) (n : ℕ) → EndsEmpty bytes → is_separator (drop n bytes) ≡ true → EndsEmpty (drop n bytes)
 ends-later bytes n ends marked = elim (cases_lt (length ends.front) n) [
   | inl past ↦
@@ -259,7 +259,7 @@ ends-later bytes n ends marked = elim (cases_lt (length ends.front) n) [
   | inr low ↦ record { front = drop n ends.front; line = ends.line; is_empty = ends.is_empty; whole = ap (drop n) ends.whole ∙ drop-append-le n ends.front (10 ∷ ends.line) low }
 ]
 
--- what follows the mail at the front is the bytes from some place on
+-- the bytes after the mail at the front begin at some place
 next-place : (bytes : List ℕ) → (n : ℕ) × (next_entry bytes ≡ drop n bytes)
 next-place bytes =
     let body = after_line bytes in

@@ -5,11 +5,11 @@ use Rattle.std.specs.List.{flat_map}
 use Rattle.std.proofs.Math.Nat.{lt-mul-div-succ, mul-div-le, mul-div_cancel, mul-le-mul_left, zero-div}
 use Rattle.std.proofs.lemmas.Bool.{and_from, and_right, cases_Bool, cases_lt, cond-true, cond-false, le-ltb, lt-ltb, false≢true}
 use Rattle.mail_codec.specs.Places.{values_below}
-use Rattle.mail_data.specs.Lines.{empty_line}
+use Rattle.mail_data.specs.LineEnds.{empty_line}
 use Rattle.mail_data.specs.Mailbox.{Entry, after_mail, entries, entries_by, entries_within, entry_at, entry_bytes, front_length, mail_length, next_entry}
 use Rattle.mail_data.specs.MailboxParts.{Placed, in_range, part_mails, part_start, placed, placed_from}
 use Rattle.mail_data.specs.Separator.{is_separator}
-use Rattle.mail_data.proofs.lemmas.Lines.{empty_line-≤}
+use Rattle.mail_data.proofs.lemmas.LineEnds.{empty_line-≤}
 use Rattle.mail_data.proofs.lemmas.Mailbox.{entry-spans, mail_length-≤, next-shorter}
 
 -- ---- one mail of a filter: whether it begins before the first place, before the middle and before the last

@@ -1,4 +1,4 @@
--- Lemmas on the mails that begin in a range of places: what stands more than three bytes before it does not change them.
+-- Lemmas on the mails that begin in a range of places: bytes more than three before it do not change them.
 use Rattle.std.proofs.Common.{◌≡◌, ℕ, zero, suc, ◌+◌, ◌-◌, ◌<◌, ◌≤◌, ◌⊎◌, true, false, List, [], ◌∷◌, ◌++◌, length, take, drop, sym, ap, subst, ◌∙◌, arith, length-drop, length-append, inl, inr}
 use Rattle.std.specs.Prelude.{nat_lt, not}
 use Rattle.std.specs.List.{flat_map}
@@ -6,7 +6,7 @@ use Rattle.std.proofs.Math.Seq.{drop-append-add, drop-append_seam, take-append-a
 use Rattle.std.proofs.lemmas.Bool.{and_left, cases_Bool, cases_lt, cond-false, lt-ltb}
 use Rattle.std.proofs.lemmas.List.{append_assoc, drop-append-le, drop-drop, length-take-le, take-append-drop, take_at}
 use Rattle.std.proofs.lemmas.List.Elements.{filter-append}
-use Rattle.mail_data.specs.Lines.{after_line}
+use Rattle.mail_data.specs.LineEnds.{after_line}
 use Rattle.mail_data.specs.Mailbox.{EndsEmpty, Entry, IsEmptyLine, entries, entries_from, entry_at, entry_bytes, front_length, mail_length, next_entry}
 use Rattle.mail_data.specs.MailboxParts.{Placed, begins_in, in_range, placed, placed_at, placed_from}
 use Rattle.mail_data.specs.Separator.{is_separator}
@@ -31,8 +31,8 @@ ends-after front bytes ends = record {
 }
 
 -- without bytes of their front
-ends-behind : (bytes : List ℕ) (n : ℕ) → EndsEmpty bytes → n + 3 ≤ length bytes → EndsEmpty (drop n bytes)
-ends-behind bytes n ends within =
+ends-beyond : (bytes : List ℕ) (n : ℕ) → EndsEmpty bytes → n + 3 ≤ length bytes → EndsEmpty (drop n bytes)
+ends-beyond bytes n ends within =
     let short = line-short ends.line ends.is_empty in
     let all = ap length ends.whole in
     let sum = length-append ends.front (10 ∷ ends.line) in
@@ -44,7 +44,7 @@ ends-behind bytes n ends within =
       whole = ap (drop n) ends.whole ∙ drop-append-le n ends.front (10 ∷ ends.line) low;
     }
 
--- ---- a mailbox that is cut before a separator behind an empty line
+-- ---- a mailbox that is cut before a separator after an empty line
 
 placed-append : (start : ℕ) (a b : List Entry) → placed_from start (a ++ b) ≡ placed_from start a ++ placed_from (start + length (flat_map entry_bytes a)) b
 placed-append start [] b = let same : start ≡ start + 0 = omega arith in ap (λ (n : ℕ). placed_from n b) same
@@ -68,7 +68,7 @@ cut-marked first second ends marked is =
       mails = entries-joined first second is ends marked ∙ ap (λ (r : List Entry). entries first ++ r) (entries-here mail_length second marked);
     }
 
--- the mails behind the front
+-- the mails after the front
 rest-joined : (rest second : List ℕ) → opens rest ≡ true → ((is_separator rest ≡ true) → EndsEmpty rest) → is_separator second ≡ true
     → entries_from (rest ++ second) ≡ entries_from rest ++ entries_from second
 rest-joined rest second opened ends marked = elim (cases_Bool (is_separator rest)) [
@@ -108,23 +108,23 @@ placed-cut start first second ends marked =
     ∙ placed-append (start + n) (entries first) (entries_from second)
     ∙ ap (λ (k : ℕ). placed_at start first ++ placed_from k (entries_from second)) place
 
--- ---- whether a mail begins from a place on
+-- ---- whether a mail begins at a place or later
 
--- a mail begins there, behind an empty line
+-- a mail begins there, after an empty line
 record Marked (bytes : List ℕ) (p : ℕ) : Type 0 where
   within : p ≤ length bytes
   ends : EndsEmpty (take p bytes)
   marked : is_separator (drop p bytes) ≡ true
 
--- none of these mails begins in a range, or one begins in the bytes from a place on
+-- none of these mails begins in a range, or one begins at a place or later
 abbrev NoneOr : List Placed → ℕ → ℕ → List ℕ → ℕ → Type 0
 NoneOr mails from to bytes low = (in_range from to mails ≡ []) ⊎ ((p : ℕ) × (low ≤ p) × Marked bytes p)
 
--- where a mail begins that does so near the front of the bytes, or behind an empty line
+-- the place of a mail that begins near the front of the bytes, or after an empty line
 abbrev Begins : List ℕ → ℕ → Type 0
 Begins bytes p = (p < 3) ⊎ EndsEmpty (take p bytes)
 
--- where the next mail begins behind an empty line
+-- the place of the next mail after an empty line
 next-ends : (bytes : List ℕ) (p : ℕ) → p ≤ length bytes → is_separator (next_entry (drop p bytes)) ≡ true
     → EndsEmpty (take (p + length (entry_bytes (entry_at (drop p bytes)))) bytes)
 next-ends bytes p within marked =
@@ -145,7 +145,7 @@ next-ends bytes p within marked =
     ap (take (p + length e)) all ∙ take_at (take p bytes ++ cut.first) next (p + length e) size in
     subst EndsEmpty (sym taken) (ends-after (take p bytes) cut.first cut.ends)
 
--- what follows the mail that begins at a place
+-- the bytes after the mail that begins at a place
 next-drop : (bytes : List ℕ) (p : ℕ) → drop (p + length (entry_bytes (entry_at (drop p bytes)))) bytes ≡ next_entry (drop p bytes)
 next-drop bytes p =
     let rest = drop p bytes in
@@ -156,7 +156,7 @@ search : (n : ℕ) (bytes : List ℕ) (start p low to : ℕ) → length (drop p 
     → NoneOr (placed_from (start + p) (entries_from (drop p bytes))) (start + low) to bytes low
 search zero bytes start p low to fits some is within before = let more = has_prefix-some (drop p bytes) is in absurd (omega arith)
 search (suc n) bytes start p low to fits some is within before = elim (cases_lt p low) [
-  | inr past ↦ behind past before
+  | inr past ↦ beyond past before
   | inl lower ↦
       elim (cases_Bool (is_separator next)) [
         | inl again ↦
@@ -186,9 +186,9 @@ search (suc n) bytes start p low to fits some is within before = elim (cases_lt 
     size : ℕ
     size = length (entry_bytes (entry_at rest))
 
-    behind : low ≤ p → Begins bytes p → NoneOr (placed_from (start + p) (entries_from rest)) (start + low) to bytes low
-    behind past (inl near) = absurd (omega arith)
-    behind past (inr ends) = inr (p, past, record { within = within; ends = ends; marked = is })
+    beyond : low ≤ p → Begins bytes p → NoneOr (placed_from (start + p) (entries_from rest)) (start + low) to bytes low
+    beyond past (inl near) = absurd (omega arith)
+    beyond past (inr ends) = inr (p, past, record { within = within; ends = ends; marked = is })
 
     -- the mail here begins before the range
     passed : p < low → in_range (start + low) to (placed_from (start + p) (entries_from rest)) ≡ in_range (start + low) to (placed_from (start + (p + size)) (entries_from next))
@@ -203,7 +203,7 @@ search (suc n) bytes start p low to fits some is within before = elim (cases_lt 
     onward lower (inl none) = inl (passed lower ∙ none)
     onward lower (inr found) = inr found
 
--- the first mail begins near the front, or behind an empty line
+-- the first mail begins near the front, or after an empty line
 front-case : (f line next bytes : List ℕ) (p : ℕ) → (f ++ (10 ∷ line)) ++ next ≡ 10 ∷ bytes → next ≡ drop p bytes → p ≤ length bytes → IsEmptyLine line → Begins bytes p
 front-case [] line next bytes p whole is within empty =
     let short = line-short line empty in
@@ -264,7 +264,7 @@ range-step front rest to p some mark before =
     ∙ ap (λ (n : ℕ). in_range from to (placed_at 0 (front ++ first)) ++ in_range from to (placed_from n mails)) place
     ∙ sym (ap (in_range from to) there ∙ filter-append (begins_in from to) (placed_at 0 (front ++ first)) (placed_from (0 + length (front ++ first)) mails))
 
--- a mark of the whole behind the range's begin is one of the rest
+-- a separator of the whole after the start of the range is one of the rest
 marked-rest : (front rest : List ℕ) (p : ℕ) → length front + 3 ≤ p → Marked (front ++ rest) p → Marked rest (p - length front)
 marked-rest front rest p low mark =
     let q = p - length front in
@@ -274,10 +274,10 @@ marked-rest front rest p low mark =
     let before : take p (front ++ rest) ≡ front ++ take q rest = ap (λ (n : ℕ). take n (front ++ rest)) place ∙ take-append-add front rest q in
     let size = ap length before in
     let all = length-take-le p (front ++ rest) within in
-    let behind : drop (length front) (take p (front ++ rest)) ≡ take q rest = ap (drop (length front)) before ∙ drop-append_seam front (take q rest) in
+    let beyond : drop (length front) (take p (front ++ rest)) ≡ take q rest = ap (drop (length front)) before ∙ drop-append_seam front (take q rest) in
     record {
       within = omega arith;
-      ends = subst EndsEmpty behind (ends-behind (take p (front ++ rest)) (length front) mark.ends (omega arith));
+      ends = subst EndsEmpty beyond (ends-beyond (take p (front ++ rest)) (length front) mark.ends (omega arith));
       marked = ap is_separator (sym (ap (λ (n : ℕ). drop n (front ++ rest)) place ∙ drop-append-add front rest q)) ∙ mark.marked;
     }
 

@@ -5,10 +5,10 @@ use Rattle.std.specs.List.{list_any, prefix_len}
 use Rattle.std.proofs.lemmas.Bool.{cases_Bool, eqb-true, and_left, and_parts, and_right, or_parts, or_right}
 use Rattle.std.proofs.lemmas.List.{append_assoc, take_rest}
 use Rattle.mail_codec.specs.Places.{begins, first_place, has_prefix}
-use Rattle.mail_data.specs.Lines.{after_line, line_length, starts_line}
+use Rattle.mail_data.specs.LineEnds.{after_line, line_length, starts_line}
 use Rattle.mail_data.specs.QuotedLines.{first_line, is_marked, is_quoted, quote_length, quoted, quoted_from, unquoted, unquoted_from, unquoted_line}
 use Rattle.mail_data.specs.Separator.{mark}
-use Rattle.mail_data.proofs.lemmas.Lines.{line_length-some_bytes, some-bytes}
+use Rattle.mail_data.proofs.lemmas.LineEnds.{line_length-some_bytes, some-bytes}
 
 -- ---- a line at a time
 
@@ -22,7 +22,7 @@ line_length-at b rest = elim (b == 10) as (λ t. line_length' t ≡ cond t 1 (su
     line_length' : Bool → ℕ
     line_length' t = min (suc (cond t 0 (suc (first_place (begins (λ b. b == 10)) rest)))) (length (b ∷ rest))
 
--- behind the start of a line the bytes stay up to the next line
+-- after the start of a line the bytes do not change up to the next line
 passed : (bytes : List ℕ) → unquoted_from false bytes ≡ first_line bytes ++ unquoted (after_line bytes)
 unfolding line_length
 passed [] = refl
@@ -82,7 +82,7 @@ line-shorter rest n none is fails same =
 
 -- ---- a quoted mail
 
--- a text without a LF stands where it stood
+-- a text without a LF stays in its place
 has_prefix-quoted : (text rest : List ℕ) → list_any (λ t. t == 10) text ≡ false → has_prefix text (quoted_from false rest) ≡ has_prefix text rest
 has_prefix-quoted [] rest h = refl
 has_prefix-quoted (t ∷ text) [] h = refl

@@ -1,4 +1,4 @@
--- Lemmas on separators: words, names, and the search for a time behind a space.
+-- Lemmas on separators: words, names, and the search for a time after a space.
 use Rattle.std.proofs.Common.{◌≡◌, ℕ, suc, ◌+◌, ◌-◌, ◌<◌, ◌≤◌, Bool, true, false, cond, List, [], ◌∷◌, ◌&&◌, ◌||◌, Bor, length, length-drop, map, take, drop, Some, None, refl, sym, ap, ◌∙◌, arith}
 use Rattle.std.specs.Prelude.{◌==◌}
 use Rattle.std.specs.Char.{is_ascii_alphabetic, is_ascii_whitespace}
@@ -15,8 +15,8 @@ pub after_word-trimmed : (text after : List ℕ) (n : ℕ) (rest : List ℕ) →
     → rest ≡ drop (prefix_len is_ascii_whitespace after) after → rest ≡ after_word text
 unfolding after_word
 after_word-trimmed text after n rest is same trimmed =
-    let behind : after ≡ drop (word_length text) text = sym same ∙ take_rest text n ∙ ap (λ (k : ℕ). drop k text) is in
-    trimmed ∙ ap (trimmed_at_start is_ascii_whitespace) behind
+    let beyond : after ≡ drop (word_length text) text = sym same ∙ take_rest text n ∙ ap (λ (k : ℕ). drop k text) is in
+    trimmed ∙ ap (trimmed_at_start is_ascii_whitespace) beyond
 
 pub is_name-referred : (names : List (Bor (List ℕ))) (text : List ℕ) → is_name (map (λ name. name.now) names) text ≡ list_any (λ name. bytes_eq text name.now) names
 is_name-referred [] text = refl
@@ -28,16 +28,16 @@ is_zone-letters text r offset is fails letters = letters ∙ ap (λ (t : Bool). 
 
 -- ---- the search for a time
 
--- it goes on behind the first space
-behind : (line : List ℕ) → first_place (begins (λ b. b == 32)) line < length line
+-- it continues after the first space
+beyond : (line : List ℕ) → first_place (begins (λ b. b == 32)) line < length line
     → has_time line ≡ (is_time_at (drop (suc (first_place (begins (λ b. b == 32)) line)) line) || has_time (drop (suc (first_place (begins (λ b. b == 32)) line)) line))
-behind [] low = absurd (omega arith)
-behind (b ∷ line) low =
+beyond [] low = absurd (omega arith)
+beyond (b ∷ line) low =
     let q = first_place (begins (λ b. b == 32)) line in
     (elim (b == 32) as (λ t. cond t 0 (suc q) < length (b ∷ line)
     → ((t && is_time_at line) || has_time line) ≡ (is_time_at (drop (suc (cond t 0 (suc q))) (b ∷ line)) || has_time (drop (suc (cond t 0 (suc q))) (b ∷ line)))) [
       | true ↦ λ l. refl
-      | false ↦ λ l. behind line (omega arith)
+      | false ↦ λ l. beyond line (omega arith)
     ]) low
 
 nowhere : (line : List ℕ) → first_place (begins (λ b. b == 32)) line ≡ length line → has_time line ≡ false
@@ -49,7 +49,7 @@ nowhere (b ∷ line) all =
       | false ↦ λ l. nowhere line (omega arith)
     ]) all
 
--- it goes on behind a space that has no time behind it
+-- it continues after a space that no time follows
 has_time-next : (line rest : List ℕ) (p : ℕ) → Some p ≡ byte_place line 32 → take (length line - (p + 1)) (drop (p + 1) line) ≡ rest
     → has_time line ≡ (is_time_at rest || has_time rest)
 has_time-next line rest p found same =
@@ -57,7 +57,7 @@ has_time-next line rest p found same =
     let e = at.0 in
     let place : suc (first_place (begins (λ b. b == 32)) line) ≡ p + 1 = omega arith in
     let after : drop (suc (first_place (begins (λ b. b == 32)) line)) line ≡ rest = ap (λ (k : ℕ). drop k line) place ∙ sym (take_rest line (p + 1)) ∙ same in
-    behind line at.1 ∙ ap (λ (r : List ℕ). is_time_at r || has_time r) after
+    beyond line at.1 ∙ ap (λ (r : List ℕ). is_time_at r || has_time r) after
 
 pub has_time-passed : (line rest : List ℕ) (p : ℕ) (r : Bool) → Some p ≡ byte_place line 32 → take (length line - (p + 1)) (drop (p + 1) line) ≡ rest
     → r ≡ is_time_at rest → r ≡ false → has_time rest ≡ has_time line
@@ -70,5 +70,5 @@ has_time-found line rest p r found same is holds = sym (has_time-next line rest 
 pub has_time-none : (line : List ℕ) → None ≡ byte_place line 32 → false ≡ has_time line
 has_time-none line none = sym (nowhere line (place_none (begins (λ b. b == 32)) line none))
 
-pub behind-within : (line : List ℕ) (p n : ℕ) → length line ≤ n → length (take (length line - (p + 1)) (drop (p + 1) line)) ≤ n
-behind-within line p n within = let same = ap length (take_rest line (p + 1)) in let l = length-drop (p + 1) line in omega arith
+pub beyond-within : (line : List ℕ) (p n : ℕ) → length line ≤ n → length (take (length line - (p + 1)) (drop (p + 1) line)) ≤ n
+beyond-within line p n within = let same = ap length (take_rest line (p + 1)) in let l = length-drop (p + 1) line in omega arith

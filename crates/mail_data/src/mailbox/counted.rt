@@ -1,42 +1,32 @@
-//! Mails that say in a field Content-Length how many bytes their bodies have: the mboxcl and mboxcl2
+//! Mails with a field Content-Length that gives the length of their bodies: the mboxcl and mboxcl2
 //! formats.
-ghost use Rattle.std.specs.Prelude.{◌≡◌, ◌<◌, ◌≤◌, ◌^◌, IfSome, length, nat_le, option_map};
+ghost use Rattle.std.specs.Prelude.{◌≡◌, ◌<◌, ◌≤◌, ◌^◌, IfSome, length, nat_le};
 ghost use Rattle.std.specs.Char.{is_ascii_digit};
 ghost use Rattle.std.specs.List.{list_all};
 ghost use Rattle.std.specs.Str.{str_eq_ignore_ascii_case};
 ghost use Rattle.mail_data.specs.CountedMails.{block_length, block_place, content_length};
 ghost use Rattle.mail_data.specs.CountedMails.{counted_length, counted_place, field_text};
 ghost use Rattle.mail_data.specs.CountedMails.{is_count_known, is_field, is_known, is_place_known};
-ghost use Rattle.mail_data.specs.CountedMails.{is_short_separator, may_end, number, settled_counted};
-ghost use Rattle.mail_data.specs.Lines.{line_length, line_place};
+ghost use Rattle.mail_data.specs.CountedMails.{is_short_separator, may_end, number};
+ghost use Rattle.mail_data.specs.LineEnds.{line_length, line_place};
 
-use super::formats::{Format, cut_in};
+use super::mail_length;
 use super::separator::is_separator;
-use super::{MailboxEntry, is_before_text, mail_length};
 use crate::lenient::date::numbers::number_of;
-use crate::lines::{empty_line, is_empty_line, line_length, line_place};
+use crate::line_ends::{empty_line, is_empty_line, line_length, line_place};
 
-/// The mail at the front of what was read so far, and the bytes after it, if no bytes that follow can
-/// change them.
-#[tactic(auto, unfolding(crate::specs::CountedMails::settled_counted))]
-pub fn settled_counted_entry(bytes: &[u8]) -> Option<(MailboxEntry<'_>, &[u8])>
-    ensures value { option_map (λ found. (found.0, found.1.now)) result ≡ settled_counted bytes.now }
-    ensures shorter { IfSome result (λ found. length found.1.now < length bytes.now) }
-{
-    if !is_separator(bytes) || !is_count_known(&bytes[line_length(bytes)..]) {
-        return None;
-    }
-    let (entry, rest) = cut_in(Format::Counted, bytes);
-    if is_before_text(rest) {
-        Some((entry, rest))
-    } else {
-        None
-    }
-}
+/// The name of the field, with its colon.
+const FIELD: &[u8] = b"Content-Length:";
 
-/// The length that the mail's Content-Length gives, or else that of a mail of any mailbox.
+/// The length of that name.
+const FIELD_LENGTH: usize = 15;
+
+/// The greatest length of a separator after a counted mail.
+const MOST_SEPARATOR: usize = 1000;
+
+/// Returns the length of a mail by its Content-Length, or else that of a mail of any mailbox.
 #[tactic(auto, unfolding(crate::specs::CountedMails::counted_length))]
-pub fn counted_length(mail: &[u8]) -> usize
+pub(super) fn counted_length(mail: &[u8]) -> usize
     ensures value { result ≡ counted_length mail.now }
     ensures bounds { result ≤ length mail.now }
 {
@@ -49,7 +39,7 @@ pub fn counted_length(mail: &[u8]) -> usize
     }
 }
 
-/// The place so many bytes behind the header block, if the mail may end there.
+/// Returns the offset `count` bytes after the header block, if the mail may end there.
 #[tactic(auto, unfolding(crate::specs::CountedMails::counted_place))]
 fn counted_place(mail: &[u8], count: u64) -> Option<usize>
     requires { count < 10 ^ 9 }
@@ -64,8 +54,8 @@ fn counted_place(mail: &[u8], count: u64) -> Option<usize>
     }
 }
 
-/// Whether a counted mail may end here: behind an empty line, if one stands here, stands a separator
-/// or nothing.
+/// Returns whether a counted mail may end here: a separator or nothing follows, perhaps after an
+/// empty line.
 #[tactic(auto, unfolding(crate::specs::CountedMails::may_end))]
 fn may_end(bytes: &[u8]) -> bool
     ensures { result ≡ may_end bytes.now }
@@ -74,7 +64,7 @@ fn may_end(bytes: &[u8]) -> bool
     after.is_empty() || is_short_separator(after)
 }
 
-/// Whether a separator of at most 1,000 bytes stands at the front.
+/// Returns whether a separator of at most `MOST_SEPARATOR` bytes is at the front.
 #[tactic(auto, unfolding(crate::specs::CountedMails::is_short_separator))]
 fn is_short_separator(bytes: &[u8]) -> bool
     ensures { result ≡ is_short_separator bytes.now }
@@ -82,26 +72,27 @@ fn is_short_separator(bytes: &[u8]) -> bool
     has_short_line(bytes) && is_separator(bytes)
 }
 
-/// Whether the first line has at most 1,000 bytes. Looks at no more than 1,001.
+/// Returns whether the first line has at most `MOST_SEPARATOR` bytes. Reads at most one more.
 fn has_short_line(bytes: &[u8]) -> bool
     ensures { result ≡ nat_le (line_length bytes.now) 1000 }
 {
-    if bytes.len() <= 1000 {
+    if bytes.len() <= MOST_SEPARATOR {
         return true;
     }
-    line_length(&bytes[..1001]) <= 1000
+    line_length(&bytes[..MOST_SEPARATOR + 1]) <= MOST_SEPARATOR
 }
 
-/// Whether it is known where the Content-Length of a mail ends it.
+/// Returns whether enough was read to decide where the Content-Length of a mail ends it.
 #[tactic(auto, unfolding(crate::specs::CountedMails::is_count_known))]
-fn is_count_known(mail: &[u8]) -> bool
+pub(super) fn is_count_known(mail: &[u8]) -> bool
     ensures { result ≡ is_count_known mail.now }
 {
     let place = block_place(mail);
     place < mail.len() && is_place_known(mail, content_length(&mail[..place]))
 }
 
-/// Whether it is known whether the mail may end so many bytes behind the header block.
+/// Returns whether enough was read to decide if the mail may end `count` bytes after the header
+/// block.
 fn is_place_known(mail: &[u8], count: Option<u64>) -> bool
     requires { IfSome count (λ number. number < 10 ^ 9) }
     ensures { result ≡ is_place_known mail.now count }
@@ -113,16 +104,17 @@ fn is_place_known(mail: &[u8], count: Option<u64>) -> bool
     place < mail.len() && is_known(&mail[place..])
 }
 
-/// Whether it is known, whatever follows, whether a counted mail may end here.
+/// Returns whether the bytes decide if a counted mail may end here, whatever follows them.
 #[tactic(auto, unfolding(crate::specs::CountedMails::is_known))]
 fn is_known(bytes: &[u8]) -> bool
     ensures { result ≡ is_known bytes.now }
 {
     let after = &bytes[empty_line(bytes)..];
-    after.len() > 1000 || line_length(after) < after.len()
+    after.len() > MOST_SEPARATOR || line_length(after) < after.len()
 }
 
-/// Where the empty line stands that ends the header block, or the length where none does.
+/// Returns the offset of the empty line that ends the header block, or the length if there is no
+/// empty line.
 fn block_place(mail: &[u8]) -> usize
     ensures value { result ≡ block_place mail.now }
     ensures bounds { result ≤ length mail.now }
@@ -130,7 +122,7 @@ fn block_place(mail: &[u8]) -> usize
     line_place(mail, is_empty_line)
 }
 
-/// The bytes of the header block, and of the empty line that ends it.
+/// Returns the length of the header block, including the empty line that ends it.
 #[tactic(auto, unfolding(crate::specs::CountedMails::block_length))]
 fn block_length(mail: &[u8]) -> usize
     ensures value { result ≡ block_length mail.now }
@@ -140,7 +132,7 @@ fn block_length(mail: &[u8]) -> usize
     place + empty_line(&mail[place..])
 }
 
-/// The number that the first field Content-Length of a header block writes.
+/// Returns the number in the first field Content-Length of a header block.
 #[tactic(auto, unfolding(crate::specs::CountedMails::content_length))]
 fn content_length(block: &[u8]) -> Option<u64>
     ensures value { result ≡ content_length block.now }
@@ -149,7 +141,7 @@ fn content_length(block: &[u8]) -> Option<u64>
     number(field_text(&block[field_place(block)..]))
 }
 
-/// Where the first field Content-Length begins, or the length where there is none.
+/// Returns the offset of the first field Content-Length, or the length if there is no such field.
 fn field_place(block: &[u8]) -> usize
     ensures value { result ≡ line_place is_field block.now }
     ensures bounds { result ≤ length block.now }
@@ -157,29 +149,29 @@ fn field_place(block: &[u8]) -> usize
     line_place(block, is_field)
 }
 
-/// Whether a field Content-Length begins here.
+/// Returns whether a field Content-Length begins here.
 fn is_field(bytes: &[u8]) -> bool
     ensures { result ≡ is_field bytes.now }
 {
-    is_same(&bytes[..bytes.len().min(15)], b"Content-Length:")
+    is_same(&bytes[..bytes.len().min(FIELD_LENGTH)], FIELD)
 }
 
-/// Whether two texts are the same in letters of any case.
+/// Returns whether two texts are equal, ignoring ASCII case.
 fn is_same(text: &[u8], other: &[u8]) -> bool
     ensures { result ≡ str_eq_ignore_ascii_case text.now other.now }
 {
     text.eq_ignore_ascii_case(other)
 }
 
-/// What stands behind the colon, on the line of the field, without the whitespace round it.
+/// Returns the text after the colon on the line of the field, without the whitespace around it.
 fn field_text(field: &[u8]) -> &[u8]
     ensures { result.now ≡ field_text field.now }
 {
     let line = &field[..line_length(field)];
-    line[line.len().min(15)..].trim_ascii()
+    line[line.len().min(FIELD_LENGTH)..].trim_ascii()
 }
 
-/// The number that digits write, 1 to 9 of them.
+/// Returns the number that 1 to 9 digits denote.
 #[tactic(auto, using(crate::proofs::lemmas::CountedMails::all_digits), unfolding(crate::specs::CountedMails::number))]
 fn number(text: &[u8]) -> Option<u64>
     ensures value { result ≡ number text.now }
@@ -191,7 +183,7 @@ fn number(text: &[u8]) -> Option<u64>
     Some(number_of(text))
 }
 
-/// Whether all bytes are digits.
+/// Returns whether all bytes are digits.
 fn are_digits(text: &[u8]) -> bool
     ensures { result ≡ list_all is_ascii_digit text.now }
 {

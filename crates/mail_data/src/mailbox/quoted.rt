@@ -1,21 +1,20 @@
-//! Mails of mailboxes in which a writer quotes each line that looks like a separator: the mboxrd
-//! format.
+//! Mails of mailboxes in which each line that looks like a separator is quoted: the mboxrd format.
 ghost use Rattle.std.specs.Prelude.{◌≡◌, ◌≤◌, length, IfOk};
 ghost use Rattle.mail_data.specs.QuotedLines.{is_marked, quote_length};
 ghost use Rattle.mail_data.specs.QuotedLines.{unquoted, unquoted_line, without_quote};
 
-use crate::lines::line_length;
+use crate::line_ends::line_length;
 use std::alloc::{AllocError, Global};
 
-/// Returns the mail with one `>` taken off each line that is `>`s and then `From ` (the mboxrd
+/// Removes one `>` from each line of a mail that begins with `>`s and then `From ` (the mboxrd
 /// format).
 ///
 /// A writer of that format puts one `>` before each such line, and before each line that begins with
-/// `From `, so this is the mail as it was. Takes memory for the result.
+/// `From `, so the result is the original mail. Allocates the result.
 ///
 /// # Errors
 ///
-/// Where it runs out of memory.
+/// `AllocError` if it runs out of memory.
 ///
 /// # Examples
 ///
@@ -37,7 +36,7 @@ pub fn unquoted(alloc: Global, mail: &[u8]) -> Result<Vec<u8>, AllocError>
     Ok(text)
 }
 
-/// The first line without its `>`, if it is quoted.
+/// Returns the first line without its `>`, if it is quoted.
 #[tactic(auto, unfolding(crate::specs::QuotedLines::unquoted_line))]
 fn unquoted_line(bytes: &[u8]) -> &[u8]
     ensures { result.now ≡ unquoted_line bytes.now }
@@ -46,7 +45,7 @@ fn unquoted_line(bytes: &[u8]) -> &[u8]
     &line[..line_length(line)]
 }
 
-/// The bytes without the `>` of the first line, if it is quoted.
+/// Returns the bytes without the `>` of the first line, if it is quoted.
 fn without_quote(bytes: &[u8]) -> &[u8]
     ensures { result.now ≡ without_quote bytes.now }
 {
@@ -60,7 +59,7 @@ fn without_quote(bytes: &[u8]) -> &[u8]
     }
 }
 
-/// Whether `From ` stands behind the `>`s at the front.
+/// Returns whether `From ` follows the `>`s at the front.
 #[tactic(auto, unfolding(crate::specs::QuotedLines::is_marked))]
 fn is_marked(bytes: &[u8]) -> bool
     ensures { result ≡ is_marked bytes.now }
@@ -68,7 +67,7 @@ fn is_marked(bytes: &[u8]) -> bool
     bytes[quote_length(bytes)..].starts_with(b"From ")
 }
 
-/// How many `>` stand at the front.
+/// Returns the number of `>` at the front.
 #[tactic(auto, unfolding(crate::specs::QuotedLines::quote_length))]
 fn quote_length(bytes: &[u8]) -> usize
     ensures value { result ≡ quote_length bytes.now }

@@ -5,7 +5,7 @@ ghost use Rattle.mail_data.specs.Separator.{is_day, is_month_at, is_name, is_off
 ghost use Rattle.mail_data.specs.Separator.{is_separator, is_time_at, is_year_at, is_zone};
 ghost use Rattle.mail_data.specs.Separator.{word, word_length};
 
-use crate::lines::line_length;
+use crate::line_ends::line_length;
 use mail_codec::bytescan::find_byte;
 
 static WEEKDAYS: [&str; 7] = ["Sun", "Mon", "Tue", "Wed", "Thu", "Fri", "Sat"];
@@ -14,7 +14,7 @@ static MONTHS: [&str; 12] = [
     "Jan", "Feb", "Mar", "Apr", "May", "Jun", "Jul", "Aug", "Sep", "Oct", "Nov", "Dec",
 ];
 
-/// Whether a separator stands at the front: a line that begins with `From ` and has a time.
+/// Returns whether a separator is at the front: a line that begins with `From ` and contains a time.
 #[tactic(auto, unfolding(crate::specs::Separator::is_separator))]
 pub(super) fn is_separator(bytes: &[u8]) -> bool
     ensures { result ≡ is_separator bytes.now }
@@ -22,7 +22,7 @@ pub(super) fn is_separator(bytes: &[u8]) -> bool
     bytes.starts_with(b"From ") && has_time(&bytes[..line_length(bytes)])
 }
 
-/// Whether a time stands behind some space of the line.
+/// Returns whether a time follows a space of the line.
 fn has_time(line: &[u8]) -> bool
     ensures { result ≡ has_time line.now }
 {
@@ -36,7 +36,7 @@ fn has_time(line: &[u8]) -> bool
     false
 }
 
-/// Whether a time stands at the front: a weekday, a month, a day, a time of day and a year.
+/// Returns whether a time is at the front: a weekday, a month, a day, a time of day and a year.
 #[tactic(auto, unfolding(crate::specs::Separator::is_time_at))]
 fn is_time_at(text: &[u8]) -> bool
     ensures { result ≡ is_time_at text.now }
@@ -44,7 +44,7 @@ fn is_time_at(text: &[u8]) -> bool
     is_name(&WEEKDAYS, word(text)) && is_month_at(after_word(text))
 }
 
-/// Whether a month, a day, a time of day and a year stand at the front.
+/// Returns whether a month, a day, a time of day and a year are at the front.
 #[tactic(auto, unfolding(crate::specs::Separator::is_month_at))]
 fn is_month_at(text: &[u8]) -> bool
     ensures { result ≡ is_month_at text.now }
@@ -57,7 +57,7 @@ fn is_month_at(text: &[u8]) -> bool
         && is_year_at(after_word(clock))
 }
 
-/// Whether a year stands at the front, perhaps with a zone before it.
+/// Returns whether a year is at the front, perhaps with a zone before it.
 #[tactic(auto, unfolding(crate::specs::Separator::is_year_at))]
 fn is_year_at(text: &[u8]) -> bool
     ensures { result ≡ is_year_at text.now }
@@ -65,7 +65,7 @@ fn is_year_at(text: &[u8]) -> bool
     fits(b"0000", word(text)) || (is_zone(word(text)) && fits(b"0000", word(after_word(text))))
 }
 
-/// Whether a word is a zone: an offset, or letters.
+/// Returns whether a word is a zone: an offset, or letters.
 #[tactic(auto, unfolding(crate::specs::Separator::is_zone))]
 fn is_zone(text: &[u8]) -> bool
     ensures { result ≡ is_zone text.now }
@@ -73,7 +73,7 @@ fn is_zone(text: &[u8]) -> bool
     is_offset(text) || text.iter().all(|byte| byte.is_ascii_alphabetic())
 }
 
-/// Whether a word is an offset from Greenwich: a sign and four digits.
+/// Returns whether a word is an offset from Greenwich: a sign and four digits.
 #[tactic(auto, unfolding(crate::specs::Separator::is_offset))]
 fn is_offset(text: &[u8]) -> bool
     ensures { result ≡ is_offset text.now }
@@ -81,7 +81,7 @@ fn is_offset(text: &[u8]) -> bool
     fits(b"+0000", text) || fits(b"-0000", text)
 }
 
-/// Whether a word is a time of day, with seconds or without.
+/// Returns whether a word is a time of day, with or without seconds.
 #[tactic(auto, unfolding(crate::specs::Separator::is_clock))]
 fn is_clock(text: &[u8]) -> bool
     ensures { result ≡ is_clock text.now }
@@ -89,7 +89,7 @@ fn is_clock(text: &[u8]) -> bool
     fits(b"00:00:00", text) || fits(b"00:00", text)
 }
 
-/// Whether a word is a day of a month: one digit or two.
+/// Returns whether a word is a day of a month: one digit or two.
 #[tactic(auto, unfolding(crate::specs::Separator::is_day))]
 fn is_day(text: &[u8]) -> bool
     ensures { result ≡ is_day text.now }
@@ -97,7 +97,7 @@ fn is_day(text: &[u8]) -> bool
     fits(b"0", text) || fits(b"00", text)
 }
 
-/// Whether a text is as a pattern of its length, in which 0 stands for any digit.
+/// Returns whether a text matches a pattern of its length, in which 0 matches any digit.
 fn fits(pattern: &[u8], text: &[u8]) -> bool
     ensures { result ≡ fits pattern.now text.now }
 {
@@ -114,7 +114,7 @@ fn fits(pattern: &[u8], text: &[u8]) -> bool
     rest.is_empty()
 }
 
-/// Whether a byte is as in a pattern, in which 0 stands for any digit.
+/// Returns whether a byte matches one of a pattern, in which 0 matches any digit.
 fn fits_byte(sign: u8, byte: u8) -> bool
     ensures { result ≡ fits_byte sign byte }
 {
@@ -125,21 +125,21 @@ fn fits_byte(sign: u8, byte: u8) -> bool
     }
 }
 
-/// Whether a word is one of the names.
+/// Returns whether a word is one of the names.
 fn is_name(names: &[&str], text: &[u8]) -> bool
     ensures { result ≡ is_name (map (λ name. name.now) names.now) text.now }
 {
     names.iter().any(|name| text == name.as_bytes())
 }
 
-/// The word at the front.
+/// Returns the word at the front.
 fn word(text: &[u8]) -> &[u8]
     ensures { result.now ≡ word text.now }
 {
     &text[..word_length(text)]
 }
 
-/// What follows the word at the front and the whitespace behind it.
+/// Returns the text after the word at the front and the whitespace after that.
 #[tactic(auto, unfolding(crate::specs::Separator::after_word))]
 fn after_word(text: &[u8]) -> &[u8]
     ensures { result.now ≡ after_word text.now }
@@ -147,7 +147,7 @@ fn after_word(text: &[u8]) -> &[u8]
     text[word_length(text)..].trim_ascii_start()
 }
 
-/// How many bytes stand before the first whitespace.
+/// Returns the number of bytes before the first whitespace.
 #[tactic(auto, unfolding(crate::specs::Separator::word_length))]
 fn word_length(text: &[u8]) -> usize
     ensures value { result ≡ word_length text.now }

@@ -1,21 +1,20 @@
 //! The calls on mailboxes, and on those of other forms: mboxrd, mboxcl and mboxcl2.
 
 use crate::notation::{Answer, Row};
-use mail_data::mailbox::formats::{Format, read_mailbox_in, settled_entry_in};
 use mail_data::mailbox::quoted::unquoted;
 use mail_data::mailbox::{
-    MailboxEntry, has_front, has_line, is_mailbox, read_mailbox, settled_entry,
+    Format, MailboxEntry, has_front, has_line, is_mailbox, read_mailbox, settled_entry,
 };
 use std::alloc::Global;
 
 /// Makes the call of a row, if it is one of these.
 pub fn make(alloc: Global, row: &Row, answer: &mut Answer) -> bool {
     match row.call.as_str() {
-        "read_mailbox" => list_mails(row, answer),
-        "read_counted_mailbox" => list_counted_mails(row, answer),
-        "settled_entry" => settle(answer, settled_entry(row.bytes(0))),
+        "read_mailbox" => list_mails(row, answer, Format::Plain),
+        "read_counted_mailbox" => list_mails(row, answer, Format::Counted),
+        "settled_entry" => settle(answer, settled_entry(row.bytes(0), Format::Plain)),
         "settled_counted_entry" => {
-            settle(answer, settled_entry_in(Format::Counted, row.bytes(0)));
+            settle(answer, settled_entry(row.bytes(0), Format::Counted));
         }
         "settled_front" => settle_front(row, answer),
         "unquoted" => answer.made_bytes(unquoted(alloc, row.bytes(0))),
@@ -24,18 +23,10 @@ pub fn make(alloc: Global, row: &Row, answer: &mut Answer) -> bool {
     true
 }
 
-/// `read_mailbox BYTES => FRONT`, and `SEPARATOR MAIL ENDING` for each mail.
-fn list_mails(row: &Row, answer: &mut Answer) {
-    let mails = read_mailbox(row.bytes(0));
-    answer.bytes(mails.front());
-    for entry in mails {
-        write_entry(answer, &entry);
-    }
-}
-
-/// `read_counted_mailbox BYTES => FRONT`, and `SEPARATOR MAIL ENDING` for each mail.
-fn list_counted_mails(row: &Row, answer: &mut Answer) {
-    let mails = read_mailbox_in(Format::Counted, row.bytes(0));
+/// `read_mailbox BYTES => FRONT`, and `SEPARATOR MAIL ENDING` for each mail; likewise
+/// `read_counted_mailbox`.
+fn list_mails(row: &Row, answer: &mut Answer, format: Format) {
+    let mails = read_mailbox(row.bytes(0), format);
     answer.bytes(mails.front());
     for entry in mails {
         write_entry(answer, &entry);

@@ -2,7 +2,7 @@ use Rattle.std.proofs.Common.{◌≡◌, ◌-◌, ◌++◌, List, ℕ, length, t
 use Rattle.std.specs.Io.KnownBytes.{Consumes}
 use Rattle.std.proofs.lemmas.List.{length-take-le, take_rest}
 use Rattle.mail_lines.specs.Reading.{reading_of}
-use Rattle.mail_data.specs.FormatViews.{left_in}
+use Rattle.mail_data.specs.MailboxViews.{entries_left}
 use Rattle.mail_data.specs.Mailbox.{front_length}
 use Rattle.mail_data.proofs.lemmas.MailboxParts.{front_length-≤}
 use Rattle.mail_lines.specs.Part.{saturating_add}
@@ -15,14 +15,14 @@ returns-then-has_ended g c =
     let range = c.args.range in
     let bytes = c.as_slice.result.now in
     let taken = c.in_ok-has_ended.ensures in
-    let mails = c.read_mailbox_in-mails in
+    let mails = c.read_mailbox-mails in
     let front = c.front-front.result.now in
     let whole : bytes ≡ taken.0 = c.as_slice.ensures.value ∙ taken.2 ∙ ap (λ (bs : List ℕ). bs ++ taken.0) c.new-read.ensures.items in
     let size : length front ≡ front_length bytes = ap length (c.front-front.ensures ∙ mails.ensures.front) ∙ length-take-le (front_length bytes) bytes (front_length-≤ bytes) in
     let place : c.saturating_add.result ≡ saturating_add (reading_start range.from) (front_length bytes) =
     c.saturating_add.ensures ∙ ap (λ (n : ℕ). saturating_add n (length front)) c.reading_start.ensures ∙ ap (saturating_add (reading_start range.from)) size in
     range_whole (reading_of (g.K.KnownCharsets.known c.args.known.now) c.args.reading) c.args.format (option_map (λ name. name.now) c.args.file) c.within.result range.from range.to (reading_start range.from)
-    c.saturating_add.result _ _ _ _ c.write_mails.result taken.0 bytes (left_in mails.result) c.within.ensures.value c.within.ensures.fits place mails.ensures.read (sym whole) taken.1
+    c.saturating_add.result _ _ _ _ c.write_mails.result taken.0 bytes (entries_left mails.result) c.within.ensures.value c.within.ensures.fits place mails.ensures.read (sym whole) taken.1
     (taken.3 c.if-has_ended.true) c.write_mails.ensures
 
 pub returns : goal.returns
@@ -31,7 +31,7 @@ returns g c =
     let read = c.read_until.new.bytes.items in
     let bytes = c.as_slice.result.now in
     let taken = c.in_ok-has_ended.ensures in
-    let mails = c.read_mailbox_in-mails in
+    let mails = c.read_mailbox-mails in
     let front = c.front-front.result.now in
     let whole : read ≡ taken.0 = taken.2 ∙ ap (λ (bs : List ℕ). bs ++ taken.0) c.new-read.ensures.items in
     let size : length front ≡ front_length read =

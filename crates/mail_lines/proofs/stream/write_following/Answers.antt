@@ -17,6 +17,6 @@ returns g c =
       rest.3,
       front.0 ++ rest.4,
       front_lines (reading_of (g.K.KnownCharsets.known c.args.known.now) c.args.reading) c.args.format (option_map (λ name. name.now) c.args.file) c.args.which read bytes _ c.in_ok-is_all_whitespace.is_all_whitespace
-          front.0 c.requires (c.front-front.ensures ∙ c.read_mailbox_in.ensures.front) (take_rest read (length bytes)) front.1 (rest.0 ++ rest.1) c.in_ok-are_read.are_read rest.4 rest.5,
+          front.0 c.requires (c.front-front.ensures ∙ c.read_mailbox.ensures.front) (take_rest read (length bytes)) front.1 (rest.0 ++ rest.1) c.in_ok-are_read.are_read rest.4 rest.5,
       Appends-trans _ _ _ front.0 rest.4 front.2 rest.6,
     )

@@ -2,7 +2,7 @@ use Rattle.std.proofs.Common.{◌++◌, [], ap, option_map, refl, sym, ◌∙◌
 use Rattle.std.proofs.KnownBytes.{Appends-nil, Appends-trans, Consumes-nil, Consumes-trans}
 use Rattle.std.proofs.lemmas.List.{append-nil}
 use Rattle.mail_lines.specs.Reading.{reading_of}
-use Rattle.mail_data.specs.FormatViews.{left_in}
+use Rattle.mail_data.specs.MailboxViews.{entries_left}
 use Rattle.mail_data.specs.MailboxFormats.{entries_in}
 use Rattle.mail_lines.proofs.lemmas.Stream.{ends_here, ends_past, follows_end, follows_more, follows_past, follows_settled, follows_start, left_of}
 use Rattle.mail_lines.proofs.lemmas.Written.{appends_as}
@@ -39,14 +39,14 @@ returns-then-has_ended g c =
     let here = c.loop-turn.invariant in
     let taken = c.in_ok-has_ended.ensures in
     let lines = c.in_ok-are_read.ensures in
-    let mails = c.read_mailbox_in-mails in (
+    let mails = c.read_mailbox-mails in (
       here.0 ++ taken.0,
       [],
       Consumes-trans _ _ _ here.0 taken.0 here.2 taken.1,
       ends_here c.args.first.which _ (taken.3 c.if-has_ended.true),
       here.1 ++ lines.0,
       follows_end (reading_of (g.K.KnownCharsets.known c.args.known.now) c.args.reading) c.args.format (option_map (λ name. name.now) c.args.file) c.args.first.which c.args.first.at c.args.read.now here.0 taken.0
-          c.loop-turn.next.which c.loop-turn.next.at c.loop-turn.pending.items c.read_until.new.bytes.items (left_in mails.result) c.loop-turn.is_clean c.in_ok-are_read.are_read here.1
+          c.loop-turn.next.which c.loop-turn.next.at c.loop-turn.pending.items c.read_until.new.bytes.items (entries_left mails.result) c.loop-turn.is_clean c.in_ok-are_read.are_read here.1
           lines.0 taken.2 (mails.ensures.read ∙ ap (entries_in c.args.format) c.as_slice.ensures.value) lines.1 here.4,
       Appends-trans _ _ _ here.1 lines.0 here.3 lines.2,
     )

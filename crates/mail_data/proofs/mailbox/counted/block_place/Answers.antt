@@ -1,5 +1,5 @@
 use Rattle.mail_data.specs.CountedMails.{block_place}
-use Rattle.mail_data.specs.Lines.{is_empty_line}
+use Rattle.mail_data.specs.LineEnds.{is_empty_line}
 use Rattle.mail_data.proofs.mailbox.counted.block_place.Goals as goal
 
 pub returns-clause-value : goal.returns-clause-value

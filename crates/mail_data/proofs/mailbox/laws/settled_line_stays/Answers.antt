@@ -1,6 +1,6 @@
 use Rattle.std.proofs.Common.{length}
 use Rattle.std.proofs.lemmas.Bool.{ltb-true}
-use Rattle.mail_data.specs.Lines.{line_length}
+use Rattle.mail_data.specs.LineEnds.{line_length}
 use Rattle.mail_data.proofs.lemmas.MailboxFound.{separator-stays}
 use Rattle.mail_data.proofs.mailbox.laws.settled_line_stays.Goals as goal
 

@@ -1,4 +1,4 @@
--- What was made so far, and then the rest unquoted, is the whole mail unquoted; the rest begins a line.
+-- The text so far, and then the rest unquoted, is the whole mail unquoted; the rest begins a line.
 use Rattle.std.proofs.Common.{◌≡◌, ◌++◌, length}
 use Rattle.mail_data.specs.QuotedLines.{unquoted}
 use Rattle.mail_data.proofs.mailbox.quoted.unquoted.Given as goal
