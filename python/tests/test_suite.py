@@ -51,8 +51,8 @@ def entries(raw, tmp_path, format):
 CALLS = {
     "get_value": lambda row: value(row.inputs[0]),
     "date_of": lambda row: date(row.inputs[0]),
-    "ids_in": lambda row: [as_bytes(it) for it in rocktray.read_ids(row.inputs[0].decode())],
-    "own_ids_in": lambda row: [as_bytes(it) for it in rocktray.read_ids(row.inputs[0].decode(), needs_at=False)],
+    "find_ids": lambda row: [as_bytes(it) for it in rocktray.read_ids(row.inputs[0].decode())],
+    "find_any_ids": lambda row: [as_bytes(it) for it in rocktray.read_ids(row.inputs[0].decode(), needs_at=False)],
     "recipients": lambda row: recipients(row.inputs[0]),
     "attachments_with": lambda row: attachments(row.inputs[0]),
 }

@@ -4,7 +4,7 @@ use Rattle.mailparse.specs.Refusal.{Reads}
 use Rattle.mail_data.specs.Mailbox.{Entry}
 use Rattle.mail_data.specs.declared.mailbox.formats.Format.{Format}
 use Rattle.mail_data.specs.declared.mailbox.formats.Format.TheVariants.{Plain, Counted}
-use Rattle.mail_data.specs.lenient.Date.{Dated, date_in}
+use Rattle.mail_data.specs.lenient.Date.{Dated, zoned_date_of}
 use Rattle.mail_c.specs.Codes.{absent, date_code, done, not_utf8}
 use Rattle.mail_c.specs.Results.{text_in}
 
@@ -14,7 +14,7 @@ dated (Ok date) = Ok date
 dated (Err fault) = Err (date_code fault)
 
 abbrev pub dated_text : Reads (List ℕ) → Result (ℤ × Bool) ℕ
-dated_text (Ok text) = dated (date_in text)
+dated_text (Ok text) = dated (zoned_date_of text)
 dated_text (Err refusal) = Err not_utf8
 
 abbrev pub date : List ℕ → Result (ℤ × Bool) ℕ

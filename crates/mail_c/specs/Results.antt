@@ -11,7 +11,7 @@ use Rattle.mailparse.specs.Refusal.{◌>>=◌, Reads, encoding}
 use Rattle.mailparse.specs.Value.{lenient_value_in}
 use Rattle.mail_data.specs.Bounce as report
 use Rattle.mail_data.specs.lenient.Encoding.{lenient_body_kind}
-use Rattle.mail_data.specs.lenient.Ids.{found_in}
+use Rattle.mail_data.specs.lenient.Ids.{found_ids}
 use Rattle.mail_data.specs.lenient.Texts.{body_text}
 use Rattle.mail_lines.specs.Lines.{IsMailLine}
 use Rattle.mail_lines.specs.Reading.{Reading}
@@ -80,4 +80,4 @@ bracketed id = codes "<" ++ (id ++ codes ">")
 unfoldable pub ids : Bool → List ℕ → Found
 ids needs_at bytes = do
   text ← text_in bytes
-  Ok (Some (flat_map bracketed (found_in needs_at text)))
+  Ok (Some (flat_map bracketed (found_ids needs_at text)))

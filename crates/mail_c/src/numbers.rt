@@ -7,7 +7,7 @@ ghost use Rattle.mail_c.specs.Numbers.{format_named};
 
 use crate::codes::{ABSENT, DONE, NOT_UTF8, code_of_date};
 use crate::results::text_in;
-use mail_data::lenient::date_in;
+use mail_data::lenient::zoned_date_of;
 use mail_data::mailbox::formats::{Format, read_mailbox_in};
 
 /// Reads the value of a Date header. Returns `DONE`, or the code of its refusal.
@@ -32,7 +32,7 @@ fn dated(text: &[u8]) -> Result<(i64, bool), u32>
     ensures { result ≡ date text.now }
 {
     match text_in(text) {
-        Ok(text) => match date_in(text) {
+        Ok(text) => match zoned_date_of(text) {
             Ok(date) => Ok(date),
             Err(error) => Err(code_of_date(error)),
         },

@@ -1,12 +1,12 @@
 //! The calls whose results are bytes, under any charsets.
 ghost use Rattle.std.specs.Prelude.{◌≡◌, ◌++◌, IfOk, OnOk, flat_map, map, string_bytes};
 ghost use Rattle.mailparse.specs.Outcome.{Answers, AnswersOrMemory, IsMemory};
-ghost use Rattle.mail_data.specs.lenient.Ids.{found_in};
+ghost use Rattle.mail_data.specs.lenient.IdViews as ids_seen;
 ghost use Rattle.mail_c.specs.Buffer.{Gives, bytes_found};
 ghost use Rattle.mail_c.specs.Results.{IsJson, bracketed, content, ids, raw_value, recipients};
 ghost use Rattle.mail_c.specs.Results.{text, text_in, value};
 
-use mail_data::lenient::{body_text, ids_in, lenient_body, own_ids_in};
+use mail_data::lenient::{IdRule, body_text, find_ids, lenient_body};
 use mail_lines::{Origin, Reading, write_mail, write_recipients};
 use mailparse::{
     KnownCharsets, MailHeaderMap, MailParseError, parse_headers, parse_mail, parse_mail_in,
@@ -135,18 +135,18 @@ pub(crate) fn ids(
     ensures { AnswersOrMemory bytes_found result (ids needs_at text.now) }
 {
     let text = text_in(text)?;
-    let found = found_in(alloc, text, needs_at)?;
+    let found = find_ids(alloc, text, rule_of(needs_at))?;
     Ok(Some(bracketed(alloc, found.as_slice())?))
 }
 
-/// Returns the message ids in a text; only those with an `@` if `needs_at`.
-fn found_in(alloc: Global, text: &str, needs_at: bool) -> Result<Vec<String>, AllocError>
-    ensures { IfOk result (λ ids. map string_bytes ids.items ≡ found_in needs_at text.now) }
+/// Returns the rule for ids: each has an `@` if `needs_at`.
+fn rule_of(needs_at: bool) -> IdRule
+    ensures { ids_seen.needs_at result ≡ needs_at }
 {
     if needs_at {
-        ids_in(alloc, text)
+        IdRule::WithAt
     } else {
-        own_ids_in(alloc, text)
+        IdRule::Any
     }
 }
 

@@ -4,9 +4,8 @@ pub mod FileNames
 pub mod Files
 pub mod FileTexts
 pub mod Flowed
-pub mod Forwarding
 pub mod InnerMails
-pub mod Lines
+pub mod LineEnds
 pub mod lenient
 pub mod Mailbox
 pub mod MailboxJoined

@@ -1,5 +1,5 @@
--- The recipients of a delivery status notification (RFC 3464, sections 2.1 to 2.3): the fields that its part
--- `message/delivery-status` has on each of them.
+-- The recipients of a delivery status notification (RFC 3464, sections 2.1 to 2.3): the fields on each of them in its part
+-- `message/delivery-status`.
 use Rattle.std.specs.Prelude.{ℕ, zero, suc, Bool, not, ◌==◌, ◌||◌, List, [], ◌∷◌, length, take, drop, map, filter, Option, Some, None, option_map, Result, Ok, Err, codes, if◌then◌else◌}
 use Rattle.std.specs.List.{list_any, after_first}
 use Rattle.std.specs.Option.{option_map_or}
@@ -14,7 +14,7 @@ use Rattle.mailparse.specs.Map.{first_value_in}
 use Rattle.mailparse.specs.Refusal.{Refusal}
 use Rattle.mail_data.specs.Archive.{id_among}
 use Rattle.mail_data.specs.lenient.Comments.{without_comments}
-use Rattle.mail_data.specs.Lines.{is_empty_line, after_empty_line, line_place}
+use Rattle.mail_data.specs.LineEnds.{is_empty_line, after_empty_line, line_place}
 
 -- a message has this type
 abbrev pub has_type : List ℕ → Node → Bool
@@ -39,28 +39,28 @@ first_part test (part_and t ts) = if test (root t) then Some t else first_part t
 abbrev pub report_part : (Node → Bool) → Tree → Option Tree
 report_part test (tree node parts) = if has_type (codes "multipart/report") node then first_part test parts else None
 
--- how many bytes stand before the first empty line
+-- the number of bytes before the first empty line
 unfoldable pub block_length : List ℕ → ℕ
 block_length bytes = line_place is_empty_line bytes
 
--- what stands before it
+-- the bytes before it
 abbrev pub block_at : List ℕ → List ℕ
 block_at bytes = take (block_length bytes) bytes
 
--- what follows it
+-- the bytes after it
 abbrev pub after_block : List ℕ → List ℕ
 after_block bytes = after_empty_line (drop (block_length bytes) bytes)
 
--- what stands between empty lines: no more than so many pieces
+-- the pieces between empty lines, at most `most` of them
 abbrev pub pieces_within : ℕ → List ℕ → List (List ℕ)
 pieces_within zero bytes = []
 pieces_within (suc most) bytes = if is_empty bytes then [] else block_at bytes ∷ pieces_within most (after_block bytes)
 
--- the blocks of some bytes: what stands between empty lines, where something does; there are no more than bytes
+-- the blocks of some bytes: the pieces between empty lines that are not empty; there are no more than bytes
 unfoldable pub blocks : List ℕ → List (List ℕ)
 blocks bytes = filter (λ block. not (is_empty block)) (pieces_within (length bytes) bytes)
 
--- the headers that were read; none where they were refused
+-- the headers that were read, or none if they were refused
 abbrev pub headers_or_none : Result HeaderList Refusal → List Header
 headers_or_none (Ok found) = found.headers
 headers_or_none (Err refusal) = []
@@ -69,11 +69,27 @@ headers_or_none (Err refusal) = []
 unfoldable pub fields : List ℕ → List Header
 fields block = headers_or_none (read_headers block)
 
--- what follows the first `;` of a text, or the whole text where there is none
+-- the text after the first `;`, or the whole text if it contains no `;`
 unfoldable pub after_type : List ℕ → List ℕ
 after_type text = if list_any (λ b. b == semicolon) text then after_first (λ b. b == semicolon) text else text
 
--- what a report says of a recipient
+-- the text of a field without comments and without whitespace around it
+abbrev pub plain_text : List ℕ → List ℕ
+plain_text text = trim (without_comments text)
+
+-- the text of a field without its type and without whitespace around it
+abbrev pub typed_text : List ℕ → List ℕ
+typed_text text = trim (after_type text)
+
+-- the address in a field: its text without comments and then without its type
+abbrev pub address_text : List ℕ → List ℕ
+address_text text = trim (after_type (without_comments text))
+
+-- the text of the first field with this name, cleaned so
+abbrev pub field : (List ℕ → List ℕ) → Charsets → List ℕ → List Header → Option (List ℕ)
+field clean known name headers = option_map clean (first_value_in known name headers)
+
+-- the fields on a recipient
 pub record Delivery : Type 0 where
   pub final_recipient : Option (List ℕ)
   pub original_recipient : Option (List ℕ)
@@ -83,36 +99,24 @@ pub record Delivery : Type 0 where
 
 -- Under the charsets that are known.
 module _ (known : Charsets) where
-  -- the text of the first field that has this name, without comments and without whitespace around it
-  unfoldable pub text_of : List ℕ → List Header → Option (List ℕ)
-  text_of name headers = option_map (λ text. trim (without_comments text)) (first_value_in known name headers)
-
-  -- the text of such a field after the type that a `;` ends, without whitespace around it
-  unfoldable pub typed_text_of : List ℕ → List Header → Option (List ℕ)
-  typed_text_of name headers = option_map (λ text. trim (after_type text)) (first_value_in known name headers)
-
-  -- the address in such a field: what follows the type, without comments
-  unfoldable pub address_of : List ℕ → List Header → Option (List ℕ)
-  address_of name headers = option_map (λ text. trim (after_type (without_comments text))) (first_value_in known name headers)
-
-  -- what these fields say
+  -- the fields on a recipient among these headers
   abbrev pub delivery_in : List Header → Delivery
   delivery_in headers = record {
-    final_recipient = address_of (codes "Final-Recipient") headers;
-    original_recipient = address_of (codes "Original-Recipient") headers;
-    action = text_of (codes "Action") headers;
-    status = text_of (codes "Status") headers;
-    diagnostic_code = typed_text_of (codes "Diagnostic-Code") headers;
+    final_recipient = field address_text known (codes "Final-Recipient") headers;
+    original_recipient = field address_text known (codes "Original-Recipient") headers;
+    action = field plain_text known (codes "Action") headers;
+    status = field plain_text known (codes "Status") headers;
+    diagnostic_code = field typed_text known (codes "Diagnostic-Code") headers;
   }
 
-  -- what the status of a delivery says: of each block after the first, which is on the message
+  -- the deliveries in a status: one in each block after the first, which is on the message
   unfoldable pub deliveries : List ℕ → List Delivery
   deliveries status = map (λ block. delivery_in (fields block)) (drop 1 (blocks status))
 
-  -- what a mail reports of each recipient; nothing where it is no report
+  -- the deliveries that a mail reports; none if it is no report
   unfoldable pub recipients : Tree → List Delivery
   recipients t = option_map_or (λ part. deliveries (root part).body) (report_part has_status t) []
 
-  -- the id of the mail that a report is about, by the headers that it returns
+  -- the id of the mail that a report is about, in the headers that it returns
   unfoldable pub original_message_id : Tree → Option (List ℕ)
   original_message_id t = option_map_or (λ part. id_among known (fields (root part).body)) (report_part has_original t) None

@@ -1,5 +1,5 @@
 -- The files that a mail carries (RFC 2183, section 2.3; RFC 2046, section 5.2.1), and the paths of its parts (RFC 3501,
--- section 6.4.5). How a name is read whose charset is not known (RFC 2231, section 4) is the crate's own rule.
+-- section 6.4.5). The reading of a name in an unknown charset (RFC 2231, section 4) is the crate's own rule.
 use Rattle.std.specs.Prelude.{ℕ, suc, Bool, true, false, ◌&&◌, ◌||◌, List, [], ◌∷◌, ◌++◌, filter, Option, Some, None, is_some, option_map, codes, decimal, if◌then◌else◌}
 use Rattle.std.specs.List.{after_first, list_any}
 use Rattle.std.specs.Str.{is_utf8, trim}
@@ -18,28 +18,28 @@ abbrev pub first_text : Option (List ℕ) → Option (List ℕ) → Option (List
 first_text (Some text) other = Some text
 first_text None other = other
 
--- a text that is there and not whitespace alone
+-- a text that is there and does not consist of whitespace
 abbrev pub filled : Option (List ℕ) → Option (List ℕ)
 filled None = None
 filled (Some text) = if is_empty (trim text) then None else Some text
 
--- an extended value without its charset and its language: what stands after its second apostrophe; the whole value where it has fewer
+-- an extended value without its charset and its language: the text after its second apostrophe, or the whole value if it has fewer than two
 unfoldable pub untagged : List ℕ → List ℕ
 untagged value = if list_any is_apostrophe (after_first is_apostrophe value) then text_in value else value
 
--- the text of bytes whose charset is not known: UTF-8 if they are, otherwise windows-1252
+-- the text of bytes in an unknown charset: in UTF-8 if they are UTF-8, otherwise in windows-1252
 unfoldable pub text_of_octets : List ℕ → List ℕ
 text_of_octets bytes = if is_utf8 bytes then bytes else text_of Windows1252 bytes
 
--- the text of an extended value whose charset is not known
+-- the text of an extended value in an unknown charset
 unfoldable pub left_over_text : List ℕ → List ℕ
 left_over_text value = text_of_octets (percent_decode (untagged value))
 
--- the name that parameters have: the text of the one key, otherwise the value that is left over at its extended key; whitespace alone counts as none
+-- the name among parameters: the text of one key, otherwise the value that is left over at its extended key; whitespace counts as missing
 abbrev pub name_among : Texts → List ℕ → List ℕ → Option (List ℕ)
 name_among params key extended = first_text (filled (params key)) (filled (option_map left_over_text (params extended)))
 
--- the name of a file that a disposition or else a type has: the one's `filename`, otherwise the other's `name`
+-- the file name in a disposition and a type: the `filename` of the first, otherwise the `name` of the second
 abbrev pub name_in : Disposition → ContentType → Option (List ℕ)
 name_in disposition ctype =
     first_text (name_among disposition.params (codes "filename") (codes "filename*")) (name_among ctype.params (codes "name") (codes "name*"))
@@ -49,7 +49,7 @@ abbrev pub is_attachment_disposition : Kind → Bool
 is_attachment_disposition attachment = true
 is_attachment_disposition _ = false
 
--- a message has no parts; a forwarded message has none, since it is not read into
+-- a message has no parts; a forwarded message has no parts, since it is not parsed
 abbrev pub is_leaf : Tree → Bool
 is_leaf (tree node no_parts) = true
 is_leaf (tree node (part_and t ts)) = false
@@ -58,7 +58,7 @@ is_leaf (tree node (part_and t ts)) = false
 abbrev pub describes_attachment : Disposition → ContentType → Bool
 describes_attachment disposition ctype = is_attachment_disposition disposition.kind || is_some (name_in disposition ctype)
 
--- the path of the part with this number, by the path of the message that it is a part of: the numbers from the outside on, a dot between two
+-- the path of the part with this number in the message with this path: the numbers from the outermost, separated by dots
 unfoldable pub path_under : List ℕ → ℕ → List ℕ
 path_under [] number = decimal number
 path_under (c ∷ path) number = (c ∷ path) ++ (codes "." ++ decimal number)
@@ -68,33 +68,33 @@ abbrev mutual
   pub with_paths : List ℕ → Tree → List (List ℕ × Tree)
   with_paths path (tree node parts) = (path, tree node parts) ∷ parts_with_paths path 1 parts
 
-  -- the same of some parts, which are numbered from there on
+  -- the same of some parts, the first of which has this number
   pub parts_with_paths : List ℕ → ℕ → Forest → List (List ℕ × Tree)
   parts_with_paths path number no_parts = []
   parts_with_paths path number (part_and t ts) = with_paths (path_under path number) t ++ parts_with_paths path (suc number) ts
 
--- the path of a whole message: that of its one part where it has no parts
+-- the path of a whole message: that of its body if it has no parts
 abbrev pub whole_path : Tree → List ℕ
 whole_path t = if is_leaf t then codes "1" else []
 
 -- Under the charsets that are known.
 module _ (known : Charsets) where
-  -- the name of a message's file
-  unfoldable pub file_name_in : Node → Option (List ℕ)
-  file_name_in node = name_in (shown_as_in known node) node.ctype
+  -- the file name of a message
+  unfoldable pub file_name : Node → Option (List ℕ)
+  file_name node = name_in (shown_as_in known node) node.ctype
 
   -- a message is a file: it has no parts, and its disposition and its type are those of a file
-  unfoldable pub is_attachment_in : Tree → Bool
-  is_attachment_in t = is_leaf t && describes_attachment (shown_as_in known (root t)) (root t).ctype
+  unfoldable pub is_attachment : Tree → Bool
+  is_attachment t = is_leaf t && describes_attachment (shown_as_in known (root t)) (root t).ctype
 
   -- the files among messages with paths
   abbrev pub files_among : List (List ℕ × Tree) → List (List ℕ × Tree)
-  files_among messages = filter (λ p. is_attachment_in p.1) messages
+  files_among messages = filter (λ p. is_attachment p.1) messages
 
-  -- the files of a message that has this path
+  -- the files of a message with this path
   abbrev pub attachments_under : List ℕ → Tree → List (List ℕ × Tree)
   attachments_under path t = files_among (with_paths path t)
 
   -- the files of a whole message, with their paths
-  abbrev pub attachments_in : Tree → List (List ℕ × Tree)
-  attachments_in t = attachments_under (whole_path t) t
+  abbrev pub attachments : Tree → List (List ℕ × Tree)
+  attachments t = attachments_under (whole_path t) t

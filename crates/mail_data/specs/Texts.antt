@@ -3,9 +3,9 @@ use Rattle.std.specs.Prelude.{ℕ, Bool, true, false, not, ◌&&◌, List, find,
 use Rattle.std.specs.Str.{bytes_eq}
 use Rattle.mail_codec.specs.Charset.{Charsets}
 use Rattle.mailparse.specs.Mail.{Tree, root, shown_as_in, trees_within}
-use Rattle.mail_data.specs.Files.{is_attachment_disposition, is_attachment_in}
+use Rattle.mail_data.specs.Files.{is_attachment_disposition, is_attachment}
 
--- the first of two trees that is there
+-- the first of two trees that exists
 abbrev pub first_tree : Option Tree → Option Tree → Option Tree
 first_tree (Some t) other = Some t
 first_tree None other = other
@@ -16,10 +16,10 @@ text_type mimetype = if bytes_eq mimetype (codes "text") then codes "text/plain"
 
 -- Under the charsets that are known.
 module _ (known : Charsets) where
-  -- a part is no text: it is marked as an attachment; or it is a file, where a text may not have a name
+  -- a part is no text: its disposition is `attachment`, or it is a file although a text may not have a name
   unfoldable pub is_no_text : Bool → Tree → Bool
   is_no_text true t = is_attachment_disposition (shown_as_in known (root t)).kind
-  is_no_text false t = is_attachment_in known t
+  is_no_text false t = is_attachment known t
 
   -- a part is a text of this type
   unfoldable pub is_text_of_type : Bool → List ℕ → Tree → Bool
@@ -35,5 +35,5 @@ module _ (known : Charsets) where
       first_tree (first_text_of_type may_have_name (codes "text/plain") t) (first_text_of_type may_have_name (codes "text/html") t)
 
   -- the part that is to be read: the first text without a name, otherwise the first with one
-  unfoldable pub text_part_in : Tree → Option Tree
-  text_part_in t = first_tree (first_text false t) (first_text true t)
+  unfoldable pub text_part : Tree → Option Tree
+  text_part t = first_tree (first_text false t) (first_text true t)

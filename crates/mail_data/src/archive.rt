@@ -1,4 +1,4 @@
-//! What an archive of threads needs of a mail.
+//! The ids that place a mail in a thread.
 ghost use Rattle.std.specs.Prelude.{◌≡◌, ◌++◌, map, string_bytes, IfErr, IfOk, Ok};
 ghost use Rattle.std.specs.List.{IsDistinct};
 ghost use Rattle.std.specs.Str.{bytes_eq};
@@ -8,21 +8,21 @@ ghost use Rattle.mailparse.specs.Outcome.{AnswersOrMemory, GivesTexts, IsMemory}
 ghost use Rattle.mailparse.specs.Views.{tree_of};
 ghost use Rattle.mail_data.specs.Archive.{id_among, ids_of, message_id, parents, without_repeats};
 
-use crate::lenient::{ids_in, own_ids_in};
+use crate::lenient::{IdRule, find_ids};
 use mail_codec::charset::KnownCharsets;
 use mailparse::{MailHeader, MailHeaderMap, MailParseError, ParsedMail};
 use std::alloc::{AllocError, Global};
 use std::collections::BTreeSet;
 
-/// Returns the id of a mail, or `None` where it has none: the first that `own_ids_in` finds in the
-/// first header `Message-ID` (RFC 5322, section 3.6.4). It may be without an `@`.
+/// Returns the id of a mail, or `None` if it has no id: the first that `lenient::find_ids` finds in
+/// the first header `Message-ID`, with or without an `@` (RFC 5322, section 3.6.4).
 ///
-/// The value is read in the charsets that are given (RFC 2047, section 2). Takes memory for the
-/// value and the ids in it.
+/// The value is read in the charsets `known` (RFC 2047, section 2). Allocates the value and the ids
+/// in it.
 ///
 /// # Errors
 ///
-/// `MailParseError::Memory` where it runs out of memory.
+/// `MailParseError::Memory` if it runs out of memory.
 ///
 /// # Examples
 ///
@@ -42,11 +42,10 @@ pub fn message_id<K: KnownCharsets>(
     ensures { AnswersOrMemory text_found result
         (Ok (message_id (K.known known.now) (root (tree_of mail.now)))) }
 {
-    let id = id_among(alloc, &mail.headers, known)?;
-    Ok(id)
+    id_among(alloc, &mail.headers, known)
 }
 
-/// The id of a mail with these headers.
+/// Returns the id of a mail with these headers.
 #[tactic(auto, unfolding(crate::specs::Archive::id_among))]
 pub(crate) fn id_among<K: KnownCharsets>(
     alloc: Global,
@@ -60,21 +59,21 @@ pub(crate) fn id_among<K: KnownCharsets>(
     let Some(text) = headers.get_first_value_in(alloc, "Message-ID", known)? else {
         return Ok(None);
     };
-    let ids = own_ids_in(alloc, text.as_str())?;
+    let ids = find_ids(alloc, text.as_str(), IdRule::Any)?;
     Ok(ids.into_iter().next())
 }
 
-/// Returns the ids of the mails before a mail: those that `ids_in` finds in the first header
-/// `References`, and then those in the first header `In-Reply-To` (RFC 5322, section 3.6.4), in
-/// order, each once, where it stands first.
+/// Returns the ids of the mails that precede a mail in its thread: those that `lenient::find_ids`
+/// finds in the first header `References` and then in the first header `In-Reply-To`, each with an
+/// `@` and each once, in the order of their first occurrence (RFC 5322, section 3.6.4).
 ///
-/// The last id of `References` is that of the mail that is replied to; it mostly stands in
-/// `In-Reply-To` again. The values are read in the charsets that are given (RFC 2047, section 2).
-/// Takes memory for the values, the ids and a set of them.
+/// The last id of `References` is that of the mail that is answered; usually `In-Reply-To` repeats
+/// it. The values are read in the charsets `known` (RFC 2047, section 2). Allocates the values, the
+/// ids and a set of them.
 ///
 /// # Errors
 ///
-/// `MailParseError::Memory` where it runs out of memory.
+/// `MailParseError::Memory` if it runs out of memory.
 ///
 /// # Examples
 ///
@@ -100,11 +99,10 @@ pub fn parents<K: KnownCharsets>(
     let mut ids = ids_of(alloc, mail, "References", known)?;
     let mut replied = ids_of(alloc, mail, "In-Reply-To", known)?;
     ids.append(&mut replied)?;
-    let ids = without_repeats(alloc, ids)?;
-    Ok(ids)
+    Ok(without_repeats(alloc, ids)?)
 }
 
-/// The ids in the first header that has this name.
+/// Returns the ids in the first header with this name.
 #[tactic(auto, unfolding(crate::specs::Archive::ids_of))]
 fn ids_of<K: KnownCharsets>(
     alloc: Global,
@@ -119,11 +117,10 @@ fn ids_of<K: KnownCharsets>(
     let Some(text) = mail.headers.get_first_value_in(alloc, name, known)? else {
         return Ok(Vec::new(alloc));
     };
-    let ids = ids_in(alloc, text.as_str())?;
-    Ok(ids)
+    Ok(find_ids(alloc, text.as_str(), IdRule::WithAt)?)
 }
 
-/// The ids, each where it stands first.
+/// Removes the ids that occur before.
 fn without_repeats(alloc: Global, ids: Vec<String>) -> Result<Vec<String>, AllocError>
     ensures { IfOk result (λ kept.
         map string_bytes kept.items ≡ without_repeats (map string_bytes ids.items)) }

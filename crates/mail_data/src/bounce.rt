@@ -1,56 +1,66 @@
-//! The recipients that a delivery status notification (RFC 3464), or delivery report, names.
-ghost use Rattle.std.specs.Prelude.{◌≡◌, ◌≤◌, codes, drop, length, map, IfErr, IfOk, Ok};
+//! The recipients that a delivery status notification (RFC 3464), or delivery report, reports.
+ghost use Rattle.std.specs.Prelude.{◌≡◌, ◌≤◌, length, map, string_bytes, IfErr, IfOk, Ok};
+ghost use Rattle.std.specs.Str.{trim};
 ghost use Rattle.mailparse.specs.Mail.{root};
 ghost use Rattle.mailparse.specs.Map.{text_found};
 ghost use Rattle.mailparse.specs.Outcome.{AnswersOrMemory, IsMemory};
 ghost use Rattle.mailparse.specs.Views.{tree_of};
 ghost use Rattle.mail_data.specs.Bounce.{after_block, after_type, block_at, block_length, blocks};
-ghost use Rattle.mail_data.specs.Bounce.{deliveries, delivery_in, fields, has_original, has_status};
-ghost use Rattle.mail_data.specs.Bounce.{address_of, original_message_id, recipients, report_part};
-ghost use Rattle.mail_data.specs.Bounce.{text_of, typed_text_of};
-ghost use Rattle.mail_data.specs.BounceViews.{delivery};
+ghost use Rattle.mail_data.specs.Bounce.{deliveries, delivery_in, fields, has_original, has_status, has_type};
+ghost use Rattle.mail_data.specs.Bounce.{field, original_message_id, recipients, report_part};
+ghost use Rattle.mail_data.specs.BounceViews.{cleaned, delivery};
 ghost use Rattle.mail_data.specs.TextViews.{tree_found};
 
 use crate::archive::id_among;
-use crate::forwarding::{has_type, raw_body};
-use crate::lenient::without_comments;
-use crate::lines::{empty_line, is_empty_line, line_place};
+use crate::lenient::{raw_body, without_comments};
+use crate::line_ends::{empty_line, is_empty_line, line_place};
 use mail_codec::charset::KnownCharsets;
 use mailparse::{MailHeader, MailHeaderMap, MailParseError, ParsedMail, parse_headers};
 use std::alloc::{AllocError, Global};
 
-/// What a delivery report says about one recipient, as `recipients` returns it: the texts of its
-/// fields, or `None` for a field that is missing (RFC 3464, section 2.3).
-#[derive(Drop)]
+/// The fields of a delivery report on one recipient, as `recipients` returns them; a field that is
+/// missing is `None` (RFC 3464, section 2.3).
+#[derive(Debug, Drop)]
 pub struct Recipient {
-    /// The address that the report is about, without its type: `Final-Recipient`.
+    /// The address of the recipient, without its type: `Final-Recipient`.
     pub final_recipient: Option<String>,
     /// The address that the sender wrote, without its type: `Original-Recipient`.
     pub original_recipient: Option<String>,
-    /// What was done: `Action`, as `failed` or `delayed`.
+    /// The action that was taken, such as `failed` or `delayed`: `Action`.
     pub action: Option<String>,
-    /// The status code: `Status`, as `5.1.1` (RFC 3463).
+    /// The status code, such as `5.1.1` (RFC 3463): `Status`.
     pub status: Option<String>,
-    /// What the other mail system said, without its type: `Diagnostic-Code`.
+    /// The reply of the other mail system, without its type: `Diagnostic-Code`.
     pub diagnostic_code: Option<String>,
 }
 
-/// Returns what a delivery report says about each recipient, in order (RFC 3464, sections 2.1 to
+/// What is left out of the text of a field.
+#[derive(Clone, Copy)]
+enum Kind {
+    /// Comments.
+    Plain,
+    /// The type, which is the text up to the first `;`.
+    Typed,
+    /// Comments and then the type.
+    Address,
+}
+
+/// Returns the fields of a delivery report on each recipient, in order (RFC 3464, sections 2.1 to
 /// 2.3), or an empty list if the mail is not such a report.
 ///
-/// The mail has to be a `multipart/report`, and the first of its own parts that is a
+/// The mail has to be a `multipart/report`; the first of its own parts that is a
 /// `message/delivery-status` or a `message/global-delivery-status` (RFC 6533) is used. Its fields
 /// are in blocks separated by empty lines: the first block is about the message, and each other
-/// block is about one recipient. A field is found by its name, ignoring ASCII case, and its text is
-/// read like a header's value in the charsets that are given, without whitespace around it. In an
-/// address or a diagnostic code, the text up to the first `;` is its type, and is left out. Comments
+/// block is about one recipient. A field is found by its name, ignoring ASCII case. Its text is
+/// read like the value of a header in the charsets `known`, without whitespace around it. In an
+/// address or a diagnostic code, the text up to the first `;` is its type and is left out. Comments
 /// in parentheses are left out of addresses, actions and status codes. A block that `parse_headers`
-/// refuses counts as one without fields. A transfer encoding, which such a part must not have, is
-/// not undone. Takes memory for the blocks, their headers and the texts.
+/// refuses has no fields. A transfer encoding, which such a part must not have, is not removed.
+/// Allocates the blocks, their headers and the texts.
 ///
 /// # Errors
 ///
-/// `MailParseError::Memory` where it runs out of memory.
+/// `MailParseError::Memory` if it runs out of memory.
 ///
 /// # Examples
 ///
@@ -80,23 +90,20 @@ pub fn recipients<K: KnownCharsets>(
     let Some(part) = status_part(mail) else {
         return Ok(Vec::new(alloc));
     };
-    let status = raw_body(alloc, part)?;
-    let found = deliveries(alloc, status, known)?;
-    Ok(found)
+    deliveries(alloc, raw_body(alloc, part)?, known)
 }
 
-/// Returns the id of the mail that a delivery report is about, or `None` where the report does not
-/// say it (RFC 3464, section 2; RFC 6533, section 3).
+/// Returns the id of the mail that a delivery report is about, or `None` if the report does not
+/// contain it (RFC 3464, section 2; RFC 6533, section 3).
 ///
-/// The mail has to be a `multipart/report`, and the first of its own parts that is a
-/// `message/rfc822`, a `text/rfc822-headers`, a `message/global` or a `message/global-headers` is
-/// used: its id is read as `archive::message_id` reads one, in the charsets that are given. Headers
-/// that `parse_headers` refuses have none. A transfer encoding is not undone. Takes memory for the
-/// headers and the id.
+/// The mail has to be a `multipart/report`; the first of its own parts that is a `message/rfc822`,
+/// a `text/rfc822-headers`, a `message/global` or a `message/global-headers` is used. Its id is read
+/// as `archive::message_id` reads one, in the charsets `known`. Headers that `parse_headers` refuses
+/// have no id. A transfer encoding is not removed. Allocates the headers and the id.
 ///
 /// # Errors
 ///
-/// `MailParseError::Memory` where it runs out of memory.
+/// `MailParseError::Memory` if it runs out of memory.
 ///
 /// # Examples
 ///
@@ -124,11 +131,10 @@ pub fn original_message_id<K: KnownCharsets>(
     };
     let raw = raw_body(alloc, part)?;
     let headers = fields(alloc, raw)?;
-    let id = id_among(alloc, &headers, known)?;
-    Ok(id)
+    id_among(alloc, &headers, known)
 }
 
-/// The part that has the status of a delivery, if there is one.
+/// Returns the part with the status of a delivery, if there is one.
 fn status_part<'m, 'a>(mail: &'m ParsedMail<'a>) -> Option<&'m ParsedMail<'a>>
     ensures { tree_found result ≡ report_part has_status (tree_of mail.now) }
 {
@@ -143,7 +149,7 @@ fn status_part<'m, 'a>(mail: &'m ParsedMail<'a>) -> Option<&'m ParsedMail<'a>>
     None
 }
 
-/// The part that is the returned mail or its headers, if there is one.
+/// Returns the part that is the returned mail or its headers, if there is one.
 fn original_part<'m, 'a>(mail: &'m ParsedMail<'a>) -> Option<&'m ParsedMail<'a>>
     ensures { tree_found result ≡ report_part has_original (tree_of mail.now) }
 {
@@ -158,14 +164,14 @@ fn original_part<'m, 'a>(mail: &'m ParsedMail<'a>) -> Option<&'m ParsedMail<'a>>
     None
 }
 
-/// Whether a part has the status of a delivery.
+/// Returns whether a part has the status of a delivery.
 fn has_status(part: &ParsedMail<'_>) -> bool
     ensures { result ≡ has_status (root (tree_of part.now)) }
 {
     has_type(part, "message/delivery-status") || has_type(part, "message/global-delivery-status")
 }
 
-/// Whether a part is the returned mail or its headers.
+/// Returns whether a part is the returned mail or its headers.
 fn has_original(part: &ParsedMail<'_>) -> bool
     ensures { result ≡ has_original (root (tree_of part.now)) }
 {
@@ -175,7 +181,14 @@ fn has_original(part: &ParsedMail<'_>) -> bool
         || has_type(part, "message/global-headers")
 }
 
-/// What the status of a delivery says of each recipient.
+/// Returns whether a message has this type.
+fn has_type(message: &ParsedMail<'_>, mimetype: &str) -> bool
+    ensures { result ≡ has_type mimetype.now (root (tree_of message.now)) }
+{
+    message.ctype.mimetype.as_str() == mimetype
+}
+
+/// Reads the status of a delivery: the fields on each recipient.
 #[tactic(auto, unfolding(crate::specs::Bounce::deliveries))]
 fn deliveries<K: KnownCharsets>(
     alloc: Global,
@@ -198,7 +211,7 @@ fn deliveries<K: KnownCharsets>(
     Ok(found)
 }
 
-/// What stands between empty lines, where something does.
+/// Returns the blocks between empty lines that are not empty.
 fn blocks<'s>(alloc: Global, status: &'s [u8]) -> Result<Vec<&'s [u8]>, AllocError>
     ensures { IfOk result (λ found. map (λ block. block.now) found.items ≡ blocks status.now) }
 {
@@ -214,7 +227,7 @@ fn blocks<'s>(alloc: Global, status: &'s [u8]) -> Result<Vec<&'s [u8]>, AllocErr
     Ok(found)
 }
 
-/// What stands before the first empty line, and what follows it.
+/// Returns the bytes before and after the first empty line.
 fn cut_block(bytes: &[u8]) -> (&[u8], &[u8])
     ensures block { result.0.now ≡ block_at bytes.now }
     ensures after { result.1.now ≡ after_block bytes.now }
@@ -224,7 +237,7 @@ fn cut_block(bytes: &[u8]) -> (&[u8], &[u8])
     (block, after)
 }
 
-/// How many bytes stand before the first empty line.
+/// Returns the number of bytes before the first empty line.
 fn block_length(bytes: &[u8]) -> usize
     ensures value { result ≡ block_length bytes.now }
     ensures bounds { result ≤ length bytes.now }
@@ -232,7 +245,7 @@ fn block_length(bytes: &[u8]) -> usize
     line_place(bytes, is_empty_line)
 }
 
-/// The fields of a block; none where it is refused.
+/// Returns the fields of a block, or none if it is refused.
 #[tactic(auto, unfolding(crate::specs::Bounce::fields))]
 fn fields<'s>(alloc: Global, block: &'s [u8]) -> Result<Vec<MailHeader<'s>>, MailParseError>
     ensures read { IfOk result (λ headers. headers.items ≡ fields block.now) }
@@ -245,7 +258,7 @@ fn fields<'s>(alloc: Global, block: &'s [u8]) -> Result<Vec<MailHeader<'s>>, Mai
     }
 }
 
-/// What these fields say of a recipient.
+/// Reads the fields on a recipient.
 fn recipient_in<K: KnownCharsets>(
     alloc: Global,
     headers: &Vec<MailHeader<'_>>,
@@ -256,73 +269,51 @@ fn recipient_in<K: KnownCharsets>(
     ensures only_memory { IfErr result IsMemory }
 {
     Ok(Recipient {
-        final_recipient: address_of(alloc, headers, "Final-Recipient", known)?,
-        original_recipient: address_of(alloc, headers, "Original-Recipient", known)?,
-        action: text_of(alloc, headers, "Action", known)?,
-        status: text_of(alloc, headers, "Status", known)?,
-        diagnostic_code: typed_text_of(alloc, headers, "Diagnostic-Code", known)?,
+        final_recipient: field(alloc, headers, "Final-Recipient", Kind::Address, known)?,
+        original_recipient: field(alloc, headers, "Original-Recipient", Kind::Address, known)?,
+        action: field(alloc, headers, "Action", Kind::Plain, known)?,
+        status: field(alloc, headers, "Status", Kind::Plain, known)?,
+        diagnostic_code: field(alloc, headers, "Diagnostic-Code", Kind::Typed, known)?,
     })
 }
 
-/// The text of the first field that has this name, without comments and whitespace around it.
-#[tactic(auto, unfolding(crate::specs::Bounce::text_of))]
-fn text_of<K: KnownCharsets>(
+/// Returns the text of the first field with this name, without what its kind leaves out.
+fn field<K: KnownCharsets>(
     alloc: Global,
     headers: &Vec<MailHeader<'_>>,
     name: &str,
+    kind: Kind,
     known: &K,
 ) -> Result<Option<String>, MailParseError>
-    ensures read { IfOk result (λ found.
-        text_found found ≡ text_of (K.known known.now) name.now headers.now.items) }
+    ensures read { IfOk result (λ found. text_found found
+        ≡ field (cleaned kind) (K.known known.now) name.now headers.now.items) }
     ensures only_memory { IfErr result IsMemory }
 {
-    let Some(text) = headers.get_first_value_in(alloc, name, known)? else {
-        return Ok(None);
-    };
-    let text = without_comments(alloc, text.as_str())?;
-    Ok(Some(String::from_str(alloc, text.as_str().trim())?))
+    match headers.get_first_value_in(alloc, name, known)? {
+        Some(value) => Ok(Some(cleaned(alloc, value.as_str(), kind)?)),
+        None => Ok(None),
+    }
 }
 
-/// The text of such a field after the type that a `;` ends, without whitespace around it.
-#[tactic(auto, unfolding(crate::specs::Bounce::typed_text_of))]
-fn typed_text_of<K: KnownCharsets>(
-    alloc: Global,
-    headers: &Vec<MailHeader<'_>>,
-    name: &str,
-    known: &K,
-) -> Result<Option<String>, MailParseError>
-    ensures read { IfOk result (λ found.
-        text_found found ≡ typed_text_of (K.known known.now) name.now headers.now.items) }
-    ensures only_memory { IfErr result IsMemory }
+/// Returns a text without what its kind leaves out, and without whitespace around it.
+fn cleaned(alloc: Global, text: &str, kind: Kind) -> Result<String, AllocError>
+    ensures { IfOk result (λ clean. string_bytes clean ≡ cleaned kind text.now) }
 {
-    let Some(text) = headers.get_first_value_in(alloc, name, known)? else {
-        return Ok(None);
-    };
-    let text = after_type(text.as_str()).trim();
-    Ok(Some(String::from_str(alloc, text)?))
+    match kind {
+        Kind::Plain => trimmed(alloc, without_comments(alloc, text)?.as_str()),
+        Kind::Typed => trimmed(alloc, after_type(text)),
+        Kind::Address => trimmed(alloc, after_type(without_comments(alloc, text)?.as_str())),
+    }
 }
 
-/// The address in such a field: what follows the type, without comments.
-#[tactic(auto, unfolding(crate::specs::Bounce::address_of))]
-fn address_of<K: KnownCharsets>(
-    alloc: Global,
-    headers: &Vec<MailHeader<'_>>,
-    name: &str,
-    known: &K,
-) -> Result<Option<String>, MailParseError>
-    ensures read { IfOk result (λ found.
-        text_found found ≡ address_of (K.known known.now) name.now headers.now.items) }
-    ensures only_memory { IfErr result IsMemory }
+/// Returns a text without the whitespace around it.
+fn trimmed(alloc: Global, text: &str) -> Result<String, AllocError>
+    ensures { IfOk result (λ trimmed. string_bytes trimmed ≡ trim text.now) }
 {
-    let Some(text) = headers.get_first_value_in(alloc, name, known)? else {
-        return Ok(None);
-    };
-    let text = without_comments(alloc, text.as_str())?;
-    let address = after_type(text.as_str()).trim();
-    Ok(Some(String::from_str(alloc, address)?))
+    String::from_str(alloc, text.trim())
 }
 
-/// What follows the first `;` of a text, or the whole text where there is none.
+/// Returns the text after the first `;`, or the whole text if it contains no `;`.
 #[tactic(auto, unfolding(crate::specs::Bounce::after_type))]
 fn after_type(text: &str) -> &str
     ensures { result.now ≡ after_type text.now }

@@ -6,10 +6,10 @@ ghost use Rattle.mailparse.specs.Outcome.{AnswersOrMemory, IsMemory};
 ghost use Rattle.mailparse.specs.Pairs.{text_at};
 ghost use Rattle.mailparse.specs.Views as views;
 ghost use Rattle.mailparse.specs.Views.{content_type, kind, tree_of};
-ghost use Rattle.mail_data.specs.Files.{attachments_in, attachments_under, describes_attachment};
-ghost use Rattle.mail_data.specs.Files.{file_name_in, files_among, filled};
+ghost use Rattle.mail_data.specs.Files.{attachments, attachments_under, describes_attachment};
+ghost use Rattle.mail_data.specs.Files.{file_name, files_among, filled};
 ghost use Rattle.mail_data.specs.Files.{is_attachment_disposition};
-ghost use Rattle.mail_data.specs.Files.{is_attachment_in, is_leaf, name_among, name_in, path_under};
+ghost use Rattle.mail_data.specs.Files.{is_attachment, is_leaf, name_among, name_in, path_under};
 ghost use Rattle.mail_data.specs.Files.{whole_path};
 ghost use Rattle.mail_data.specs.FileViews.{attachment_view};
 
@@ -26,29 +26,28 @@ use std::alloc::{AllocError, Global};
 use std::collections::BTreeMap;
 
 /// A file that a mail carries, as `attachments` returns it.
-#[derive(Drop)]
+#[derive(Debug, Drop)]
 pub struct Attachment<'m, 'a> {
-    /// Where the part stands in the mail, as IMAP numbers parts (RFC 3501, section 6.4.5): `2.1` is
-    /// the first part of the second part, and `1` the body of a mail without parts.
+    /// The path of the part, as IMAP numbers parts (RFC 3501, section 6.4.5): `2.1` is the first
+    /// part of the second part, and `1` the body of a mail without parts.
     pub path: String,
-    /// The part: `get_body_raw` returns the bytes of the file. Where its Base64 is damaged or the
-    /// name of its transfer encoding has a comment, `lenient::lenient_body` and `base64_front` read
-    /// it.
+    /// The part: `get_body_raw` returns the bytes of the file. If its Base64 is damaged or the name
+    /// of its transfer encoding has a comment, `lenient_body` and `lenient_content` of `lenient`
+    /// read it.
     pub part: &'m ParsedMail<'a>,
 }
 
 /// Returns the file name of a part: the parameter `filename` of its disposition (RFC 2183, section
 /// 2.3), otherwise the parameter `name` of its type, or `None` if it has neither, as `named_file`
-/// says. A parameter of whitespace alone counts as none.
+/// finds it.
 ///
-/// The name is as the sender wrote it: `safe_file_name` makes it fit to be used. The disposition is
-/// read in the charsets that are given (RFC 2231, section 4); the type is as the part was read, so
-/// `mailparse::parse_mail_in` reads the mail in the same ones. Takes memory for the disposition and
-/// the name.
+/// The name is as the sender wrote it: use `safe_file_name` before creating a file. The disposition
+/// is read in the charsets `known` (RFC 2231, section 4), and the type was read with the part, so
+/// pass the same charsets to `mailparse::parse_mail_in`. Allocates the disposition and the name.
 ///
 /// # Errors
 ///
-/// `MailParseError::Memory` where it runs out of memory.
+/// `MailParseError::Memory` if it runs out of memory.
 ///
 /// # Examples
 ///
@@ -65,31 +64,31 @@ pub struct Attachment<'m, 'a> {
 /// let name = file_name(alloc, &mail, &tables.as_slice())?.ok_or("no name")?;
 /// assert_eq!(rt; name.as_str(), "5€.txt");
 /// ```
-#[tactic(auto, unfolding(crate::specs::Files::file_name_in))]
+#[tactic(auto, unfolding(crate::specs::Files::file_name))]
 pub fn file_name<K: KnownCharsets>(
     alloc: Global,
     part: &ParsedMail<'_>,
     known: &K,
 ) -> Result<Option<String>, MailParseError>
     ensures { AnswersOrMemory text_found result
-        (Ok (file_name_in (K.known known.now) (root (tree_of part.now)))) }
+        (Ok (file_name (K.known known.now) (root (tree_of part.now)))) }
 {
     let disposition = part.get_content_disposition_in(alloc, known)?;
-    let name = named_file(alloc, &disposition, &part.ctype)?;
-    Ok(name)
+    Ok(named_file(alloc, &disposition, &part.ctype)?)
 }
 
-/// Returns the name of a file that a disposition or else a type has: the one's parameter `filename`,
-/// otherwise the other's parameter `name`, or `None` if there is neither (RFC 2183, section 2.3). A
-/// parameter of whitespace alone counts as none.
+/// Returns the file name in a disposition and a type, for callers that have read both; `file_name`
+/// reads them. It is the parameter `filename` of the disposition, otherwise the parameter `name` of
+/// the type, or `None` if there is neither (RFC 2183, section 2.3). A parameter that consists of
+/// whitespace counts as missing.
 ///
-/// Where there is only an extended value whose charset is blank, unknown or missing (RFC 2231,
-/// section 4), as `filename*=''a%20b.txt`, its text after the second apostrophe is read: UTF-8 where
-/// the bytes are, otherwise windows-1252. Takes memory for the name.
+/// If there is only an extended value whose charset is blank, unknown or missing (RFC 2231, section
+/// 4), such as `filename*=''a%20b.txt`, its text after the second apostrophe is read: in UTF-8 if
+/// the bytes are UTF-8, otherwise in windows-1252. Allocates the name.
 ///
 /// # Errors
 ///
-/// Where it runs out of memory.
+/// `AllocError` if it runs out of memory.
 ///
 /// # Examples
 ///
@@ -114,11 +113,10 @@ pub fn named_file(
     if let Some(name) = name_among(alloc, &disposition.params, "filename", "filename*")? {
         return Ok(Some(name));
     }
-    let name = name_among(alloc, &ctype.params, "name", "name*")?;
-    Ok(name)
+    name_among(alloc, &ctype.params, "name", "name*")
 }
 
-/// The text of a key, otherwise the value that is left over at its extended key.
+/// Returns the text of a key, otherwise the value that is left over at its extended key.
 fn name_among(
     alloc: Global,
     parameters: &BTreeMap<String, String>,
@@ -137,7 +135,7 @@ fn name_among(
     }
 }
 
-/// The text, unless it is whitespace alone.
+/// Returns the text, or `None` if it consists of whitespace.
 fn filled(text: String) -> Option<String>
     ensures { text_found result ≡ filled (Some (string_bytes text)) }
 {
@@ -148,8 +146,8 @@ fn filled(text: String) -> Option<String>
     }
 }
 
-/// Returns the text of a parameter of a type or a disposition, or `None` where it is missing or
-/// whitespace alone. Takes no memory.
+/// Returns the text of a parameter of a type or a disposition (RFC 2045, section 5.1; RFC 2183,
+/// section 2), or `None` if it is missing or consists of whitespace. Does not allocate.
 ///
 /// # Examples
 ///
@@ -175,11 +173,11 @@ pub fn filled_parameter<'p>(parameters: &'p BTreeMap<String, String>, name: &str
 ///
 /// So an image that is shown in the text counts if it has a name, and a forwarded message
 /// (`message/rfc822`), whose content is not parsed, counts like any other part. The disposition is
-/// read in the charsets that are given (RFC 2231, section 4). Takes memory for the disposition.
+/// read in the charsets `known` (RFC 2231, section 4). Allocates the disposition.
 ///
 /// # Errors
 ///
-/// `MailParseError::Memory` where it runs out of memory.
+/// `MailParseError::Memory` if it runs out of memory.
 ///
 /// # Examples
 ///
@@ -201,18 +199,17 @@ pub fn is_attachment<K: KnownCharsets>(
     known: &K,
 ) -> Result<bool, MailParseError>
     ensures { AnswersOrMemory (λ is. is) result
-        (Ok (is_attachment_in (K.known known.now) (tree_of part.now))) }
+        (Ok (is_attachment (K.known known.now) (tree_of part.now))) }
 {
     if !is_leaf(part) {
         return Ok(false);
     }
     let disposition = part.get_content_disposition_in(alloc, known)?;
-    let is_file = describes_attachment(alloc, &disposition, &part.ctype)?;
-    Ok(is_file)
+    Ok(describes_attachment(alloc, &disposition, &part.ctype)?)
 }
 
 /// Returns whether a message has no parts (RFC 2046, section 5.1). A forwarded message
-/// (`message/rfc822`) has none, since its content is not parsed. Takes no memory.
+/// (`message/rfc822`) has no parts, since its content is not parsed. Does not allocate.
 ///
 /// # Examples
 ///
@@ -230,14 +227,15 @@ pub fn is_leaf(part: &ParsedMail<'_>) -> bool
     part.subparts.as_slice().is_empty()
 }
 
-/// Returns whether a disposition and a type are those of a file, if the part has no parts of its
-/// own: the disposition is `attachment`, or there is a file name (RFC 2183, sections 2.2 and 2.3).
+/// Returns whether a part without parts of its own is a file, given its disposition and its type,
+/// for callers that have read both; `is_attachment` reads them. The disposition of a file is
+/// `attachment`, or there is a file name (RFC 2183, sections 2.2 and 2.3).
 ///
-/// Takes memory for the name.
+/// Allocates the name.
 ///
 /// # Errors
 ///
-/// Where it runs out of memory.
+/// `AllocError` if it runs out of memory.
 ///
 /// # Examples
 ///
@@ -266,7 +264,7 @@ pub fn describes_attachment(
     Ok(name.is_some())
 }
 
-/// Returns whether a disposition is `attachment` (RFC 2183, section 2.2). Takes no memory.
+/// Returns whether a disposition is `attachment` (RFC 2183, section 2.2). Does not allocate.
 ///
 /// # Examples
 ///
@@ -280,21 +278,18 @@ pub fn describes_attachment(
 pub fn is_attachment_disposition(disposition: &DispositionType) -> bool
     ensures { result ≡ is_attachment_disposition (kind disposition.now) }
 {
-    match disposition {
-        DispositionType::Attachment => true,
-        _ => false,
-    }
+    matches!(disposition, DispositionType::Attachment)
 }
 
 /// Returns the files of a mail (RFC 2183, section 2), in the order in which they appear, each with
 /// the path of its part.
 ///
-/// Dispositions are read in the charsets that are given (RFC 2231, section 4). Takes memory for the
-/// list, the paths and each disposition in turn.
+/// Dispositions are read in the charsets `known` (RFC 2231, section 4). Allocates the list, the
+/// paths and each disposition in turn.
 ///
 /// # Errors
 ///
-/// `MailParseError::Memory` where it runs out of memory.
+/// `MailParseError::Memory` if it runs out of memory.
 ///
 /// # Examples
 ///
@@ -316,22 +311,22 @@ pub fn attachments<'m, 'a, K: KnownCharsets>(
     known: &K,
 ) -> Result<Vec<Attachment<'m, 'a>>, MailParseError>
     ensures { AnswersOrMemory (λ files. map attachment_view files.items) result
-        (Ok (attachments_in (K.known known.now) (tree_of mail.now))) }
+        (Ok (attachments (K.known known.now) (tree_of mail.now))) }
 {
     let mut files = Vec::new(alloc);
     push_attachments(alloc, mail, whole_path(mail), known, &mut files)?;
     Ok(files)
 }
 
-/// The path of a whole mail, as IMAP numbers parts (RFC 3501, section 6.4.5): `1`, that of its body,
-/// where it has no parts, and otherwise the empty text.
+/// Returns the path of a whole mail, as IMAP numbers parts (RFC 3501, section 6.4.5): `1`, that of
+/// its body, if it has no parts, and otherwise the empty text.
 pub(crate) fn whole_path(mail: &ParsedMail<'_>) -> &'static str
     ensures { result.now ≡ whole_path (tree_of mail.now) }
 {
     if is_leaf(mail) { "1" } else { "" }
 }
 
-/// Adds the files of a part that has this path.
+/// Appends the files of a part with this path.
 fn push_attachments<'m, 'a, K: KnownCharsets>(
     alloc: Global,
     mail: &'m ParsedMail<'a>,
@@ -354,7 +349,7 @@ fn push_attachments<'m, 'a, K: KnownCharsets>(
     Ok(())
 }
 
-/// Adds a part that has this path, if it is a file.
+/// Appends a part with this path, if it is a file.
 fn push_own<'m, 'a, K: KnownCharsets>(
     alloc: Global,
     part: &'m ParsedMail<'a>,
@@ -375,8 +370,8 @@ fn push_own<'m, 'a, K: KnownCharsets>(
     Ok(())
 }
 
-/// The path of the part with this number, counted from 1, by the path of the message that it is a
-/// part of (RFC 3501, section 6.4.5).
+/// Returns the path of the part with this number, counted from 1, given the path of the message that
+/// contains it (RFC 3501, section 6.4.5).
 #[tactic(auto, unfolding(crate::specs::Files::path_under))]
 pub(crate) fn path_under(alloc: Global, path: &str, number: usize) -> Result<String, AllocError>
     ensures { IfOk result (λ text. string_bytes text ≡ path_under path.now number) }

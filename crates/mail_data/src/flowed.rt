@@ -5,11 +5,11 @@ ghost use Rattle.mailparse.specs.Mail.{root};
 ghost use Rattle.mailparse.specs.Outcome.{AnswersOrMemory};
 ghost use Rattle.mailparse.specs.Views.{content_type, tree_of};
 ghost use Rattle.mail_codec.specs.Ascii.{greater_than, space};
-ghost use Rattle.mail_data.specs.Flowed.{between, ends_in, flowed_text, gap, goes_on};
-ghost use Rattle.mail_data.specs.Flowed.{has_flowed_text, is_flowed, is_separator, line_of};
-ghost use Rattle.mail_data.specs.Flowed.{line_with, pieces, quote_depth, says, shown, unflowed};
+ghost use Rattle.mail_data.specs.Flowed.{between, continues, ends_in, flowed_text, gap};
+ghost use Rattle.mail_data.specs.Flowed.{has_flowed_text, is_flowed, is_parameter, is_separator};
+ghost use Rattle.mail_data.specs.Flowed.{line_of, line_with, pieces, quote_depth, shown, unflowed};
 ghost use Rattle.mail_data.specs.Flowed.{unflowed_of, unstuffed, without_space};
-ghost use Rattle.mail_data.specs.FlowedViews.{line_view};
+ghost use Rattle.mail_data.specs.FlowedViews.{deletes, line_view};
 ghost use Rattle.mail_data.specs.lenient.TextViews.{text_view};
 
 use crate::lenient::{BodyText, body_text};
@@ -18,27 +18,36 @@ use mail_codec::charset::KnownCharsets;
 use mailparse::{MailParseError, ParsedContentType, ParsedMail};
 use std::alloc::{AllocError, Global};
 
+/// The parameter `delsp` of a text whose paragraphs flow over lines (RFC 3676, section 4).
+#[derive(Clone, Copy, Debug, PartialEq, Eq)]
+pub enum DelSp {
+    /// `yes`: the space at the end of a line that continues is deleted.
+    Yes,
+    /// `no`, or no such parameter: it stays.
+    No,
+}
+
 /// A line of a text.
 #[derive(Clone, Copy)]
 struct Line<'t> {
-    /// How many quote marks it has.
+    /// The number of quote marks.
     depth: usize,
-    /// What it says, without the quote marks.
+    /// The text after the quote marks.
     content: &'t str,
-    /// Its line end, if it has one.
+    /// The line end, or nothing if the text ends there.
     ending: &'t str,
 }
 
-/// Returns the text of the body of a part as `lenient::body_text` reads it; where its type is
+/// Returns the text of the body of a part as `lenient::body_text` does, but if its type is
 /// `text/plain` with the parameter `format=flowed`, with each paragraph as one line, as `unflowed`
 /// makes it (RFC 3676, section 4).
 ///
-/// The parameter `delsp=yes` says that the spaces before the line ends within a paragraph are to be
-/// deleted. Takes memory for the bytes, the text and the name of the charset.
+/// The parameter `delsp=yes` of the type deletes the spaces before the line ends within a paragraph.
+/// Allocates the bytes, the text and the name of the charset.
 ///
 /// # Errors
 ///
-/// `MailParseError::Memory` where it runs out of memory.
+/// `MailParseError::Memory` if it runs out of memory.
 ///
 /// # Examples
 ///
@@ -69,7 +78,7 @@ pub fn flowed_text<K: KnownCharsets>(
     })
 }
 
-/// The text of a part of this type, with each paragraph as one line where they flow.
+/// Returns the text of a part of this type, with each paragraph as one line if they flow.
 fn unflowed_of(alloc: Global, ctype: &ParsedContentType, text: String) -> Result<String, AllocError>
     ensures { IfOk result (λ joined.
         string_bytes joined ≡ unflowed_of (content_type ctype.now) (string_bytes text)) }
@@ -77,20 +86,30 @@ fn unflowed_of(alloc: Global, ctype: &ParsedContentType, text: String) -> Result
     if !has_flowed_text(ctype) {
         return Ok(text);
     }
-    let joined = unflowed(alloc, text.as_str(), says(ctype, "delsp", "yes"))?;
-    Ok(joined)
+    unflowed(alloc, text.as_str(), del_sp(ctype))
 }
 
-/// Whether the paragraphs of a text of this type flow over lines.
+/// Returns the parameter `delsp` of a type.
+fn del_sp(ctype: &ParsedContentType) -> DelSp
+    ensures { deletes result ≡ is_parameter (codes "delsp") (codes "yes") (content_type ctype.now) }
+{
+    if is_parameter(ctype, "delsp", "yes") {
+        DelSp::Yes
+    } else {
+        DelSp::No
+    }
+}
+
+/// Returns whether the paragraphs of a text of this type flow over lines.
 fn has_flowed_text(ctype: &ParsedContentType) -> bool
     ensures { result ≡ has_flowed_text (content_type ctype.now) }
 {
-    text_type(ctype.mimetype.as_str()) == "text/plain" && says(ctype, "format", "flowed")
+    text_type(ctype.mimetype.as_str()) == "text/plain" && is_parameter(ctype, "format", "flowed")
 }
 
-/// Whether a parameter of a type is this word, in upper or lower case.
-fn says(ctype: &ParsedContentType, name: &str, word: &str) -> bool
-    ensures { result ≡ says name.now word.now (content_type ctype.now) }
+/// Returns whether the value of a parameter of a type is this word, ignoring ASCII case.
+fn is_parameter(ctype: &ParsedContentType, name: &str, word: &str) -> bool
+    ensures { result ≡ is_parameter name.now word.now (content_type ctype.now) }
 {
     match ctype.params.get(name) {
         Some(text) => text.as_str().eq_ignore_ascii_case(word),
@@ -98,30 +117,31 @@ fn says(ctype: &ParsedContentType, name: &str, word: &str) -> bool
     }
 }
 
-/// Returns a text whose paragraphs flow over lines (`format=flowed`) with each paragraph as one
-/// line (RFC 3676, section 4).
+/// Joins the lines of each paragraph of a text whose paragraphs flow over lines (`format=flowed`;
+/// RFC 3676, section 4).
 ///
-/// A line that ends in a space goes on in the next one, if that has as many quote marks and is not
-/// the line `-- ` before a signature. A space that stands before what a line says is removed. If
-/// `deletes` is true (`delsp=yes`), the space at the end of such a line is removed too. Of a
-/// paragraph that is quoted, the quote marks stay at its front, with one space after them. The line
-/// end of its last line stays. Takes memory for the text.
+/// A line that ends in a space continues in the next one, if that has as many quote marks and is not
+/// the line `-- ` before a signature. A space at the start of a line, after its quote marks, is
+/// removed. With `DelSp::Yes` the space at the end of a line that continues is removed too. A
+/// paragraph that is quoted keeps its quote marks at the front, with one space after them. The line
+/// end of its last line stays. Allocates the text.
 ///
 /// # Errors
 ///
-/// Where it runs out of memory.
+/// `AllocError` if it runs out of memory.
 ///
 /// # Examples
 ///
 /// ```rust
-/// use mail_data::flowed::unflowed;
+/// use mail_data::flowed::{DelSp, unflowed};
 ///
-/// let text = unflowed(alloc, ">> Exit, \n>>Stage Left\n>no\n From here\n-- \nsign", false)?;
+/// let text = ">> Exit, \n>>Stage Left\n>no\n From here\n-- \nsign";
+/// let text = unflowed(alloc, text, DelSp::No)?;
 /// assert_eq!(rt; text.as_str(), ">> Exit, Stage Left\n> no\nFrom here\n-- \nsign");
-/// assert_eq!(rt; unflowed(alloc, "one \ntwo\n", true)?.as_str(), "onetwo\n");
+/// assert_eq!(rt; unflowed(alloc, "one \ntwo\n", DelSp::Yes)?.as_str(), "onetwo\n");
 /// ```
-pub fn unflowed(alloc: Global, text: &str, deletes: bool) -> Result<String, AllocError>
-    ensures { IfOk result (λ joined. string_bytes joined ≡ unflowed deletes text.now) }
+pub fn unflowed(alloc: Global, text: &str, del_sp: DelSp) -> Result<String, AllocError>
+    ensures { IfOk result (λ joined. string_bytes joined ≡ unflowed (deletes del_sp) text.now) }
 {
     let mut joined = String::new(alloc);
     let mut before = Line {
@@ -133,7 +153,7 @@ pub fn unflowed(alloc: Global, text: &str, deletes: bool) -> Result<String, Allo
     'lines: while !rest.is_empty() {
         let (line, after) = cut_line(rest);
         push_between(&mut joined, before, line)?;
-        push_shown(&mut joined, line, deletes)?;
+        push_shown(&mut joined, line, del_sp)?;
         before = line;
         rest = after;
     }
@@ -141,7 +161,7 @@ pub fn unflowed(alloc: Global, text: &str, deletes: bool) -> Result<String, Allo
     Ok(joined)
 }
 
-/// The first line of a text, and what follows it.
+/// Returns the first line of a text, and the text after it.
 fn cut_line(text: &str) -> (Line<'_>, &str)
     requires { 0 < length text.now }
     ensures cut { map line_of (pieces text.now)
@@ -154,7 +174,7 @@ fn cut_line(text: &str) -> (Line<'_>, &str)
     }
 }
 
-/// The line of what stands before a LF.
+/// Returns the line that consists of a text and the LF after it.
 fn line_before_feed(text: &str) -> Line<'_>
     ensures { line_view result ≡ line_of (text.now, codes "\n") }
 {
@@ -164,7 +184,7 @@ fn line_before_feed(text: &str) -> Line<'_>
     }
 }
 
-/// The line of this text that ends so.
+/// Returns the line that consists of a text and this line end.
 fn line_with<'t>(text: &'t str, ending: &'t str) -> Line<'t>
     ensures { line_view result ≡ line_with text.now ending.now }
 {
@@ -176,7 +196,7 @@ fn line_with<'t>(text: &'t str, ending: &'t str) -> Line<'t>
     }
 }
 
-/// How many quote marks stand at the front of a text, and what follows them.
+/// Returns the number of quote marks at the front of a text, and the text after them.
 fn cut_marks(text: &str) -> (usize, &str)
     ensures depth { result.0 ≡ quote_depth text.now }
     ensures rest { result.1.now ≡ drop (quote_depth text.now) text.now }
@@ -190,63 +210,54 @@ fn cut_marks(text: &str) -> (usize, &str)
     (depth, rest)
 }
 
-/// A text without the space at its front, if one stands there.
+/// Returns a text without the space at its front, if there is one.
 fn unstuffed(text: &str) -> &str
     ensures { result.now ≡ unstuffed text.now }
 {
-    match text.strip_prefix(' ') {
-        Some(rest) => rest,
-        None => text,
-    }
+    text.strip_prefix(' ').unwrap_or(text)
 }
 
-/// Whether a line separates the signature from the text.
+/// Returns whether a line separates the signature from the text.
 fn is_separator(line: Line<'_>) -> bool
     ensures { result ≡ is_separator (line_view line.entry) }
 {
     line.content == "-- "
 }
 
-/// Whether a line ends in a space and does not separate a signature.
+/// Returns whether a line ends in a space and does not separate a signature.
 fn is_flowed(line: Line<'_>) -> bool
     ensures { result ≡ is_flowed (line_view line.entry) }
 {
     ends_in_space(line.content) && !is_separator(line)
 }
 
-/// Whether a text ends in a space.
+/// Returns whether a text ends in a space.
 fn ends_in_space(text: &str) -> bool
     ensures { result ≡ ends_in space text.now }
 {
-    match text.strip_suffix(' ') {
-        Some(_) => true,
-        None => false,
-    }
+    text.ends_with(' ')
 }
 
-/// A text without the space at its end, if one stands there.
+/// Returns a text without the space at its end, if there is one.
 fn without_space(text: &str) -> &str
     ensures { result.now ≡ without_space text.now }
 {
-    match text.strip_suffix(' ') {
-        Some(front) => front,
-        None => text,
-    }
+    text.strip_suffix(' ').unwrap_or(text)
 }
 
-/// Whether a line goes on in the next one.
-fn goes_on(line: Line<'_>, next: Line<'_>) -> bool
-    ensures { result ≡ goes_on (line_view line.entry) (line_view next.entry) }
+/// Returns whether a line continues in the next one.
+fn continues(line: Line<'_>, next: Line<'_>) -> bool
+    ensures { result ≡ continues (line_view line.entry) (line_view next.entry) }
 {
     is_flowed(line) && line.depth == next.depth && !is_separator(next)
 }
 
-/// Adds what stands between what two lines say: nothing, if the one goes on in the other.
+/// Appends the text between the contents of two lines: nothing if one continues in the other.
 fn push_between(joined: &mut String, line: Line<'_>, next: Line<'_>) -> Result<(), AllocError>
     ensures { OnOk result (string_bytes joined.new
         ≡ string_bytes joined.old ++ between (line_view line.entry) (line_view next.entry)) }
 {
-    if goes_on(line, next) {
+    if continues(line, next) {
         return Ok(());
     }
     joined.push_str(line.ending)?;
@@ -255,7 +266,7 @@ fn push_between(joined: &mut String, line: Line<'_>, next: Line<'_>) -> Result<(
     Ok(())
 }
 
-/// What stands between the quote marks of a line and what it says.
+/// Returns the text between the quote marks of a line and its content.
 fn gap(line: Line<'_>) -> &'static str
     ensures { result.now ≡ gap (line_view line.entry) }
 {
@@ -265,7 +276,7 @@ fn gap(line: Line<'_>) -> &'static str
     " "
 }
 
-/// Adds the quote marks of a line.
+/// Appends the quote marks of a line.
 fn push_marks(joined: &mut String, line: Line<'_>) -> Result<(), AllocError>
     ensures { OnOk result (string_bytes joined.new
         ≡ string_bytes joined.old ++ replicate line.entry.depth greater_than) }
@@ -278,24 +289,21 @@ fn push_marks(joined: &mut String, line: Line<'_>) -> Result<(), AllocError>
     Ok(())
 }
 
-/// Adds what a line says in its paragraph.
-fn push_shown(joined: &mut String, line: Line<'_>, deletes: bool) -> Result<(), AllocError>
+/// Appends the content of a line as its paragraph shows it.
+fn push_shown(joined: &mut String, line: Line<'_>, del_sp: DelSp) -> Result<(), AllocError>
     ensures { OnOk result (string_bytes joined.new
-        ≡ string_bytes joined.old ++ shown deletes (line_view line.entry)) }
+        ≡ string_bytes joined.old ++ shown (deletes del_sp) (line_view line.entry)) }
 {
-    joined.push_str(shown(line, deletes))?;
+    joined.push_str(shown(line, del_sp))?;
     Ok(())
 }
 
-/// What a line says in its paragraph.
-fn shown<'t>(line: Line<'t>, deletes: bool) -> &'t str
-    ensures { result.now ≡ shown deletes (line_view line.entry) }
+/// Returns the content of a line as its paragraph shows it.
+fn shown<'t>(line: Line<'t>, del_sp: DelSp) -> &'t str
+    ensures { result.now ≡ shown (deletes del_sp) (line_view line.entry) }
 {
-    if !deletes {
-        return line.content;
+    match del_sp {
+        DelSp::Yes if is_flowed(line) => without_space(line.content),
+        _ => line.content,
     }
-    if !is_flowed(line) {
-        return line.content;
-    }
-    without_space(line.content)
 }

@@ -1,25 +1,24 @@
-//! What applications need from mail, on top of the port of `mailparse`: which parts are files and
-//! how they are named (`files`), where the parts stand (`places`), the mails of a mailbox
-//! (`mailbox`), the text to be read (`texts`), texts whose paragraphs flow over lines (RFC 3676;
-//! `flowed`), forwarded mails (`forwarding`) and all mails inside a mail with their paths
-//! (`inner_mails`), the recipients that a delivery status notification names (RFC 3464; `bounce`),
-//! the ids that a thread is made of (`archive`), and lenient readings that recover what they can
-//! where the strict calls refuse (`lenient`).
+//! What applications need from mail, on top of the port of `mailparse`: the files among the parts and
+//! their names (`files`), the positions of the parts (`places`), the mails of a mailbox (`mailbox`),
+//! the text to be read (`texts`), texts whose paragraphs flow over lines (RFC 3676; `flowed`), the
+//! mails inside a mail with their paths (`inner_mails`), the recipients of a delivery status
+//! notification (RFC 3464; `bounce`), the ids that place a mail in a thread (`archive`), and lenient
+//! readings that recover what they can when the strict calls refuse (`lenient`).
 //!
-//! The rules of this layer are its own; those of `mailparse` stay as they are. What takes memory
-//! has the argument `alloc` and returns a `Result`; no call panics.
+//! The rules of this layer are its own; those of `mailparse` stay as they are. Each call that
+//! allocates has the argument `alloc` and returns a `Result`; no call panics. Calls that read
+//! charsets take them as the last argument, `known`; `()` means the four of `mail_codec`.
 //!
-//! The examples stand in a function that has the runtime `rt` and its allocator `alloc`.
+//! The examples run in a function with the runtime `rt` and its allocator `alloc`.
 #![tactic(auto)]
 
 pub mod archive;
 pub mod bounce;
 pub mod files;
 pub mod flowed;
-pub mod forwarding;
 pub mod inner_mails;
 pub mod lenient;
-mod lines;
+mod line_ends;
 pub mod mailbox;
 pub mod places;
 pub mod texts;

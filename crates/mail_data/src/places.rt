@@ -1,4 +1,4 @@
-//! Where a mail and each of its parts stand.
+//! The positions of a mail and each of its parts.
 ghost use Rattle.std.specs.Prelude.{◌≡◌, ◌++◌, [], ◌∷◌, map, IfOk, OnOk};
 ghost use Rattle.mailparse.specs.Views.{placement_of, placements_of, tree_of};
 ghost use Rattle.mail_data.specs.Files.{whole_path, with_paths};
@@ -10,11 +10,11 @@ use mailparse::ParsedMail;
 use std::alloc::{AllocError, Global};
 use std::ops::Range;
 
-/// A mail or a part of it, with its path and its place in the mail, as `places` returns it.
-#[derive(Drop)]
+/// A mail or a part of it, with its path and its position in the mail, as `places` returns it.
+#[derive(Debug, Drop)]
 pub struct Place<'m, 'a> {
     /// Its path, as IMAP numbers parts (RFC 3501, section 6.4.5): `2.1` is the first part of the
-    /// second part. That of the whole mail is `1`, that of its body, where it has no parts, and
+    /// second part. The path of the whole mail is `1`, that of its body, if it has no parts, and
     /// otherwise empty.
     pub path: String,
     /// The message.
@@ -26,13 +26,13 @@ pub struct Place<'m, 'a> {
 }
 
 /// Returns a mail and all its parts (RFC 2046, section 5.1), in the order in which they appear, each
-/// before its own parts, with their paths and with where they stand in the mail that was parsed.
+/// before its own parts, with their paths and their ranges in the mail that was parsed.
 ///
-/// The ranges are counted in bytes from 0. Takes memory for the list and the paths.
+/// The ranges are in bytes, counted from 0. Allocates the list and the paths.
 ///
 /// # Errors
 ///
-/// `AllocError` where it runs out of memory.
+/// `AllocError` if it runs out of memory.
 ///
 /// # Examples
 ///
@@ -60,7 +60,7 @@ pub fn places<'m, 'a>(
     Ok(found)
 }
 
-/// Adds a message that has this path, and then its parts.
+/// Appends a message with this path, and then its parts.
 pub(crate) fn push_places<'m, 'a>(
     alloc: Global,
     mail: &'m ParsedMail<'a>,
@@ -82,7 +82,7 @@ pub(crate) fn push_places<'m, 'a>(
     Ok(())
 }
 
-/// Adds a message that has this path.
+/// Appends a message with this path.
 fn push_place<'m, 'a>(
     alloc: Global,
     part: &'m ParsedMail<'a>,

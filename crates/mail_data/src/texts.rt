@@ -3,7 +3,7 @@ ghost use Rattle.std.specs.Prelude.{◌≡◌, Ok};
 ghost use Rattle.mailparse.specs.Outcome.{AnswersOrMemory};
 ghost use Rattle.mailparse.specs.Views.{tree_of};
 ghost use Rattle.mail_data.specs.Texts.{first_text, first_text_of_type, is_no_text};
-ghost use Rattle.mail_data.specs.Texts.{is_text_of_type, text_part_in, text_type};
+ghost use Rattle.mail_data.specs.Texts.{is_text_of_type, text_part, text_type};
 ghost use Rattle.mail_data.specs.TextViews.{tree_found};
 
 use crate::files::{is_attachment, is_attachment_disposition};
@@ -11,21 +11,21 @@ use mail_codec::charset::KnownCharsets;
 use mailparse::{MailParseError, ParsedMail};
 use std::alloc::Global;
 
-/// Returns the part of a mail that is to be read as its text, or `None` where there is none: the
+/// Returns the part of a mail that is to be read as its text, or `None` if there is no text: the
 /// first `text/plain`, otherwise the first `text/html` (RFC 2046, sections 4.1 and 5.1.4).
 ///
-/// The mail itself is looked at first, and then its parts, each before its own parts. So for a
+/// The mail itself comes first, and then its parts, each before its own parts. So for a
 /// `multipart/alternative` it is the plain text, if there is one. In any other multipart, too, a
 /// plain text without a file name, such as a mailing-list footer, takes precedence over an HTML
-/// text beside it. A text that has a file name is a file, as `files::is_attachment` says, and counts
-/// only where no other text is there and its disposition is not `attachment` (RFC 2183, section
-/// 2.1). The dispositions that tell files from texts are read in the charsets that are given (RFC
-/// 2231, section 4). The type `text` alone is plain text. `lenient::body_text` returns the text of
-/// the part. Takes memory for the list of parts and the dispositions.
+/// text beside it. A text with a file name is a file by `files::is_attachment`, and counts only if
+/// there is no other text and its disposition is not `attachment` (RFC 2183, section 2.1).
+/// Dispositions are read in the charsets `known` (RFC 2231, section 4). The type `text` alone is
+/// plain text. `lenient::body_text` returns the text of the part. Allocates the list of parts and
+/// the dispositions.
 ///
 /// # Errors
 ///
-/// `MailParseError::Memory` where it runs out of memory.
+/// `MailParseError::Memory` if it runs out of memory.
 ///
 /// # Examples
 ///
@@ -44,23 +44,22 @@ use std::alloc::Global;
 /// assert!(rt; text_part(alloc, &mail, &tables.as_slice())?.is_none());
 /// assert!(rt; text_part(alloc, &mail, &())?.is_some());
 /// ```
-#[tactic(auto, unfolding(crate::specs::Texts::text_part_in))]
+#[tactic(auto, unfolding(crate::specs::Texts::text_part))]
 pub fn text_part<'m, 'a, K: KnownCharsets>(
     alloc: Global,
     mail: &'m ParsedMail<'a>,
     known: &K,
 ) -> Result<Option<&'m ParsedMail<'a>>, MailParseError>
     ensures { AnswersOrMemory tree_found result
-        (Ok (text_part_in (K.known known.now) (tree_of mail.now))) }
+        (Ok (text_part (K.known known.now) (tree_of mail.now))) }
 {
     if let Some(part) = first_text(alloc, mail, false, known)? {
         return Ok(Some(part));
     }
-    let part = first_text(alloc, mail, true, known)?;
-    Ok(part)
+    first_text(alloc, mail, true, known)
 }
 
-/// The first plain text, otherwise the first HTML text.
+/// Returns the first plain text, otherwise the first HTML text.
 #[tactic(auto, unfolding(crate::specs::Texts::first_text))]
 fn first_text<'m, 'a, K: KnownCharsets>(
     alloc: Global,
@@ -74,11 +73,10 @@ fn first_text<'m, 'a, K: KnownCharsets>(
     if let Some(part) = first_text_of_type(alloc, mail, may_have_name, "text/plain", known)? {
         return Ok(Some(part));
     }
-    let part = first_text_of_type(alloc, mail, may_have_name, "text/html", known)?;
-    Ok(part)
+    first_text_of_type(alloc, mail, may_have_name, "text/html", known)
 }
 
-/// The first text of this type.
+/// Returns the first text of this type.
 #[tactic(auto, unfolding(crate::specs::Texts::first_text_of_type))]
 fn first_text_of_type<'m, 'a, K: KnownCharsets>(
     alloc: Global,
@@ -98,7 +96,7 @@ fn first_text_of_type<'m, 'a, K: KnownCharsets>(
     Ok(None)
 }
 
-/// Whether a part is a text of this type.
+/// Returns whether a part is a text of this type.
 #[tactic(auto, unfolding(crate::specs::Texts::is_text_of_type))]
 fn is_text_of_type<K: KnownCharsets>(
     alloc: Global,
@@ -116,7 +114,8 @@ fn is_text_of_type<K: KnownCharsets>(
     Ok(!is_no_text(alloc, part, may_have_name, known)?)
 }
 
-/// Whether a part is marked as an attachment, or is a file, where a text may not have a name.
+/// Returns whether a part is no text: its disposition is `attachment`, or it is a file although a
+/// text may not have a name.
 #[tactic(auto, unfolding(crate::specs::Texts::is_no_text))]
 fn is_no_text<K: KnownCharsets>(
     alloc: Global,
@@ -135,7 +134,7 @@ fn is_no_text<K: KnownCharsets>(
 }
 
 /// Returns the type of a text: `text` alone is `text/plain` (RFC 2045, section 5.2), and any other
-/// type is itself. Takes no memory.
+/// type is itself. Does not allocate.
 ///
 /// # Examples
 ///

@@ -7,7 +7,7 @@ use Rattle.mailparse.specs.Body.{BodyKind, in_base64, in_quoted_printable, in_7b
 use Rattle.mailparse.specs.Mail.{Node, Tree, root}
 use Rattle.mail_data.specs.lenient.Base64.{Front, base64_front}
 use Rattle.mail_data.specs.FileNames.{safe_name}
-use Rattle.mail_data.specs.Files.{attachments_in, file_name_in}
+use Rattle.mail_data.specs.Files.{attachments, file_name}
 use Rattle.mail_data.specs.lenient.Encoding.{lenient_body_kind}
 
 -- a file that is stored: where its part stands, its name, and as much of its bytes as can be read
@@ -18,7 +18,7 @@ pub record Stored : Type 0 where
 
 -- the name under which a part is stored
 unfoldable pub stored_name : Charsets → Node → List ℕ
-stored_name known node = safe_name (unwrap_or (file_name_in known node) (codes "unnamed"))
+stored_name known node = safe_name (unwrap_or (file_name known node) (codes "unnamed"))
 
 -- bytes that were all read
 abbrev pub whole : List ℕ → Front
@@ -42,4 +42,4 @@ stored known p = record { path = p.0; name = stored_name known (root p.1); conte
 
 -- the files of a mail
 abbrev pub stored_files : Charsets → Tree → List Stored
-stored_files known mail = map (stored known) (attachments_in known mail)
+stored_files known mail = map (stored known) (attachments known mail)

@@ -9,7 +9,7 @@ use Rattle.mail_address.specs.Headers.{sender_of}
 use Rattle.mail_address.specs.Text.{address_bytes}
 use Rattle.mail_data.specs.lenient.Date.{Dated, date_of}
 use Rattle.mail_data.specs.lenient.Texts.{BodyText, body_text}
-use Rattle.mail_data.specs.Texts.{text_part_in}
+use Rattle.mail_data.specs.Texts.{text_part}
 
 -- the address of a mailbox, in canonical form
 abbrev pub address_of : Single → Option (List ℕ)
@@ -25,4 +25,4 @@ date known node = option_map date_of (first_value_in known (codes "Date") node.h
 
 -- what the text of a mail reads as, if it has one
 abbrev pub text : Charsets → Tree → Option BodyText
-text known mail = option_map (λ part. body_text known (root part)) (text_part_in known mail)
+text known mail = option_map (λ part. body_text known (root part)) (text_part known mail)

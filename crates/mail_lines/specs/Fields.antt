@@ -6,7 +6,7 @@ use Rattle.mailparse.specs.Disposition.{Disposition, Kind, inline, attachment, f
 use Rattle.mailparse.specs.Mail.{Node}
 use Rattle.mailparse.specs.Map.{first_value_in, first_with_key}
 use Rattle.mailparse.specs.Refusal.{Refusal, generic, encoding, base64_fault}
-use Rattle.mail_data.specs.lenient.Ids.{found_in}
+use Rattle.mail_data.specs.lenient.Ids.{found_ids}
 
 -- why something is refused
 unfoldable pub refusal_text : Refusal → List ℕ
@@ -33,4 +33,4 @@ module _ (known : Charsets) where
 
   -- the ids in it, each with an `@` where one is needed
   abbrev pub ids_of : Bool → List ℕ → Node → List (List ℕ)
-  ids_of needs_at key node = option_map_or (found_in needs_at) (value_of key node) []
+  ids_of needs_at key node = option_map_or (found_ids needs_at) (value_of key node) []

@@ -6,7 +6,7 @@ use Rattle.mailparse.specs.Mail.{Node, Tree, root}
 use Rattle.mailparse.specs.Map.{first_with_key}
 use Rattle.mailparse.specs.Placement.{placements}
 use Rattle.mail_data.specs.PartPlaces.{places}
-use Rattle.mail_data.specs.lenient.Date.{Dated, Zoned, date_in}
+use Rattle.mail_data.specs.lenient.Date.{Dated, Zoned, zoned_date_of}
 use Rattle.mail_data.specs.declared.lenient.date.error.DateError.{DateError}
 use Rattle.mail_data.specs.declared.lenient.date.error.DateError.TheVariants.{Day, Month, Year, Time, Zone, TrailingText}
 use Rattle.mail_lines.specs.Addresses.{addresses_text}
@@ -72,7 +72,7 @@ module _ (known : Charsets) where
   -- the object of a mail from there, with these mails inside, whose parts have this text
   abbrev pub mail_text : Origin → Node → List InnerMail → List ℕ → List ℕ
   mail_text origin node inside parts =
-      origin_text origin ++ values_text node ++ raw_text node ++ date_text (option_map date_in (value_of known (codes "Date") node))
+      origin_text origin ++ values_text node ++ raw_text node ++ date_text (option_map zoned_date_of (value_of known (codes "Date") node))
       ++ ids_text node ++ codes ",\"parts\":[" ++ parts ++ codes "]" ++ forwarded_text origin.start inside ++ codes "}"
 
 -- a text is that of the object of a mail from there: its own parts, and then those of the mails inside

@@ -1,16 +1,16 @@
 //! What headers say, in the charsets that are known, and why something is refused.
-ghost use Rattle.std.specs.Prelude.{◌≡◌, Some, map, option_map, string_bytes, IfOk, Ok};
+ghost use Rattle.std.specs.Prelude.{◌≡◌, Some, option_map, string_bytes, IfOk, Ok};
 ghost use Rattle.mailparse.specs.Mail.{root};
 ghost use Rattle.mailparse.specs.Map.{text_found};
 ghost use Rattle.mailparse.specs.Outcome.{AnswersOrMemory, GivesTexts, IsMemory, refusal_of};
 ghost use Rattle.mailparse.specs.Refusal.{Refusal};
 ghost use Rattle.mailparse.specs.Views as views;
 ghost use Rattle.mailparse.specs.Views.{kind, tree_of};
-ghost use Rattle.mail_data.specs.lenient.Ids.{found_in};
+ghost use Rattle.mail_data.specs.lenient.IdViews.{needs_at};
 ghost use Rattle.mail_lines.specs.Fields.{disposition_name, ids_of, kind_text, refusal_text};
 ghost use Rattle.mail_lines.specs.Fields.{value_of};
 
-use mail_data::lenient::{ids_in, own_ids_in};
+use mail_data::lenient::{IdRule, find_ids};
 use mailparse::{
     DispositionType, KnownCharsets, MailHeaderMap, MailParseError, ParsedContentDisposition,
     ParsedMail,
@@ -34,8 +34,7 @@ pub fn value_of<K: KnownCharsets>(
     mail.headers.get_first_value_in(alloc, key, known)
 }
 
-/// The message ids in the value of the first header with this name, each with an `@` where one is
-/// needed.
+/// Returns the message ids by this rule in the value of the first header with this name.
 ///
 /// # Errors
 ///
@@ -44,26 +43,15 @@ pub fn ids_of<K: KnownCharsets>(
     alloc: Global,
     mail: &ParsedMail<'_>,
     key: &str,
-    needs_at: bool,
+    rule: IdRule,
     known: &K,
 ) -> Result<Vec<String>, MailParseError>
     ensures { GivesTexts result
-        (ids_of (K.known known.now) needs_at key.now (root (tree_of mail.now))) }
+        (ids_of (K.known known.now) (needs_at rule) key.now (root (tree_of mail.now))) }
 {
     match value_of(alloc, mail, key, known)? {
-        Some(value) => Ok(found_in(alloc, value.as_str(), needs_at)?),
+        Some(value) => Ok(find_ids(alloc, value.as_str(), rule)?),
         None => Ok(Vec::new(alloc)),
-    }
-}
-
-/// The message ids in a text, each with an `@` where one is needed.
-fn found_in(alloc: Global, text: &str, needs_at: bool) -> Result<Vec<String>, AllocError>
-    ensures { IfOk result (λ ids. map string_bytes ids.items ≡ found_in needs_at text.now) }
-{
-    if needs_at {
-        ids_in(alloc, text)
-    } else {
-        own_ids_in(alloc, text)
     }
 }
 

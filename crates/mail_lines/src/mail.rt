@@ -3,7 +3,8 @@ ghost use Rattle.std.specs.Prelude.{◌≡◌, ◌++◌, codes, option_map};
 ghost use Rattle.mailparse.specs.Mail.{root};
 ghost use Rattle.mailparse.specs.Placement.{placements};
 ghost use Rattle.mailparse.specs.Views.{placements_of, tree_of};
-ghost use Rattle.mail_data.specs.lenient.Date.{date_in};
+ghost use Rattle.mail_data.specs.lenient.Date.{zoned_date_of};
+ghost use Rattle.mail_data.specs.lenient.IdViews.{needs_at};
 ghost use Rattle.mail_lines.specs.Fields.{value_of};
 ghost use Rattle.mail_lines.specs.Mail.{IsMailText, date_fault_text, date_text, id_list_text};
 ghost use Rattle.mail_lines.specs.Mail.{ids_text, raw_text, raw_value_text, value_text, values_text};
@@ -22,7 +23,7 @@ use crate::reading::Reading;
 use crate::strings::{write_optional, write_text, write_texts, write_word};
 use mail_codec::charset::decode_latin1;
 use mail_data::inner_mails::inner_mails;
-use mail_data::lenient::{DateError, date_in};
+use mail_data::lenient::{DateError, IdRule, zoned_date_of};
 use mail_program::Fault;
 use mailparse::{KnownCharsets, MailHeaderMap, ParsedMail};
 use std::alloc::Global;
@@ -157,7 +158,7 @@ fn write_ids<W: Write, K: KnownCharsets>(
         ",\"message_id\":",
         mail,
         "Message-ID",
-        false,
+        IdRule::Any,
         known,
     )?;
     write_id_list(
@@ -166,7 +167,7 @@ fn write_ids<W: Write, K: KnownCharsets>(
         ",\"in_reply_to\":",
         mail,
         "In-Reply-To",
-        true,
+        IdRule::WithAt,
         known,
     )?;
     write_id_list(
@@ -175,26 +176,25 @@ fn write_ids<W: Write, K: KnownCharsets>(
         ",\"references\":",
         mail,
         "References",
-        true,
+        IdRule::WithAt,
         known,
     )
 }
 
-/// Writes the ids in the first header with this name, after these words, each with an `@` where one
-/// is needed.
+/// Writes the ids by this rule in the first header with this name, after these words.
 fn write_id_list<W: Write, K: KnownCharsets>(
     alloc: Global,
     out: &mut W,
     before: &str,
     mail: &ParsedMail<'_>,
     key: &str,
-    needs_at: bool,
+    rule: IdRule,
     known: &K,
 ) -> Result<(), Fault>
     ensures { Writes (W.contents out.old) (W.contents out.new) result (id_list_text
-        (K.known known.now) before.now needs_at key.now (root (tree_of mail.now))) }
+        (K.known known.now) before.now (needs_at rule) key.now (root (tree_of mail.now))) }
 {
-    let ids = ids_of(alloc, mail, key, needs_at, known)?;
+    let ids = ids_of(alloc, mail, key, rule, known)?;
     write_word(out, before)?;
     write_texts(alloc, out, ids.as_slice())
 }
@@ -208,12 +208,12 @@ fn write_date<W: Write, K: KnownCharsets>(
     known: &K,
 ) -> Result<(), Fault>
     ensures { Writes (W.contents out.old) (W.contents out.new) result (date_text (option_map
-        date_in (value_of (K.known known.now) (codes "Date") (root (tree_of mail.now))))) }
+        zoned_date_of (value_of (K.known known.now) (codes "Date") (root (tree_of mail.now))))) }
 {
     let Some(date) = value_of(alloc, mail, "Date", known)? else {
         return write_word(out, ",\"date\":null");
     };
-    match date_in(date.as_str()) {
+    match zoned_date_of(date.as_str()) {
         Ok((seconds, is_zone_known)) => {
             write_seconds(out, seconds)?;
             write_word(out, zone_text(is_zone_known))

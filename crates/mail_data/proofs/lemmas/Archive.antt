@@ -11,11 +11,11 @@ use Rattle.mail_codec.specs.Charset.{Charsets}
 use Rattle.mailparse.specs.Mail.{Node}
 use Rattle.mail_data.specs.Archive.{ids_of, parents, without_repeats}
 
--- an id stands among others
+-- an id occurs among others
 abbrev pub is_among_ids : List ℕ → List (List ℕ) → Bool
 is_among_ids id ids = list_any (λ other. bytes_eq other id) ids
 
--- an id, unless it stands among others
+-- an id, unless it occurs among others
 abbrev pub unless_among : List ℕ → List (List ℕ) → List (List ℕ)
 unless_among id ids = cond (is_among_ids id ids) [] (id ∷ [])
 
@@ -33,7 +33,7 @@ without_repeats-push (first ∷ ids) id =
     pick true false e = ap (λ b. cond (not b) (id ∷ []) []) e
     pick false false e = ap (λ b. cond (not b) (id ∷ []) []) e
 
--- what stands among ids and one more
+-- membership in ids and one more
 pub is_among_ids-push : (ids : List (List ℕ)) (id other : List ℕ) → is_among_ids other (ids ++ id ∷ []) ≡ cond (bytes_eq id other) true (is_among_ids other ids)
 is_among_ids-push ids id other = list_any-append (λ one. bytes_eq one other) ids (id ∷ []) ∙ pick (is_among_ids other ids) (bytes_eq id other)
   where
@@ -43,7 +43,7 @@ is_among_ids-push ids id other = list_any-append (λ one. bytes_eq one other) id
     pick false true = refl
     pick false false = refl
 
--- ---- no id stands twice
+-- ---- no id occurs twice
 
 apart_kept : (id : List ℕ) (p : List ℕ → Bool) (ids : List (List ℕ)) → AllByRecursion (λ other. bytes_eq id other ≡ false) ids
     → AllByRecursion (λ other. bytes_eq id other ≡ false) (filter p ids)
@@ -92,7 +92,7 @@ kept-old ids kept id added before is fails =
     before ∙ sym (append-nil (without_repeats ids)) ∙ ap (λ b. without_repeats ids ++ cond b [] (id ∷ [])) (sym (not-false (is_among_ids id ids) (sym is ∙ fails)))
     ∙ sym (without_repeats-push ids id)
 
--- what was seen, after one id more
+-- the ids seen, after one more
 pub seen-next : (ids : List (List ℕ)) (id key q : List ℕ) (old new : Bool) → key ≡ id → new ≡ cond (bytes_eq key q) true old → old ≡ is_among_ids q ids
     → new ≡ is_among_ids q (ids ++ id ∷ [])
 seen-next ids id key q old new same is before =

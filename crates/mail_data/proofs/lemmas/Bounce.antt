@@ -8,9 +8,9 @@ use Rattle.mailparse.proofs.lemmas.EncodedWord.{any_from_place}
 use Rattle.mailparse.specs.Header.{Header}
 use Rattle.mail_codec.specs.Charset.{Charsets}
 use Rattle.mail_codec.specs.Places.{is_empty}
-use Rattle.mail_data.specs.Bounce.{Delivery, after_block, after_type, block_at, block_length, blocks, deliveries, delivery_in, fields, pieces_within, address_of, text_of, typed_text_of}
-use Rattle.mail_data.specs.Lines.{empty_line, is_empty_line}
-use Rattle.mail_data.proofs.lemmas.Lines.{line_place-passes, no-bytes, some-bytes}
+use Rattle.mail_data.specs.Bounce.{Delivery, after_block, after_type, block_at, block_length, blocks, deliveries, delivery_in, fields, address_text, field, pieces_within, plain_text, typed_text}
+use Rattle.mail_data.specs.LineEnds.{empty_line, is_empty_line}
+use Rattle.mail_data.proofs.lemmas.LineEnds.{line_place-passes, no-bytes, some-bytes}
 
 -- ---- the type of a value
 
@@ -46,7 +46,7 @@ pieces-enough (suc n) (suc m) (c ∷ bytes) a b =
     let less = after_block-shorter (c ∷ bytes) (omega arith) in
     ap (λ (ps : List (List ℕ)). block_at (c ∷ bytes) ∷ ps) (pieces-enough n m (after_block (c ∷ bytes)) (omega arith) (omega arith))
 
--- a block, if something stands there
+-- a block, if it is not empty
 abbrev pub if_some : List ℕ → List (List ℕ)
 if_some block = filter (λ b. not (is_empty b)) (block ∷ [])
 
@@ -91,11 +91,11 @@ pub blocks-end : (rest : List ℕ) (found all : List (List ℕ)) (r : Bool) → 
 unfolding blocks
 blocks-end rest found all r is none before = sym (append-nil found) ∙ ap (λ (b : List ℕ). found ++ blocks b) (sym (no-bytes rest r is none)) ∙ before
 
--- ---- what the fields say
+-- ---- the fields on a recipient
 
-pub delivery-is : (known : Charsets) (headers : List Header) (final original action status code : Option (List ℕ)) → final ≡ address_of known (codes "Final-Recipient") headers
-    → original ≡ address_of known (codes "Original-Recipient") headers → action ≡ text_of known (codes "Action") headers → status ≡ text_of known (codes "Status") headers
-    → code ≡ typed_text_of known (codes "Diagnostic-Code") headers
+pub delivery-is : (known : Charsets) (headers : List Header) (final original action status code : Option (List ℕ)) → final ≡ field address_text known (codes "Final-Recipient") headers
+    → original ≡ field address_text known (codes "Original-Recipient") headers → action ≡ field plain_text known (codes "Action") headers → status ≡ field plain_text known (codes "Status") headers
+    → code ≡ field typed_text known (codes "Diagnostic-Code") headers
     → ◌≡◌ {A = Delivery} (record { final_recipient = final; original_recipient = original; action = action; status = status; diagnostic_code = code }) (delivery_in known headers)
 delivery-is known headers final original action status code a b c d e = rw (a, b, c, d, e) refl
 

@@ -14,14 +14,14 @@ use Rattle.mail_data.specs.FileNames.{front_name, is_reserved, is_unsafe, made_s
 
 -- ---- as many characters as fit, one after another
 
--- the characters from the front that fit in so many bytes
+-- the leading characters that fit in `capacity` bytes
 abbrev front_within : ℕ → List ℕ → List ℕ
-front_within room [] = []
-front_within room (c ∷ cs) = if nat_le (len_utf8 c) room then c ∷ front_within (room - len_utf8 c) cs else []
+front_within capacity [] = []
+front_within capacity (c ∷ cs) = if nat_le (len_utf8 c) capacity then c ∷ front_within (capacity - len_utf8 c) cs else []
 
--- how many these are: the least number for which one more does not fit, or all of them
+-- their number: the least for which one more does not fit, or all of them
 abbrev fitting : ℕ → List ℕ → ℕ
-fitting room cs = least (λ n. nat_lt room (length (encode_utf8_all (take (suc n) cs)))) (length cs)
+fitting capacity cs = least (λ n. nat_lt capacity (length (encode_utf8_all (take (suc n) cs)))) (length cs)
 
 -- tests that agree pass first at the same number
 least-agrees : (f g : ℕ → Bool) → ((n : ℕ) → f n ≡ g n) → (bound : ℕ) → least f bound ≡ least g bound
@@ -30,41 +30,41 @@ least-agrees f g same (suc bound) =
     ap (λ (b : Bool). if b then 0 else suc (least (λ n. f (suc n)) bound)) (same 0)
     ∙ ap (λ (n : ℕ). if g 0 then 0 else suc n) (least-agrees (λ n. f (suc n)) (λ n. g (suc n)) (λ n. same (suc n)) bound)
 
--- what does not fit beside a character does not fit in what is left after it
-more_than_left : (room width all rest : ℕ) → width ≤ room → all ≡ width + rest → nat_lt room all ≡ nat_lt (room - width) rest
-more_than_left room width all rest fits sum = elim (cases_Bool (nat_lt (room - width) rest)) [
-  | inl more ↦ let big = ltb-true (room - width) rest more in lt-ltb room all (omega (arith, big, fits, sum)) ∙ sym more
-  | inr none ↦ let small = ltb-false (room - width) rest none in le-ltb room all (omega (arith, small, fits, sum)) ∙ sym none
+-- bytes that do not fit beside a character do not fit in the capacity left after it
+more_than_left : (capacity width all rest : ℕ) → width ≤ capacity → all ≡ width + rest → nat_lt capacity all ≡ nat_lt (capacity - width) rest
+more_than_left capacity width all rest fits sum = elim (cases_Bool (nat_lt (capacity - width) rest)) [
+  | inl more ↦ let big = ltb-true (capacity - width) rest more in lt-ltb capacity all (omega (arith, big, fits, sum)) ∙ sym more
+  | inr none ↦ let small = ltb-false (capacity - width) rest none in le-ltb capacity all (omega (arith, small, fits, sum)) ∙ sym none
 ]
 
-front_within-takes : (room : ℕ) (cs : List ℕ) → front_within room cs ≡ take (fitting room cs) cs
-front_within-takes room [] = refl
-front_within-takes room (c ∷ cs) =
+front_within-takes : (capacity : ℕ) (cs : List ℕ) → front_within capacity cs ≡ take (fitting capacity cs) cs
+front_within-takes capacity [] = refl
+front_within-takes capacity (c ∷ cs) =
     let width = len_utf8 c in
     let len : (n : ℕ) → length (encode_utf8_all (c ∷ take n cs)) ≡ width + length (encode_utf8_all (take n cs)) =
     λ n. length-append (encode_utf8 c) (encode_utf8_all (take n cs)) ∙ ap (λ k. k + length (encode_utf8_all (take n cs))) (length-encode c) in
-    elim (cases_Bool (nat_le width room)) [
+    elim (cases_Bool (nat_le width capacity)) [
       | inl f ↦
-          let fits = leb-true width room f in
-          let first = le-ltb room (length (encode_utf8_all (c ∷ take 0 cs))) (omega (arith, fits, len 0)) in
-          let step : fitting room (c ∷ cs) ≡ suc (fitting (room - width) cs) =
-          cond-false (nat_lt room (length (encode_utf8_all (c ∷ take 0 cs)))) 0 _ first
-          ∙ ap suc (least-agrees (λ n. nat_lt room (length (encode_utf8_all (c ∷ take (suc n) cs)))) (λ n. nat_lt (room - width) (length (encode_utf8_all (take (suc n) cs))))
-          (λ n. more_than_left room width _ _ fits (len (suc n))) (length cs)) in
-          cond-true (nat_le width room) _ _ f ∙ ap (λ (ds : List ℕ). c ∷ ds) (front_within-takes (room - width) cs)
+          let fits = leb-true width capacity f in
+          let first = le-ltb capacity (length (encode_utf8_all (c ∷ take 0 cs))) (omega (arith, fits, len 0)) in
+          let step : fitting capacity (c ∷ cs) ≡ suc (fitting (capacity - width) cs) =
+          cond-false (nat_lt capacity (length (encode_utf8_all (c ∷ take 0 cs)))) 0 _ first
+          ∙ ap suc (least-agrees (λ n. nat_lt capacity (length (encode_utf8_all (c ∷ take (suc n) cs)))) (λ n. nat_lt (capacity - width) (length (encode_utf8_all (take (suc n) cs))))
+          (λ n. more_than_left capacity width _ _ fits (len (suc n))) (length cs)) in
+          cond-true (nat_le width capacity) _ _ f ∙ ap (λ (ds : List ℕ). c ∷ ds) (front_within-takes (capacity - width) cs)
           ∙ ap (λ (n : ℕ). take n (c ∷ cs)) (sym step)
       | inr n ↦
-          let big = leb-false width room n in
-          let first = lt-ltb room (length (encode_utf8_all (c ∷ take 0 cs))) (omega (arith, big, len 0)) in
-          cond-false (nat_le width room) _ _ n
-          ∙ ap (λ (k : ℕ). take k (c ∷ cs)) (sym (cond-true (nat_lt room (length (encode_utf8_all (c ∷ take 0 cs)))) 0 _ first))
+          let big = leb-false width capacity n in
+          let first = lt-ltb capacity (length (encode_utf8_all (c ∷ take 0 cs))) (omega (arith, big, len 0)) in
+          cond-false (nat_le width capacity) _ _ n
+          ∙ ap (λ (k : ℕ). take k (c ∷ cs)) (sym (cond-true (nat_lt capacity (length (encode_utf8_all (c ∷ take 0 cs)))) 0 _ first))
     ]
 
 front_name-within : (name : List ℕ) → front_name name ≡ encode_utf8_all (front_within 255 (map made_safe (chars name)))
 unfolding front_name
 front_name-within name = ap encode_utf8_all (sym (front_within-takes 255 (map made_safe (chars name))))
 
--- what was written, and then what still fits of the rest
+-- the characters written, and then those of the rest that still fit
 abbrev pub filled : List ℕ → List ℕ → List ℕ
 filled out rest = out ++ encode_utf8_all (front_within (255 - length out) (map made_safe (chars rest)))
 
@@ -92,8 +92,8 @@ filled-more out rest next new c utf8 e push fits =
     let n = len_utf8 d in
     let more = map made_safe (chars next) in
     let len : length new ≡ length out + n = ap length push ∙ length-append out (encode_utf8 d) ∙ ap (λ k. length out + k) (length-encode d) in
-    let room : 255 - length new ≡ 255 - length out - n = omega arith in
-    ap (λ k. new ++ encode_utf8_all (front_within k more)) room
+    let capacity : 255 - length new ≡ 255 - length out - n = omega arith in
+    ap (λ k. new ++ encode_utf8_all (front_within k more)) capacity
     ∙ ap (λ (o : List ℕ). o ++ encode_utf8_all (front_within (255 - length out - n) more)) push
     ∙ append_assoc out (encode_utf8 d) (encode_utf8_all (front_within (255 - length out - n) more))
     ∙ ap (λ (cs : List ℕ). out ++ encode_utf8_all cs)
@@ -108,35 +108,35 @@ all_safe cs = list_all (λ c. not (is_unsafe c)) cs
 made_safe-safe : (c : ℕ) → not (is_unsafe (made_safe c)) ≡ true
 made_safe-safe c = cond_both (is_unsafe c) 95 c (λ d. not (is_unsafe d) ≡ true) (λ unsafe. refl) (λ safe. ap not safe)
 
-front_within-safe : (room : ℕ) (cs : List ℕ) → all_safe (front_within room (map made_safe cs)) ≡ true
+front_within-safe : (capacity : ℕ) (cs : List ℕ) → all_safe (front_within capacity (map made_safe cs)) ≡ true
 unfolding all_safe
-front_within-safe room [] = refl
-front_within-safe room (c ∷ cs) =
+front_within-safe capacity [] = refl
+front_within-safe capacity (c ∷ cs) =
     let width = len_utf8 (made_safe c) in
-    cond_both (nat_le width room) (made_safe c ∷ front_within (room - width) (map made_safe cs)) [] (λ (ds : List ℕ). all_safe ds ≡ true)
-    (λ fits. and_from _ _ (made_safe-safe c) (front_within-safe (room - width) cs)) (λ full. refl)
+    cond_both (nat_le width capacity) (made_safe c ∷ front_within (capacity - width) (map made_safe cs)) [] (λ (ds : List ℕ). all_safe ds ≡ true)
+    (λ fits. and_from _ _ (made_safe-safe c) (front_within-safe (capacity - width) cs)) (λ full. refl)
 
 made_safe-scalar : (c : ℕ) → scalar c ≡ true → scalar (made_safe c) ≡ true
 made_safe-scalar c h = cond_both (is_unsafe c) 95 c (λ d. scalar d ≡ true) (λ unsafe. refl) (λ safe. h)
 
-front_within-scalars : (room : ℕ) (cs : List ℕ) → scalars cs ≡ true → scalars (front_within room (map made_safe cs)) ≡ true
-front_within-scalars room [] h = refl
-front_within-scalars room (c ∷ cs) h =
+front_within-scalars : (capacity : ℕ) (cs : List ℕ) → scalars cs ≡ true → scalars (front_within capacity (map made_safe cs)) ≡ true
+front_within-scalars capacity [] h = refl
+front_within-scalars capacity (c ∷ cs) h =
     let parts = and_parts (scalar c) (scalars cs) h in
     let d = made_safe c in
-    let more = front_within (room - len_utf8 d) (map made_safe cs) in
-    cond_both (nat_le (len_utf8 d) room) (d ∷ more) [] (λ (ds : List ℕ). scalars ds ≡ true)
-    (λ fits. and_from (scalar d) (scalars more) (made_safe-scalar c parts.0) (front_within-scalars (room - len_utf8 d) cs parts.1)) (λ full. refl)
+    let more = front_within (capacity - len_utf8 d) (map made_safe cs) in
+    cond_both (nat_le (len_utf8 d) capacity) (d ∷ more) [] (λ (ds : List ℕ). scalars ds ≡ true)
+    (λ fits. and_from (scalar d) (scalars more) (made_safe-scalar c parts.0) (front_within-scalars (capacity - len_utf8 d) cs parts.1)) (λ full. refl)
 
-front_within-short : (room : ℕ) (cs : List ℕ) → length (encode_utf8_all (front_within room cs)) ≤ room
-front_within-short room [] = omega arith
-front_within-short room (c ∷ cs) =
-    let more = front_within (room - len_utf8 c) cs in
-    let later = front_within-short (room - len_utf8 c) cs in
+front_within-short : (capacity : ℕ) (cs : List ℕ) → length (encode_utf8_all (front_within capacity cs)) ≤ capacity
+front_within-short capacity [] = omega arith
+front_within-short capacity (c ∷ cs) =
+    let more = front_within (capacity - len_utf8 c) cs in
+    let later = front_within-short (capacity - len_utf8 c) cs in
     let all = length-append (encode_utf8 c) (encode_utf8_all more) in
     let one = length-encode c in
-    cond_both (nat_le (len_utf8 c) room) (c ∷ more) [] (λ (ds : List ℕ). length (encode_utf8_all ds) ≤ room)
-    (λ fits. let low = leb-true (len_utf8 c) room fits in omega arith) (λ full. omega arith)
+    cond_both (nat_le (len_utf8 c) capacity) (c ∷ more) [] (λ (ds : List ℕ). length (encode_utf8_all ds) ≤ capacity)
+    (λ fits. let low = leb-true (len_utf8 c) capacity fits in omega arith) (λ full. omega arith)
 
 -- ---- a name that is safe stays
 
@@ -147,13 +147,13 @@ made_safe-same (c ∷ cs) h =
     let parts = and_parts (not (is_unsafe c)) (all_safe cs) h in
     ap (λ (d : ℕ). d ∷ map made_safe cs) (cond-false (is_unsafe c) 95 c (not-true (is_unsafe c) parts.0)) ∙ ap (λ (ds : List ℕ). c ∷ ds) (made_safe-same cs parts.1)
 
-front_within-all : (room : ℕ) (cs : List ℕ) → length (encode_utf8_all cs) ≤ room → front_within room cs ≡ cs
-front_within-all room [] h = refl
-front_within-all room (c ∷ cs) h =
+front_within-all : (capacity : ℕ) (cs : List ℕ) → length (encode_utf8_all cs) ≤ capacity → front_within capacity cs ≡ cs
+front_within-all capacity [] h = refl
+front_within-all capacity (c ∷ cs) h =
     let len = length-append (encode_utf8 c) (encode_utf8_all cs) in
     let one = length-encode c in
-    cond-true (nat_le (len_utf8 c) room) (c ∷ front_within (room - len_utf8 c) cs) [] (le-leb (len_utf8 c) room (omega arith))
-    ∙ ap (λ (ds : List ℕ). c ∷ ds) (front_within-all (room - len_utf8 c) cs (omega arith))
+    cond-true (nat_le (len_utf8 c) capacity) (c ∷ front_within (capacity - len_utf8 c) cs) [] (le-leb (len_utf8 c) capacity (omega arith))
+    ∙ ap (λ (ds : List ℕ). c ∷ ds) (front_within-all (capacity - len_utf8 c) cs (omega arith))
 
 -- ---- the whole name
 

@@ -12,7 +12,7 @@ use Rattle.mailparse.specs.declared.mail.message.ParsedMail.TheFolds.{fold_out-P
 use Rattle.mailparse.specs.ContentType.{ContentType}
 use Rattle.mailparse.specs.Disposition.{Disposition}
 use Rattle.mailparse.specs.Refusal.{Reads}
-use Rattle.mail_data.specs.Files.{attachments_under, describes_attachment, files_among, is_leaf, is_attachment_in, parts_with_paths, path_under, with_paths}
+use Rattle.mail_data.specs.Files.{attachments_under, describes_attachment, files_among, is_leaf, is_attachment, parts_with_paths, path_under, with_paths}
 use Rattle.mail_data.proofs.lemmas.PartPlaces.{paths_in, with_paths-out}
 
 leaf-forest : (node : Node) (ts : List Tree) → is_leaf (tree node (forest ts)) ≡ eqb (length ts) 0
@@ -32,14 +32,14 @@ is_leaf-out m =
 pub ctype-out : (m : ParsedMail) → content_type (out-ParsedMail m).ctype ≡ (root (tree_of m)).ctype
 ctype-out m = ap (λ (t : Tree). (root t).ctype) (sym (fold_out-ParsedMail Tree tree_step m))
 
-pub is_attachment-parts : (known : Charsets) (t : Tree) → false ≡ is_leaf t → is_attachment_in known t ≡ false
-unfolding is_attachment_in
+pub is_attachment-parts : (known : Charsets) (t : Tree) → false ≡ is_leaf t → is_attachment known t ≡ false
+unfolding is_attachment
 is_attachment-parts known t e = and_left (is_leaf t) (describes_attachment (shown_as_in known (root t)) (root t).ctype) (sym e)
 
--- where there are no parts, the disposition and the type tell
+-- without parts, the disposition and the type decide
 pub is_attachment-leaf : (known : Charsets) (t : Tree) (d : Disposition) (ctype : ContentType) (r : Bool) → true ≡ is_leaf t
-    → ◌≡◌ {A = Reads Disposition} (Ok (shown_as_in known (root t))) (Ok d) → ctype ≡ (root t).ctype → r ≡ describes_attachment d ctype → is_attachment_in known t ≡ r
-unfolding is_attachment_in
+    → ◌≡◌ {A = Reads Disposition} (Ok (shown_as_in known (root t))) (Ok d) → ctype ≡ (root t).ctype → r ≡ describes_attachment d ctype → is_attachment known t ≡ r
+unfolding is_attachment
 is_attachment-leaf known t d ctype r leaf shown same e =
     let disposition : shown_as_in known (root t) ≡ d = cc in
     ap (λ b. b && describes_attachment (shown_as_in known (root t)) (root t).ctype) (sym leaf)
@@ -47,7 +47,7 @@ is_attachment-leaf known t d ctype r leaf shown same e =
 
 -- ---- the files of a message and its parts
 
--- the files of parts that are numbered from there on
+-- the files of parts that are numbered from this number onwards
 abbrev pub files_in : Charsets → List ℕ → ℕ → Forest → List (List ℕ × Tree)
 files_in known path number parts = files_among known (parts_with_paths path number parts)
 
@@ -62,7 +62,7 @@ files-start known path m parts done new own made =
     let all = paths_in path 1 parts in
     ap (λ (l : List (List ℕ × Tree)). l ++ files_among known all) made
     ∙ append_assoc done (files_among known ((path, tree_of m) ∷ [])) (files_among known all)
-    ∙ ap (λ (l : List (List ℕ × Tree)). done ++ l) (sym (filter-append (λ p. is_attachment_in known p.1) ((path, tree_of m) ∷ []) all))
+    ∙ ap (λ (l : List (List ℕ × Tree)). done ++ l) (sym (filter-append (λ p. is_attachment known p.1) ((path, tree_of m) ∷ []) all))
     ∙ ap (λ (ms : List ParsedMail). done ++ files_among known ((path, tree_of m) ∷ paths_in path 1 ms)) own
     ∙ ap (λ (l : List (List ℕ × Tree)). done ++ files_among known l) (with_paths-out path m)
 
@@ -76,7 +76,7 @@ files-next known path at i left rest m done new all is own made here =
     ap (λ (n : ℕ). new ++ files_left known path (suc n) rest) (add-one i)
     ∙ ap (λ (l : List (List ℕ × Tree)). l ++ files_among known parts) (made ∙ ap (λ (p : List ℕ). done ++ attachments_under known p (tree_of m)) own)
     ∙ append_assoc done (files_among known one) (files_among known parts)
-    ∙ ap (λ (l : List (List ℕ × Tree)). done ++ l) (sym (filter-append (λ p. is_attachment_in known p.1) one parts))
+    ∙ ap (λ (l : List (List ℕ × Tree)). done ++ l) (sym (filter-append (λ p. is_attachment known p.1) one parts))
     ∙ ap (λ (ms : List ParsedMail). done ++ files_left known path (suc i) ms) (sym is) ∙ here
 
 pub files-end : (known : Charsets) (path : List ℕ) (number n : ℕ) (parts : List ParsedMail) (done all : List (List ℕ × Tree)) → length parts ≤ n

@@ -1,10 +1,11 @@
 -- Lemmas on texts whose paragraphs flow over lines.
-use Rattle.std.proofs.Common.{◌≡◌, ◌≢◌, ℕ, suc, ◌+◌, ◌<◌, Bool, true, false, cond, eqb, List, [], ◌∷◌, ◌++◌, length, take, drop, map, refl, sym, ap, ◌∙◌, arith, append_assoc, inl, inr}
-use Rattle.std.specs.Prelude.{flat_map, not, ◌==◌}
+use Rattle.std.proofs.Common.{◌≡◌, ◌≢◌, ℕ, suc, ◌+◌, ◌<◌, Bool, true, false, cond, eqb, Bor, List, [], ◌∷◌, ◌++◌, Option, Some, None, length, take, drop, map, refl, sym, ap, ◌∙◌, arith, append_assoc, inl, inr}
+use Rattle.std.specs.Prelude.{flat_map, not, ◌-◌, ◌==◌}
 use Rattle.std.specs.List.{after_first, before_first, position_or_len}
-use Rattle.std.proofs.lemmas.Bool.{cases_Bool, cond-true, cond-false, eqb-true, eq-eqb}
+use Rattle.std.specs.Option.{MatchOption, unwrap_or}
+use Rattle.std.proofs.lemmas.Bool.{cases_Bool, cond-true, cond-false, eqb-true, eq-eqb, false≢true}
 use Rattle.std.proofs.lemmas.List.{append-nil}
-use Rattle.mail_data.specs.Flowed.{Line, Paragraph, between, ends_in, goes_on, last_ending, line_of, line_with, marks, paragraph_text, paragraphs, pieces, quote_depth, shown, unflowed, unstuffed, with_front, with_line, without_last, without_space}
+use Rattle.mail_data.specs.Flowed.{Line, Paragraph, between, ends_in, continues, last_ending, line_of, line_with, marks, paragraph_text, paragraphs, pieces, quote_depth, shown, unflowed, unstuffed, with_front, with_line, without_last, without_space}
 
 -- ---- the ends of a text
 
@@ -14,6 +15,11 @@ unstuffed-none (b ∷ rest) h = elim (cases_Bool (b == 32)) [
   | inl e ↦ absurd (h rest (ap (λ (x : ℕ). x ∷ rest) (eqb-true b 32 e)))
   | inr n ↦ sym (cond-false (b == 32) rest (b ∷ rest) n)
 ]
+
+pub unstuffed-either : (text : Bor (List ℕ)) (r : Option (Bor (List ℕ)))
+    → MatchOption r ((rest : List ℕ) → text.now ≢ 32 ∷ rest) (λ x. text.now ≡ 32 ∷ x.now) → (unwrap_or r text).now ≡ unstuffed text.now
+unstuffed-either text None h = unstuffed-none text.now h
+unstuffed-either text (Some x) h = sym (ap unstuffed h)
 
 pub ends-last : (c : ℕ) (front text : List ℕ) → text ≡ front ++ c ∷ [] → ends_in c text ≡ true
 ends-last c front text e = ap (ends_in c) e ∙ go front
@@ -45,6 +51,17 @@ without_space-some text front e =
 
 pub without_space-none : (text : List ℕ) → ((front : List ℕ) → text ≢ front ++ 32 ∷ []) → text ≡ without_space text
 without_space-none text h = sym (cond-false (ends_in 32 text) (without_last text) text (ends-none 32 text h))
+
+pub without_space-either : (text : Bor (List ℕ)) (r : Option (Bor (List ℕ)))
+    → MatchOption r ((front : List ℕ) → text.now ≢ front ++ 32 ∷ []) (λ x. text.now ≡ x.now ++ 32 ∷ []) → (unwrap_or r text).now ≡ without_space text.now
+without_space-either text None h = without_space-none text.now h
+without_space-either text (Some x) h = without_space-some text.now x.now h
+
+-- whether a text ends in a byte, as it was decided
+pub ends-decided : (c : ℕ) (text : List ℕ) (r : Bool)
+    → (r ≡ true → text ≡ take (length text - 1) text ++ c ∷ []) × ((front : List ℕ) → text ≡ front ++ c ∷ [] → r ≡ true) → r ≡ ends_in c text
+ends-decided c text true h = sym (ends-last c (take (length text - 1) text) text (h.0 refl))
+ends-decided c text false h = sym (ends-none c text (λ front e. false≢true (h.1 front e)))
 
 -- ---- quote marks
 
@@ -126,29 +143,29 @@ line-feed line ends = sym (cond-false (ends_in 13 line) (line_with (without_last
 
 -- ---- paragraphs
 
--- what is left to be written of lines after one of which what it says was written
+-- the text still to be written of lines after one whose content was written
 abbrev pub text_after : Bool → Line → List Line → List ℕ
 text_after deletes line [] = line.ending
 text_after deletes line (next ∷ lines) = between line next ++ (shown deletes next ++ text_after deletes next lines)
 
--- the paragraphs of lines with one at the front: that one and those in which it goes on, and then the others
+-- the paragraphs of lines with one at the front: that one and those in which it continues, and then the others
 opened : (deletes : Bool) (line : Line) (lines : List Line)
     → (others : List Line) × (ps : List Paragraph) × (paragraphs (line ∷ lines) ≡ record { first = line; others = others } ∷ ps)
     × (text_after deletes line lines ≡ flat_map (shown deletes) others ++ (last_ending line others ++ flat_map (paragraph_text deletes) ps))
 opened deletes line [] = ([], [], refl, sym (append-nil line.ending))
 opened deletes line (next ∷ lines) =
-    let later = opened deletes next lines in go later.0 later.1 later.2 later.3 (goes_on line next) refl
+    let later = opened deletes next lines in go later.0 later.1 later.2 later.3 (continues line next) refl
   where
     go : (others : List Line) (ps : List Paragraph) → paragraphs (next ∷ lines) ≡ record { first = next; others = others } ∷ ps
         → text_after deletes next lines ≡ flat_map (shown deletes) others ++ (last_ending next others ++ flat_map (paragraph_text deletes) ps)
-        → (t : Bool) → goes_on line next ≡ t
+        → (t : Bool) → continues line next ≡ t
         → (others : List Line) × (ps : List Paragraph) × (paragraphs (line ∷ next ∷ lines) ≡ record { first = line; others = others } ∷ ps)
         × (text_after deletes line (next ∷ lines) ≡ flat_map (shown deletes) others ++ (last_ending line others ++ flat_map (paragraph_text deletes) ps))
     go others ps is text true e = (
       next ∷ others,
       ps,
-      ap (with_line line) is ∙ cond-true (goes_on line next) _ _ e,
-      ap (λ (t : List ℕ). t ++ (shown deletes next ++ text_after deletes next lines)) (cond-true (goes_on line next) [] (line.ending ++ marks next) e)
+      ap (with_line line) is ∙ cond-true (continues line next) _ _ e,
+      ap (λ (t : List ℕ). t ++ (shown deletes next ++ text_after deletes next lines)) (cond-true (continues line next) [] (line.ending ++ marks next) e)
           ∙ ap (λ (t : List ℕ). shown deletes next ++ t) text
           ∙ sym (append_assoc (shown deletes next) (flat_map (shown deletes) others) (last_ending next others ++ flat_map (paragraph_text deletes) ps)),
     )
@@ -159,15 +176,15 @@ opened deletes line (next ∷ lines) =
         let r = flat_map (paragraph_text deletes) ps in (
           [],
           record { first = next; others = others } ∷ ps,
-          ap (with_line line) is ∙ cond-false (goes_on line next) _ _ e,
-          ap (λ (t : List ℕ). t ++ (s ++ text_after deletes next lines)) (cond-false (goes_on line next) [] (line.ending ++ marks next) e)
+          ap (with_line line) is ∙ cond-false (continues line next) _ _ e,
+          ap (λ (t : List ℕ). t ++ (s ++ text_after deletes next lines)) (cond-false (continues line next) [] (line.ending ++ marks next) e)
               ∙ append_assoc line.ending (marks next) (s ++ text_after deletes next lines)
               ∙ ap (λ (t : List ℕ). line.ending ++ (marks next ++ t))
               (ap (λ (t : List ℕ). s ++ t) text ∙ sym (append_assoc s m (l ++ r)) ∙ sym (append_assoc (s ++ m) l r))
               ∙ ap (λ (t : List ℕ). line.ending ++ t) (sym (append_assoc (marks next) ((s ++ m) ++ l) r)),
         )
 
--- a line at the front, and what is left after it
+-- a line at the front, and the lines after it
 front-text : (deletes : Bool) (line : Line) (lines : List Line)
     → marks line ++ (shown deletes line ++ text_after deletes line lines) ≡ flat_map (paragraph_text deletes) (paragraphs (line ∷ lines))
 front-text deletes line lines =

@@ -1,4 +1,4 @@
--- Lemmas on where a mail and its parts stand.
+-- Lemmas on the places of a mail and its parts.
 use Rattle.std.proofs.Common.{◌≡◌, ℕ, suc, ◌+◌, ◌≤◌, List, [], ◌∷◌, ◌++◌, length, map, drop, refl, sym, ap, ◌∙◌, add-one, append_assoc}
 use Rattle.std.proofs.lemmas.List.{append-nil, drop_all}
 use Rattle.mailparse.proofs.lemmas.Placement.{all_placed}

@@ -1,16 +1,16 @@
--- Comments in structured text (RFC 5322, section 3.2.2): they stand inside comments, and a backslash quotes the byte or character
--- after it.
+-- Comments in structured text (RFC 5322, section 3.2.2): comments may contain comments, and a backslash quotes the byte or
+-- character after it.
 use Rattle.std.specs.Prelude.{ℕ, suc, ◌-◌, Bool, false, not, ◌&&◌, ◌==◌, List, [], ◌∷◌, ◌++◌, chars, encode_utf8_all, if◌then◌else◌}
 use Rattle.mail_codec.specs.Ascii.{opening_parenthesis, closing_parenthesis, backslash, quote}
 
--- how many comments are open after a byte, where so many are open before it; a byte that is quoted opens and closes none
+-- the number of comments that are open after a byte, given the number before it; a quoted byte opens and closes none
 abbrev pub depth_after : Bool → ℕ → ℕ → ℕ
 depth_after quoted depth b =
     if quoted then depth else
     if b == opening_parenthesis then suc depth else
     if b == closing_parenthesis then depth - 1 else depth
 
--- the same, where none opens within a quoted string
+-- the same, but none opens within a quoted string
 abbrev pub depth_beside : Bool → Bool → ℕ → ℕ → ℕ
 depth_beside in_string quoted depth c = if in_string then depth else depth_after quoted depth c
 
@@ -22,7 +22,7 @@ string_after in_string quoted depth c = if not quoted && depth == 0 && c == quot
 abbrev pub quotes_next : Bool → ℕ → Bool
 quotes_next quoted c = not quoted && c == backslash
 
--- the characters in no comment, where a quoted string is open or not, the first character is quoted or not, and so many comments are open
+-- the characters in no comment, given whether a quoted string is open, whether the first character is quoted, and the number of open comments
 abbrev pub outside_comments : Bool → Bool → ℕ → List ℕ → List ℕ
 outside_comments in_string quoted depth [] = []
 outside_comments in_string quoted depth (c ∷ cs) =
@@ -30,6 +30,6 @@ outside_comments in_string quoted depth (c ∷ cs) =
     (if depth == 0 && after == 0 then c ∷ [] else [])
     ++ outside_comments (string_after in_string quoted depth c) (quotes_next quoted c) after cs
 
--- a text without its comments; one that is not closed goes to the end
+-- a text without its comments; a comment that is not closed extends to the end
 unfoldable pub without_comments : List ℕ → List ℕ
 without_comments text = encode_utf8_all (outside_comments false false 0 (chars text))

@@ -1,5 +1,5 @@
--- Dates as mail writes them: RFC 5322, section 3.3, and the obsolete forms of section 4.3. What is read where the standard
--- leaves it open, and the faults, are the crate's own rule.
+-- Dates as written in mail: RFC 5322, section 3.3, and the obsolete forms of section 4.3. The readings that the standard leaves
+-- open, and the faults, are the crate's own rule.
 use Rattle.std.specs.Prelude.{ℕ, zero, suc, ◌+◌, ◌*◌, ◌%◌, ◌-◌, Bool, true, false, not, ◌&&◌, ◌||◌, ◌==◌, nat_lt, nat_le, List, [], ◌∷◌, length, take, drop, sum, ℤ, pos, ◌+ℤ◌, neg_ℤ, Option, Some, None, option_map, is_some, ok_or, unwrap_or, Result, Ok, Err, codes, slice_index_or, if◌then◌else◌}
 use Rattle.std.specs.Char.{is_ascii_alphabetic, is_ascii_digit, is_ascii_whitespace}
 use Rattle.std.specs.Int.{is_in_range}
@@ -16,11 +16,11 @@ use Rattle.mail_data.specs.lenient.Comments.{depth_after}
 use Rattle.mail_data.specs.declared.lenient.date.error.DateError.{DateError}
 use Rattle.mail_data.specs.declared.lenient.date.error.DateError.TheVariants.{Day, Month, Year, Time, Zone, TrailingText}
 
--- what is read, or what was found missing or wrong first
+-- what is read, or the first fault
 abbrev pub Dated : Type 0 → Type 0
 Dated A = Result A DateError
 
--- what is read after something else, unless that is missing or wrong
+-- what is read after something else, unless that is a fault
 infixl 10 ◌>>=◌
 abbrev pub ◌>>=◌ : {A B : Type 0} → Dated A → (A → Dated B) → Dated B
 (Ok x) >>= f = f x
@@ -28,11 +28,11 @@ abbrev pub ◌>>=◌ : {A B : Type 0} → Dated A → (A → Dated B) → Dated 
 
 -- Whitespace and comments.
 
--- a byte that is no whitespace and opens no comment, where no comment is open
+-- a byte ends whitespace: no comment is open, and it opens none and is no whitespace
 abbrev pub ends_whitespace : ℕ → ℕ → Bool
 ends_whitespace depth b = depth == 0 && not (is_ascii_whitespace b || b == opening_parenthesis)
 
--- what follows whitespace and comments, where so many comments are open, and the first byte is quoted or not: a backslash
+-- the bytes after whitespace and comments, given whether the first byte is quoted and the number of open comments; a backslash
 -- quotes the byte after it
 abbrev pub after_whitespace : Bool → ℕ → List ℕ → List ℕ
 after_whitespace quoted depth [] = []
@@ -40,11 +40,11 @@ after_whitespace quoted depth (b ∷ rest) =
     if not quoted && ends_whitespace depth b then b ∷ rest
     else after_whitespace (not quoted && b == backslash) (depth_after quoted depth b) rest
 
--- what follows the whitespace and the comments at the front; a comment that is not closed goes to the end
+-- the bytes after the whitespace and the comments at the front; a comment that is not closed extends to the end
 unfoldable pub after_comments : List ℕ → List ℕ
 after_comments bytes = after_whitespace false 0 bytes
 
--- Runs, marks and numbers, each after whitespace and comments, and what follows them.
+-- Runs, delimiters and numbers, each after whitespace and comments, and the bytes after them.
 
 -- the bytes at the front that pass the test
 unfoldable pub run_at : (ℕ → Bool) → List ℕ → List ℕ × List ℕ
@@ -52,7 +52,7 @@ run_at test bytes =
     let rest = after_comments bytes in
     (take (prefix_len test rest) rest, drop (prefix_len test rest) rest)
 
--- what follows the byte at the front, if it is that one
+-- the bytes after a delimiter at the front, if it is there
 abbrev pub after_byte : ℕ → List ℕ → Option (List ℕ)
 after_byte mark [] = None
 after_byte mark (b ∷ rest) = if b == mark then Some rest else None
@@ -60,7 +60,7 @@ after_byte mark (b ∷ rest) = if b == mark then Some rest else None
 unfoldable pub after_mark : ℕ → List ℕ → Option (List ℕ)
 after_mark mark bytes = after_byte mark (after_comments bytes)
 
--- the number that one digit or two write, if it is at most that
+-- a number of one digit or two, if it is at most `most`
 unfoldable pub small_number : ℕ → List ℕ → Option (ℕ × List ℕ)
 small_number most bytes =
     let run = run_at is_ascii_digit bytes in
@@ -69,25 +69,25 @@ small_number most bytes =
 
 -- Days, months and years.
 
--- what follows the name of a day of the week and a comma, each if it is there; the name may be any word
+-- the bytes after the name of a day of the week and a comma, each if it is there; the name may be any word
 unfoldable pub after_day_name : List ℕ → List ℕ
 after_day_name bytes =
     let rest = (run_at is_ascii_alphabetic bytes).1 in
     unwrap_or (after_mark comma rest) rest
 
--- the names of the months, with the month's number from 0: the first three letters, the whole, and `Sept`
+-- the names of the months, with the number of each, counted from 0: the first three letters, the whole name, and `Sept`
 abbrev pub month_names : List (List ℕ × ℕ)
 month_names = (codes "Sept", 8) ∷ months
 
--- the month that a word names
+-- the month with a name
 unfoldable pub month_at : List ℕ → Dated (ℕ × List ℕ)
 month_at bytes =
     let run = run_at is_ascii_alphabetic bytes in do
       month ← ok_or (look_up month_names run.0) Month
       Ok (month, run.1)
 
--- the year that digits write: two from 00 to 49 are of the years from 2000, other two and three digits are counted from 1900, and
--- four to nine write the year itself, from 1900 on
+-- the year that digits denote: two from 00 to 49 are counted from 2000, other two and three digits from 1900, and four to nine
+-- denote the year itself, at least 1900
 unfoldable pub year_of : List ℕ → Dated ℕ
 year_of digits =
     let n = digits_value 10 digits in
@@ -101,12 +101,12 @@ year_at bytes =
       year ← year_of run.0
       Ok (year, run.1)
 
--- the days of the first n years from 1900 on
+-- the days of the first n years from 1900 onwards
 abbrev pub days_of_years : ℕ → ℕ
 days_of_years zero = 0
 days_of_years (suc n) = days_of_years n + year_length (1900 + n)
 
--- the days from 1 January 1900 to a day, by its year, its month counted from 0, and its number in the month
+-- the days from 1 January 1900 to a day, given its year, its month counted from 0, and its number in the month
 unfoldable pub day_number : ℕ → ℕ → ℕ → ℕ
 day_number year month day = days_of_years (year - 1900) + (sum (take month (month_lengths year)) + (day - 1))
 
@@ -114,7 +114,7 @@ day_number year month day = days_of_years (year - 1900) + (sum (take month (mont
 unfoldable pub month_length : ℕ → ℕ → ℕ
 month_length year month = slice_index_or (month_lengths year) month 0
 
--- a day, which its month has to have, counted from 1 January 1900, and what follows the year
+-- a day, which must exist in its month, counted from 1 January 1900, and the bytes after the year
 unfoldable pub day_at : List ℕ → Dated (ℕ × List ℕ)
 day_at bytes = do
   day ← ok_or (small_number 31 (after_day_name bytes)) Day
@@ -131,12 +131,12 @@ after_colon most bytes = do
   rest ← ok_or (after_mark colon bytes) Time
   ok_or (small_number most rest) Time
 
--- the second, or 0 where no colon follows the minute; 60 is a leap second
+-- the second, or 0 if no colon follows the minute; 60 is a leap second
 unfoldable pub second_at : List ℕ → Dated (ℕ × List ℕ)
 second_at bytes = option_map_or (λ rest. ok_or (small_number 60 rest) Time) (after_mark colon bytes) (Ok (0, bytes))
 
--- the hour of the day, by the hour that is written and the word after the time, and what follows: before noon 12 is 0, after noon
--- 1 to 11 are 13 to 23, and another hour stays as it is
+-- the hour of the day, given the hour that is written and the bytes after the time, and the bytes after `AM` or `PM`: before noon
+-- 12 is 0, after noon 1 to 11 are 13 to 23, and any other hour stays as it is
 unfoldable pub clock_hour : ℕ → List ℕ → ℕ × List ℕ
 clock_hour hour bytes =
     let run = run_at is_ascii_alphabetic bytes in
@@ -155,14 +155,14 @@ time_at bytes = do
 
 -- Zones.
 
--- the seconds that four digits write: hours, and minutes below 60
+-- the seconds that four digits denote: hours, and minutes below 60
 unfoldable pub offset_at : List ℕ → Dated (ℕ × List ℕ)
 offset_at bytes =
     let run = run_at is_ascii_digit bytes in
     let n = digits_value 10 run.0 in
     if length run.0 == 4 && nat_lt (n % 100) 60 then Ok (zone_size n, run.1) else Err Zone
 
--- what a zone in the west adds to the seconds, and what one in the east does
+-- the seconds that a zone in the west adds, and one in the east
 abbrev pub west : ℕ × List ℕ → Dated (ℤ × List ℕ)
 west offset = Ok (pos offset.0, offset.1)
 
@@ -176,15 +176,15 @@ plus_sign = 43
 abbrev pub minus_sign : ℕ
 minus_sign = 45
 
--- what so many minutes in the west of Greenwich add to the seconds, and so many in the east
+-- the seconds that a number of minutes in the west of Greenwich adds, and in the east
 abbrev pub west_by : ℕ → ℤ
 west_by minutes = pos (60 * minutes)
 
 abbrev pub east_by : ℕ → ℤ
 east_by minutes = neg_ℤ (pos (60 * minutes))
 
--- the names of zones that are known, with what each adds to the seconds: those of the standard, those whose abbreviation means one
--- offset in the time zone database of IANA (RFC 6557), and the German names MEZ and MESZ
+-- the known names of zones, with the seconds that each adds: those of the standard, those whose abbreviation means one offset in
+-- the time zone database of IANA (RFC 6557), and the German names MEZ and MESZ
 abbrev pub zone_names : List (List ℕ × ℤ)
 zone_names =
     (codes "UTC", pos 0) ∷ (codes "UT", pos 0) ∷ (codes "GMT", pos 0) ∷ (codes "Z", pos 0)
@@ -203,11 +203,11 @@ zone_names =
     ∷ (codes "ACDT", east_by 630) ∷ (codes "AEST", east_by 600) ∷ (codes "AEDT", east_by 660)
     ∷ (codes "NZST", east_by 720) ∷ (codes "NZDT", east_by 780) ∷ []
 
--- a zone: what it adds to the seconds, and whether it is known
+-- a zone: the seconds that it adds, and whether it is known
 abbrev pub Zoned : Type 0
 Zoned = ℤ × Bool
 
--- the digits after a sign, if one stands there: after `+` a zone is in the east, after `-` in the west; a name after them says nothing more
+-- the digits after a sign, if there is one: after `+` a zone is in the east, after `-` in the west; a name after them is ignored
 unfoldable pub signed_at : List ℕ → Option (Dated (ℤ × List ℕ))
 signed_at bytes =
     option_map_or (λ rest. Some (offset_at rest >>= east)) (after_mark plus_sign bytes)
@@ -218,13 +218,13 @@ abbrev pub is_universal : List ℕ → Bool
 is_universal name =
     str_eq_ignore_ascii_case name (codes "GMT") || str_eq_ignore_ascii_case name (codes "UTC") || str_eq_ignore_ascii_case name (codes "UT")
 
--- the zone of a name, with what follows it: UTC where the name is not known, and where there is no zone
+-- the zone with a name, and the bytes after it: UTC if the name is not known or missing
 unfoldable pub named_zone : List ℕ → List ℕ → Dated (Zoned × List ℕ)
 named_zone name rest =
     if is_empty name && not (is_empty rest) then Err Zone
     else Ok ((unwrap_or (look_up zone_names name) (pos 0), is_some (look_up zone_names name)), rest)
 
--- a zone with digits is known; what follows it is the name that they may have
+-- a zone with digits is known; a name may follow them
 abbrev pub zone_of_digits : ℤ × List ℕ → Dated (Zoned × List ℕ)
 zone_of_digits offset = Ok ((offset.0, true), (run_at is_ascii_alphabetic offset.1).1)
 
@@ -238,13 +238,13 @@ zone_at bytes =
 
 -- The date.
 
--- the seconds from 1 January 1970, 0 h, to so many seconds after the start of 1900
+-- the seconds since 1 January 1970, 0 h, given the seconds since the start of 1900
 abbrev pub since_1970 : ℕ → ℤ
 since_1970 seconds = pos seconds +ℤ neg_ℤ (pos (86400 * day_number 1970 0 1))
 
--- the seconds from 1 January 1970, 0 h UTC, to the date of a text, and whether its zone is known
-unfoldable pub date_in : List ℕ → Dated Zoned
-date_in text = do
+-- the seconds from 1 January 1970, 0 h UTC, to the date in a text, and whether its zone is known
+unfoldable pub zoned_date_of : List ℕ → Dated Zoned
+zoned_date_of text = do
   day ← day_at text
   time ← time_at day.1
   zone ← zone_at time.1
@@ -254,5 +254,5 @@ date_in text = do
 -- the seconds alone
 abbrev pub date_of : List ℕ → Dated ℤ
 date_of text = do
-  date ← date_in text
+  date ← zoned_date_of text
   Ok date.0

@@ -7,17 +7,17 @@ use mail_codec::charset::Charset;
 use percent_encoding::percent_decode;
 use std::alloc::{AllocError, Global};
 
-/// The text of an extended value whose charset is blank, unknown or missing.
+/// Returns the text of an extended value whose charset is blank, unknown or missing.
 #[tactic(auto, unfolding(crate::specs::Files::left_over_text))]
 pub(super) fn left_over_text(alloc: Global, value: &str) -> Result<String, AllocError>
     ensures { IfOk result (λ text. string_bytes text ≡ left_over_text value.now) }
 {
     let bytes = octets_of(alloc, untagged(value))?;
-    let text = text_of_octets(alloc, bytes.as_slice())?;
-    Ok(text)
+    text_of_octets(alloc, bytes.as_slice())
 }
 
-/// What stands after the second apostrophe of an extended value; the whole value where it has fewer.
+/// Returns the text after the second apostrophe of an extended value, or the whole value if it has
+/// fewer than two.
 #[tactic(auto, unfolding(crate::specs::Files::untagged))]
 fn untagged(value: &str) -> &str
     ensures { result.now ≡ untagged value.now }
@@ -31,7 +31,7 @@ fn untagged(value: &str) -> &str
     }
 }
 
-/// The bytes that percent pairs write.
+/// Decodes percent pairs.
 fn octets_of(alloc: Global, encoded: &str) -> Result<Vec<u8>, AllocError>
     ensures { IfOk result (λ bytes. bytes.items ≡ percent_decode encoded.now) }
 {
@@ -40,7 +40,7 @@ fn octets_of(alloc: Global, encoded: &str) -> Result<Vec<u8>, AllocError>
     Ok(bytes)
 }
 
-/// The text of bytes whose charset is not known.
+/// Returns the text of bytes in an unknown charset.
 #[tactic(auto, unfolding(crate::specs::Files::text_of_octets))]
 fn text_of_octets(alloc: Global, bytes: &[u8]) -> Result<String, AllocError>
     ensures { IfOk result (λ text. string_bytes text ≡ text_of_octets bytes.now) }

@@ -1,23 +1,23 @@
-//! Names of files that are safe in any folder of a POSIX system.
+//! Names of files that are safe in any directory of a POSIX system.
 ghost use Rattle.std.specs.Prelude.{◌≡◌, IfOk, string_bytes};
 ghost use Rattle.mail_data.specs.FileNames.{IsSafeName, front_name, is_reserved, made_safe, safe_name};
 
 use std::alloc::{AllocError, Global};
 
-/// The most bytes that a safe name has.
+/// The greatest length of a safe name in bytes.
 const MOST_BYTES: usize = 255;
 
-/// Returns the name of a file made safe: on a POSIX system it names a file in the folder where it
-/// is used, and no other. Names that Windows reserves, as `NUL` and `C:x`, stay.
+/// Returns the name of a file made safe: on a POSIX system it names a file in the directory where it
+/// is used, and no other. Names that Windows reserves, such as `NUL` and `C:x`, stay.
 ///
 /// Each `/`, `\` and control character, including NUL, becomes `_`. The name is cut between
 /// characters to at most 255 bytes. If the result is empty, `.` or `..`, it becomes `_`. A name
-/// that is already safe stays as it is. Marks that change the text direction stay. Takes memory for
+/// that is already safe stays as it is. Characters that change the text direction stay. Allocates
 /// the name.
 ///
 /// # Errors
 ///
-/// Where it runs out of memory.
+/// `AllocError` if it runs out of memory.
 ///
 /// # Examples
 ///
@@ -33,12 +33,10 @@ pub fn safe_file_name(alloc: Global, name: &str) -> Result<String, AllocError>
     ensures safe { IfOk result (λ safe. IsSafeName (string_bytes safe)) }
     ensures same { IsSafeName name.now → IfOk result (λ safe. string_bytes safe ≡ name.now) }
 {
-    let safe = safe_name(alloc, name)?;
-    Ok(safe)
+    safe_name(alloc, name)
 }
 
-/// The characters made safe, as many from the front as 255 bytes hold, or `_` where these are no
-/// name of a file.
+/// Returns the leading characters made safe, or `_` if these are no name of a file.
 #[tactic(auto, unfolding(crate::specs::FileNames::safe_name))]
 fn safe_name(alloc: Global, name: &str) -> Result<String, AllocError>
     ensures { IfOk result (λ safe. string_bytes safe ≡ safe_name name.now) }
@@ -50,7 +48,7 @@ fn safe_name(alloc: Global, name: &str) -> Result<String, AllocError>
     Ok(safe)
 }
 
-/// The characters made safe, as many from the front as 255 bytes hold.
+/// Returns the leading characters made safe, as many as have at most 255 bytes.
 fn front_name(alloc: Global, name: &str) -> Result<String, AllocError>
     ensures { IfOk result (λ safe. string_bytes safe ≡ front_name name.now) }
 {
@@ -65,7 +63,7 @@ fn front_name(alloc: Global, name: &str) -> Result<String, AllocError>
     Ok(safe)
 }
 
-/// The character, or `_` in the place of one that is unsafe.
+/// Returns the character, or `_` in the place of an unsafe one.
 fn made_safe(c: char) -> char
     ensures { result ≡ made_safe c }
 {
@@ -76,7 +74,7 @@ fn made_safe(c: char) -> char
     }
 }
 
-/// Whether a name is no name of a file: it is empty or names a folder.
+/// Returns whether a name is no name of a file: it is empty or names a directory.
 fn is_reserved(name: &str) -> bool
     ensures { result ≡ is_reserved name.now }
 {

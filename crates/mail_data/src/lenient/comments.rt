@@ -5,7 +5,7 @@ ghost use Rattle.mail_data.specs.lenient.Comments.{without_comments};
 
 use std::alloc::{AllocError, Global};
 
-/// A text without its comments.
+/// Removes the comments of a text.
 pub(crate) fn without_comments(alloc: Global, text: &str) -> Result<String, AllocError>
     ensures { IfOk result (λ kept. string_bytes kept ≡ without_comments text.now) }
 {
@@ -23,7 +23,8 @@ pub(crate) fn without_comments(alloc: Global, text: &str) -> Result<String, Allo
     Ok(kept)
 }
 
-/// Appends a character that stands in no comment, by how many are open before and after it.
+/// Appends a character that is in no comment, given the number of comments that are open before and
+/// after it.
 fn push_outside(kept: &mut String, depth: usize, after: usize, c: char) -> Result<(), AllocError>
     ensures { OnOk result (string_bytes kept.new ≡ string_bytes kept.old
         ++ (if depth == 0 && after == 0 then encode_utf8 c else [])) }
@@ -34,7 +35,8 @@ fn push_outside(kept: &mut String, depth: usize, after: usize, c: char) -> Resul
     Ok(())
 }
 
-/// How many comments are open after a character, where a quoted string may be open.
+/// Returns the number of comments that are open after a character, where a quoted string may be
+/// open.
 fn depth_beside(in_string: bool, is_quoted: bool, depth: usize, c: char) -> usize
     requires { depth < 2 ^ 63 }
     ensures value { result ≡ depth_beside in_string is_quoted depth c }
@@ -46,7 +48,7 @@ fn depth_beside(in_string: bool, is_quoted: bool, depth: usize, c: char) -> usiz
     depth_after(is_quoted, depth, c)
 }
 
-/// How many comments are open after a character.
+/// Returns the number of comments that are open after a character.
 pub(super) fn depth_after(is_quoted: bool, depth: usize, c: char) -> usize
     requires { depth < 2 ^ 63 }
     ensures value { result ≡ depth_after is_quoted depth c }
@@ -64,14 +66,14 @@ pub(super) fn depth_after(is_quoted: bool, depth: usize, c: char) -> usize
     depth
 }
 
-/// Whether a character quotes the next one.
+/// Returns whether a character quotes the next one.
 fn quotes_next(is_quoted: bool, c: char) -> bool
     ensures { result ≡ quotes_next is_quoted c }
 {
     !is_quoted && c == '\\'
 }
 
-/// Whether a quoted string is open after a character.
+/// Returns whether a quoted string is open after a character.
 fn string_after(in_string: bool, is_quoted: bool, depth: usize, c: char) -> bool
     ensures { result ≡ string_after in_string is_quoted depth c }
 {

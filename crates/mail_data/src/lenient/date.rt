@@ -1,6 +1,6 @@
 //! Dates as mail writes them (RFC 5322, sections 3.3 and 4.3).
 ghost use Rattle.std.specs.Prelude.{◌≡◌, ◌<◌, ◌^◌, neg_ℤ, pos, ◌≤ℤ◌, ◌+ℤ◌};
-ghost use Rattle.mail_data.specs.lenient.Date.{date_in, date_of, since_1970};
+ghost use Rattle.mail_data.specs.lenient.Date.{zoned_date_of, date_of, since_1970};
 
 mod calendar;
 mod error;
@@ -17,24 +17,24 @@ use zones::zone_at;
 /// Returns the seconds from 1 January 1970, 00:00 UTC, to a date as written in mail: in the forms
 /// of RFC 5322, section 3.3, or the obsolete ones of section 4.3.
 ///
-/// These are a day of the week and a comma, which may be absent and are not compared with the date;
-/// a day of one digit or two, which the month has to have; the name of a month, its first three
-/// letters or `Sept`, in any case; a year; a time of day, whose seconds may be left out; and a
-/// zone. A year of two digits is from 1950 to 2049, one of three is counted from 1900, and one of
-/// four to nine has to be at least 1900. The second may be 60. A zone is a sign and four digits,
-/// the last two below 60, or a name: the names of the standard and the common ones of the time zone
-/// database, as `EST`, `CEST` and `JST`, have their offset, and every other name, a single letter
-/// among them, is UTC, and so is a date without a zone. Digits may follow `GMT` and `UTC`, and a
-/// name may follow digits. `AM` or `PM` may follow the time. ASCII whitespace and comments may stand between words, numbers and marks and at
-/// both ends; a comment may hold comments.
+/// The parts of a date are a day of the week and a comma, which may be missing and are not compared
+/// with the date; a day of one digit or two, which must exist in the month; the name of a month, its
+/// first three letters or `Sept`, ignoring case; a year; a time of day, whose seconds may be missing;
+/// and a zone. A year of two digits is from 1950 to 2049, one of three is counted from 1900, and one
+/// of four to nine must be at least 1900. The second may be 60. A zone is a sign and four digits, the
+/// last two below 60, or a name. The names of the standard and the common ones of the time zone
+/// database, such as `EST`, `CEST` and `JST`, have their offset; every other name, including a single
+/// letter, means UTC, and so does a missing zone. Digits may follow `GMT` and `UTC`, and a name may
+/// follow digits. `AM` or `PM` may follow the time. ASCII whitespace and comments, which may be
+/// nested, are allowed between the parts and at both ends.
 ///
-/// Unlike `mailparse::dateparse`, this reads `20:57 +0200`, without seconds, as it is meant. Takes
-/// no memory.
+/// Unlike `mailparse::dateparse`, this reads `20:57 +0200`, without seconds, as it is meant. Does not
+/// allocate.
 ///
 /// # Errors
 ///
-/// The first thing that is missing or wrong, in the order of the variants of `DateError`; but
-/// whether the month has that day, up to 31, is checked only after the year is read.
+/// The first fault, in the order of the variants of `DateError`; but whether the day exists in the
+/// month is checked only after the year is read.
 ///
 /// # Examples
 ///
@@ -48,14 +48,14 @@ use zones::zone_at;
 pub fn date_of(text: &str) -> Result<i64, DateError>
     ensures { result ≡ date_of text.now }
 {
-    let (seconds, _) = date_in(text)?;
+    let (seconds, _) = zoned_date_of(text)?;
     Ok(seconds)
 }
 
 /// Returns the seconds that `date_of` returns, and whether the zone of the date is known (RFC 5322,
-/// section 4.3): false where its name is none that `date_of` knows, and where there is no zone.
+/// section 4.3): false if there is no zone, or if `date_of` does not know its name.
 ///
-/// Takes no memory.
+/// Does not allocate.
 ///
 /// # Errors
 ///
@@ -64,14 +64,14 @@ pub fn date_of(text: &str) -> Result<i64, DateError>
 /// # Examples
 ///
 /// ```rust
-/// use mail_data::lenient::date_in;
+/// use mail_data::lenient::zoned_date_of;
 ///
-/// assert_eq!(rt; date_in("1 Jan 1970 09:00 JST").ok(), Some((0, true)));
-/// assert_eq!(rt; date_in("1 Jan 1970 00:00 XYZ").ok(), Some((0, false)));
+/// assert_eq!(rt; zoned_date_of("1 Jan 1970 09:00 JST").ok(), Some((0, true)));
+/// assert_eq!(rt; zoned_date_of("1 Jan 1970 00:00 XYZ").ok(), Some((0, false)));
 /// ```
-#[tactic(auto, unfolding(crate::specs::lenient::Date::date_in))]
-pub fn date_in(text: &str) -> Result<(i64, bool), DateError>
-    ensures { result ≡ date_in text.now }
+#[tactic(auto, unfolding(crate::specs::lenient::Date::zoned_date_of))]
+pub fn zoned_date_of(text: &str) -> Result<(i64, bool), DateError>
+    ensures { result ≡ zoned_date_of text.now }
 {
     let (day, rest) = day_at(text.as_bytes())?;
     let (time, rest) = time_at(rest)?;
@@ -82,8 +82,8 @@ pub fn date_in(text: &str) -> Result<(i64, bool), DateError>
     Ok((since_1970(86_400 * day + time, zone), is_known))
 }
 
-/// The seconds from 1 January 1970, 0 h UTC, to so many seconds after the start of 1900 in a zone
-/// that adds so many to them.
+/// Converts seconds since the start of 1900 to seconds since 1 January 1970, 0 h UTC, given the
+/// seconds that the zone adds.
 #[tactic(auto, unfolding(crate::specs::lenient::Date::day_number))]
 fn since_1970(seconds: u64, zone: i64) -> i64
     requires seconds { seconds < 2 ^ 60 }

@@ -1,67 +1,48 @@
-//! Message ids in any text.
+//! The message ids in any text.
 ghost use Rattle.std.specs.Prelude.{◌≡◌, ◌++◌, ◌<◌, true, false, [], ◌∷◌, length, map, string_bytes, IfOk, IfSome, MatchOption, OnOk};
 ghost use Rattle.std.specs.List.{before_first, list_any, slice_split};
 ghost use Rattle.mailparse.specs.MessageIds.{is_closing};
-ghost use Rattle.mail_data.specs.lenient.Ids.{found_in, id_at, ids_in, is_id, is_opening};
-ghost use Rattle.mail_data.specs.lenient.Ids.{own_ids_in};
+ghost use Rattle.mail_data.specs.lenient.Ids.{found_ids, id_at, is_id, is_opening};
+ghost use Rattle.mail_data.specs.lenient.IdViews.{needs_at};
 
 use std::alloc::{AllocError, Global};
 
-/// Returns the message ids in a text: whatever is in angle brackets and has an `@` (following RFC
-/// 5322, section 3.6.4), without the brackets and in order.
-///
-/// Anything else in the text is skipped, so a broken list gives the ids that it has. An id
-/// goes from a `<` up to the first `>`, and holds no `<`: where several follow one another, the
-/// last one opens it. Where `msgidparse` reads the text, this list is that one with each id cut to
-/// what follows its last `<`, without those that then have no `@`. Takes memory for the list and
-/// the ids.
-///
-/// # Errors
-///
-/// Where it runs out of memory.
-///
-/// # Examples
-///
-/// ```rust
-/// use mail_data::lenient::ids_in;
-///
-/// let ids = ids_in(alloc, "Your message of 1 Jan <one@a>, \"x\" <two@b")?;
-/// assert_eq!(rt; ids.len(), 1);
-/// assert_eq!(rt; ids[0].as_str(), "one@a");
-/// ```
-pub fn ids_in(alloc: Global, text: &str) -> Result<Vec<String>, AllocError>
-    ensures { IfOk result (λ ids. map string_bytes ids.items ≡ ids_in text.now) }
-{
-    found_in(alloc, text, true)
+/// Which texts in angle brackets are message ids.
+#[derive(Clone, Copy, Debug, PartialEq, Eq)]
+pub enum IdRule {
+    /// Those that contain an `@`, as the ids of other mails do.
+    WithAt,
+    /// All that are not empty: mails give themselves ids without an `@` too, such as `<1234>`.
+    Any,
 }
 
-/// Returns the ids that a mail gives itself in a text, as `ids_in` does, but without an `@` too
-/// (following RFC 5322, section 3.6.4): `<1234>` has the id `1234`. Empty brackets have none.
+/// Returns the message ids in a text, in order: the texts in angle brackets that are ids by this
+/// rule, without the brackets (following RFC 5322, section 3.6.4).
 ///
-/// Takes memory for the list and the ids.
+/// Other text is skipped, so of a broken list the intact ids are returned. An id goes from a `<` up
+/// to the first `>` and contains no `<`: of several in a row, the last one opens it. If `msgidparse`
+/// reads the text, the ids with an `@` are those of its list, each from its last `<` onwards, that
+/// have one. Allocates the list and the ids.
 ///
 /// # Errors
 ///
-/// Where it runs out of memory.
+/// `AllocError` if it runs out of memory.
 ///
 /// # Examples
 ///
 /// ```rust
-/// use mail_data::lenient::own_ids_in;
+/// use mail_data::lenient::{IdRule, find_ids};
 ///
-/// let ids = own_ids_in(alloc, "<20100101.1234> (sent twice)")?;
+/// let text = "Your message of 1 Jan <one@a>, \"x\" <two@b";
+/// let ids = find_ids(alloc, text, IdRule::WithAt)?;
+/// assert_eq!(rt; ids.len(), 1);
+/// assert_eq!(rt; ids[0].as_str(), "one@a");
+/// let ids = find_ids(alloc, "<20100101.1234> (sent twice)", IdRule::Any)?;
 /// assert_eq!(rt; ids.len(), 1);
 /// assert_eq!(rt; ids[0].as_str(), "20100101.1234");
 /// ```
-pub fn own_ids_in(alloc: Global, text: &str) -> Result<Vec<String>, AllocError>
-    ensures { IfOk result (λ ids. map string_bytes ids.items ≡ own_ids_in text.now) }
-{
-    found_in(alloc, text, false)
-}
-
-/// What stands within brackets in a text, where an `@` is needed or not.
-fn found_in(alloc: Global, text: &str, needs_at: bool) -> Result<Vec<String>, AllocError>
-    ensures { IfOk result (λ ids. map string_bytes ids.items ≡ found_in needs_at text.now) }
+pub fn find_ids(alloc: Global, text: &str, rule: IdRule) -> Result<Vec<String>, AllocError>
+    ensures { IfOk result (λ ids. map string_bytes ids.items ≡ found_ids (needs_at rule) text.now) }
 {
     let mut ids = Vec::new(alloc);
     let Some((_, first)) = cut_at_opening(text) else {
@@ -69,14 +50,14 @@ fn found_in(alloc: Global, text: &str, needs_at: bool) -> Result<Vec<String>, Al
     };
     let mut rest = first;
     'pieces: while let Some((piece, after)) = cut_at_opening(rest) {
-        push_id(alloc, &mut ids, piece, needs_at)?;
+        push_id(alloc, &mut ids, piece, rule)?;
         rest = after;
     }
-    push_id(alloc, &mut ids, rest, needs_at)?;
+    push_id(alloc, &mut ids, rest, rule)?;
     Ok(ids)
 }
 
-/// What stands before and after the first `<`, if there is one.
+/// Returns the text before and after the first `<`, or `None` if there is no `<`.
 fn cut_at_opening(text: &str) -> Option<(&str, &str)>
     ensures pieces { MatchOption result (slice_split is_opening text.now ≡ text.now ∷ [])
         (λ p. slice_split is_opening text.now ≡ p.0.now ∷ slice_split is_opening p.1.now) }
@@ -85,37 +66,27 @@ fn cut_at_opening(text: &str) -> Option<(&str, &str)>
     text.split_once('<')
 }
 
-/// Appends the id that a text without `<` begins with, if there is one.
-fn push_id(
-    alloc: Global,
-    ids: &mut Vec<String>,
-    text: &str,
-    needs_at: bool,
-) -> Result<(), AllocError>
+/// Appends the id at the start of a text without `<`, if there is one.
+fn push_id(alloc: Global, ids: &mut Vec<String>, text: &str, rule: IdRule) -> Result<(), AllocError>
     ensures { OnOk result (map string_bytes ids.new.items
-        ≡ map string_bytes ids.old.items ++ id_at needs_at text.now) }
+        ≡ map string_bytes ids.old.items ++ id_at (needs_at rule) text.now) }
 {
-    if let Some(id) = id_at(text, needs_at) {
+    if let Some(id) = id_at(text, rule) {
         ids.push(String::from_str(alloc, id)?)?;
     }
     Ok(())
 }
 
-/// The id that a text without `<` begins with, if there is one.
-fn id_at(text: &str, needs_at: bool) -> Option<&str>
-    ensures { MatchOption result (id_at needs_at text.now ≡ [])
-        (λ id. id_at needs_at text.now ≡ id.now ∷ []) }
+/// Returns the id at the start of a text without `<`, or `None` if there is no id.
+fn id_at(text: &str, rule: IdRule) -> Option<&str>
+    ensures { MatchOption result (id_at (needs_at rule) text.now ≡ [])
+        (λ id. id_at (needs_at rule) text.now ≡ id.now ∷ []) }
 {
-    let Some(id) = before_closing(text) else {
-        return None;
-    };
-    if !is_id(id, needs_at) {
-        return None;
-    }
-    Some(id)
+    let id = before_closing(text)?;
+    if is_id(id, rule) { Some(id) } else { None }
 }
 
-/// What stands before the first `>`, if there is one.
+/// Returns the text before the first `>`, or `None` if there is no `>`.
 fn before_closing(text: &str) -> Option<&str>
     ensures closed { MatchOption result (list_any is_closing text.now ≡ false)
         (λ id. list_any is_closing text.now ≡ true) }
@@ -127,13 +98,12 @@ fn before_closing(text: &str) -> Option<&str>
     Some(id)
 }
 
-/// Whether what stands within brackets is an id.
-fn is_id(text: &str, needs_at: bool) -> bool
-    ensures { result ≡ is_id needs_at text.now }
+/// Returns whether a text in brackets is an id.
+fn is_id(text: &str, rule: IdRule) -> bool
+    ensures { result ≡ is_id (needs_at rule) text.now }
 {
-    if needs_at {
-        text.as_bytes().contains(&b'@')
-    } else {
-        !text.is_empty()
+    match rule {
+        IdRule::WithAt => text.as_bytes().contains(&b'@'),
+        IdRule::Any => !text.is_empty(),
     }
 }

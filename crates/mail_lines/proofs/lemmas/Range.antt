@@ -9,7 +9,7 @@ use Rattle.std.proofs.lemmas.Bool.{false≢true, ltb-true}
 use Rattle.std.proofs.lemmas.List.{append-nil}
 use Rattle.mail_lines.specs.Reading.{Reading}
 use Rattle.mail_codec.specs.Places.{values_below}
-use Rattle.mail_data.specs.Lines.{line_length}
+use Rattle.mail_data.specs.LineEnds.{line_length}
 use Rattle.mail_data.specs.Mailbox.{Entry, front_length, has_front, has_line}
 use Rattle.mail_data.specs.MailboxFormats.{entries_in}
 use Rattle.mail_data.specs.MailboxParts.{Placed, in_range, part_mails, part_start, placed_from}

@@ -7,7 +7,7 @@ use Rattle.std.proofs.lemmas.Bool.{and_from, false≢true, ltb-true}
 use Rattle.std.proofs.lemmas.List.{append-nil, length-take-le, take-append-le}
 use Rattle.mail_lines.specs.Reading.{Reading}
 use Rattle.mail_program.specs.declared.fault.Fault.{Fault}
-use Rattle.mail_data.specs.Lines.{line_length}
+use Rattle.mail_data.specs.LineEnds.{line_length}
 use Rattle.mail_data.specs.Mailbox.{Entry, front_length, has_front, has_line, is_before_text}
 use Rattle.mail_data.specs.MailboxFormats.{entries_in}
 use Rattle.mail_data.specs.MailboxParts.{placed_from}

@@ -5,7 +5,8 @@ use crate::calls::files::part_at;
 use crate::calls::tables::all_tables;
 use crate::notation::{Answer, Row};
 use mail_data::lenient::{
-    DateError, base64_front, body_text, date_in, date_of, ids_in, lenient_body, own_ids_in,
+    ContentFault, DateError, IdRule, base64_front, body_text, date_of, find_ids, lenient_body,
+    lenient_content, zoned_date_of,
 };
 use mailparse::body::Body;
 use mailparse::{MailParseError, parse_mail};
@@ -17,9 +18,11 @@ pub fn make(alloc: Global, row: &Row, answer: &mut Answer) -> bool {
         "base64_front" => read_front(alloc, row, answer),
         "lenient_body" => read_body(alloc, row, answer),
         "body_text" => read_text(alloc, row, answer),
-        "ids_in" | "own_ids_in" => find_ids(alloc, row, answer),
+        "lenient_content" => read_content(alloc, row, answer),
+        "find_ids" => list_ids(alloc, row, answer, IdRule::WithAt),
+        "find_any_ids" => list_ids(alloc, row, answer, IdRule::Any),
         "date_of" => read_date(alloc, row, answer),
-        "date_in" => read_zoned_date(alloc, row, answer),
+        "zoned_date_of" => read_zoned_date(alloc, row, answer),
         _ => return false,
     };
     answer.end(outcome);
@@ -71,13 +74,28 @@ fn read_text(alloc: Global, row: &Row, answer: &mut Answer) -> Result<(), MailPa
     Ok(())
 }
 
-/// `ids_in TEXT => ID..` and `own_ids_in TEXT => ID..`
-fn find_ids(alloc: Global, row: &Row, answer: &mut Answer) -> Result<(), MailParseError> {
-    let ids = match row.call.as_str() {
-        "ids_in" => ids_in(alloc, row.text(0))?,
-        _ => own_ids_in(alloc, row.text(0))?,
-    };
-    answer.texts(ids.as_slice());
+/// `lenient_content MAIL => BYTES GROUP` of the whole mail, GROUP the index of the group that is
+/// refused or `none`.
+fn read_content(alloc: Global, row: &Row, answer: &mut Answer) -> Result<(), MailParseError> {
+    let mail = parse_mail(alloc, row.bytes(0))?;
+    let body = lenient_body(alloc, &mail)?;
+    let content = lenient_content(alloc, &body)?;
+    answer.bytes(content.bytes.as_slice());
+    match content.fault {
+        Some(ContentFault::Base64(fault)) => answer.number(fault.group),
+        None => answer.word("none"),
+    }
+    Ok(())
+}
+
+/// `find_ids TEXT => ID..` of the ids with an `@`, and `find_any_ids TEXT => ID..`
+fn list_ids(
+    alloc: Global,
+    row: &Row,
+    answer: &mut Answer,
+    rule: IdRule,
+) -> Result<(), MailParseError> {
+    answer.texts(find_ids(alloc, row.text(0), rule)?.as_slice());
     Ok(())
 }
 
@@ -90,9 +108,9 @@ fn read_date(alloc: Global, row: &Row, answer: &mut Answer) -> Result<(), MailPa
     Ok(())
 }
 
-/// `date_in TEXT => SECONDS KNOWN`, KNOWN whether the zone is known.
+/// `zoned_date_of TEXT => SECONDS KNOWN`, KNOWN whether the zone is known.
 fn read_zoned_date(alloc: Global, row: &Row, answer: &mut Answer) -> Result<(), MailParseError> {
-    match date_in(row.text(0)) {
+    match zoned_date_of(row.text(0)) {
         Ok((seconds, is_known)) => {
             answer.signed(seconds);
             answer.truth(is_known);

@@ -9,8 +9,8 @@ use Rattle.mail_data.proofs.archive.parents.Goals as goal
 pub returns-clause-read : goal.returns-clause-read
 returns-clause-read g c =
     ap Ok (parents-are (g.K.KnownCharsets.known c.args.known.now) (root (tree_of c.args.mail.now)) (map string_bytes c.in_ok-ids.ids.items) (map string_bytes c.in_ok-replied.replied.items)
-    (map string_bytes c.append.new.self.items) (map string_bytes c.in_ok-ids-2.ids.items) c.in_ok-ids.ensures.read c.in_ok-replied.ensures.read
-    (ap (map string_bytes) c.in_ok-append.ensures.items ∙ map-append string_bytes c.in_ok-ids.ids.items c.in_ok-replied.replied.items) c.in_ok-ids-2.ensures)
+    (map string_bytes c.append.new.self.items) (map string_bytes c.in_ok-without_repeats.field-0.items) c.in_ok-ids.ensures.read c.in_ok-replied.ensures.read
+    (ap (map string_bytes) c.in_ok-append.ensures.items ∙ map-append string_bytes c.in_ok-ids.ids.items c.in_ok-replied.replied.items) c.in_ok-without_repeats.ensures)
 
 pub returns-clause-distinct : goal.returns-clause-distinct
-returns-clause-distinct g c = parents-distinct (map string_bytes c.append.new.self.items) (map string_bytes c.in_ok-ids-2.ids.items) c.in_ok-ids-2.ensures
+returns-clause-distinct g c = parents-distinct (map string_bytes c.append.new.self.items) (map string_bytes c.in_ok-without_repeats.field-0.items) c.in_ok-without_repeats.ensures

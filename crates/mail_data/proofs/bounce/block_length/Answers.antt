@@ -1,5 +1,5 @@
 use Rattle.mail_data.specs.Bounce.{block_length}
-use Rattle.mail_data.specs.Lines.{is_empty_line}
+use Rattle.mail_data.specs.LineEnds.{is_empty_line}
 use Rattle.mail_data.proofs.bounce.block_length.Goals as goal
 
 pub returns-clause-value : goal.returns-clause-value

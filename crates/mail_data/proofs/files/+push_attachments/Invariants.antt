@@ -1,4 +1,4 @@
--- The files so far, and then those of the parts that are left, are what was there and the files of the message.
+-- The files so far, and then those of the remaining parts, are the old files and then those of the message.
 use Rattle.std.proofs.Common.{◌≡◌, ◌++◌, suc, map, drop}
 use Rattle.mailparse.specs.Mail.{forest}
 use Rattle.mailparse.specs.Views.{tree_of}

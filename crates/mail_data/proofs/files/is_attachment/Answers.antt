@@ -11,4 +11,4 @@ pub returns : goal.returns
 returns g c =
     let m = c.args.part.now in
     ap Ok (is_attachment-leaf (g.K.KnownCharsets.known c.args.known.now) (tree_of m) (disposition c.in_ok-disposition.disposition) (content_type (out-ParsedMail m).ctype) _
-    (sym c.if-not-is_leaf.false ∙ c.is_leaf.ensures) c.in_ok-disposition.ensures (ctype-out m) c.in_ok-is_file.ensures)
+    (sym c.if-not-is_leaf.false ∙ c.is_leaf.ensures) c.in_ok-disposition.ensures (ctype-out m) c.in_ok-describes_attachment.ensures)

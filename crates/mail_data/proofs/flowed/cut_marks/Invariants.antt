@@ -1,4 +1,4 @@
--- So many quote marks were passed, and what follows them is left.
+-- The quote marks so far are counted, and the rest follows them.
 use Rattle.std.proofs.Common.{◌≡◌, ◌+◌, drop, length}
 use Rattle.std.specs.Str.{IsUtf8}
 use Rattle.mail_data.specs.Flowed.{quote_depth}

@@ -1,4 +1,4 @@
--- What was written, and then the marks that are left, is what was there and all marks.
+-- The text so far, and then the remaining marks, is the old text and then all marks.
 use Rattle.std.proofs.Common.{◌≡◌, ◌++◌}
 use Rattle.std.specs.Prelude.{replicate}
 use Rattle.std.specs.String.{string_bytes}

@@ -1,7 +1,9 @@
-use Rattle.std.proofs.Common.{None, lit<}
+use Rattle.std.proofs.Common.{ap, lit<, ◌∙◌}
 use Rattle.std.proofs.lemmas.Str.Pattern.{strip_prefix_char}
-use Rattle.mail_data.proofs.lemmas.Flowed.{unstuffed-none}
+use Rattle.mail_data.proofs.lemmas.Flowed.{unstuffed-either}
 use Rattle.mail_data.proofs.flowed.unstuffed.Goals as goal
 
-pub returns-in-None : goal.returns-in-None
-returns-in-None c = unstuffed-none c.args.text.now (strip_prefix_char 32 c.args.text.now None c.in-None.ensures.cases (lit< tt))
+pub returns : goal.returns
+returns c =
+    ap (λ r. r.now) c.unwrap_or.ensures
+    ∙ unstuffed-either c.args.text _ (strip_prefix_char 32 c.args.text.now _ c.strip_prefix.ensures.cases (lit< tt))

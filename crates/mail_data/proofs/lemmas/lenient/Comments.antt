@@ -6,7 +6,7 @@ use Rattle.std.specs.Char.{encode_utf8}
 use Rattle.std.specs.Str.{chars, encode_utf8_all, IsUtf8}
 use Rattle.mail_data.specs.lenient.Comments.{depth_beside, outside_comments, quotes_next, string_after, without_comments}
 
--- what was kept, and then what is kept of the rest
+-- the text kept so far, and then that of the rest
 abbrev pub kept_with : List ℕ → Bool → Bool → ℕ → List ℕ → List ℕ
 kept_with kept in_string quoted depth rest = kept ++ encode_utf8_all (outside_comments in_string quoted depth (chars rest))
 

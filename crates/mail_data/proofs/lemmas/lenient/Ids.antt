@@ -10,11 +10,11 @@ use Rattle.std.proofs.lemmas.List.Splits.{slice_split_first, slice_split_none}
 use Rattle.std.proofs.lemmas.List.Sums.{fails_before_first}
 use Rattle.mailparse.proofs.lemmas.EncodedWord.{any_from_place}
 use Rattle.mailparse.specs.MessageIds.{is_closing}
-use Rattle.mail_data.specs.lenient.Ids.{found_in, id_at, is_opening}
+use Rattle.mail_data.specs.lenient.Ids.{found_ids, id_at, is_opening}
 
 -- ---- a text cut at a byte
 
--- what `split_once` at a byte says
+-- the result of `split_once` at a byte
 abbrev pub SplitsAt : ℕ → List ℕ → Option (Bor (List ℕ) × Bor (List ℕ)) → Type 0
 SplitsAt byte bytes r =
     MatchOption r (position_or_len (λ b. eqb b byte) bytes ≡ length bytes)
@@ -38,11 +38,11 @@ closing-none bytes h = any_from_place is_closing bytes ∙ le-ltb _ _ (omega ari
 abbrev pub ids_with : Bool → List (List ℕ) → List ℕ → List (List ℕ)
 ids_with needs ids rest = ids ++ flat_map (id_at needs) (slice_split is_opening rest)
 
-pub ids-none : (needs : Bool) (text : List ℕ) → slice_split is_opening text ≡ text ∷ [] → [] ≡ found_in needs text
-unfolding found_in
+pub ids-none : (needs : Bool) (text : List ℕ) → slice_split is_opening text ≡ text ∷ [] → [] ≡ found_ids needs text
+unfolding found_ids
 ids-none needs text h = sym (ap (λ (ps : List (List ℕ)). flat_map (id_at needs) (drop 1 ps)) h)
 
-pub ids-start : (needs : Bool) (text piece rest : List ℕ) (ids : List (List ℕ)) → slice_split is_opening text ≡ piece ∷ slice_split is_opening rest → ids ≡ [] → ids_with needs ids rest ≡ found_in needs text
-unfolding found_in
+pub ids-start : (needs : Bool) (text piece rest : List ℕ) (ids : List (List ℕ)) → slice_split is_opening text ≡ piece ∷ slice_split is_opening rest → ids ≡ [] → ids_with needs ids rest ≡ found_ids needs text
+unfolding found_ids
 ids-start needs text piece rest ids h none =
     ap (λ (i : List (List ℕ)). i ++ flat_map (id_at needs) (slice_split is_opening rest)) none ∙ sym (ap (λ (ps : List (List ℕ)). flat_map (id_at needs) (drop 1 ps)) h)

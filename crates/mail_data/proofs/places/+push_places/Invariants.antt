@@ -1,4 +1,4 @@
--- The places so far, and then those of the parts that are left, are what was there and the places of the message.
+-- The places so far, and then those of the remaining parts, are the old places and then those of the message.
 use Rattle.std.proofs.Common.{◌≡◌, ◌++◌, suc, map, drop}
 use Rattle.mailparse.specs.Mail.{forest}
 use Rattle.mailparse.specs.Views.{placements_of, tree_of}

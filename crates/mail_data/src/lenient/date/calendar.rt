@@ -1,13 +1,13 @@
-//! Days of the Gregorian calendar from 1900 on, counted without a loop.
+//! Days of the Gregorian calendar from 1900 onwards, counted without a loop.
 ghost use Rattle.std.specs.Prelude.{◌≡◌, ◌+◌, ◌≤◌, ◌<◌, ◌*◌, ◌^◌};
 ghost use Rattle.mail_data.specs.lenient.Date.{day_number, days_of_years, month_length};
 
 use mail_codec::calendar::{days_of_months, is_leap_year};
 
-/// The days of the months of a common year.
+/// The lengths of the months of a common year in days.
 static LENGTHS: [u64; 12] = [31, 28, 31, 30, 31, 30, 31, 31, 30, 31, 30, 31];
 
-/// The days from 1 January 1900 to a day; months count from 0.
+/// Returns the number of days from 1 January 1900 to a day; months are counted from 0.
 #[tactic(auto, unfolding(crate::specs::lenient::Date::day_number))]
 pub(super) fn day_number(year: u64, month: usize, day: u64) -> u64
     requires year { (1900 ≤ year) × (year < 2 ^ 30) }
@@ -19,7 +19,7 @@ pub(super) fn day_number(year: u64, month: usize, day: u64) -> u64
     days_of_years(year - 1900) + days_of_months(year, month) + (day - 1)
 }
 
-/// The days of a month, which is counted from 0.
+/// Returns the number of days of a month, counted from 0.
 #[tactic(auto, unfolding(crate::specs::lenient::Date::month_length))]
 pub(super) fn month_length(year: u64, month: usize) -> u64
     requires { month < 12 }
@@ -33,7 +33,8 @@ pub(super) fn month_length(year: u64, month: usize) -> u64
     }
 }
 
-/// The days of the first `count` years from 1900 on: 460 leap years stand before 1900.
+/// Returns the number of days of `count` years from 1900 onwards; there are 460 leap years before
+/// 1900.
 fn days_of_years(count: u64) -> u64
     requires { count < 2 ^ 30 }
     ensures value { result ≡ days_of_years count }

@@ -1,10 +1,10 @@
-//! What is wrong in a date.
+//! The faults of a date.
 use thiserror::Error;
 
-/// What is missing in a date, or wrong in it, as `date_of` returns it.
+/// The first part of a date that is missing or wrong, as `date_of` returns it.
 #[derive(Clone, Copy, Debug, PartialEq, Eq, Error)]
 pub enum DateError {
-    /// No number of one or two digits, or one that is not a day of the month.
+    /// No number of one or two digits, or one that is no day of the month.
     #[error("no day of the month")]
     Day,
     /// No name of a month.
@@ -16,10 +16,10 @@ pub enum DateError {
     /// No time of day.
     #[error("no time of day")]
     Time,
-    /// Something after the time that is no zone.
+    /// Text after the time that is no zone.
     #[error("no zone")]
     Zone,
-    /// Something after the zone that is no comment.
+    /// Text after the zone that is no comment.
     #[error("text after the zone")]
     TrailingText,
 }

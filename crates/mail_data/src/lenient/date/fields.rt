@@ -12,7 +12,7 @@ use super::numbers::{number_of, small_number};
 use super::whitespace::{after_mark, digits_at, letters_at};
 use mail_codec::calendar::month_named;
 
-/// The days from 1 January 1900 to the day at the front, and what follows the year.
+/// Reads the day at the front: the days from 1 January 1900, and the text after the year.
 #[tactic(auto, unfolding(crate::specs::lenient::Date::day_at))]
 pub(super) fn day_at(text: &[u8]) -> Result<(u64, &[u8]), DateError>
     ensures read { part_read result ≡ day_at text.now }
@@ -29,7 +29,7 @@ pub(super) fn day_at(text: &[u8]) -> Result<(u64, &[u8]), DateError>
     Ok((day_number(year, month, day), rest))
 }
 
-/// What follows the name of a day of the week and a comma, each if it is there.
+/// Skips the name of a day of the week and a comma, each if it is there.
 #[tactic(auto, unfolding(crate::specs::lenient::Date::after_day_name))]
 fn after_day_name(text: &[u8]) -> &[u8]
     ensures { result.now ≡ after_day_name text.now }
@@ -41,7 +41,7 @@ fn after_day_name(text: &[u8]) -> &[u8]
     }
 }
 
-/// The month that the word at the front names, counted from 0, and what follows it.
+/// Reads the name of a month at the front: the month, counted from 0, and the text after it.
 #[tactic(auto, unfolding(crate::specs::lenient::Date::month_at))]
 fn month_at(text: &[u8]) -> Result<(usize, &[u8]), DateError>
     ensures read { part_read result ≡ month_at text.now }
@@ -57,7 +57,7 @@ fn month_at(text: &[u8]) -> Result<(usize, &[u8]), DateError>
     }
 }
 
-/// The year that the digits at the front write, and what follows them.
+/// Reads the year at the front: the year, and the text after it.
 #[tactic(auto, unfolding(crate::specs::lenient::Date::year_at))]
 fn year_at(text: &[u8]) -> Result<(u64, &[u8]), DateError>
     ensures read { part_read result ≡ year_at text.now }
@@ -70,7 +70,7 @@ fn year_at(text: &[u8]) -> Result<(u64, &[u8]), DateError>
     }
 }
 
-/// The year that digits write.
+/// Returns the year that digits denote.
 #[tactic(auto, unfolding(crate::specs::lenient::Date::year_of))]
 fn year_of(digits: &[u8]) -> Result<u64, DateError>
     requires { AllDigits 10 digits.now }
@@ -93,7 +93,7 @@ fn year_of(digits: &[u8]) -> Result<u64, DateError>
     Ok(number)
 }
 
-/// The seconds from the start of the day to the time at the front, and what follows it.
+/// Reads the time at the front: the seconds from the start of the day, and the text after it.
 #[tactic(auto, unfolding(crate::specs::lenient::Date::time_at))]
 pub(super) fn time_at(text: &[u8]) -> Result<(u64, &[u8]), DateError>
     ensures read { part_read result ≡ time_at text.now }
@@ -108,7 +108,8 @@ pub(super) fn time_at(text: &[u8]) -> Result<(u64, &[u8]), DateError>
     Ok((3600 * hour + 60 * minute + second, rest))
 }
 
-/// The hour of the day, by the hour that is written and the word after the time, and what follows.
+/// Returns the hour of the day, given the hour that was read and the text after the time, and the
+/// text after `AM` or `PM`.
 #[tactic(auto, unfolding(crate::specs::lenient::Date::clock_hour))]
 fn clock_hour(hour: u64, text: &[u8]) -> (u64, &[u8])
     requires { hour ≤ 23 }
@@ -125,7 +126,7 @@ fn clock_hour(hour: u64, text: &[u8]) -> (u64, &[u8])
     (hour, text)
 }
 
-/// The hour of the day before noon.
+/// Returns the hour of the day before noon.
 fn morning_hour(hour: u64) -> u64
     requires { hour ≤ 23 }
     ensures value { result ≡ (if hour == 12 then 0 else hour) }
@@ -134,7 +135,7 @@ fn morning_hour(hour: u64) -> u64
     if hour == 12 { 0 } else { hour }
 }
 
-/// The hour of the day after noon.
+/// Returns the hour of the day after noon.
 fn evening_hour(hour: u64) -> u64
     requires { hour ≤ 23 }
     ensures value { result ≡ (if is_in_range 1 11 hour then hour + 12 else hour) }
@@ -147,7 +148,7 @@ fn evening_hour(hour: u64) -> u64
     }
 }
 
-/// The number after a colon, if it is at most that, and what follows it.
+/// Reads the number after a colon, which is at most `most`, and the text after it.
 #[tactic(auto, unfolding(crate::specs::lenient::Date::after_colon))]
 fn after_colon(text: &[u8], most: u64) -> Result<(u64, &[u8]), DateError>
     ensures read { part_read result ≡ after_colon most text.now }
@@ -162,7 +163,7 @@ fn after_colon(text: &[u8], most: u64) -> Result<(u64, &[u8]), DateError>
     }
 }
 
-/// The second, or 0 where no colon follows the minute, and what follows it.
+/// Reads the second, or 0 if no colon follows the minute, and the text after it.
 #[tactic(auto, unfolding(crate::specs::lenient::Date::second_at))]
 fn second_at(text: &[u8]) -> Result<(u64, &[u8]), DateError>
     ensures read { part_read result ≡ second_at text.now }

@@ -1,4 +1,4 @@
-//! The numbers that digits write.
+//! The numbers in a date.
 ghost use Rattle.std.specs.Prelude.{◌≡◌, ◌≤◌, ◌<◌, ◌^◌, length, option_map, IfSome};
 ghost use Rattle.std.specs.Str.Parse.{AllDigits, digits_value};
 ghost use Rattle.mail_data.specs.lenient.Date.{small_number};
@@ -6,8 +6,8 @@ ghost use Rattle.mail_data.specs.lenient.DateViews.{part_and_rest};
 
 use super::whitespace::digits_at;
 
-/// The number that one digit or two write, after whitespace and comments, if it is at most that,
-/// and what follows it.
+/// Reads a number of one digit or two, after whitespace and comments, if it is at most `most`, and
+/// the text after it.
 #[tactic(auto, unfolding(crate::specs::lenient::Date::small_number))]
 pub(super) fn small_number(text: &[u8], most: u64) -> Option<(u64, &[u8])>
     ensures value { option_map part_and_rest result ≡ small_number most text.now }
@@ -24,7 +24,7 @@ pub(super) fn small_number(text: &[u8], most: u64) -> Option<(u64, &[u8])>
     Some((number, rest))
 }
 
-/// The number that at most nine digits write.
+/// Returns the number that at most nine digits denote.
 pub(crate) fn number_of(digits: &[u8]) -> u64
     requires digits { AllDigits 10 digits.now }
     requires short { length digits.now ≤ 9 }

@@ -1,4 +1,4 @@
-//! Whitespace and comments of a date, and what stands after them.
+//! Whitespace and comments in a date, and the runs of bytes after them.
 ghost use Rattle.std.specs.Prelude.{◌≡◌, ◌+◌, ◌≤◌, ◌<◌, ◌^◌, length, option_map};
 ghost use Rattle.std.specs.Char.{is_ascii_alphabetic, is_ascii_digit};
 ghost use Rattle.std.specs.List.{prefix_len};
@@ -7,7 +7,7 @@ ghost use Rattle.mail_data.specs.lenient.Date.{after_comments, after_mark, ends_
 
 use crate::lenient::comments::depth_after;
 
-/// What follows the whitespace and the comments at the front.
+/// Skips the whitespace and the comments at the front.
 #[tactic(auto, unfolding(crate::specs::lenient::Date::after_comments))]
 pub(super) fn after_comments(text: &[u8]) -> &[u8]
     ensures { result.now ≡ after_comments text.now }
@@ -27,14 +27,16 @@ pub(super) fn after_comments(text: &[u8]) -> &[u8]
     rest
 }
 
-/// Whether a byte is no whitespace and opens no comment, where no comment is open.
+/// Returns whether a byte ends whitespace: no comment is open, and the byte opens none and is no
+/// whitespace.
 fn ends_whitespace(depth: usize, byte: u8) -> bool
     ensures { result ≡ ends_whitespace depth byte }
 {
     depth == 0 && !(byte.is_ascii_whitespace() || byte == b'(')
 }
 
-/// What follows the byte at the front, after whitespace and comments, if it is that one.
+/// Returns the text after a delimiter at the front, which may follow whitespace and comments, or
+/// `None` if another byte is there.
 #[tactic(auto, unfolding(crate::specs::lenient::Date::after_mark))]
 pub(super) fn after_mark(text: &[u8], mark: u8) -> Option<&[u8]>
     ensures { option_map (λ rest. rest.now) result ≡ after_mark mark text.now }
@@ -45,7 +47,7 @@ pub(super) fn after_mark(text: &[u8], mark: u8) -> Option<&[u8]>
     if *byte == mark { Some(rest) } else { None }
 }
 
-/// The letters at the front, after whitespace and comments, and what follows them.
+/// Returns the letters at the front, after whitespace and comments, and the text after them.
 #[tactic(auto, unfolding(crate::specs::lenient::Date::run_at))]
 pub(super) fn letters_at(text: &[u8]) -> (&[u8], &[u8])
     ensures { (result.0.now, result.1.now) ≡ run_at is_ascii_alphabetic text.now }
@@ -54,7 +56,7 @@ pub(super) fn letters_at(text: &[u8]) -> (&[u8], &[u8])
     rest.split_at(letters_len(rest))
 }
 
-/// How many letters stand at the front.
+/// Returns the number of letters at the front.
 fn letters_len(text: &[u8]) -> usize
     ensures value { result ≡ prefix_len is_ascii_alphabetic text.now }
     ensures bounds { result ≤ length text.now }
@@ -64,7 +66,7 @@ fn letters_len(text: &[u8]) -> usize
         .count()
 }
 
-/// The digits at the front, after whitespace and comments, and what follows them.
+/// Returns the digits at the front, after whitespace and comments, and the text after them.
 #[tactic(auto, unfolding(crate::specs::lenient::Date::run_at))]
 pub(super) fn digits_at(text: &[u8]) -> (&[u8], &[u8])
     ensures run { (result.0.now, result.1.now) ≡ run_at is_ascii_digit text.now }
@@ -74,7 +76,7 @@ pub(super) fn digits_at(text: &[u8]) -> (&[u8], &[u8])
     rest.split_at(digits_len(rest))
 }
 
-/// How many digits stand at the front.
+/// Returns the number of digits at the front.
 fn digits_len(text: &[u8]) -> usize
     ensures value { result ≡ prefix_len is_ascii_digit text.now }
     ensures bounds { result ≤ length text.now }

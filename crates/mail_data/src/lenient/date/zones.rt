@@ -10,8 +10,8 @@ use super::numbers::number_of;
 use super::whitespace::{after_mark, digits_at, letters_at};
 use mail_codec::names::look_up;
 
-/// The names of zones that are known, with the seconds that each adds: a clock in the west of
-/// Greenwich is behind.
+/// The known names of zones, with the seconds that each adds: positive in the west of Greenwich,
+/// where clocks are slow.
 static ZONES: [(&str, i32); 48] = [
     ("UTC", 0),
     ("UT", 0),
@@ -63,7 +63,8 @@ static ZONES: [(&str, i32); 48] = [
     ("NZDT", -46_800),
 ];
 
-/// The seconds that the zone at the front adds, whether it is known, and what follows it.
+/// Reads the zone at the front: the seconds that it adds, whether it is known, and the text after
+/// it.
 #[tactic(auto, unfolding(crate::specs::lenient::Date::zone_at))]
 pub(super) fn zone_at(text: &[u8]) -> Result<((i64, bool), &[u8]), DateError>
     ensures read { part_read result ≡ zone_at text.now }
@@ -81,7 +82,8 @@ pub(super) fn zone_at(text: &[u8]) -> Result<((i64, bool), &[u8]), DateError>
     named_zone(name, rest)
 }
 
-/// The seconds that the digits after a sign add, and what follows them, if a sign stands there.
+/// Reads the digits after a sign: the seconds that they add, and the text after them, or `None` if
+/// there is no sign.
 #[tactic(auto, unfolding(crate::specs::lenient::Date::signed_at))]
 fn signed_at(text: &[u8]) -> Option<Result<(i64, &[u8]), DateError>>
     ensures read { option_map part_read result ≡ signed_at text.now }
@@ -103,7 +105,7 @@ fn signed_at(text: &[u8]) -> Option<Result<(i64, &[u8]), DateError>>
     None
 }
 
-/// The seconds that the four digits at the front write, and what follows them.
+/// Reads four digits at the front: the seconds that they denote, and the text after them.
 #[tactic(auto, unfolding(crate::specs::lenient::Date::offset_at))]
 fn offset_at(text: &[u8]) -> Result<(u64, &[u8]), DateError>
     ensures read { part_read result ≡ offset_at text.now }
@@ -120,7 +122,7 @@ fn offset_at(text: &[u8]) -> Result<(u64, &[u8]), DateError>
     Ok((3600 * (number / 100) + 60 * (number % 100), rest))
 }
 
-/// Whether digits may follow a name.
+/// Returns whether digits may follow a name.
 fn is_universal(name: &[u8]) -> bool
     ensures { result ≡ is_universal name.now }
 {
@@ -129,7 +131,7 @@ fn is_universal(name: &[u8]) -> bool
         || name.eq_ignore_ascii_case(b"UT")
 }
 
-/// The zone of a name, with what follows it: UTC where the name is not known, and without a zone.
+/// Returns the zone with a name, and the text after it: UTC if the name is not known or missing.
 #[tactic(auto, unfolding(crate::specs::lenient::Date::named_zone))]
 fn named_zone<'t>(name: &[u8], rest: &'t [u8]) -> Result<((i64, bool), &'t [u8]), DateError>
     ensures read { part_read result ≡ named_zone name.now rest.now }
@@ -145,7 +147,7 @@ fn named_zone<'t>(name: &[u8], rest: &'t [u8]) -> Result<((i64, bool), &'t [u8])
     }
 }
 
-/// The seconds that the zone of a name adds, if it is known.
+/// Returns the seconds that the zone with a name adds, or `None` if the name is not known.
 fn zone_named(name: &[u8]) -> Option<i32>
     ensures { result ≡ look_up zone_names name.now }
 {

@@ -11,7 +11,7 @@ use Rattle.mail_lines.proofs.mail.write_date.Goals as goal
 pub returns-in-Ok : goal.returns-in-Ok
 returns-in-Ok g c =
     let value = ok_same _ _ c.in_ok-date.ensures ∙ ap text_found c.in-Some.is ∙ ap Some (sym c.as_str.ensures.value) in
-    let read = sym c.date_in.ensures ∙ c.in-Ok.is in
+    let read = sym c.zoned_date_of.ensures ∙ c.in-Ok.is in
     let seconds : List ℕ = codes ",\"date\":" ++ seconds_text c.in-Ok.seconds in
     let fits : SFits w64 c.in-Ok.seconds = search rules in
     let written =
@@ -23,7 +23,7 @@ returns-in-Ok g c =
 pub returns : goal.returns
 returns g c =
     let value = ok_same _ _ c.in_ok-date.ensures ∙ ap text_found c.in-Some.is ∙ ap Some (sym c.as_str.ensures.value) in
-    let fault = sym c.date_in.ensures ∙ c.in-Err.is in
+    let fault = sym c.zoned_date_of.ensures ∙ c.in-Err.is in
     writes_as _ _ c.write_text.result _ _
     (ap (λ t. codes ",\"date\":null,\"date_error\":" ++ json_text t) c.date_fault.ensures
     ∙ sym (date_refused _ c.as_str.result.now c.in-Err.error value fault))

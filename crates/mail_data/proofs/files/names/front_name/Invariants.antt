@@ -1,4 +1,4 @@
--- What was written, and then what still fits of the rest, is the name made safe.
+-- The characters written so far, and then those of the rest that still fit, are the name made safe.
 use Rattle.std.proofs.Common.{◌≡◌, ◌≤◌, length}
 use Rattle.std.specs.Str.{IsUtf8}
 use Rattle.std.specs.String.{string_bytes}

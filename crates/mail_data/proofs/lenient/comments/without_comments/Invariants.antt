@@ -1,4 +1,4 @@
--- What was kept, and then what is kept of the rest, is what is kept of all.
+-- The text kept so far, and then that of the rest, is that of the whole text.
 use Rattle.std.proofs.Common.{◌≡◌, ◌+◌, ◌≤◌, length}
 use Rattle.std.specs.Str.{IsUtf8}
 use Rattle.std.specs.String.{string_bytes}

@@ -1,4 +1,4 @@
--- The number is what the digits so far write.
+-- The number is that of the digits so far.
 use Rattle.std.proofs.Common.{◌≡◌, ◌<◌, ◌^◌, take}
 use Rattle.std.specs.Str.Parse.{digits_value}
 use Rattle.mail_data.proofs.lenient.date.numbers.number_of.Given as goal

@@ -1,4 +1,4 @@
--- What follows the whitespace and comments of the rest follows those of the text.
+-- The bytes after the whitespace and comments of the rest are those after the ones of the text.
 use Rattle.std.proofs.Common.{◌≡◌, ◌≤◌, false, drop}
 use Rattle.mail_data.specs.lenient.Date.{after_whitespace}
 use Rattle.mail_data.proofs.lenient.date.whitespace.after_comments.Given as goal

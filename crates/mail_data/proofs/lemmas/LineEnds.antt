@@ -6,9 +6,9 @@ use Rattle.std.proofs.lemmas.List.{drop-append-le, drop-drop}
 use Rattle.mail_codec.specs.Places.{begins, first_place, least, byte_place}
 use Rattle.mail_codec.proofs.lemmas.Places.{least-is, least-passes, first_place-before, first_place-passes}
 use Rattle.mail_codec.proofs.lemmas.PlacesSearches.{place_none, place_some}
-use Rattle.mail_data.specs.Lines.{empty_line, line_length, line_place, starts_line}
+use Rattle.mail_data.specs.LineEnds.{empty_line, line_length, line_place, starts_line}
 
--- a line starts at p from which on the bytes pass the test
+-- a line starts at p, and the bytes from there onwards pass the test
 abbrev pub is_line : (List ℕ → Bool) → List ℕ → ℕ → Bool
 is_line test bytes p = starts_line bytes p && test (drop p bytes)
 
@@ -16,7 +16,7 @@ is_line test bytes p = starts_line bytes p && test (drop p bytes)
 abbrev pub NoLine : (List ℕ → Bool) → List ℕ → ℕ → Type 0
 NoLine test bytes to = (k : ℕ) → k < to → is_line test bytes k ≡ false
 
--- no line starts where no LF stands before
+-- no line starts where no LF precedes
 no_start : (bytes : List ℕ) (at k : ℕ) → at < k → k ≤ at + first_place (begins (λ b. b == 10)) (drop at bytes) → starts_line bytes k ≡ false
 no_start bytes at k low high =
     let before : begins (λ b. b == 10) (drop (k - 1 - at) (drop at bytes)) ≡ false =
@@ -32,7 +32,7 @@ no_line_to : (test : List ℕ → Bool) (bytes : List ℕ) (at to : ℕ) → NoL
 no_line_to test bytes at to none not_here within k low = elim (cases_lt k at) [
   | inl before ↦ none k before
   | inr past ↦ elim (cases_lt at k) [
-    | inl behind ↦ and_left (starts_line bytes k) (test (drop k bytes)) (no_start bytes at k behind (omega arith))
+    | inl beyond ↦ and_left (starts_line bytes k) (test (drop k bytes)) (no_start bytes at k beyond (omega arith))
     | inr not_behind ↦ let same : k ≡ at = omega arith in ap (is_line test bytes) same ∙ and_right (starts_line bytes at) (test (drop at bytes)) not_here
   ]
 ]
@@ -165,7 +165,7 @@ starts-stays mail more k low =
     ap (λ (r : List ℕ). (k == 0) || begins (λ b. b == 10) r) (drop-append-le (k - 1) mail more (omega arith))
     ∙ ap (λ (t : Bool). (k == 0) || t) (begins-stays (drop (k - 1) mail) more (omega arith))
 
--- ---- whether there are bytes, as the code tells
+-- ---- whether there are bytes, as the code decides
 
 pub some-bytes : (rest : List ℕ) (r : Bool) → r ≡ nat_eq (length rest) 0 → r ≡ false → 0 < length rest
 some-bytes rest r is fails = let some : (length rest == 0) ≡ false = sym is ∙ fails in grind (arith, some)

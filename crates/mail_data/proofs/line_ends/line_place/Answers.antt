@@ -1,10 +1,10 @@
 use Rattle.std.proofs.Common.{◌≡◌, ℕ, ◌-◌, Bool, List, Option, Some, None, length, take, drop, sym, ap, ◌∙◌}
 use Rattle.std.proofs.lemmas.List.{take_rest}
 use Rattle.mail_codec.specs.Places.{byte_place}
-use Rattle.mail_data.proofs.lemmas.Lines.{line_place-found, line_place-all, no_line_next, starts_next, next_within}
-use Rattle.mail_data.proofs.lines.line_place.Goals as goal
+use Rattle.mail_data.proofs.lemmas.LineEnds.{line_place-found, line_place-all, no_line_next, starts_next, next_within}
+use Rattle.mail_data.proofs.line_ends.line_place.Goals as goal
 
--- what the test and the search say of the bytes from there on
+-- the test and the search on the bytes from there onwards
 tested : (test : List ℕ → Bool) (bytes : List ℕ) (at : ℕ) (r t : Bool) → r ≡ test (take (length bytes - at) (drop at bytes)) → r ≡ t → test (drop at bytes) ≡ t
 tested test bytes at r t e is = ap test (sym (take_rest bytes at)) ∙ sym e ∙ is
 

@@ -1,11 +1,11 @@
-//! Lines of bytes.
+//! Where lines of bytes end, and which are empty.
 ghost use Rattle.std.specs.Prelude.{◌≡◌, ◌≤◌, ℕ, Bool, List, length};
-ghost use Rattle.mail_data.specs.Lines.{empty_line, is_empty_line, line_length, line_place};
+ghost use Rattle.mail_data.specs.LineEnds.{empty_line, is_empty_line, line_length, line_place};
 
 use mail_codec::bytescan::find_byte;
 
-/// How many bytes the empty line at the front has, LF or CR LF, or 0 where none is there.
-#[tactic(auto, unfolding(crate::specs::Lines::empty_line))]
+/// Returns the length of the empty line at the front, LF or CR LF, or 0 if there is no empty line.
+#[tactic(auto, unfolding(crate::specs::LineEnds::empty_line))]
 pub(crate) fn empty_line(bytes: &[u8]) -> usize
     ensures value { result ≡ empty_line bytes.now }
     ensures bounds { result ≤ length bytes.now }
@@ -19,14 +19,15 @@ pub(crate) fn empty_line(bytes: &[u8]) -> usize
     }
 }
 
-/// Whether an empty line stands at the front.
+/// Returns whether an empty line is at the front.
 pub(crate) fn is_empty_line(bytes: &[u8]) -> bool
     ensures { result ≡ is_empty_line bytes.now }
 {
     empty_line(bytes) > 0
 }
 
-/// Where the first line starts from which on the bytes pass the test, or the length where none does.
+/// Returns the offset of the first line such that the bytes from there onwards pass the test, or the
+/// length if there is no such line.
 pub(crate) fn line_place<F: Fn(&[u8]) -> bool>(bytes: &[u8], passes: F) -> usize
     requires { F.IsAlwaysCallable passes }
     ensures value { (test : List ℕ → Bool) → ((text : _) (is : Bool) →
@@ -43,7 +44,7 @@ pub(crate) fn line_place<F: Fn(&[u8]) -> bool>(bytes: &[u8], passes: F) -> usize
     at
 }
 
-/// How many bytes the first line has, its LF among them.
+/// Returns the length of the first line, including its LF.
 pub(crate) fn line_length(bytes: &[u8]) -> usize
     ensures value { result ≡ line_length bytes.now }
     ensures bounds { result ≤ length bytes.now }

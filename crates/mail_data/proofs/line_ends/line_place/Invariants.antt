@@ -1,8 +1,8 @@
 -- A line starts at the place that the search has come to, and no line before it passes the test.
 use Rattle.std.proofs.Common.{◌≡◌, ◌≤◌, ◌-◌, ℕ, Bool, true, List, Bor, length}
-use Rattle.mail_data.specs.Lines.{starts_line}
-use Rattle.mail_data.proofs.lemmas.Lines.{NoLine}
-use Rattle.mail_data.proofs.lines.line_place.Given as goal
+use Rattle.mail_data.specs.LineEnds.{starts_line}
+use Rattle.mail_data.proofs.lemmas.LineEnds.{NoLine}
+use Rattle.mail_data.proofs.line_ends.line_place.Given as goal
 
 abbrev pub invariant-lines : goal.invariant-lines
 invariant-lines g l = record {

@@ -1,0 +1,14 @@
+use Rattle.std.proofs.Common.{rules, map, ap, ◌∙◌}
+use Rattle.std.specs.String.{string_bytes}
+use Rattle.mail_data.specs.lenient.IdViews.{needs_at}
+use Rattle.mail_data.proofs.lemmas.lenient.Ids.{ids-none, ids-start}
+use Rattle.mail_data.proofs.lenient.ids.find_ids.Goals as goal
+
+pub returns-in_default : goal.returns-in_default
+returns-in_default c = ap (map string_bytes) c.new-ids.ensures.items ∙ ids-none (needs_at c.args.rule) c.args.text.now c.in_default.ensures.pieces
+
+pub pieces-init : goal.pieces-init
+pieces-init c = record {
+  utf8 = search rules;
+  all = ids-start (needs_at c.args.rule) c.args.text.now c.in-Some.field-0-0.now c.in-Some.first.now (map string_bytes c.new-ids.result.items) c.in-Some.ensures.pieces (ap (map string_bytes) c.new-ids.ensures.items);
+}
