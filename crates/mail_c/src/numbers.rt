@@ -8,7 +8,7 @@ ghost use Rattle.mail_c.specs.Numbers.{format_named};
 use crate::codes::{ABSENT, DONE, NOT_UTF8, code_of_date};
 use crate::results::text_in;
 use mail_data::lenient::zoned_date_of;
-use mail_data::mailbox::formats::{Format, read_mailbox_in};
+use mail_data::mailbox::{Format, read_mailbox};
 
 /// Reads the value of a Date header. Returns `DONE`, or the code of its refusal.
 pub(crate) fn date(seconds: &mut i64, is_zone_known: &mut u8, text: &[u8]) -> u32
@@ -53,7 +53,7 @@ pub(crate) fn next_mail(
         (first_offsets (entries_in (format_named is_counted) mailbox.now) (front_length mailbox.now))
         (start.old, end.old, next.old) (start.new, end.new, next.new) result }
 {
-    let mut mails = read_mailbox_in(format_named(is_counted), mailbox);
+    let mut mails = read_mailbox(mailbox, format_named(is_counted));
     let front = mails.front().len();
     let Some(entry) = mails.next() else {
         return ABSENT;
