@@ -22,7 +22,6 @@ closed='Bad file descriptor (os error 9)'
 directory='Is a directory (os error 21)'
 missing='No such file or directory (os error 2)'
 full='No space left on device (os error 28)'
-unread='Broken pipe (os error 32)'
 
 # run [FILE]: runs the program, which leaves its standard error in the file `err`, and sets `status`
 run() {
@@ -63,7 +62,7 @@ outputs() {
     judge 'output can only be read' "$name: output failed: $closed"
 }
 
-# pipes TEXT: a pipe whose reader is gone before the first write, and one whose reader goes after some bytes
+# pipes: a pipe whose reader is gone before the first write, and one whose reader goes after some bytes
 pipes() {
     {
         sleep 1
@@ -71,13 +70,13 @@ pipes() {
         echo "$status" > "$work/status"
     } | true
     status=$(cat "$work/status")
-    judge 'a pipe without a reader' "$1"
+    judge 'a pipe without a reader' ''
     {
         run < "$work/long"
         echo "$status" > "$work/status"
     } | head -c 10 > "$work/out"
     status=$(cat "$work/status")
-    judge 'a pipe closed early' "$1"
+    judge 'a pipe closed early' ''
 }
 
 # no_error WHAT [STATUS]: the same where standard error fails too, so that nothing can be said
@@ -105,7 +104,7 @@ silent() {
     no_error 'a refusal with standard error full' "$1"
 }
 
-# program NAME PATH STATUS TEXT: all of them; a refusal has this status, and a closed pipe this message
+# program NAME PATH STATUS: all of them; a refusal has this status
 program() {
     name=$1
     program=$2
@@ -113,14 +112,14 @@ program() {
     run no/such/file > "$work/out"
     judge 'a file is missing' "$name: no/such/file: $missing"
     outputs
-    pipes "$4"
+    pipes
     silent "$3"
 }
 
-program mail_show "$show" 1 "mail_show: output failed: $unread"
+program mail_show "$show" 1
 run "$work" > "$work/out"
 judge 'a file is a directory' "$name: input failed: $directory"
-program mail_json "$json" 3 ''
+program mail_json "$json" 3
 
 # mail_extract into an empty directory, and its many lines of mails that are refused
 cat > "$work/extract" << END
@@ -133,7 +132,7 @@ chmod +x "$work/extract"
 yes 'From a Thu Jan  1 00:00:00 1970
  x
 ' | head -n 4000 > "$work/long"
-program mail_extract "$work/extract" 3 ''
+program mail_extract "$work/extract" 3
 run --into no/such/directory < "$mail" > "$work/out"
 judge 'the directory is missing' "$name: no/such/directory: $missing"
 run --into "$mail" < "$mail" > "$work/out"

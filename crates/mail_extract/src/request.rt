@@ -1,7 +1,7 @@
 //! What the arguments request.
 
 use crate::hash::Hashing;
-use mail_program::Word;
+use mail_program::{Argument, Expected};
 use std::alloc::{AllocError, Global};
 
 /// What `--help` prints.
@@ -55,8 +55,8 @@ pub struct Request<'a> {
     pub inputs: Vec<Option<&'a str>>,
     /// Whether the next argument is the directory.
     is_directory_next: bool,
-    /// Whether the arguments are names of files, after `--`.
-    are_names: bool,
+    /// Which arguments may follow.
+    expected: Expected,
 }
 
 /// Returns what the arguments request. The first that is wrong or requests help or the version decides.
@@ -71,7 +71,7 @@ pub fn request_of<'a>(alloc: Global, arguments: &'a [String]) -> Result<Request<
         hashing: Hashing::Off,
         inputs: Vec::new(alloc),
         is_directory_next: false,
-        are_names: false,
+        expected: Expected::Any,
     };
     for argument in arguments {
         request.take(argument.as_str())?;
@@ -90,16 +90,16 @@ impl<'a> Request<'a> {
             self.directory = argument;
             return Ok(());
         }
-        match Word::new(argument, self.are_names) {
-            Word::Help => self.decide(Task::Help),
-            Word::Version => self.decide(Task::Version),
-            Word::Empty => self.decide(Task::Wrong),
-            Word::Names => self.are_names = true,
-            Word::Option("--into") => self.is_directory_next = true,
-            Word::Option("--hash") => self.hashing = Hashing::On,
-            Word::Option(_) => self.decide(Task::Wrong),
-            Word::Input => self.inputs.push(None)?,
-            Word::File(name) => self.inputs.push(Some(name))?,
+        match Argument::new(argument, self.expected) {
+            Argument::Help => self.decide(Task::Help),
+            Argument::Version => self.decide(Task::Version),
+            Argument::Empty => self.decide(Task::Wrong),
+            Argument::Names => self.expected = Expected::Names,
+            Argument::Option("--into") => self.is_directory_next = true,
+            Argument::Option("--hash") => self.hashing = Hashing::On,
+            Argument::Option(_) => self.decide(Task::Wrong),
+            Argument::Input => self.inputs.push(None)?,
+            Argument::File(name) => self.inputs.push(Some(name))?,
         }
         Ok(())
     }

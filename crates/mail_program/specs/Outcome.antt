@@ -1,4 +1,4 @@
--- How two parts of a run went together, and the statuses of programs.
+-- The outcome of two parts of a run together, and the exit statuses of programs.
 use Rattle.std.specs.Prelude.{ℕ, Result, Ok, Err}
 use Rattle.std.specs.Process.{exit_status}
 use Rattle.std.specs.declared.process.ExitCode.{ExitCode}
@@ -14,13 +14,13 @@ worse Refused Refused = Refused
 worse Refused Failed = Failed
 worse Failed other = Failed
 
--- the status of a program whose run went so
+-- the exit status for an outcome
 abbrev pub status : Outcome → ℕ
 status Clean = 0
 status Refused = 3
 status Failed = 1
 
--- the status of a program that ended with this status, or by a fault
+-- the exit status of a program that ended with this status, or by a fault
 abbrev pub ended_status : Result ExitCode Fault → ℕ
 ended_status (Ok code) = exit_status code
 ended_status (Err fault) = 1

@@ -1,4 +1,4 @@
--- What reading does to a reader, where it tells its bytes.
+-- What reading does to a reader whose bytes are known.
 use Rattle.std.specs.Prelude.{◌≡◌, ℕ, Bool, true, List, ◌++◌, Option, Result, Ok, Err, IfSome}
 use Rattle.std.specs.Global.{Vec}
 use Rattle.std.specs.Io.KnownBytes.{Consumes, IsAtEnd}
@@ -18,7 +18,8 @@ abbrev pub IsRead : (left_before left : Option (List ℕ)) → Result (Vec ℕ) 
 IsRead left_before left (Ok input) = IsAtEnd left × IfSome left_before (λ all. input.items ≡ all)
 IsRead left_before left (Err fault) = IsReadFault fault
 
--- reading on took bytes off the reader and put them behind those that were read before, and the reader may have come to its end; a fault is that memory ran out, or one of the input
+-- reading took bytes off the reader and appended them to those that were read before, and the reader may be at its end;
+-- a fault is that memory ran out, or one of the input
 abbrev pub ReadsOn : (left_before left : Option (List ℕ)) → (before after : List ℕ) → Result Bool Fault → Type 0
 ReadsOn left_before left before after (Ok has_ended) =
     (more : List ℕ) × Consumes left_before left more × (after ≡ before ++ more) × (has_ended ≡ true → IsAtEnd left)

@@ -9,68 +9,77 @@ use std::io;
 ///
 /// # Errors
 ///
-/// `ErrorKind::InvalidData` for an argument that is not UTF-8, and `ErrorKind::OutOfMemory` where
-/// it runs out of memory.
+/// `ErrorKind::InvalidData` for an argument that is not UTF-8, and `ErrorKind::OutOfMemory` if it runs
+/// out of memory.
 ///
 /// # Examples
 ///
 /// ```rust
 /// use mail_program::arguments;
 ///
-/// let words = arguments(&rt)?;
-/// assert!(rt; words.iter().all(|word| !word.contains('\0')));
+/// let arguments = arguments(&rt)?;
+/// assert!(rt; arguments.iter().all(|argument| !argument.contains('\0')));
 /// ```
 pub fn arguments(rt: &(impl Env + AllocGlobal)) -> io::Result<Vec<String>> {
-    let mut words = Vec::new(rt.alloc());
-    for word in env::args(rt)?.skip(1) {
-        words.push(word)?;
+    let mut arguments = Vec::new(rt.alloc());
+    for argument in env::args(rt)?.skip(1) {
+        arguments.push(argument)?;
     }
-    Ok(words)
+    Ok(arguments)
 }
 
-/// What an argument of a program is.
-#[derive(Clone, Copy, PartialEq, Eq)]
-pub enum Word<'w> {
+/// An argument of a program.
+#[derive(Clone, Copy, Debug, PartialEq, Eq)]
+pub enum Argument<'a> {
     /// `-h` or `--help`.
     Help,
     /// `--version`.
     Version,
-    /// Another option: a word of two bytes or more that begins with `-`.
-    Option(&'w str),
-    /// `--`: each word after it is the name of a file.
+    /// Another option: an argument of two bytes or more that begins with `-`.
+    Option(&'a str),
+    /// `--`: each further argument is the name of a file.
     Names,
     /// `-`: standard input.
     Input,
     /// The name of a file.
-    File(&'w str),
-    /// An empty word, which is nothing of these.
+    File(&'a str),
+    /// An empty argument, which is none of these.
     Empty,
 }
 
-impl<'w> Word<'w> {
-    /// Returns what an argument is, where `are_names` says that `--` stands before it.
+/// Which arguments may follow.
+#[derive(Clone, Copy, Debug, PartialEq, Eq)]
+pub enum Expected {
+    /// Options and names of files.
+    Any,
+    /// Names of files only, since `--` came before.
+    Names,
+}
+
+impl<'a> Argument<'a> {
+    /// Returns the argument that a text is.
     ///
     /// Takes no memory.
     ///
     /// # Examples
     ///
     /// ```rust
-    /// use mail_program::Word;
+    /// use mail_program::{Argument, Expected};
     ///
-    /// assert!(rt; Word::new("--help", false) == Word::Help);
-    /// assert!(rt; Word::new("--help", true) == Word::File("--help"));
-    /// assert!(rt; Word::new("-", false) == Word::Input);
+    /// assert_eq!(rt; Argument::new("--help", Expected::Any), Argument::Help);
+    /// assert_eq!(rt; Argument::new("--help", Expected::Names), Argument::File("--help"));
+    /// assert_eq!(rt; Argument::new("-", Expected::Any), Argument::Input);
     /// ```
-    pub fn new(word: &'w str, are_names: bool) -> Word<'w> {
-        match word {
-            "" => Word::Empty,
-            word if are_names => Word::File(word),
-            "-" => Word::Input,
-            "--" => Word::Names,
-            "-h" | "--help" => Word::Help,
-            "--version" => Word::Version,
-            word if word.starts_with('-') => Word::Option(word),
-            word => Word::File(word),
+    pub fn new(text: &'a str, expected: Expected) -> Argument<'a> {
+        match (text, expected) {
+            ("", _) => Argument::Empty,
+            (name, Expected::Names) => Argument::File(name),
+            ("-", _) => Argument::Input,
+            ("--", _) => Argument::Names,
+            ("-h" | "--help", _) => Argument::Help,
+            ("--version", _) => Argument::Version,
+            (option, _) if option.starts_with('-') => Argument::Option(option),
+            (name, _) => Argument::File(name),
         }
     }
 }

@@ -1,4 +1,4 @@
-//! Why a program did not do what it was asked.
+//! Why a program failed.
 ghost use Rattle.std.specs.Prelude.{◌≡◌};
 
 use mailparse::MailParseError;
@@ -6,7 +6,7 @@ use std::alloc::AllocError;
 use std::io;
 use thiserror::Error;
 
-/// Why a program did not do, or did not wholly do, what it was asked.
+/// Why a program failed, wholly or in part.
 #[derive(Debug, Drop, Error)]
 pub enum Fault {
     /// The mail is refused, or memory runs out.
@@ -41,7 +41,7 @@ impl From<AllocError> for Fault {
     }
 }
 
-/// An error that a `?` passes on is one of a write; a read names `Input` itself.
+/// An error that a `?` passes on is one of a write. A failed read names `Input` itself.
 impl From<io::Error> for Fault {
     ghost use Rattle.mail_program.specs.declared.fault.Fault.TheVariants.{Output};
 

@@ -1,4 +1,4 @@
-//! The hashes of bytes.
+//! Hashes of bytes.
 ghost use Rattle.std.specs.Prelude.{◌≡◌, IfOk, string_bytes};
 ghost use Rattle.mail_program.specs.Hash.{hash_text};
 
@@ -11,7 +11,7 @@ use std::alloc::{AllocError, Global};
 ///
 /// # Errors
 ///
-/// Where it runs out of memory.
+/// If it runs out of memory.
 ///
 /// # Examples
 ///

@@ -1,4 +1,4 @@
-//! What the programs do around their text: arguments, reading to the end, writing, faults, statuses.
+//! What the programs share: arguments, reading and writing, faults, exit statuses.
 #![tactic(auto)]
 
 mod command;
@@ -7,7 +7,7 @@ mod hash;
 mod outcome;
 mod streams;
 
-pub use command::{VERSION, Word, arguments};
+pub use command::{Argument, Expected, VERSION, arguments};
 pub use fault::Fault;
 pub use hash::sha256_text;
 pub use outcome::{Outcome, status_of};

@@ -1,4 +1,4 @@
-//! How a run of a program went, and the status with which the program ends.
+//! The outcome of a run of a program, and its exit status.
 ghost use Rattle.std.specs.Prelude.{◌≡◌};
 ghost use Rattle.std.specs.Process.{exit_status};
 ghost use Rattle.mail_program.specs.Outcome.{ended_status, status, worse};
@@ -7,19 +7,19 @@ use crate::fault::Fault;
 use std::io::ErrorKind;
 use std::process::ExitCode;
 
-/// How a run, or a part of it, went.
-#[derive(Clone, Copy, PartialEq, Eq)]
+/// The outcome of a run, or of a part of it.
+#[derive(Clone, Copy, Debug, PartialEq, Eq)]
 pub enum Outcome {
     /// All was read and written.
     Clean,
-    /// All was read and written, but for what the mails do not give.
+    /// All was read and written, except what was refused.
     Refused,
     /// Something could not be read or written.
     Failed,
 }
 
 impl Outcome {
-    /// Returns how two parts of a run went together: as the worse of them.
+    /// Returns the outcome of two parts of a run together: the worse of them.
     ///
     /// Takes no memory.
     ///
@@ -41,8 +41,8 @@ impl Outcome {
         }
     }
 
-    /// Returns the status of a program whose run went so: 0 where all went well, 3 where mails were
-    /// refused, and 1 where something failed.
+    /// Returns the exit status for this outcome: 0 if all went well, 3 if mails were refused, and 1 if
+    /// something failed.
     ///
     /// Takes no memory.
     ///
@@ -65,8 +65,9 @@ impl Outcome {
     }
 }
 
-/// Returns the status of a program that ended so. Of a fault the status is 1, and standard error says
-/// which it is, after the name of the program; but not where whoever reads the output has gone.
+/// Returns the exit status of a program that ended with this status or fault. For a fault it is 1, and
+/// the fault is reported on standard error, after the name of the program, unless the output is a
+/// broken pipe.
 ///
 /// Takes no memory.
 ///
@@ -95,7 +96,7 @@ pub fn status_of(rt: &impl Eprint, program: &str, ended: Result<ExitCode, Fault>
     }
 }
 
-/// Whether whoever reads what is written has gone.
+/// Returns whether the output is a broken pipe.
 fn is_broken_pipe(fault: &Fault) -> bool {
     match fault {
         Fault::Output(error) => error.kind() == ErrorKind::BrokenPipe,

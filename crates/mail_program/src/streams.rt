@@ -8,7 +8,7 @@ use crate::fault::Fault;
 use std::alloc::{AllocError, Global};
 use std::io::{self, ErrorKind, Read, Write};
 
-/// How many bytes a read may give.
+/// The largest number of bytes that one read returns.
 const READ_SIZE: usize = 64 * 1024;
 
 /// Returns all that the reader has left. An interrupted read is tried again.
@@ -17,8 +17,8 @@ const READ_SIZE: usize = 64 * 1024;
 ///
 /// # Errors
 ///
-/// `Fault::Input` where a read fails, and `Fault::Mail` with `MailParseError::Memory` where it runs
-/// out of memory.
+/// `Fault::Input` if a read fails, and `Fault::Mail` with `MailParseError::Memory` if it runs out of
+/// memory.
 ///
 /// # Examples
 ///
@@ -34,19 +34,19 @@ pub fn read_input<R: Read>(alloc: Global, reader: &mut R) -> Result<Vec<u8>, Fau
     ensures { IsRead (R.remaining reader.old) (R.remaining reader.new) result }
 {
     let mut input = Vec::new(alloc);
-    read_more(alloc, reader, &mut input, usize::MAX)?;
+    read_more(alloc, &mut input, reader, usize::MAX)?;
     Ok(input)
 }
 
-/// Reads on, behind these bytes, until they are more than `most` or the reader is at its end. Returns
-/// whether it is at its end. An interrupted read is tried again.
+/// Appends what it reads to `input`, until that has more than `most` bytes or the reader is at its end.
+/// Returns whether the reader is at its end. An interrupted read is tried again.
 ///
 /// Takes memory for the bytes.
 ///
 /// # Errors
 ///
-/// `Fault::Input` where a read fails, and `Fault::Mail` with `MailParseError::Memory` where it runs
-/// out of memory.
+/// `Fault::Input` if a read fails, and `Fault::Mail` with `MailParseError::Memory` if it runs out of
+/// memory.
 ///
 /// # Examples
 ///
@@ -55,14 +55,14 @@ pub fn read_input<R: Read>(alloc: Global, reader: &mut R) -> Result<Vec<u8>, Fau
 ///
 /// let mut reader = b"Subject: Hi\n".as_slice();
 /// let mut input = Vec::new(alloc);
-/// assert!(rt; !read_more(alloc, &mut reader, &mut input, 0)?);
+/// assert!(rt; !read_more(alloc, &mut input, &mut reader, 0)?);
 /// assert_eq!(rt; input.as_slice(), b"Subject: Hi\n".as_slice());
-/// assert!(rt; read_more(alloc, &mut reader, &mut input, 100)?);
+/// assert!(rt; read_more(alloc, &mut input, &mut reader, 100)?);
 /// ```
 pub fn read_more<R: Read>(
     alloc: Global,
-    reader: &mut R,
     input: &mut Vec<u8>,
+    reader: &mut R,
     most: usize,
 ) -> Result<bool, Fault>
     ensures read { ReadsOn (R.remaining reader.old) (R.remaining reader.new)
@@ -87,7 +87,7 @@ pub fn read_more<R: Read>(
     Err(Fault::Input(io::Error::from(ErrorKind::Interrupted)))
 }
 
-/// A buffer for reads, on the heap.
+/// Returns a buffer for reads, on the heap.
 fn read_buffer(alloc: Global) -> Result<Vec<u8>, AllocError>
     ensures { IfOk result (λ buffer. 0 < vec_len buffer) }
 {
@@ -98,7 +98,7 @@ fn read_buffer(alloc: Global) -> Result<Vec<u8>, AllocError>
 ///
 /// # Errors
 ///
-/// `Fault::Output` where a write or the flush fails.
+/// `Fault::Output` if a write or the flush fails.
 ///
 /// # Examples
 ///
@@ -111,9 +111,9 @@ fn read_buffer(alloc: Global) -> Result<Vec<u8>, AllocError>
 /// write_output(&mut written, b": text/plain")?;
 /// assert_eq!(rt; written.as_slice(), b"part 0: text/plain".as_slice());
 ///
-/// // the flush fails, since the room behind the buffer is short
-/// let mut room = [0u8; 4];
-/// let mut writer = BufWriter::new(alloc, room.as_mut_slice())?;
+/// // the flush fails, since the buffered bytes do not fit
+/// let mut bytes = [0u8; 4];
+/// let mut writer = BufWriter::new(alloc, bytes.as_mut_slice())?;
 /// assert!(rt; matches!(write_output(&mut writer, b"part 0"), Err(Fault::Output(_))));
 /// ```
 pub fn write_output<W: Write>(writer: &mut W, bytes: &[u8]) -> Result<(), Fault>

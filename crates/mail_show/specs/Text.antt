@@ -6,11 +6,11 @@ use Rattle.mailparse.specs.Header.{Header, key_text}
 use Rattle.mailparse.specs.Mail.{Node, Tree, read_mail, root, trees_within}
 use Rattle.mailparse.specs.Value.{lenient_value}
 
--- the line of a header: two spaces, the text of its key, a colon and a space, the text that its value shows
+-- the line of a header: two spaces, the text of its key, a colon and a space, the text of its value
 unfoldable pub header_line : Header → List ℕ
 header_line header = codes "  " ++ key_text header ++ codes ": " ++ lenient_value header.value ++ codes "\n"
 
--- the line of the part with this number, by its type, how many headers it has, and how many bytes its body has
+-- the line of the part with this number: its type, the number of its headers, and the size of its body
 unfoldable pub part_line : ℕ → List ℕ → ℕ → ℕ → List ℕ
 part_line number mimetype headers body =
     codes "part " ++ decimal number ++ codes ": " ++ mimetype ++ codes ", " ++ decimal headers ++ codes " headers, " ++ decimal body
@@ -20,7 +20,7 @@ part_line number mimetype headers body =
 abbrev pub part_text : ℕ → Node → List ℕ
 part_text number node = part_line number node.ctype.mimetype (length node.headers) (length node.body) ++ flat_map header_line node.headers
 
--- the texts of parts, which are numbered from there on
+-- the texts of parts, numbered from this number onwards
 abbrev pub parts_text : ℕ → List Tree → List ℕ
 parts_text number [] = []
 parts_text number (part ∷ parts) = part_text number (root part) ++ parts_text (suc number) parts
@@ -29,7 +29,7 @@ parts_text number (part ∷ parts) = part_text number (root part) ++ parts_text 
 abbrev pub mail_text : Tree → List ℕ
 mail_text message = parts_text 0 (trees_within message)
 
--- what the program shows of its input, or the refusal that it names
+-- the text that the program writes for its input, or the refusal that it reports
 unfoldable pub output_text : List ℕ → Reads (List ℕ)
 output_text input = do
   mail ← read_mail input

@@ -5,7 +5,7 @@ mod request;
 mod run;
 mod text;
 
-use mail_program::{Fault, VERSION, arguments};
+use mail_program::{Fault, VERSION, arguments, status_of};
 use request::{HELP, Request, USAGE, request_of};
 use run::run;
 use std::process::ExitCode;
@@ -13,46 +13,36 @@ use std::rt::Files;
 use std::{fs, io};
 
 fn main(rt: HostRuntime) -> ExitCode {
-    let words = match arguments(&rt) {
-        Ok(words) => words,
+    let arguments = match arguments(&rt) {
+        Ok(arguments) => arguments,
         Err(error) => {
             let _ = eprintln!(rt; "mail_show: the arguments could not be read: {error}");
             return ExitCode::FAILURE;
         }
     };
-    match request_of(words.as_slice()) {
-        Request::Help => ended(&rt, rt.print(HELP).map_err(Fault::Output)),
-        Request::Version => match println!(rt; "mail_show {VERSION}") {
-            Ok(()) => ExitCode::SUCCESS,
-            Err(error) => ended(&rt, Err(Fault::Output(error))),
-        },
+    status_of(&rt, "mail_show", answer(&rt, arguments.as_slice()))
+}
+
+/// Does what the arguments ask for, and returns the exit status.
+fn answer(
+    rt: &(impl Files + Input + Print + Eprint + AllocGlobal),
+    arguments: &[String],
+) -> Result<ExitCode, Fault> {
+    match request_of(arguments) {
+        Request::Help => rt.print(HELP)?,
+        Request::Version => println!(rt; "mail_show {VERSION}")?,
         Request::Wrong => {
             let _ = eprintln!(rt; "{USAGE}");
-            ExitCode::from(2)
+            return Ok(ExitCode::from(2));
         }
-        Request::Input => ended(&rt, run(rt.alloc(), &mut rt.reader(), &mut io::writer(&rt))),
-        Request::File(name) => show_file(&rt, name),
+        Request::Input => run(rt.alloc(), &mut io::writer(rt), &mut rt.reader())?,
+        Request::File(name) => match fs::open(rt, name) {
+            Ok(mut file) => run(rt.alloc(), &mut io::writer(rt), &mut file)?,
+            Err(error) => {
+                let _ = eprintln!(rt; "mail_show: {name}: {error}");
+                return Ok(ExitCode::FAILURE);
+            }
+        },
     }
-}
-
-/// The status of a run; says on standard error why it failed.
-fn ended(rt: &impl Eprint, outcome: Result<(), Fault>) -> ExitCode {
-    match outcome {
-        Ok(()) => ExitCode::SUCCESS,
-        Err(fault) => {
-            let _ = eprintln!(rt; "mail_show: {fault}");
-            ExitCode::FAILURE
-        }
-    }
-}
-
-/// Shows the mail of a file.
-fn show_file(rt: &(impl Files + Print + Eprint + AllocGlobal), name: &str) -> ExitCode {
-    match fs::open(rt, name) {
-        Ok(mut file) => ended(rt, run(rt.alloc(), &mut file, &mut io::writer(rt))),
-        Err(error) => {
-            let _ = eprintln!(rt; "mail_show: {name}: {error}");
-            ExitCode::FAILURE
-        }
-    }
+    Ok(ExitCode::SUCCESS)
 }

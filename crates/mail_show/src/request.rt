@@ -1,6 +1,6 @@
 //! What the arguments ask for.
 
-use mail_program::Word;
+use mail_program::{Argument, Expected};
 
 /// What `--help` prints.
 pub const HELP: &str = "Shows a mail: its parts, the headers of each, and the sizes of their bodies.
@@ -9,22 +9,23 @@ pub const HELP: &str = "Shows a mail: its parts, the headers of each, and the si
     mail_show FILE       the mail in the file
     mail_show --version, mail_show --help
 
-What follows the word `--` is the name of a file, even if it begins with `-`. The status is 1 where the mail is refused or something could not be read or written, and 2
-where the arguments are wrong. Control characters of a value are shown as they stand, so a mail
-can move the cursor of a terminal or forge a line: `mail_show FILE | cat -v` shows them as text.
+The argument after `--` is the name of a file, even if it begins with `-`. The exit status is 1 if
+the mail is refused or something could not be read or written, and 2 if the arguments are wrong.
+Control characters of a value are shown as they are, so a mail can move the cursor of a terminal or
+forge a line: `mail_show FILE | cat -v` shows them as text.
 ";
 
 /// What wrong arguments print.
 pub const USAGE: &str = "usage: mail_show [FILE]";
 
-/// What a run is to do.
-#[derive(Clone, Copy, PartialEq, Eq)]
+/// The task of a run.
+#[derive(Clone, Copy, Debug, PartialEq, Eq)]
 pub enum Request<'a> {
     /// Print the help.
     Help,
     /// Print the version.
     Version,
-    /// Say how the program is called.
+    /// Print the usage, since the arguments are wrong.
     Wrong,
     /// Show the mail on standard input.
     Input,
@@ -32,22 +33,23 @@ pub enum Request<'a> {
     File(&'a str),
 }
 
-/// What these arguments ask for: the first that asks for help, for the version, or is wrong decides.
-pub fn request_of(words: &[String]) -> Request<'_> {
+/// Returns what these arguments ask for. The first one that asks for help or for the version, or is
+/// wrong, decides.
+pub fn request_of(arguments: &[String]) -> Request<'_> {
     let mut request = Request::Input;
     let mut is_named = false;
-    let mut are_names = false;
-    for word in words {
-        let named = match Word::new(word.as_str(), are_names) {
-            Word::Help => return Request::Help,
-            Word::Version => return Request::Version,
-            Word::Option(_) | Word::Empty => return Request::Wrong,
-            Word::Names => {
-                are_names = true;
+    let mut expected = Expected::Any;
+    for argument in arguments {
+        let named = match Argument::new(argument.as_str(), expected) {
+            Argument::Help => return Request::Help,
+            Argument::Version => return Request::Version,
+            Argument::Option(_) | Argument::Empty => return Request::Wrong,
+            Argument::Names => {
+                expected = Expected::Names;
                 continue;
             }
-            Word::Input => Request::Input,
-            Word::File(name) => Request::File(name),
+            Argument::Input => Request::Input,
+            Argument::File(name) => Request::File(name),
         };
         if is_named {
             return Request::Wrong;

@@ -8,12 +8,12 @@ ghost use Rattle.mailparse.specs.Views.{tree_of};
 use mailparse::{MailHeader, MailParseError, ParsedMail};
 use std::alloc::{AllocError, Global};
 
-/// The text of a message and its parts, each before its own parts: a line for each, and one for
-/// each of its headers. Takes memory for the text.
+/// Returns the text of a message and its parts, each before its own parts: a line for each part, and
+/// one for each of its headers. Takes memory for the text.
 ///
 /// # Errors
 ///
-/// `MailParseError::Memory` where it runs out of memory.
+/// `MailParseError::Memory` if it runs out of memory.
 pub fn text_of(alloc: Global, parsed: &ParsedMail<'_>) -> Result<String, MailParseError>
     ensures { GivesText result (mail_text (tree_of parsed.now)) }
 {
@@ -44,8 +44,8 @@ fn push_part(
     Ok(())
 }
 
-/// Writes the line of the part with this number, by its type, how many headers it has, and how many
-/// bytes its body has.
+/// Writes the line of the part with this number: its type, the number of its headers, and the size of
+/// its body.
 #[tactic(auto, unfolding(crate::specs::Text::part_line))]
 fn push_part_line(
     text: &mut String,
@@ -63,7 +63,7 @@ fn push_part_line(
     )
 }
 
-/// How many bytes the body has as it stands in the message.
+/// Returns the size of the encoded body.
 fn body_length(alloc: Global, part: &ParsedMail<'_>) -> Result<usize, MailParseError>
     ensures read { IfOk result (λ count. count ≡ length (root (tree_of part.now)).body) }
     ensures only_memory { IfErr result IsMemory }

@@ -11,7 +11,7 @@ use Rattle.mailparse.specs.declared.error.MailParseError.TheVariants.{QuotedPrin
 use Rattle.mail_show.specs.Text.{mail_text, output_text}
 use Rattle.mail_show.specs.Run.{HasWritten, RefusesInput}
 
--- what is shown of an input that is a message, and of one that is refused
+-- the text for an input that is a message, and for one that is refused
 output_text-ok : (input : List ℕ) (mail : Tree) → read_mail input ≡ Ok mail → output_text input ≡ Ok (mail_text mail)
 unfolding output_text
 output_text-ok input mail e = rw e refl
@@ -51,7 +51,7 @@ run-written (Some all) left held_before held input text mail read e is_text wrot
     let same : output_text all ≡ Ok text = output_text-ok all mail (ap read_mail (sym read.1) ∙ e) ∙ ap (λ t. Ok t) (sym is_text) in
     record { read = read.0; wrote = (text, same, wrote) }
 
--- what holds of a result that is not an error, and what follows from it
+-- a property of a result that is not an error, and what follows from it
 pub OnOk-to : {T E P Q : Type 0} (r : Result T E) → OnOk r P → (P → Q) → IfOk r (λ _. Q)
 OnOk-to (Ok x) h f = f h
 OnOk-to (Err d) h f = tt

@@ -2,7 +2,7 @@ use Rattle.std.proofs.Common.{◌≡◌, ◌<◌, ◌++◌, ℕ, List, vec_len}
 use Rattle.std.specs.Io.KnownBytes.{Consumes}
 use Rattle.mail_program.proofs.streams.read_more.Given as goal
 
--- what was taken off the reader came behind the bytes that were there
+-- the bytes that were taken off the reader follow those that were there
 abbrev pub invariant-loop-turn : goal.invariant-loop-turn
 invariant-loop-turn g l = record {
   room : 0 < vec_len l.buffer;
