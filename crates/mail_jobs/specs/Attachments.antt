@@ -10,7 +10,7 @@ use Rattle.mail_data.specs.FileNames.{safe_name}
 use Rattle.mail_data.specs.Files.{attachments, file_name}
 use Rattle.mail_data.specs.lenient.Encoding.{lenient_body_kind}
 
--- a file that is stored: where its part stands, its name, and as much of its bytes as can be read
+-- a file that is stored: the path of its part, its name, and the bytes that can be read
 pub record Stored : Type 0 where
   pub path : List ℕ
   pub name : List ℕ
@@ -24,7 +24,7 @@ stored_name known node = safe_name (unwrap_or (file_name known node) (codes "unn
 abbrev pub whole : List ℕ → Front
 whole bytes = record { bytes = bytes; fault = None }
 
--- what can be read of a body in this encoding: of Base64 what stands before a damage
+-- the bytes that can be read of a body in this encoding: of Base64 those before the damage
 abbrev pub readable : BodyKind → List ℕ → Front
 readable in_base64 body = base64_front body
 readable in_quoted_printable body = whole (quoted_printable body)

@@ -1,4 +1,4 @@
--- What an index keeps of a mail; the program's own choice.
+-- The entry of a mail in an index; the program's own choice.
 use Rattle.std.specs.Prelude.{ℕ, ℤ, List, Option, option_and_then, option_map, codes}
 use Rattle.mail_codec.specs.Charset.{Charsets}
 use Rattle.mailparse.specs.Mail.{Node, Tree, root}
@@ -15,14 +15,14 @@ use Rattle.mail_data.specs.Texts.{text_part}
 abbrev pub address_of : Single → Option (List ℕ)
 address_of s = option_map (λ parts. value_text (address_bytes parts.local_part parts.domain)) s.mailbox
 
--- the address of who sent a mail, if it says who did
+-- the address of the sender of a mail, if it names one
 abbrev pub sender : Node → Option (List ℕ)
 sender node = option_and_then address_of (sender_of node.headers)
 
--- what the date of a mail reads as, if it has one
+-- the date of a mail as it is read, if it has one
 abbrev pub date : Charsets → Node → Option (Dated ℤ)
 date known node = option_map date_of (first_value_in known (codes "Date") node.headers)
 
--- what the text of a mail reads as, if it has one
+-- the text of a mail as it is read, if it has one
 abbrev pub text : Charsets → Tree → Option BodyText
 text known mail = option_map (λ part. body_text known (root part)) (text_part known mail)

@@ -1,4 +1,4 @@
-//! The files of a mail, each with a name that is safe and the bytes that can be read.
+//! The files of a mail, each with a safe name and the bytes that can be read.
 ghost use Rattle.std.specs.Prelude.{◌≡◌, map, string_bytes, All, IfOk, Ok};
 ghost use Rattle.mailparse.specs.Mail.{root};
 ghost use Rattle.mailparse.specs.Outcome.{AnswersOrMemory, GivesText};
@@ -18,16 +18,15 @@ use std::alloc::Global;
 /// A file of a mail, ready to be stored.
 #[derive(Drop)]
 pub struct StoredFile {
-    /// Where its part stands in the mail, as IMAP numbers parts.
+    /// The position of its part in the mail, as IMAP numbers parts.
     pub path: String,
-    /// A safe name, `unnamed` where the mail gives none. Two files may have the same.
+    /// A safe name, `unnamed` if the mail gives none. Two files may have the same.
     pub name: String,
-    /// Its bytes, and where its Base64 is damaged, those before the damage.
+    /// Its bytes; if its Base64 is damaged, those before the damage.
     pub content: Base64Front,
 }
 
-/// The files of a mail, in the order in which they stand, their names read under the charsets that
-/// are known.
+/// Returns the files of a mail in order. Their names are read under the charsets `known`.
 pub fn stored_files<K: KnownCharsets>(
     alloc: Global,
     mail: &ParsedMail<'_>,
@@ -45,7 +44,7 @@ pub fn stored_files<K: KnownCharsets>(
     Ok(files)
 }
 
-/// A file of a mail, as it is stored.
+/// Returns a file of a mail, as it is stored.
 fn stored<K: KnownCharsets>(
     alloc: Global,
     file: Attachment<'_, '_>,
@@ -62,7 +61,7 @@ fn stored<K: KnownCharsets>(
     })
 }
 
-/// The name of a file, made safe.
+/// Returns the name of a file, made safe.
 #[tactic(auto, unfolding(crate::specs::Attachments::stored_name))]
 fn stored_name<K: KnownCharsets>(
     alloc: Global,
@@ -80,7 +79,7 @@ fn stored_name<K: KnownCharsets>(
     Ok(name)
 }
 
-/// The bytes of a file as far as they can be read.
+/// Returns the bytes of a file that can be read.
 #[tactic(auto, unfolding(mailparse::specs::Body::decoded))]
 fn stored_content(alloc: Global, part: &ParsedMail<'_>) -> Result<Base64Front, MailParseError>
     ensures { AnswersOrMemory front_of result (Ok (stored_content (root (tree_of part.now)))) }
@@ -94,7 +93,7 @@ fn stored_content(alloc: Global, part: &ParsedMail<'_>) -> Result<Base64Front, M
     }
 }
 
-/// Bytes that were all read.
+/// Returns bytes that were all read.
 fn whole(bytes: Vec<u8>) -> Base64Front
     ensures { front_of result ≡ whole bytes.items }
 {

@@ -1,4 +1,4 @@
-//! The recipients that a mail did not reach, by the report on its delivery.
+//! The recipients that a mail did not reach, according to its delivery report.
 ghost use Rattle.std.specs.Prelude.{◌≡◌, filter, map, Ok};
 ghost use Rattle.mailparse.specs.Outcome.{AnswersOrMemory};
 ghost use Rattle.mailparse.specs.Views.{tree_of};
@@ -10,8 +10,8 @@ use mail_data::bounce::{Recipient, recipients};
 use mailparse::{KnownCharsets, MailParseError, ParsedMail};
 use std::alloc::Global;
 
-/// The recipients whose action is `failed`, in any case and with nothing after it, in order; none
-/// where the mail is no report.
+/// Returns the recipients whose action is `failed`, in any case and with nothing after it, in order;
+/// none if the mail is no report.
 pub fn failed_recipients<K: KnownCharsets>(
     alloc: Global,
     mail: &ParsedMail<'_>,
@@ -29,7 +29,7 @@ pub fn failed_recipients<K: KnownCharsets>(
     Ok(failed)
 }
 
-/// Whether the action of a recipient is `failed`.
+/// Returns whether the action of a recipient is `failed`.
 fn has_failed(recipient: &Recipient) -> bool
     ensures { result ≡ has_failed (delivery recipient.now) }
 {

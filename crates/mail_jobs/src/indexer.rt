@@ -1,4 +1,4 @@
-//! The index of a mail: what a list of mails shows, and the text that a search reads.
+//! The index of a mail: the fields that a list of mails shows, and the text that a search reads.
 ghost use Rattle.std.specs.Prelude.{◌≡◌, codes, option_map, IfErr, IfOk, Ok};
 ghost use Rattle.mailparse.specs.Mail.{root};
 ghost use Rattle.mailparse.specs.Map.{first_value_in, text_found};
@@ -15,12 +15,12 @@ use mail_data::texts::text_part;
 use mailparse::{KnownCharsets, MailHeaderMap, MailParseError, ParsedMail};
 use std::alloc::Global;
 
-/// What an index keeps of a mail. What the mail does not have is `None`; a date that is refused
-/// stays as its error, so that no mail is lost for it. The text says whether it is damaged.
+/// The entry of a mail in an index. A field that the mail does not have is `None`. A date that is
+/// refused is kept as its error, so that no mail is lost for it. The text says whether it is damaged.
 #[derive(Drop)]
 pub struct IndexEntry {
     pub subject: Option<String>,
-    /// The address of who sent it, in canonical form, where the mail says who did.
+    /// The address of the sender, in canonical form, if the mail names one.
     pub sender: Option<String>,
     /// The seconds from 1 January 1970, 0 h UTC.
     pub date: Option<Result<i64, DateError>>,
@@ -29,7 +29,7 @@ pub struct IndexEntry {
     pub text: Option<BodyText>,
 }
 
-/// What an index keeps of a mail, read under the charsets that are known.
+/// Returns the entry of a mail, read under the charsets `known`.
 pub fn index_entry<K: KnownCharsets>(
     alloc: Global,
     mail: &ParsedMail<'_>,
@@ -47,7 +47,7 @@ pub fn index_entry<K: KnownCharsets>(
     })
 }
 
-/// The value of the first header with this name.
+/// Returns the value of the first header with this name.
 fn value_of<K: KnownCharsets>(
     alloc: Global,
     mail: &ParsedMail<'_>,
@@ -60,7 +60,7 @@ fn value_of<K: KnownCharsets>(
     mail.headers.get_first_value_in(alloc, key, known)
 }
 
-/// The address of who sent a mail, in canonical form.
+/// Returns the address of the sender, in canonical form.
 fn sender_address(alloc: Global, mail: &ParsedMail<'_>) -> Result<Option<String>, MailParseError>
     ensures { AnswersOrMemory text_found result (Ok (sender (root (tree_of mail.now)))) }
 {
@@ -70,7 +70,7 @@ fn sender_address(alloc: Global, mail: &ParsedMail<'_>) -> Result<Option<String>
     }
 }
 
-/// The date, or its error.
+/// Returns the date, or its error.
 fn date_of<K: KnownCharsets>(
     alloc: Global,
     mail: &ParsedMail<'_>,
@@ -85,7 +85,7 @@ fn date_of<K: KnownCharsets>(
     }
 }
 
-/// The text that is to be read.
+/// Returns the text of a mail.
 fn text_of<K: KnownCharsets>(
     alloc: Global,
     mail: &ParsedMail<'_>,

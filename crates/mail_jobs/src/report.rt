@@ -10,7 +10,7 @@ use mail_data::bounce::Recipient;
 use mailparse::{KnownCharsets, MailParseError, ParsedMail, parse_mail_in};
 use std::alloc::{AllocError, Global};
 
-/// The lines of a mail, or one that says why it is refused.
+/// Returns the lines of a mail, or one that says why it is refused.
 pub fn report(alloc: Global, mail: &[u8]) -> Result<String, AllocError> {
     match lines_of(alloc, mail) {
         Ok(lines) => Ok(lines),
@@ -19,7 +19,7 @@ pub fn report(alloc: Global, mail: &[u8]) -> Result<String, AllocError> {
     }
 }
 
-/// The lines of a mail.
+/// Returns the lines of a mail.
 fn lines_of(alloc: Global, mail: &[u8]) -> Result<String, MailParseError> {
     let known = AllCharsets::standard();
     let mail = parse_mail_in(alloc, mail, &known)?;
@@ -28,8 +28,8 @@ fn lines_of(alloc: Global, mail: &[u8]) -> Result<String, MailParseError> {
     Ok(lines)
 }
 
-/// Writes the lines of a mail: its index, its files, who was not reached, its parents, and an empty
-/// one.
+/// Writes the lines of a mail: its index, its files, the recipients that were not reached, its parents,
+/// and an empty line.
 fn push_lines<K: KnownCharsets>(
     alloc: Global,
     lines: &mut String,
@@ -99,7 +99,7 @@ fn push_file(lines: &mut String, file: &StoredFile) -> Result<(), AllocError> {
         file.name.as_str()
     )?;
     match file.content.fault {
-        Some(group) => write!(lines, ", and no Base64 from group {group} on\n"),
+        Some(group) => write!(lines, ", and no Base64 from group {group} onwards\n"),
         None => lines.push('\n'),
     }
 }

@@ -16,7 +16,7 @@ pub struct ThreadPlace {
     pub parents: Vec<String>,
 }
 
-/// The place of a mail in a thread.
+/// Returns the place of a mail in a thread.
 pub fn thread_place<K: KnownCharsets>(
     alloc: Global,
     mail: &ParsedMail<'_>,

@@ -1,23 +1,28 @@
-//! Times works on the bytes of standard input: `mail_speed ROUNDS WORK..`; or writes what they say:
+//! Times tasks on the bytes of standard input: `mail_speed ROUNDS TASK..`; or decodes them:
 //! `mail_speed recode LABEL`.
 //!
-//! WORK is `lines` (each LF is found), `absent` (a byte is looked for that is absent), `text` (a
-//! text is, which begins with LF), `whitespace` (ASCII whitespace goes), `base64`, `base64-body`
-//! (Base64 in which whitespace counts as absent, as in the body of a message), `quoted-printable`,
-//! `parse` (a message is read), `values` (and the value of each of its headers), `full` (the same
-//! of each of its parts, and the bodies are decoded), `mailbox-parse` or `mailbox-full` (the input is
-//! a mailbox, and each message of it is read on its own), or the label of an encoding of several
-//! bytes, in which the input is decoded. How much came out goes to standard output, and the
-//! nanoseconds for each byte of the input, the least and the median of the rounds, to standard error.
-//! tools/time_codecs.sh runs it on large bodies, tools/time_charsets.py on texts in each encoding,
-//! and tools/time_mails.sh on large mails and mailboxes.
+//! TASK is one of these, or the label of an encoding of several bytes, in which the input is decoded:
 //!
-//! `recode` writes the text of the input in the encoding of several bytes that has the label, as
-//! UTF-8, for tools/check_charsets.py. The status is 1 where no such encoding has it.
+//! - `lines` finds each LF, `absent` searches for a byte that is absent, and `text` for a text that
+//!   begins with LF,
+//! - `whitespace` removes ASCII whitespace,
+//! - `base64`, `base64-body` (without whitespace, as in the body of a message) and `quoted-printable`
+//!   decode the input,
+//! - `parse` reads a message, `values` also the value of each of its headers, and `full` the values and
+//!   decoded bodies of all its parts,
+//! - `mailbox-parse` and `mailbox-full` do so with each message of a mailbox.
+//!
+//! The size of the result goes to standard output. The nanoseconds for each byte of the input, the least
+//! and the median of the rounds, go to standard error. tools/time_codecs.sh runs it on large bodies,
+//! tools/time_charsets.py on texts in each encoding, and tools/time_mails.sh on large mails and
+//! mailboxes.
+//!
+//! `recode` writes the input, decoded from the encoding of several bytes that has this label, as UTF-8,
+//! for tools/check_charsets.py. The exit status is 1 if no such encoding has the label.
 #![tactic(auto)]
 
+mod tasks;
 mod times;
-mod work;
 
 use std::alloc::Global;
 use std::env;
@@ -26,33 +31,33 @@ use std::process::ExitCode;
 use times::{for_each_byte, times_of};
 
 fn main(rt: HostRuntime) -> io::Result<ExitCode> {
-    let mut words = env::args(&rt)?.skip(1);
-    let first = words.next().unwrap_or(String::new(rt.alloc()));
+    let mut arguments = env::args(&rt)?.skip(1);
+    let first = arguments.next().unwrap_or(String::new(rt.alloc()));
     let is_recode = first.as_str() == "recode";
     let rounds = first.parse::<usize>().unwrap_or(0);
     if rounds == 0 && !is_recode {
-        eprintln!(rt; "mail_speed: wants a number of rounds, and works")?;
+        eprintln!(rt; "usage: mail_speed ROUNDS TASK.., or mail_speed recode LABEL")?;
         return Ok(ExitCode::FAILURE);
     }
     let mut input = Vec::new(rt.alloc());
     rt.reader().read_to_end(&mut input)?;
     if is_recode {
-        let label = words.next().unwrap_or(String::new(rt.alloc()));
+        let label = arguments.next().unwrap_or(String::new(rt.alloc()));
         return recode(&rt, rt.alloc(), label.as_str(), input.as_slice());
     }
-    for work in words {
-        match work::run(rt.alloc(), work.as_str(), input.as_slice()) {
-            Ok(made) => println!(rt; "{work}: {} bytes make {made}", input.len())?,
+    for task in arguments {
+        match tasks::run(rt.alloc(), task.as_str(), input.as_slice()) {
+            Ok(size) => println!(rt; "{task}: {} bytes make {size}", input.len())?,
             Err(fault) => {
-                eprintln!(rt; "mail_speed: {work}: {fault}")?;
+                eprintln!(rt; "mail_speed: {task}: {fault}")?;
                 return Ok(ExitCode::FAILURE);
             }
         }
-        let times = times_of(&rt, rt.alloc(), work.as_str(), input.as_slice(), rounds)?;
+        let times = times_of(&rt, rt.alloc(), task.as_str(), input.as_slice(), rounds)?;
         let least = for_each_byte(times.first(), input.len());
         let median = for_each_byte(times.get(times.len() / 2), input.len());
         eprintln!(rt;
-            "{work}: least {}.{:03}, median {}.{:03} ns a byte",
+            "{task}: least {}.{:03}, median {}.{:03} ns a byte",
             least / 1000,
             least % 1000,
             median / 1000,
@@ -62,14 +67,14 @@ fn main(rt: HostRuntime) -> io::Result<ExitCode> {
     Ok(ExitCode::SUCCESS)
 }
 
-/// Writes the text of the input in the encoding of several bytes that has this label.
+/// Writes the input, decoded from the encoding of several bytes that has this label.
 fn recode<R: Print + Eprint>(
     rt: &R,
     alloc: Global,
     label: &str,
     input: &[u8],
 ) -> io::Result<ExitCode> {
-    match work::text_of(alloc, label, input)? {
+    match tasks::text_of(alloc, label, input)? {
         Some(text) => {
             print!(rt; "{text}")?;
             Ok(ExitCode::SUCCESS)

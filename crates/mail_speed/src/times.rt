@@ -1,12 +1,12 @@
-//! Times of a work.
+//! Times of a task.
 
-use crate::work;
+use crate::tasks;
 use std::alloc::{AllocError, Global};
 use std::io;
 use std::rt::Clock;
 use std::time::Instant;
 
-/// The nanoseconds that each round of the work of this name takes, the least first.
+/// Returns the nanoseconds that each round of a task takes, the least first.
 pub fn times_of(
     clock: &impl Clock,
     alloc: Global,
@@ -17,7 +17,7 @@ pub fn times_of(
     let mut times = Vec::new(alloc);
     for _round in 0..rounds {
         let start = Instant::now(clock)?;
-        let _made = work::run(alloc, name, input);
+        let _size = tasks::run(alloc, name, input);
         let taken = start.elapsed(clock)?;
         let nanoseconds = taken
             .as_secs()
@@ -32,7 +32,7 @@ pub fn times_of(
     Ok(times)
 }
 
-/// The picoseconds of a time for each of so many bytes; 0 where there is no time or no byte.
+/// Returns the picoseconds of a time for each of `bytes` bytes; 0 if there is no time or no byte.
 pub fn for_each_byte(time: Option<&u64>, bytes: usize) -> u64 {
     let picoseconds = time.copied().unwrap_or(0).saturating_mul(1000);
     picoseconds.checked_div(bytes as u64).unwrap_or(0)

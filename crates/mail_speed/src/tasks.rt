@@ -1,4 +1,4 @@
-//! What is timed.
+//! The tasks that are timed.
 
 use mail_charsets::{Encoding, Indexes};
 use mail_codec::bytescan::{find, find_byte, strip_ascii_whitespace};
@@ -7,7 +7,7 @@ use mail_data::mailbox::{Format, read_mailbox};
 use mailparse::{MailParseError, ParsedMail, parse_mail};
 use std::alloc::{AllocError, Global};
 
-/// Does the work of this name, and tells how much it made: bytes, lines, or headers of a message.
+/// Runs the task of this name. Returns the size of its result: bytes, lines, or headers of a message.
 pub fn run(alloc: Global, name: &str, input: &[u8]) -> Result<usize, MailParseError> {
     match name {
         "lines" => Ok(lines(input)),
@@ -26,15 +26,16 @@ pub fn run(alloc: Global, name: &str, input: &[u8]) -> Result<usize, MailParseEr
     }
 }
 
-/// Decodes in the encoding of several bytes that has this label. Tells how long the text is.
+/// Decodes from the encoding of several bytes that has this label. Returns the length of the text.
 fn decoded(alloc: Global, label: &str, input: &[u8]) -> Result<usize, MailParseError> {
     match text_of(alloc, label, input)? {
         Some(text) => Ok(text.len()),
-        None => Err(MailParseError::Generic("no work has this name")),
+        None => Err(MailParseError::Generic("no task has this name")),
     }
 }
 
-/// The text of the input in the encoding of several bytes that has this label, if one has it.
+/// Returns the input, decoded from the encoding of several bytes that has this label, or `None` if none
+/// has it.
 pub fn text_of(alloc: Global, label: &str, input: &[u8]) -> Result<Option<String>, AllocError> {
     match Encoding::for_label(label.as_bytes()) {
         Some(encoding) => Ok(Some(encoding.decode_under(alloc, input, &Indexes::standard())?)),
@@ -42,11 +43,11 @@ pub fn text_of(alloc: Global, label: &str, input: &[u8]) -> Result<Option<String
     }
 }
 
-/// Finds each LF. Tells how many there are.
+/// Finds each LF. Returns their number.
 fn lines(input: &[u8]) -> usize {
     let mut rest = input;
     let mut count = 0usize;
-    for _place in input {
+    for _byte in input {
         let Some(after) = after_line(rest) else {
             break;
         };
@@ -56,13 +57,13 @@ fn lines(input: &[u8]) -> usize {
     count
 }
 
-/// What follows the first LF.
+/// Returns the text after the first LF.
 fn after_line(text: &[u8]) -> Option<&[u8]> {
-    let place = find_byte(text, b'\n')?;
-    Some(&text[place + 1..])
+    let end = find_byte(text, b'\n')?;
+    Some(&text[end + 1..])
 }
 
-/// How many bytes Base64 stands for.
+/// Returns the size of decoded Base64.
 fn length_of(decoded: Result<Vec<u8>, usize>) -> Result<usize, MailParseError> {
     match decoded {
         Ok(bytes) => Ok(bytes.len()),
@@ -70,17 +71,17 @@ fn length_of(decoded: Result<Vec<u8>, usize>) -> Result<usize, MailParseError> {
     }
 }
 
-/// Reads each message of a mailbox on its own. Tells how much all made.
+/// Reads each message of a mailbox on its own. Returns the size of all results.
 fn mails(alloc: Global, is_full: bool, mailbox: &[u8]) -> Result<usize, MailParseError> {
-    let mut made = 0usize;
+    let mut size = 0usize;
     for entry in read_mailbox(mailbox, Format::Plain) {
-        made = made.saturating_add(mail(alloc, is_full, entry.mail())?);
+        size = size.saturating_add(mail(alloc, is_full, entry.mail())?);
     }
-    Ok(made)
+    Ok(size)
 }
 
-/// Reads a message, and all of it where that is asked for. Tells how much it made; one that is
-/// refused counts as none.
+/// Reads a message; if `is_full`, also its values and bodies. Returns the size of the result, which is 0
+/// if the message is refused.
 fn mail(alloc: Global, is_full: bool, input: &[u8]) -> Result<usize, MailParseError> {
     match parse_mail(alloc, input) {
         Ok(mail) if is_full => full(alloc, &mail),
@@ -90,7 +91,7 @@ fn mail(alloc: Global, is_full: bool, input: &[u8]) -> Result<usize, MailParseEr
     }
 }
 
-/// Reads the value of each header of a message. Tells how many there are.
+/// Reads the value of each header of a message. Returns their number.
 fn values(alloc: Global, mail: &ParsedMail<'_>) -> Result<usize, MailParseError> {
     for header in &mail.headers {
         let _value = header.get_value(alloc)?;
@@ -98,8 +99,8 @@ fn values(alloc: Global, mail: &ParsedMail<'_>) -> Result<usize, MailParseError>
     Ok(mail.headers.len())
 }
 
-/// Reads the value of each header and the whole body of a message and of each of its parts. Tells
-/// how many bytes the bodies stand for.
+/// Reads the value of each header and the whole body of a message and of each of its parts. Returns the
+/// size of the decoded bodies.
 fn full(alloc: Global, mail: &ParsedMail<'_>) -> Result<usize, MailParseError> {
     let mut bytes = 0usize;
     for part in mail.parts(alloc)? {
@@ -108,8 +109,8 @@ fn full(alloc: Global, mail: &ParsedMail<'_>) -> Result<usize, MailParseError> {
     Ok(bytes)
 }
 
-/// Reads the value of each header and the body of a part. Tells how many bytes the body stands for;
-/// one that is refused counts as none.
+/// Reads the value of each header and the body of a part. Returns the size of the decoded body, which is
+/// 0 if it is refused.
 fn part_bytes(alloc: Global, part: &ParsedMail<'_>) -> Result<usize, MailParseError> {
     let _headers = values(alloc, part)?;
     match part.get_body_raw(alloc) {
