@@ -3,7 +3,7 @@
 use crate::request::{How, Request};
 use mail_charsets::AllCharsets;
 use mail_lines::range::{FilePart, shows_mailbox, write_first_part, write_range};
-use mail_lines::{Form, Next, Reading, Watch, format_of, write_input, write_unread};
+use mail_lines::{Form, Next, Watch, format_of, write_input, write_unread};
 use mail_program::Fault;
 use std::alloc::{AllocError, Global};
 use std::fs::{self, OpenFile};
@@ -95,7 +95,7 @@ pub fn run(
     }
 }
 
-/// Whether no input is a folder, a pipe or a device; says on standard error which is.
+/// Whether no input is a directory, a pipe or a device; says on standard error which is.
 fn are_files(rt: &(impl Files + Eprint + AllocGlobal), inputs: &[Option<&str>]) -> bool {
     for input in inputs {
         if let Some(name) = input {
@@ -139,7 +139,7 @@ fn run_all(
     Ok(outcome)
 }
 
-/// Writes the mails of a file or a folder.
+/// Writes the mails of a file or a directory.
 fn run_path<W: Write>(
     rt: &(impl Files + Eprint + AllocGlobal + Clone + Drop),
     how: How,
@@ -147,7 +147,7 @@ fn run_path<W: Write>(
     out: &mut W,
 ) -> Result<Outcome, Fault> {
     match fs::metadata(rt, name) {
-        Ok(found) if found.is_dir() => run_folder(rt, how, name, out),
+        Ok(found) if found.is_dir() => run_directory(rt, how, name, out),
         Ok(_) => run_file(rt, how, name, out),
         Err(error) => fail(rt, Some(name), &error, out),
     }
@@ -225,12 +225,12 @@ fn write_part<R: Read + Seek, W: Write>(
     let mut meter = Meter {
         rt,
         file,
-        is_wanted: how.tells,
+        is_wanted: how.reports_progress,
         due: range.from.saturating_add(STEP),
     };
     let alloc = rt.alloc();
     let known = &charsets();
-    let reading = reading_of(how);
+    let reading = how.options;
     if part.number == 1 {
         return write_first_part(
             alloc, reader, how.form, range.to, file, out, known, reading, &mut meter,
@@ -253,14 +253,6 @@ fn charsets() -> AllCharsets {
     AllCharsets::standard()
 }
 
-/// How mails are read for their lines.
-fn reading_of(how: How) -> Reading {
-    Reading {
-        hashes: how.hashes,
-        joins_flowed: how.joins_flowed,
-    }
-}
-
 /// Writes the mails of an input.
 fn run_input<R: Read, W: Write>(
     rt: &(impl Eprint + AllocGlobal),
@@ -272,11 +264,11 @@ fn run_input<R: Read, W: Write>(
     let mut meter = Meter {
         rt,
         file,
-        is_wanted: how.tells,
+        is_wanted: how.reports_progress,
         due: STEP,
     };
     let known = &charsets();
-    let reading = reading_of(how);
+    let reading = how.options;
     match write_input(
         rt.alloc(),
         reader,
@@ -293,8 +285,8 @@ fn run_input<R: Read, W: Write>(
     }
 }
 
-/// Writes the mails of a folder: those of a Maildir, which has a folder `cur` or `new`, or each file.
-fn run_folder<W: Write>(
+/// Writes the mails of a directory: those of a Maildir, which has a directory `cur` or `new`, or each file.
+fn run_directory<W: Write>(
     rt: &(impl Files + Eprint + AllocGlobal + Clone + Drop),
     how: How,
     name: &str,
@@ -307,7 +299,7 @@ fn run_folder<W: Write>(
     mail.part = None;
     for part in ["cur", "new"] {
         let path = format!(in rt.alloc(); "{name}/{part}")?;
-        if is_folder(rt, path.as_str()) {
+        if is_directory(rt, path.as_str()) {
             is_maildir = true;
             outcome = outcome.and(run_files(rt, mail, path.as_str(), out)?);
         }
@@ -319,41 +311,41 @@ fn run_folder<W: Write>(
     }
 }
 
-/// Whether there is a folder of this name.
-fn is_folder(rt: &impl Files, name: &str) -> bool {
+/// Whether there is a directory of this name.
+fn is_directory(rt: &impl Files, name: &str) -> bool {
     match fs::metadata(rt, name) {
         Ok(found) => found.is_dir(),
         Err(_) => false,
     }
 }
 
-/// Writes the mails of the files of a folder, in the order of their names, but for those whose names
+/// Writes the mails of the files of a directory, in the order of their names, but for those whose names
 /// begin with a dot.
 fn run_files<W: Write>(
     rt: &(impl Files + Eprint + AllocGlobal + Clone + Drop),
     how: How,
-    folder: &str,
+    directory: &str,
     out: &mut W,
 ) -> Result<Outcome, Fault> {
     let mut names = Vec::new(rt.alloc());
-    let mut outcome = match fs::read_dir(rt, folder) {
-        Ok(entries) => list_files(rt, entries, folder, &mut names, out)?,
-        Err(error) => return fail(rt, Some(folder), &error, out),
+    let mut outcome = match fs::read_dir(rt, directory) {
+        Ok(entries) => list_files(rt, entries, directory, &mut names, out)?,
+        Err(error) => return fail(rt, Some(directory), &error, out),
     };
     names.sort()?;
     for name in &names {
-        if !is_folder(rt, name.as_str()) {
+        if !is_directory(rt, name.as_str()) {
             outcome = outcome.and(run_file(rt, how, name.as_str(), out)?);
         }
     }
     Ok(outcome)
 }
 
-/// Lists the paths of a folder, but for names that begin with a dot.
+/// Lists the paths of a directory, but for names that begin with a dot.
 fn list_files<R: Files + Eprint + AllocGlobal + Clone + Drop, W: Write>(
     rt: &R,
     entries: fs::ReadDir<R, Global>,
-    folder: &str,
+    directory: &str,
     names: &mut Vec<String>,
     out: &mut W,
 ) -> Result<Outcome, Fault> {
@@ -361,7 +353,7 @@ fn list_files<R: Files + Eprint + AllocGlobal + Clone + Drop, W: Write>(
     for entry in entries {
         match entry {
             Ok(entry) => push_path(rt.alloc(), names, entry.file_name(), entry.path().as_str())?,
-            Err(error) => outcome = fail(rt, Some(folder), &error, out)?,
+            Err(error) => outcome = fail(rt, Some(directory), &error, out)?,
         }
     }
     Ok(outcome)
