@@ -26,7 +26,7 @@ group_number a b c d = a * 2 ^ 18 + b * 2 ^ 12 + c * 2 ^ 6 + d
 abbrev pub three_bytes : ℕ → List ℕ
 three_bytes n = (n / 2 ^ 16) ∷ (n / 2 ^ 8 % 2 ^ 8) ∷ (n % 2 ^ 8) ∷ []
 
--- a group and its bytes: four letters stand for three bytes, three letters and `=` for two, two
+-- a group and its bytes: four letters encode three bytes, three letters and `=` for two, two
 -- letters and `==` for one; the bits of a missing letter count as 0
 pub data IsGroup (group bytes : List ℕ) : Type 0 where
   four_letters : (a b c d : ℕ) → a < 64 → b < 64 → c < 64 → d < 64
@@ -47,7 +47,7 @@ is_kept b = not (b == carriage_return || b == line_feed)
 abbrev pub without_line_ends : List ℕ → List ℕ
 without_line_ends text = filter is_kept text
 
--- the text stands for the bytes: without CR and LF it is a sequence of groups, and the bytes are
+-- the text encodes the bytes: without CR and LF it is a sequence of groups, and the bytes are
 -- theirs, in order
 abbrev pub IsBase64 : List ℕ → List ℕ → Type 0
 IsBase64 text bytes = (groups : List (List ℕ × List ℕ))
@@ -59,7 +59,7 @@ IsBase64 text bytes = (groups : List (List ℕ × List ℕ))
 abbrev pub group_at : List ℕ → ℕ → List ℕ
 group_at letters n = take 4 (drop (4 * n) letters)
 
--- the fault of a text is the index of its first group that stands for no bytes
+-- the fault of a text is the index of its first group that encodes no bytes
 abbrev pub IsBase64Fault : List ℕ → ℕ → Type 0
 IsBase64Fault text n = let letters = without_line_ends text in
     (4 * n < length letters)
@@ -77,7 +77,7 @@ abbrev pub bytes_of_values : ℕ → Option ℕ → Option ℕ → Option ℕ �
 bytes_of_values n (Some a) (Some b) (Some c) (Some d) = Some (take n (three_bytes (group_number a b c d)))
 bytes_of_values n _ _ _ _ = None
 
--- the bytes that four bytes stand for, if they are a group
+-- the bytes that four bytes encode, if they are a group
 unfoldable pub group_bytes : ℕ → ℕ → ℕ → ℕ → Option (List ℕ)
 group_bytes p q r s =
     if not (s == padding)
@@ -106,7 +106,7 @@ groups_from n (p ∷ q ∷ r ∷ []) = Err n
 groups_from n (p ∷ q ∷ r ∷ s ∷ rest)
     = after_group n (group_bytes p q r s) (groups_from (suc n) rest)
 
--- the bytes that a text stands for, or its fault
+-- the bytes that a text encodes, or its fault
 unfoldable pub base64 : List ℕ → Result (List ℕ) ℕ
 base64 text = groups_from 0 (without_line_ends text)
 

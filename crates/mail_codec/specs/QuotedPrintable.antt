@@ -88,7 +88,7 @@ unfoldable pub line_bytes : Line → List ℕ
 line_bytes line = let kept = trimmed_at_end is_blank line.content in
     if ends_in equals_sign kept then unescaped (without_last kept) else unescaped kept ++ line.ending
 
--- the text stands for the bytes: they are those of its lines, in order
+-- the text encodes the bytes: they are those of its lines, in order
 abbrev pub IsQuotedPrintable : List ℕ → List ℕ → Type 0
 IsQuotedPrintable text bytes = (lines : List Line) × AreLines text lines
     × (bytes ≡ flat_map line_bytes lines)
@@ -111,6 +111,6 @@ lines_of_pieces (piece ∷ next ∷ pieces) = ended_line piece ∷ lines_of_piec
 unfoldable pub lines_of : List ℕ → List Line
 lines_of text = lines_of_pieces (slice_split (λ b. b == line_feed) text)
 
--- the bytes that a text stands for
+-- the bytes that a text encodes
 unfoldable pub quoted_printable : List ℕ → List ℕ
 quoted_printable text = flat_map line_bytes (lines_of text)

@@ -36,7 +36,7 @@ pub fn searches_find_first_places()
         (found ≡ text_place bytes text) ↔ IsFirstOf (HasTextAt bytes text) found }
 {}
 
-/// `base64` gives the bytes that a text stands for in groups, and no others. Its fault is the index
+/// `base64` gives the bytes that a text encodes in groups, and no others. Its fault is the index
 /// of the first invalid group, and no other number.
 pub fn base64_is_groups()
     ensures read { (text : List ℕ) → (bytes : List ℕ) →

@@ -1,4 +1,4 @@
--- The encoding that has a label, among labels behind references.
+-- The encoding that has a label, among labels that are references.
 use Rattle.std.proofs.Common.{◌≡◌, ◌∙◌, ℕ, Bool, true, false, cond, List, [], ◌∷◌, map, Option, None, Some, option_map, refl, ap, Bor}
 use Rattle.std.specs.Prelude.{find}
 use Rattle.std.proofs.lemmas.Iterator.{YieldsList}

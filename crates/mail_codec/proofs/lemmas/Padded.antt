@@ -52,7 +52,7 @@ group_bytes-filled p q r s = elim (cases_Bool (s == padding)) [
   ]
 ]
 
--- so a group that reads once it is filled in stands for the first of its bytes
+-- so a group that reads once it is filled in encodes the first of its bytes
 group_cut : (p q r s : ℕ) (bytes : List ℕ) → group_bytes p q (third r s) (fourth s) ≡ Some bytes
     → (group_bytes p q r s ≡ Some (take (group_len r s) bytes)) × (length bytes ≡ 3)
 group_cut p q r s bytes h =

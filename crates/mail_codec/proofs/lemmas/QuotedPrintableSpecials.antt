@@ -419,7 +419,7 @@ copied_more len n run xs ys front more fits here is =
           ∙ append_assoc (take len xs) front more),
     )
 
--- the bytes before an escape, whatever it stands for
+-- the bytes before an escape, whatever it encodes
 before : (text : List ℕ) (from to : ℕ) (low : from ≤ to) (high : to ≤ length text) (plain : IsPlain text from to) → (first_escape (drop to text) ≡ None → ⊥)
     → quoted_printable (drop from text) ≡ take (to - from) (drop from text) ++ quoted_printable (drop to text)
 before text from to low high plain some = go (first_escape (drop to text)) refl

@@ -211,13 +211,13 @@ module _ (n : ℕ) (ns : List ℕ) (small : Each1 (λ x. x < 2 ^ 32) ns) (k : �
 
 -- ---- groups
 
--- four letters stand for the bytes of their number
+-- four letters encode the bytes of their number
 four_letters_read : (p q r s a b c d : ℕ) → letter_value p ≡ Some a → letter_value q ≡ Some b → letter_value r ≡ Some c → letter_value s ≡ Some d → (s == padding) ≡ false
     → group_bytes p q r s ≡ Some (three_bytes (group_number a b c d))
 unfolding group_bytes
 four_letters_read p q r s a b c d ea eb ec ed unpadded = rw (unpadded, ea, eb, ec, ed) refl
 
--- groups that stand for three bytes each
+-- groups that encode three bytes each
 pub groups_read : (v bytes : List ℕ) (m : ℕ) → 4 * m ≤ length v → 3 * m ≤ length bytes
     → ((k : ℕ) → k < m → group_of v k ≡ Some (three_at bytes k))
     → (n : ℕ) → groups_from n (take (4 * m) v) ≡ Ok (take (3 * m) bytes)

@@ -22,11 +22,11 @@ filled (p ∷ q ∷ []) = []
 filled (p ∷ q ∷ r ∷ []) = []
 filled (p ∷ q ∷ r ∷ s ∷ rest) = p ∷ q ∷ third r s ∷ fourth s ∷ filled rest
 
--- how many bytes a group stands for, by its third and its fourth byte
+-- how many bytes a group encodes, by its third and its fourth byte
 abbrev pub group_len : ℕ → ℕ → ℕ
 group_len r s = if s == padding && r == padding then 1 else if s == padding then 2 else 3
 
--- of three bytes for each group of a text, those that the group stands for
+-- of three bytes for each group of a text, those that the group encodes
 unfoldable pub cut_groups : List ℕ → List ℕ → List ℕ
 cut_groups [] bytes = []
 cut_groups (p ∷ []) bytes = []

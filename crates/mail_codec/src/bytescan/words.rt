@@ -36,7 +36,7 @@ pub(crate) fn either_mask(bytes: &[u8; 8], first: u8, second: u8) -> u64
     equal_mask(bytes, first) | equal_mask(bytes, second)
 }
 
-/// Returns the index of the byte that the lowest set bit of a mask stands for.
+/// Returns the index of the byte that the lowest set bit of a mask represents.
 #[inline(always)]
 pub(crate) fn first_match_byte(mask: u64) -> usize
     ensures { result ≡ trailing_zeros w64 mask / 8 }

@@ -26,7 +26,7 @@ const SHORT: usize = 192;
 /// The number of bytes of a Base64 text read at a time, from the first other group onwards.
 const WINDOW: usize = 4096;
 
-/// Returns the bytes that a Base64 text stands for (RFC 4648, section 4).
+/// Returns the bytes that a Base64 text encodes (RFC 4648, section 4).
 ///
 /// CR and LF are ignored everywhere, groups with padding may occur anywhere, and bits that do not
 /// make a whole byte are ignored. Allocates the bytes, all at once, and a few kilobytes
@@ -56,7 +56,7 @@ pub fn decode_base64(alloc: Global, text: &[u8]) -> Result<Result<Vec<u8>, usize
     decode_base64_without(alloc, text, RunEnd::LineEnd, &mut [0u8; BUFFER])
 }
 
-/// Returns the bytes that a Base64 body stands for (RFC 2045, section 6.8).
+/// Returns the bytes that a Base64 body encodes (RFC 2045, section 6.8).
 ///
 /// All ASCII whitespace is ignored: space, tab, LF, FF and CR, but not the vertical tab (0x0B).
 /// Otherwise it reads and allocates as `decode_base64` does: the body is not copied.

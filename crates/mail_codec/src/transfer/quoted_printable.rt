@@ -41,7 +41,7 @@ static DIGIT_VALUES: [u32; 256] = [
     1000, 1000, 1000, 1000, 1000, 1000, 1000, 1000, 1000, 1000, 1000, 1000, 1000, 1000, 1000, 1000,
 ];
 
-/// Returns the bytes that a quoted-printable text stands for (RFC 2045, section 6.7).
+/// Returns the bytes that a quoted-printable text encodes (RFC 2045, section 6.7).
 ///
 /// On each line, the spaces and tabs at its end are removed, then a final `=` together with the
 /// line end, which is LF or CR LF. Then, from the left, each `=` with two hexadecimal digits of
@@ -101,7 +101,7 @@ fn decode_by_buffers(alloc: Global, text: &[u8]) -> Result<Vec<u8>, AllocError>
     Ok(bytes)
 }
 
-/// Appends the bytes that a text stands for.
+/// Appends the bytes that a text encodes.
 fn push_at_once(alloc: Global, bytes: &mut Vec<u8>, text: &[u8]) -> Result<(), AllocError>
     ensures { OnOk result (bytes.new.items ≡ bytes.old.items ++ quoted_printable text.now) }
 {

@@ -1,5 +1,5 @@
 //! Base64 letters in vectors of 16 and of 64 bytes: which bytes are letters, and the bytes that
-//! groups of them stand for.
+//! groups of them encode.
 //!
 //! A processor with shorter vectors takes several for each of 64 bytes. A table is repeated for each
 //! sixteen lanes and read within them, and a vector of 16 takes the first lanes of it. No function is
@@ -68,7 +68,7 @@ pub(crate) fn are_letters(bytes: u8x64) -> bool
     wide_faults(bytes).simd_ne(u8x64::splat(0)).to_bitmask() == 0
 }
 
-/// Returns the bytes that groups of letters stand for, three for each group. The last four bytes
+/// Returns the bytes that groups of letters encode, three for each group. The last four bytes
 /// have no meaning.
 #[inline(always)]
 pub(crate) fn packed(letters: u8x16) -> u8x16

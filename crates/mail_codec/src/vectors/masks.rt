@@ -1,5 +1,5 @@
 //! Tests of the bytes of a vector. The result is a mask with a bit for each byte, set where the
-//! byte passes; the lowest bit stands for the first byte.
+//! byte passes; the lowest bit is that of the first byte.
 ghost use Rattle.std.specs.Prelude.{◌≡◌, ◌≢◌, ◌<◌, ◌≤◌, ℕ, Bool, List, length, map, drop, ◌==◌, ◌||◌, nat_le};
 ghost use Rattle.std.specs.Char.{is_ascii_whitespace};
 ghost use Rattle.mail_codec.specs.Places.{begins, first_place};

@@ -42,7 +42,7 @@ nowhere_found test bytes end none k =
     let whole = place_none test bytes none in
     ⊎_elim (λ low. first_place-before test bytes k (omega arith)) (λ past. ap test (drop_of_length-le bytes past) ∙ end) (cases_lt k (length bytes))
 
--- nor in what stands at the end
+-- nor in the text at the end
 pub nowhere_behind : (test : List ℕ → Bool) (front bytes : List ℕ) → Nowhere test (front ++ bytes) → Nowhere test bytes
 nowhere_behind test [] bytes none = none
 nowhere_behind test (b ∷ front) bytes none = nowhere_behind test front bytes (λ k. none (suc k))

@@ -96,7 +96,7 @@ pub(crate) fn filled_pair(r: u8, s: u8) -> (u8, u8)
     (b'A', b'A')
 }
 
-/// Appends, of the three bytes decoded for each group, those that the group stands for.
+/// Appends, of the three bytes decoded for each group, those that the group encodes.
 fn push_cut_groups(bytes: &mut Vec<u8>, letters: &[u8], decoded: &[u8]) -> Result<(), AllocError>
     requires whole { length letters.now % 4 ≡ 0 }
     requires three { length decoded.now ≡ 3 * (length letters.now / 4) }
@@ -112,7 +112,7 @@ fn push_cut_groups(bytes: &mut Vec<u8>, letters: &[u8], decoded: &[u8]) -> Resul
     Ok(())
 }
 
-/// Returns the number of bytes that a group stands for, by its third and its fourth byte.
+/// Returns the number of bytes that a group encodes, by its third and its fourth byte.
 pub(crate) fn group_len(r: u8, s: u8) -> usize
     ensures len { result ≡ group_len r s }
     ensures bounds { result ≤ 3 }

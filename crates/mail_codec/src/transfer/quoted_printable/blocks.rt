@@ -91,7 +91,7 @@ fn copied_to(read: Progress, at: usize) -> Progress
 
 /// Decodes the rest of a block, whose special bytes are the bits of `matches`. A `=` that begins
 /// neither an escape nor a soft line break is copied together with the bytes after it. The lowest
-/// bit of `rest` stands for the byte at `next`.
+/// bit of `rest` represents the byte at `next`.
 #[inline(always)]
 fn put_specials(
     output: &mut [u8],
@@ -196,7 +196,7 @@ fn put_line_end(output: &mut [u8], text: &[u8], read: Progress, special: usize) 
     }
 }
 
-/// Copies plain bytes up to the soft line break from `special` to `after`, which stands for
+/// Copies plain bytes up to the soft line break from `special` to `after`, which encodes
 /// nothing.
 #[inline(always)]
 fn put_soft_break(
