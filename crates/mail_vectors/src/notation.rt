@@ -39,7 +39,7 @@ pub struct Row {
     pub wanted: Answer,
     /// Whether the call must not allocate.
     pub is_free: bool,
-    /// Whether an error is shown by its Debug text and that of its source.
+    /// Whether an error is shown by its Debug text and those of its source and kind.
     is_debug: bool,
     /// Whether a call asked for an input that is missing or of another kind.
     is_malformed: Cell<bool>,
@@ -616,13 +616,13 @@ impl Answer {
         }
     }
 
-    /// Appends `error` and the text of a refusal, or its Debug text and source if the row asks for
-    /// them. Running out of memory is not a refusal, and neither is `FORM`.
+    /// Appends `error` and the text of a refusal, or what `debug_error` does if the row asks for that.
+    /// Running out of memory is not a refusal, and neither is `FORM`.
     pub fn refusal(&mut self, error: MailParseError) {
         match &error {
             MailParseError::Memory(_) => self.has_run_out = true,
             MailParseError::Generic(NOT_A_ROW) => self.is_malformed = true,
-            _ if self.is_debug => self.debug_and_source(&error),
+            _ if self.is_debug => self.debug_error(&error),
             MailParseError::Generic(text) => self.error(text),
             _ => {
                 self.word("error");
@@ -637,20 +637,35 @@ impl Answer {
     }
 
     /// Appends the Debug text of the value that a call returned, or its refusal.
-    pub fn debug_or_refusal<T: Debug>(&mut self, outcome: Result<T, MailParseError>) {
+    pub fn debug_or_refusal<T: Debug + Drop>(&mut self, outcome: Result<T, MailParseError>) {
         match outcome {
             Ok(value) => self.debug(&value),
             Err(error) => self.refusal(error),
         }
     }
 
-    /// Appends the Debug text of an error, and that of its source, or the word `none`.
-    pub fn debug_and_source(&mut self, error: &MailParseError) {
-        self.debug(error);
-        match error.source() {
-            Some(source) => self.debug(&source),
+    /// Appends the Debug text of a value that is allocated, unless memory ran out.
+    pub fn debug_made<T: Debug + Drop>(&mut self, outcome: Result<T, AllocError>) {
+        match outcome {
+            Ok(value) => self.debug(&value),
+            Err(_) => self.has_run_out = true,
+        }
+    }
+
+    /// Appends the Debug text of a value, or the word `none`.
+    fn optional_debug<T: Debug + Drop>(&mut self, value: Option<T>) {
+        match value {
+            Some(value) => self.debug(&value),
             None => self.word("none"),
         }
+    }
+
+    /// Appends the Debug texts of an error, of its source and of its kind; each of the last two may be
+    /// the word `none`.
+    pub fn debug_error(&mut self, error: &MailParseError) {
+        self.debug(error);
+        self.optional_debug(error.source());
+        self.optional_debug(error.refusal());
     }
 
     /// Appends `error` and a text.

@@ -1,8 +1,9 @@
 //! The calls on errors.
 //!
-//! - `error KIND => DISPLAY DEBUG SOURCE`: the texts of an error. KIND is `generic`, whose text is
-//!   `a "text"`, `encoding` and `owned_encoding`, whose text is `x`, `memory`, `quoted-printable`, or
-//!   `base64` and the number of a group. SOURCE is the Debug text of the wrapped fault, or `none`.
+//! - `error KIND => DISPLAY DEBUG SOURCE REFUSAL`: the texts of an error. KIND is `generic`, whose text
+//!   is `a "text"`, `encoding` and `owned_encoding`, whose text is `x`, `memory`, `quoted-printable`, or
+//!   `base64` and the number of a group. SOURCE is the Debug text of the wrapped fault, and REFUSAL
+//!   that of the kind of refusal; each may be `none`.
 //! - `from KIND => DEBUG`: the error that another one is converted to.
 //! - `fault KIND => DISPLAY DEBUG`: the texts of a fault by itself.
 
@@ -34,7 +35,7 @@ fn push_error(alloc: Global, row: &Row, answer: &mut Answer) -> Result<(), MailP
         _ => return Err(FORM),
     };
     answer.made(format!(in alloc; "{error}"));
-    answer.debug_and_source(&error);
+    answer.debug_error(&error);
     Ok(())
 }
 

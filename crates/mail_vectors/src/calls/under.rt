@@ -6,6 +6,7 @@
 //! value_under CHARSETS RAW => TEXT               of the header `X:RAW`
 //! value_text_under CHARSETS BYTES => TEXT
 //! first_value_under CHARSETS MAIL NAME => list TEXT | none, block TEXT | none
+//! all_values_under CHARSETS MAIL NAME => list TEXT.., block TEXT..
 //! type_under CHARSETS TEXT => MIMETYPE CHARSET, NAME VALUE..
 //! disposition_under CHARSETS TEXT => DISPOSITION, NAME VALUE..
 //! body_under CHARSETS ENCODING LABEL BODY => TEXT
@@ -14,7 +15,7 @@
 //! limited_mail_under CHARSETS MAIL LEVELS => the same, with parts at most LEVELS levels below the mail
 //! ```
 //!
-//! The first value is looked up in the list of headers and in their block.
+//! Values are looked up in the list of headers and in their block.
 
 use crate::calls::bodies::Label;
 use crate::calls::latin1::OnlyLatin1;
@@ -37,6 +38,7 @@ pub fn make(alloc: Global, row: &Row, answer: &mut Answer) -> bool {
         "value_under"
         | "value_text_under"
         | "first_value_under"
+        | "all_values_under"
         | "type_under"
         | "disposition_under"
         | "body_under"
@@ -77,7 +79,7 @@ fn call_under<K: KnownCharsets>(alloc: Global, row: &Row, answer: &mut Answer, k
     match row.call.as_str() {
         "value_under" => answer.text_or_refusal(value_of(alloc, row, known)),
         "value_text_under" => answer.text_or_refusal(value_text_in(alloc, row.bytes(1), known)),
-        "first_value_under" => look_up(alloc, row, answer, known),
+        "first_value_under" | "all_values_under" => look_up(alloc, row, answer, known),
         "type_under" => {
             push_parsed_type(answer, parse_content_type_in(alloc, row.text(1), known));
         }
@@ -134,27 +136,33 @@ fn text_of<K: KnownCharsets>(
     }
 }
 
-/// Writes the first value with a name.
+/// Writes the first value with a name, or all.
 fn look_up<K: KnownCharsets>(alloc: Global, row: &Row, answer: &mut Answer, known: &K) {
     match parse_mail_in(alloc, row.bytes(1), known) {
         Ok(mail) => {
             answer.word("list");
-            push_first(alloc, row, answer, &mail.headers, known);
+            push_found(alloc, row, answer, &mail.headers, known);
             answer.word("block");
-            push_first(alloc, row, answer, &mail.get_headers(), known);
+            push_found(alloc, row, answer, &mail.get_headers(), known);
         }
         Err(error) => answer.refusal(error),
     }
 }
 
-fn push_first<M: MailHeaderMap, K: KnownCharsets>(
+fn push_found<M: MailHeaderMap, K: KnownCharsets>(
     alloc: Global,
     row: &Row,
     answer: &mut Answer,
     map: &M,
     known: &K,
 ) {
-    answer.optional_or_refusal(map.get_first_value_in(alloc, row.text(2), known));
+    let (call, name) = (row.call.as_str(), row.text(2));
+    match call {
+        "first_value_under" => {
+            answer.optional_or_refusal(map.get_first_value_in(alloc, name, known));
+        }
+        _ => answer.texts_or_refusal(map.get_all_values_in(alloc, name, known)),
+    }
 }
 
 /// Writes a mail and its parts, each before its own parts.
