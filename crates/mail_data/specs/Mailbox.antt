@@ -1,6 +1,6 @@
 -- Mailboxes: the mbox format (RFC 4155, appendix A), in which a line of `From `, an address and a time separates mails if it
 -- is the first line or follows an empty line.
-use Rattle.std.specs.Prelude.{◌≡◌, ◌⊎◌, ℕ, zero, suc, ◌+◌, Bool, ◌&&◌, ◌||◌, nat_lt, Option, Some, None, List, [], ◌∷◌, ◌++◌, length, take, drop, if◌then◌else◌}
+use Rattle.std.specs.Prelude.{◌≡◌, ◌⊎◌, ℕ, zero, suc, ◌+◌, Bool, ◌&&◌, ◌||◌, nat_lt, List, [], ◌∷◌, ◌++◌, length, take, drop, if◌then◌else◌}
 use Rattle.mail_codec.specs.Ascii.{carriage_return, line_feed}
 use Rattle.mail_codec.specs.Places.{is_empty}
 use Rattle.mail_data.specs.LineEnds.{after_empty_line, after_line, empty_line, is_empty_line, line_length, line_place}

@@ -68,12 +68,15 @@ pub fn lenient_content<'b>(alloc: Global, body: &Body<'b>) -> Result<Content<'b>
         IfOk result (λ content. content_view content ≡ lenient_content kind given.raw) }
     ensures only_memory { IfErr result IsMemory }
 {
-    match body.decoded(alloc) {
-        Ok(bytes) => Ok(Content { bytes, fault: None }),
-        Err(MailParseError::Base64DecodeError(fault)) => Ok(Content {
+    let error = match body.decoded(alloc) {
+        Ok(bytes) => return Ok(Content { bytes, fault: None }),
+        Err(error) => error,
+    };
+    match error {
+        MailParseError::Base64DecodeError(fault) => Ok(Content {
             bytes: CowSlice::Owned(base64_front(alloc, body.get_raw())?.bytes),
             fault: Some(ContentFault::Base64(fault)),
         }),
-        Err(error) => Err(error),
+        error => Err(error),
     }
 }

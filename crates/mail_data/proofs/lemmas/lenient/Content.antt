@@ -1,5 +1,5 @@
 -- Lemmas on the content of a body.
-use Rattle.std.proofs.Common.{◌≡◌, ℕ, List, Some, None, Result, Ok, Err, refl, sym, ap, ◌∙◌}
+use Rattle.std.proofs.Common.{◌≡◌, ℕ, List, Some, None, Result, Ok, Err, refl, sym, ap, subst, ◌∙◌}
 use Rattle.std.specs.Cow.{cow_str_bytes}
 use Rattle.mail_codec.specs.Base64.{base64}
 use Rattle.mail_codec.specs.Places.{without_ascii_whitespace}
@@ -27,6 +27,11 @@ pub content-front : (kind : BodyKind) (raw front : List ℕ) (refusal : Refusal)
     → ◌≡◌ {A = Content} (lenient_content kind raw) (record { bytes = front; fault = Some refusal })
 unfolding lenient_content front_with
 content-front kind raw front refusal e is = ap (read_or_front raw) e ∙ ap (front_with refusal) (sym is)
+
+-- the refusal that an error for a fault tells of
+pub fault-refused : (error : MailParseError) (fault : Base64Fault) (given : Reads (List ℕ)) → error ≡ Base64DecodeError fault
+    → IsRefusalOrMemory error given → given ≡ Err (base64_fault fault.group)
+fault-refused error fault given is h = subst (λ (e : MailParseError). IsRefusalOrMemory e given) is h
 
 -- a body is refused as Base64 alone
 refused-base64 : (kind : BodyKind) (raw : List ℕ) (refusal : Refusal) → decoded kind raw ≡ Err refusal → (group : ℕ) × (refusal ≡ base64_fault group)

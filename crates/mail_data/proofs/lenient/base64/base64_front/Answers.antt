@@ -1,4 +1,4 @@
-use Rattle.std.proofs.Common.{Ok, sym, ap, ◌∙◌}
+use Rattle.std.proofs.Common.{sym, ap, ◌∙◌}
 use Rattle.std.proofs.lemmas.Result.{IfOk-weaker}
 use Rattle.mail_codec.specs.Base64.{items_or_fault}
 use Rattle.mail_data.proofs.lemmas.lenient.Base64.{base64_front-ok, clean-is, letters-front, strict-err}
