@@ -1,6 +1,6 @@
-use Rattle.std.specs.Prelude.{codes}
-use Rattle.mailparse.proofs.lemmas.Map.{told_ascii}
+use Rattle.std.proofs.lemmas.Bool.Decides.{same_from_decides}
+use Rattle.std.proofs.lemmas.Slice.Eq.{bytes_eq-Decides}
 use Rattle.mail_laws.proofs.render.conditions.is_type_key.Goals as goal
 
 pub returns : goal.returns
-returns c = told_ascii c.args.key.now (codes "Content-Type") c.eq_ignore_ascii_case.result c.eq_ignore_ascii_case.ensures.test
+returns c = same_from_decides _ _ c.eq_ignore_ascii_case.ensures.test (bytes_eq-Decides _ _)
