@@ -8,7 +8,7 @@ ghost use Rattle.mail_lines.specs.declared.chosen.Which.TheVariants.{Within};
 use mail_data::mailbox::{Format, MailboxEntry};
 
 /// What an input is.
-#[derive(Clone, Copy, PartialEq, Eq)]
+#[derive(Clone, Copy, Debug, PartialEq, Eq)]
 pub enum Form {
     /// A mailbox if it begins with a separator, otherwise a mail.
     Either,
@@ -19,7 +19,7 @@ pub enum Form {
 }
 
 /// Which mails of a mailbox have a line.
-#[derive(Clone, Copy)]
+#[derive(Clone, Copy, Debug)]
 pub enum Which {
     /// Each. They are numbered, and the next one has this number.
     Numbered(usize),
@@ -50,7 +50,7 @@ impl Which {
 }
 
 /// Which mails of a mailbox have a line, and the place of the next mail.
-#[derive(Clone, Copy)]
+#[derive(Clone, Copy, Debug)]
 pub struct Next {
     /// Which mails have a line.
     pub which: Which,

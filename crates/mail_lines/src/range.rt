@@ -16,7 +16,7 @@ use std::alloc::Global;
 use std::io::{Read, Write};
 
 /// A part of a file: one of so many equal ones.
-#[derive(Clone, Copy)]
+#[derive(Clone, Copy, Debug)]
 pub struct FilePart {
     /// Which one, counted from 1.
     pub number: usize,
@@ -25,7 +25,7 @@ pub struct FilePart {
 }
 
 /// A range of places in a file.
-#[derive(Clone, Copy)]
+#[derive(Clone, Copy, Debug)]
 pub struct Range {
     /// The first place in it.
     pub from: usize,

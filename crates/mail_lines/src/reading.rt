@@ -2,7 +2,7 @@
 ghost use Rattle.std.specs.Prelude.{◌≡◌, false};
 
 /// How mails are read for their lines, and what these show.
-#[derive(Clone, Copy)]
+#[derive(Clone, Copy, Debug)]
 pub struct Reading {
     /// Whether files have their SHA-256.
     pub hashes: bool,

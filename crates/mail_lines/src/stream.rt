@@ -21,7 +21,7 @@ use std::alloc::{AllocError, Global};
 use std::io::{self, ErrorKind, Read, Write};
 
 /// What is wanted of the bytes of an input before lines are written of it.
-#[derive(Clone, Copy)]
+#[derive(Clone, Copy, Debug)]
 pub enum Wanted {
     /// Its first line, so that it shows whether it is a mailbox.
     FirstLine,
@@ -48,7 +48,7 @@ pub trait Watch {
 }
 
 /// Takes note of nothing.
-#[derive(Clone, Copy)]
+#[derive(Clone, Copy, Debug)]
 pub struct Unwatched;
 
 impl Watch for Unwatched {
@@ -249,7 +249,7 @@ pub fn read_until<R: Read>(
             return Ok(false);
         }
         let most = bytes.len().saturating_mul(2);
-        if read_more(alloc, reader, bytes, most)? {
+        if read_more(alloc, bytes, reader, most)? {
             return Ok(true);
         }
     }
