@@ -3,7 +3,7 @@ ghost use Rattle.std.specs.Prelude.{◌≡◌, [], map, unwrap_or};
 ghost use Rattle.mail_codec.specs.Names.{look_up};
 ghost use Rattle.mailparse.specs.Mail.{root};
 ghost use Rattle.mailparse.specs.Views.{tree_of};
-ghost use Rattle.mail_extract.specs.Endings.{ending_of};
+ghost use Rattle.mail_extract.specs.Endings.{ending_of, type_ending};
 
 use mail_codec::names::look_up;
 use mailparse::ParsedMail;
@@ -37,7 +37,14 @@ static ENDINGS: [(&str, &str); 20] = [
 pub fn ending_of(part: &ParsedMail<'_>) -> &'static str
     ensures { result.now ≡ ending_of (root (tree_of part.now)) }
 {
-    text_for(&ENDINGS, part.ctype.mimetype.as_str())
+    type_ending(part.ctype.mimetype.as_str())
+}
+
+/// Returns the ending for a type, or the empty text if none is known.
+fn type_ending(mimetype: &str) -> &'static str
+    ensures { result.now ≡ type_ending mimetype.now }
+{
+    text_for(&ENDINGS, mimetype)
 }
 
 /// Returns the text for a key, ignoring ASCII case, or the empty text if the table has none.

@@ -1,5 +1,5 @@
 -- Lemmas on files that are saved one after another.
-use Rattle.std.proofs.Common.{◌≡◌, ℕ, ◌+◌, Bool, true, false, ◌||◌, List, [], ◌∷◌, ◌++◌, length, map, Option, Some, None, is_some, option_and_then, Ok, refl, sym, ap, subst, append_assoc, arith, ⊎_elim, IfSome, ◌∙◌}
+use Rattle.std.proofs.Common.{◌≡◌, ℕ, ◌+◌, Bool, true, false, ◌||◌, List, [], ◌∷◌, ◌++◌, length, map, Option, Some, None, is_some, option_and_then, option_map, Ok, refl, sym, ap, subst, append_assoc, arith, ⊎_elim, IfSome, ◌∙◌}
 use Rattle.std.specs.Prelude.{flat_map}
 use Rattle.std.proofs.lemmas.Bool.{cases_lt, cond-true, cond-false}
 use Rattle.std.proofs.lemmas.List.{append-nil, map_push}
@@ -29,8 +29,8 @@ pub created_taken : (files : List File) (name bytes : List ℕ) (can_fail : Bool
     → Creates files name bytes can_fail now r → (has_file name files ≡ true) × (now ≡ Some files)
 created_taken files name bytes can_fail now r e h = subst (λ (c : Created). Creates files name bytes can_fail now c) e h
 
--- the result of a partial function is there only if its argument is
-pub some_of : {X Y : Type 0} (f : X → Option Y) (o : Option X) → is_some (option_and_then f o) ≡ true → is_some o ≡ true
+-- the result of a function on an option is there only if the option's value is
+pub some_of : {X Y : Type 0} (f : X → Y) (o : Option X) → is_some (option_map f o) ≡ true → is_some o ≡ true
 some_of f None h = h
 some_of f (Some x) h = refl
 

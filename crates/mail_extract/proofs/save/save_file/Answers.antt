@@ -10,8 +10,8 @@ use Rattle.mail_extract.specs.SaveViews.{kept_name}
 use Rattle.mail_extract.proofs.lemmas.Save.{hash_kept, read_value, saved_file, some_of}
 use Rattle.mail_extract.proofs.save.save_file.Goals as goal
 
-pub returns-in_ok-error-in-As-clause-saved : goal.returns-in_ok-error-in-As-clause-saved
-returns-in_ok-error-in-As-clause-saved g c = λ files e.
+pub returns-in-As-clause-saved : goal.returns-in-As-clause-saved
+returns-in-As-clause-saved g c = λ files e.
     let known = g.K.KnownCharsets.known c.args.known.now in
     let kept = c.in_ok-kept.ensures.kept files e in
     let node = root (tree_of c.args.place.now.part.now) in
@@ -28,8 +28,8 @@ returns-in_ok-error-in-As-clause-saved g c = λ files e.
           (λ some. c.in_ok-error-in-As.ensures ∙ some_of fault_view c.in_ok-content.content.fault some) (λ none. cc) kept.2,
     )
 
-pub returns-in_ok-error-in-Nowhere-clause-saved : goal.returns-in_ok-error-in-Nowhere-clause-saved
-returns-in_ok-error-in-Nowhere-clause-saved g c = λ files e.
+pub returns-clause-saved : goal.returns-clause-saved
+returns-clause-saved g c = λ files e.
     let known = g.K.KnownCharsets.known c.args.known.now in
     let kept = c.in_ok-kept.ensures.kept files e in
     let node = root (tree_of c.args.place.now.part.now) in
