@@ -1,4 +1,4 @@
-//! Writes mails as JSON, one object to a line: `mail_json [OPTION..] [FILE|FOLDER..]`.
+//! Writes mails as JSON, one object to a line: `mail_json [OPTION..] [FILE|DIRECTORY..]`.
 #![tactic(auto)]
 
 mod request;
@@ -11,14 +11,14 @@ use std::io;
 use std::process::ExitCode;
 
 fn main(rt: HostRuntime) -> ExitCode {
-    let words = match arguments(&rt) {
-        Ok(words) => words,
+    let arguments = match arguments(&rt) {
+        Ok(arguments) => arguments,
         Err(error) => {
             let _ = eprintln!(rt; "mail_json: the arguments could not be read: {error}");
             return ExitCode::FAILURE;
         }
     };
-    let Ok(request) = request_of(rt.alloc(), words.as_slice()) else {
+    let Ok(request) = request_of(rt.alloc(), arguments.as_slice()) else {
         let _ = eprintln!(rt; "mail_json: out of memory");
         return ExitCode::FAILURE;
     };
@@ -38,7 +38,7 @@ fn main(rt: HostRuntime) -> ExitCode {
     }
 }
 
-/// The status where something was to be printed; says on standard error why it was not.
+/// Returns the exit status of a print, and reports on standard error why it failed.
 fn printed(rt: &impl Eprint, outcome: io::Result<()>) -> ExitCode {
     match outcome {
         Ok(()) => ExitCode::SUCCESS,
