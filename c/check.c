@@ -1,4 +1,4 @@
-/* Tests the C library; tools/check_c.sh builds and runs it, linked so that this file sees each call for memory.
+/* Tests the C library; tests/test_c.py builds and runs it, linked so that this file sees each call for memory.
  *
  *   check cases           every code of every call, buffers of every capacity around the right one, empty inputs, null
  *                         pointers with length 0, and each allocation refused in turn

@@ -1,14 +1,9 @@
 #!/bin/sh
-# install_needs.sh: installs what the gate needs beyond the kit, Python 3, bash and Debian's own tools, where
-# something of it is missing. As root on Debian it calls apt-get. Elsewhere, or where that fails, it says
-# what to install. Where nothing is missing it takes a tenth of a second.
-#
-# A module of Python may be one of `python3` on the PATH or of Debian's python3; the scripts take the one
-# that has it.
-#
-# Each package counts for one; the last line is `N passed, N failed`, and the status is 1 where one is missing.
+# install_needs.sh: installs what the gate needs beyond the kit, Python 3, bash and Debian's own tools. As root on
+# Debian it calls apt-get; otherwise, or if that fails, it names the packages that are missing, and ends with status 1.
+# If nothing is missing it takes a tenth of a second. Modules of Python are those of Debian's /usr/bin/python3.
 arguments=
-. "$(dirname "$0")/prelude.sh"
+. "$(dirname "$0")/arguments.sh"
 most_tries=30
 
 # needs: the packages, each with the command or the module of Python by which it is seen
@@ -21,6 +16,7 @@ parallel command parallel
 mypy command mypy
 python3-venv module ensurepip
 python3-pytest module pytest
+python3-pytest-xdist module xdist
 python3-jsonschema module jsonschema
 python3-distributed module distributed
 END
@@ -32,7 +28,7 @@ look() {
     while read -r package kind name; do
         case $kind in
             command) command -v "$name" > /dev/null || missing="$missing $package" ;;
-            module) python_with "$name" > /dev/null || missing="$missing $package" ;;
+            module) /usr/bin/python3 -c "import $name" 2> /dev/null || missing="$missing $package" ;;
         esac
     done << END
 $(needs)
@@ -62,9 +58,7 @@ if [ -n "$missing" ] && [ "$(id -u)" = 0 ] && command -v apt-get > /dev/null; th
     install > /dev/null || true
     look
 fi
-for package in $missing; do
-    fail "$package is missing"
-done
-[ -z "$missing" ] || echo "$script: on Debian root installs what is missing by: apt-get install$missing"
-passed=$(($(needs | wc -l) - failed))
-finish
+[ -z "$missing" ] || {
+    echo "$script: missing; on Debian root installs it by: apt-get install$missing" >&2
+    exit 1
+}

@@ -3,20 +3,16 @@
 
 A library is a crate of crates.txt that has src/lib.rt; static ones are left out. Of each public item the page has
 the signature, the first sentence of its doc comment and the clauses of its contract; of a law, its name and what it
-says. With --check it writes nothing, and checks that the page is what the sources give, that it has each name that one
-crate imports from another, and each implementation of a public trait. The last line is then `N passed, N failed`, and
-the exit status is 1 if a check fails.
+says. tests/test_pages.py compares the page with the sources.
 """
 import argparse
-import difflib
 import functools
 import os
 import re
-import sys
 import textwrap
 
-from shared.checks import TOP, finish, text_of
 
+TOP = os.path.dirname(os.path.dirname(os.path.abspath(__file__)))
 PAGE = os.path.join("docs", "API.md")
 INTRODUCTION = """\
 # Public types and calls, with their contracts
@@ -40,6 +36,12 @@ IMPLEMENTS = re.compile(r"^ (?:\w+::)*(\w+(?:<[^\n]*>)?) for ([^\n]+?)(?: where 
 CLAUSE = re.compile(r"\b(ensures|requires)\*? ?(\w*) ?\{ ?(.*?) ?\}(?= (?:ensures|requires)\b|$)")
 # what only contracts see
 GHOST_TRAITS = {"Model"}
+
+
+def text_of(path):
+    """The text of a file of the repository."""
+    with open(os.path.join(TOP, path), encoding="utf-8") as file:
+        return file.read()
 
 
 def crates():
@@ -275,40 +277,12 @@ def page():
     return "\n".join(lines) + "\n"
 
 
-def imported():
-    """The names that a crate imports from a library, each with that library."""
-    for crate in crates():
-        for text in sources(crate):
-            for library, names in found(r"^use (\w+)::(?:\w+::)*((?:\{[^{}]*\}|\w+)(?: as \w+)?);", text):
-                if library in libraries() and library != crate:
-                    yield from ((library, name) for name in re.findall(r"(?<!as )\b(?!as\b|self\b)\w+", names))
-
-
-def are_complete(text):
-    """For each name that is imported, and for each implementation of a public trait: whether the page has it."""
-    for library, name in sorted(set(imported())):
-        yield f"{PAGE}: {name} of {library} is missing", re.search(rf"\b{name}\b", text) is not None
-    sections = {base(head): rest for head, rest in re.findall(r"^### `trait (\w+).*?`$(.*?)(?=^#|\Z)", text, re.M | re.S)}
-    for crate in libraries():
-        for head in {line for text in sources(crate) for line in re.findall(r"^impl\b.* for .*(?= \{$)", text, re.M)}:
-            trait, implementer = head.rsplit(" for ", 1)
-            trait = re.sub(r"<[^<>]*>$", "", trait).split("::")[-1].split()[-1]
-            if trait in sections and re.search(rf"^### `(?:struct|enum) {base(implementer) or '-'}\b", text, re.M):
-                yield f"{PAGE}: {trait} for {implementer} is missing", f"`{implementer}`" in " ".join(sections[trait].split())
-
-
 def main():
-    """Writes the page, or compares it with the one that is there."""
-    parser = argparse.ArgumentParser(description=__doc__, formatter_class=argparse.RawDescriptionHelpFormatter)
-    parser.add_argument("--check", action="store_true", help="write nothing, and compare")
-    if not parser.parse_args().check:
-        with open(os.path.join(TOP, PAGE), "w", encoding="utf-8") as file:
-            file.write(page())
-        return 0
-    kept, made = text_of(PAGE).split("\n"), page().split("\n")
-    print("\n".join(difflib.unified_diff(kept, made, PAGE, "the sources", lineterm="")))
-    return finish([(f"{PAGE}: it is not what the sources give", kept == made), *are_complete("\n".join(made))])
+    """Writes the page."""
+    argparse.ArgumentParser(description=__doc__, formatter_class=argparse.RawDescriptionHelpFormatter).parse_args()
+    with open(os.path.join(TOP, PAGE), "w", encoding="utf-8") as file:
+        file.write(page())
 
 
 if __name__ == "__main__":
-    sys.exit(main())
+    main()

@@ -7,7 +7,7 @@
 # How far that is goes to standard error. It needs the kit and a C compiler (CC, or cc), and the library
 # needs the C library alone.
 arguments='PREFIX'
-. "$(dirname "$0")/prelude.sh"
+. "$(dirname "$0")/arguments.sh"
 [ -d "$(dirname "$1")" ] || usage "there is no directory $(dirname "$1")"
 crate=$top/crates/mail_c
 archive=$crate/out/libmail_c.a

@@ -6,7 +6,7 @@
 # first: 10 to 16 minutes on four slow processors from nothing. How far that is goes to standard
 # error. With BUILT=only in the environment a program that has to be built is an error.
 arguments='NAME'
-. "$(dirname "$0")/prelude.sh"
+. "$(dirname "$0")/arguments.sh"
 name=$1
 crate=$top/crates/$name
 program=$crate/out/$name

@@ -7,7 +7,7 @@ from pathlib import Path
 import pytest
 
 TOP = Path(__file__).resolve().parent.parent.parent
-sys.path.insert(0, str(TOP / "tools"))
+sys.path.insert(0, str(TOP / "oracle"))
 
 
 @pytest.fixture(scope="session")
@@ -20,5 +20,5 @@ def samples():
 def hostile(tmp_path_factory):
     """Generated mails with deliberate faults."""
     directory = tmp_path_factory.mktemp("mails")
-    subprocess.run([sys.executable, TOP / "tools" / "make_mails.py", "2000", "42", directory], check=True)
+    subprocess.run([sys.executable, TOP / "oracle" / "hostile.py", "2000", "42", directory], check=True)
     return [path.read_bytes() for path in sorted(directory.glob("*.eml"))]

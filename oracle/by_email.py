@@ -1,0 +1,290 @@
+#!/usr/bin/env python3
+"""Writes what Python's email package reads of mails as JSON, one object to a line.
+
+The members are those that mail_json writes, but for `start`, `end` and `size`, which the package does not
+know. Each FILE is a mail, and with --mbox a mailbox; without a FILE the one on standard input is read. A mail
+that the package fails on is an object with the one member `error`.
+"""
+import argparse
+import datetime
+import email
+import email.header
+import email.message
+import email.policy
+import email.utils
+import json
+import re
+import sys
+
+
+def codec(label):
+    """The name that Python has for the charset that the Encoding Standard reads under a label."""
+    return "windows-1252" if label.lower() in ("us-ascii", "iso-8859-1") else label
+
+
+def without_surrogates(text):
+    """A text whose surrogates are bytes; bytes that are not UTF-8 are Latin-1 by docs/RULES.md."""
+    raw = text.encode("utf-8", "surrogateescape")
+    try:
+        return raw.decode("utf-8")
+    except UnicodeDecodeError:
+        return raw.decode("latin-1")
+
+
+def shown(value):
+    """The text of a header's value."""
+    if value is None:
+        return None
+    unfolded = re.sub(r"\r?\n[ \t]*", " ", without_surrogates(value))
+    pieces = email.header.decode_header(unfolded)
+    return "".join(
+        piece if isinstance(piece, str) else piece.decode(codec(charset) if charset else "raw-unicode-escape")
+        for piece, charset in pieces
+    )
+
+
+def raw_value(mail, name):
+    """The value of the first header with this name, or None; bytes above 0x7F are surrogates."""
+    return next((value for key, value in mail.raw_items() if key.lower() == name), None)
+
+
+def value_of(mail, name):
+    """The text of the first header with this name, or None."""
+    return shown(raw_value(mail, name))
+
+
+def mailbox_object(address):
+    """The object of a mailbox, or of what has no `@` and so is no address."""
+    if "@" not in address.addr_spec:
+        return {"unknown": without_surrogates(str(address))}
+    name = without_surrogates(address.display_name)
+    return {"name": name or None, "address": without_surrogates(address.addr_spec)}
+
+
+def addresses_of(mail, name):
+    """The addresses in all headers with this name, which the package decodes after it has cut them apart. Whitespace
+    between two encoded words goes (RFC 2047, section 6.2), which the package keeps in a name."""
+    found = []
+    for key, value in mail.raw_items():
+        if key.lower() == name:
+            joined = re.sub(r"(?<=\?=)\s+(?==\?)", "", value)
+            for group in email.policy.default.header_factory(key, re.sub(r"\r?\n", "", joined)).groups:
+                members = [mailbox_object(address) for address in group.addresses]
+                if group.display_name is not None:
+                    members = [{"group": without_surrogates(group.display_name), "members": members}]
+                found += members
+    return found
+
+
+def ids(value, needs_at):
+    """The message ids of a value, each with an `@` where one is needed."""
+    return re.findall(r"<([^<>]*@[^<>]*)>" if needs_at else r"<([^<>]+)>", shown(value) or "")
+
+
+def seconds(value):
+    """The seconds of a date, or None where there is none; a date without a zone is UTC, and so is one with `-0000`."""
+    if value is None:
+        return None
+    found = email.utils.parsedate_to_datetime(str(value))
+    return int((found if found.tzinfo else found.replace(tzinfo=datetime.timezone.utc)).timestamp())
+
+
+def has_parts(part):
+    """Whether a part has parts of its own; a forwarded mail is not entered."""
+    return part.get_content_maintype() == "multipart" and part.is_multipart()
+
+
+def walk(mail, path):
+    """The parts of a mail with their paths, each before its own parts."""
+    yield path, mail
+    if has_parts(mail):
+        for number, part in enumerate(mail.get_payload(), 1):
+            yield from walk(part, f"{path}.{number}" if path else str(number))
+
+
+def parts_of(mail):
+    """The parts of a mail with their paths, as IMAP numbers parts."""
+    return walk(mail, "" if has_parts(mail) else "1")
+
+
+def mails_inside(mail, path):
+    """The mails that the parts of a mail hold, each before those inside it, with the paths of these parts."""
+    for path_, part in walk(mail, path):
+        if part.get_content_type() == "message/rfc822" and part.is_multipart():
+            inner = part.get_payload(0)
+            yield path_, inner
+            yield from mails_inside(inner, path_ if has_parts(inner) else f"{path_}.1")
+
+
+def all_parts(mail):
+    """The parts of a mail, and then those of the mails inside it, with their paths."""
+    yield from parts_of(mail)
+    for path, inner in mails_inside(mail, "" if has_parts(mail) else "1"):
+        yield from walk(inner, path if has_parts(inner) else f"{path}.1")
+
+
+def charset_of(part):
+    """The charset of a part."""
+    return email.utils.collapse_rfc2231_value(part.get_param("charset", "us-ascii"))
+
+
+def params_of(part):
+    """The parameters of the type of a part."""
+    return {key.lower(): email.utils.collapse_rfc2231_value(value) for key, value in part.get_params([])[1:]}
+
+
+def file_name(part):
+    """The name of a part's file; an empty one counts as none."""
+    return part.get_filename() or email.utils.collapse_rfc2231_value(part.get_param("name", "")) or None
+
+
+def is_file(part):
+    """Whether a part is a file."""
+    return not has_parts(part) and (part.get_content_disposition() == "attachment" or file_name(part) is not None)
+
+
+def body_of(part):
+    """The decoded bytes of the body of a part."""
+    if part.is_multipart():
+        return part.as_bytes() if part.get_content_maintype() != "multipart" else b""
+    return part.get_payload(decode=True)
+
+
+def text_of(part, body):
+    """The text of a part and the name of its charset, or None where it is no text or marked as an attachment."""
+    if part.get_content_maintype() != "text" or part.get_content_disposition() == "attachment":
+        return {"text": None}
+    label = charset_of(part)
+    if label.lower() == "us-ascii":
+        label = "utf-8" if is_utf8(body) else "windows-1252"
+    return {"text": body.decode(codec(label), "replace"), "text_charset": label}
+
+
+def is_utf8(body):
+    """Whether bytes are UTF-8."""
+    try:
+        body.decode("utf-8")
+    except UnicodeDecodeError:
+        return False
+    return True
+
+
+def part_object(path, part):
+    """The object of a part."""
+    body = body_of(part)
+    return {
+        "path": path,
+        "type": part.get_content_type(),
+        "charset": charset_of(part),
+        "params": params_of(part),
+        "disposition": part.get_content_disposition(),
+        "file_name": file_name(part),
+        "attachment": is_file(part),
+        "encoding": (part.get("content-transfer-encoding") or "7bit").lower(),
+        "decoded_size": len(body),
+        "headers": [[name, shown(value)] for name, value in part.raw_items()],
+        **text_of(part, body),
+    }
+
+
+def date_of(mail):
+    """The member of the date, and the one of its error."""
+    try:
+        return {"date": seconds(raw_value(mail, "date"))}
+    except (TypeError, ValueError, OverflowError, IndexError) as error:
+        return {"date": None, "date_error": str(error)}
+
+
+def mail_object(data):
+    """The object of a mail."""
+    mail = email.message_from_bytes(data)
+    found = {"subject": value_of(mail, "subject")}
+    for name in ("from", "to", "cc", "bcc", "reply_to", "sender"):
+        found[name] = addresses_of(mail, name.replace("_", "-"))
+    found.update(date_of(mail))
+    for name in ("message_id", "in_reply_to", "references"):
+        found[name] = ids(raw_value(mail, name.replace("_", "-")), name != "message_id")
+    found["parts"] = [part_object(path, part) for path, part in all_parts(mail)]
+    return found
+
+
+# a line `From `, with a time as asctime writes it, as docs/RULES.md says
+SEPARATOR = (
+    rb"From (?:[^\n]* )?(?:Sun|Mon|Tue|Wed|Thu|Fri|Sat)\s+(?:Jan|Feb|Mar|Apr|May|Jun|Jul|Aug|Sep|Oct|Nov|Dec)\s+"
+    rb"\d\d?\s+\d\d:\d\d(?::\d\d)?\s+(?:(?:[+-]\d{4}|[A-Za-z]+)\s+)?\d{4}(?!\S)[^\n]*(?:\n|\Z)"
+)
+
+
+def mails_of(mailbox):
+    """The mails of a mailbox, cut as docs/RULES.md says; text before the first is left out."""
+    starts = list(re.finditer(rb"(?:\A|(?:\A|(?<=\n))\r?\n)" + SEPARATOR, mailbox))
+    last = re.search(rb"(?<=\n)\r?\n\Z", mailbox)
+    ends = [found.start() for found in starts[1:]] + [last.start() if last else len(mailbox)]
+    for found, end in zip(starts, ends):
+        yield mailbox[found.end():end]
+
+
+def write_lines(data, is_mailbox):
+    """Writes the line of each mail of an input."""
+    for mail in mails_of(data) if is_mailbox else [data]:
+        try:
+            line = json.dumps(mail_object(mail), ensure_ascii=False, separators=(",", ":"))
+        except Exception as error:  # what the package raises is not said anywhere
+            line = json.dumps({"error": f"{type(error).__name__}: {error}"})
+        sys.stdout.buffer.write(line.encode("utf-8", "surrogateescape") + b"\n")
+
+
+SHOWN_TYPES = ("text/plain", "text/html")
+
+
+def closed(data):
+    """A mail with other types in the place of `message/..`, so that Python does not read their bodies as mails."""
+    return re.sub(rb"(?i)(?<![a-z-])message/(?=[a-z])", rb"x-\g<0>", data)
+
+
+def opened(data):
+    """The bytes as they were."""
+    return re.sub(rb"(?i)(?<![a-z-])x-(message/)", rb"\1", data)
+
+
+def kind_of(part):
+    """The type of a part of a closed mail."""
+    return re.sub("^x-message/", "message/", part.get_content_type())
+
+
+def is_saved(part):
+    """Whether a part is saved: it has no parts of its own, and is a file or no text that readers show."""
+    return not has_parts(part) and (is_file(part) or part.get_content_type() not in SHOWN_TYPES)
+
+
+def bytes_of(part):
+    """The bytes of the body of a part of a closed mail; those of a mail in a digest, into which Python has read all
+    the same, are written anew."""
+    if part.is_multipart():
+        return opened(b"".join(inner.as_bytes() for inner in part.get_payload()))
+    return opened(body_of(part))
+
+
+def saved_files(data, path=""):
+    """The paths and the bytes of what is saved of a mail that the part with this path holds, then of the mails inside
+    it."""
+    mail = email.message_from_bytes(closed(data))
+    parts = list(walk(mail, path if has_parts(mail) else f"{path}.1" if path else "1"))
+    yield from ((place, bytes_of(part)) for place, part in parts if is_saved(part))
+    for place, part in parts:
+        if kind_of(part) in ("message/rfc822", "message/global"):
+            yield from saved_files(bytes_of(part), place)
+
+
+def main():
+    """Writes the lines of all inputs."""
+    parser = argparse.ArgumentParser(description=__doc__, formatter_class=argparse.RawDescriptionHelpFormatter)
+    parser.add_argument("--mbox", action="store_true", help="each input is a mailbox")
+    parser.add_argument("files", metavar="FILE", nargs="*", type=argparse.FileType("rb"), help="a mail, or a mailbox")
+    asked = parser.parse_args()
+    for file in asked.files or [sys.stdin.buffer]:
+        write_lines(file.read(), asked.mbox)
+
+
+if __name__ == "__main__":
+    main()

@@ -1,0 +1,52 @@
+"""What the tests share: the repository, its built programs and libraries, and made mails."""
+
+import functools
+import os
+import subprocess
+import sys
+from pathlib import Path
+
+import pytest
+
+TOP = Path(__file__).resolve().parent.parent
+SAMPLES = sorted((TOP / "samples").glob("*.eml"))
+FROM = b"From a@b Thu Jan  1 00:00:00 1970\n"
+sys.path[:0] = [str(TOP / "oracle"), str(TOP / "bench"), str(TOP / "tools")]
+
+
+def missing(why):
+    """Ends a test that lacks a need: it fails with the option --built, and is skipped otherwise."""
+    (pytest.fail if os.environ.get("ROCKTRAY_BUILT") else pytest.skip)(why)
+
+
+def text_of(path):
+    """The text of a file of the repository."""
+    return (TOP / path).read_text(encoding="utf-8")
+
+
+@functools.cache
+def program(name):
+    """The path of the built program of a crate."""
+    path = TOP / "crates" / name / "out" / name
+    if not path.is_file():
+        missing(f"{name} is not built: run tools/program.sh {name}")
+    return str(path)
+
+
+def run(command, data=b"", **options):
+    """Runs a command on the bytes, for a minute at most."""
+    options = {"capture_output": True, "timeout": 60, **options}
+    return subprocess.run([os.fspath(word) for word in command], input=data, **options)
+
+
+def compiled(source, target, *words):
+    """Compiles a source of C into the target, and returns the target."""
+    compiler = (os.environ.get("CC") or "cc").split()
+    subprocess.run([*compiler, "-Wall", *words, "-o", str(target), str(source)], check=True)
+    return target
+
+
+def multipart(boundary, *parts, kind=b"mixed"):
+    """A mail with these parts."""
+    head = b"Content-Type: multipart/%b; boundary=%b\n\n" % (kind, boundary)
+    return head + b"".join(b"--%b\n%b\n" % (boundary, part) for part in parts) + b"--%b--\n" % boundary

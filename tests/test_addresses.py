@@ -1,0 +1,281 @@
+"""The addresses that mail_address reads beside a second definition of them, by RULES.md, on 100,000 made values.
+
+The values are lists as mails have them, of pieces that are then left out, doubled and moved: names, quotes, comments,
+groups, routes, encoded words, other charsets, IDN, NUL, and quotes and brackets that nothing closes. The program
+mail_vectors replays them as rows of the suite. Here a value is a string with one letter for each token, and an element
+is a regular expression on such strings.
+"""
+
+import random
+import re
+
+import pytest
+
+from support import program, run
+
+from suite import Row, line_of
+
+PART = 5_000
+ATOM = rb"[^\x00-\x20\x7f\"(),.:;<>@\[\]\\]+"
+# The letters of tokens: w whitespace or a comment, a an atom, q a quoted string, l a domain literal, < text
+# in angle brackets, o any other; and . @ , ; : are themselves.
+PLAIN = re.compile(
+    rb'(?P<w>[ \t\r\n]+)|(?P<a>' + ATOM + rb')|(?P<q>"(?:[^"\\]|\\.)*")|(?P<l>\[(?:[^\[\]\\]|\\.)*\])'
+    rb"|(?P<m>[.@,;:])|(?P<o>\\.|.)", re.S
+)
+WORD = r"w*[aq]w*"
+NAME = re.compile(r"w*[aq][aqw.]*")
+LOCAL = re.compile(rf"{WORD}(?:\.{WORD})*")
+DOMAIN = re.compile(r"w*aw*(?:\.w*aw*)*|w*lw*")
+NAMED = re.compile(r"(w*|w*[aq][aqw.]*)<w*")
+GROUP = re.compile(r"([^,;:]*):([^:;]*);w*[,;]?")
+SINGLE = re.compile(r"([^,;]*)[,;]?")
+MEMBER = re.compile(r"([^,]*),?")
+
+# Encoded words, and their texts.
+WORDS = {
+    b"=?utf-8?q?boss=40corp=2Ecom_=3Cboss=40corp=2Ecom=3E=2C?=": "boss@corp.com <boss@corp.com>,",
+    b"=?UTF-8?Q?=22=2C?=": '",',
+    b"=?utf-8?B?w6k=?=": "\u00e9",
+    b"=?iso-8859-1?q?Andr=E9?=": "Andr\u00e9",
+    b"=?utf-8?q?a=3A_b=3B?=": "a: b;",
+}
+SPACED = [b" %b " % word for word in WORDS]
+NAMES = SPACED + [
+    b'"Doe, Ann"', b"Ann Doe", b"J. R. Dobbs", b'"a\\"b"', b"Who?", b'"Ann\r\n Doe"', "J\u00f6rg".encode("latin-1"),
+    b'" =?utf-8?B?w6k=?= x"', b'"a\0b"', b"#!$%&*+-/^_`{|}~'", "\u03b1\u03b2".encode(), b"Ann (x, (y) \\)) Doe", b"boss@corp.com",
+]
+ADDRESSES = [
+    b"ann@example.org", b"x@xn--bcher-kva.example", "joe@b\u00fccher.example".encode(), b'"a b"@c', b'"a"."b"@c', b"a@[1.2.3.4]",
+    b"a . b @ c (home) . d", b"a@[IPv6:2001:db8::1]", b"a at b", b"a..b@c", b"boss@corp.com,evil@x.org", b"", b"a@b@c", b'""@c',
+]
+ROUTES = [b""] * 6 + [b"@a,@b:", b"@a,,(x)@b :", b"@a:b:", b"joe@c:"]
+SEPARATORS = [b", "] * 6 + [b",", b";", b"; ", b",,", b", (x, y) ,", b",\r\n "]
+ODD = SPACED + [
+    b'"', b"(", b")", b"[", b"]", b"<", b">", b"<>", b",", b";", b":", b":;", b"\\", b"\0", b"\x7f", b"\r\n ", b"\t", b'""',
+    b'"a\\\\"', b"(\\()", b"((", b'"(', b')"', b"[a\\]b]", b"mailto:", b"@", b".", b"\xff", b"(a (b) c)", b"<@",
+]
+
+
+def comment_end(raw, at):
+    """Where the comment that begins there ends, or None where nothing closes it."""
+    depth = 0
+    for found in re.finditer(rb"\\.|[()]", raw[at:], re.S):
+        depth += {b"(": 1, b")": -1}.get(found[0], 0)
+        if depth == 0:
+            return at + found.end()
+    return None
+
+
+def token_at(raw, at, in_angles):
+    """The letter and the end of the token there."""
+    found = PLAIN.match(raw, at)
+    kind = found.lastgroup
+    if kind == "m":
+        return chr(raw[at]), at + 1
+    if kind == "o" and raw[at] == 40:
+        end = comment_end(raw, at)
+        return ("w", end) if end else ("o", len(raw))
+    if kind == "o" and raw[at] == 60 and not in_angles:
+        end = angle_end(raw, at + 1)
+        return ("<", end) if end else ("o", at + 1)
+    return kind, found.end()
+
+
+def angle_end(raw, at):
+    """Where the angle brackets end that are open there, or None where no `>` is the next of them."""
+    while at < len(raw) and raw[at] not in b"<>":
+        _, at = token_at(raw, at, True)
+    return at + 1 if raw[at : at + 1] == b">" else None
+
+
+class Text:
+    """Bytes as a word of letters, with the places of the tokens."""
+
+    def __init__(self, raw, word, places):
+        self.raw, self.word, self.places = raw, word, places
+
+    @classmethod
+    def read(cls, raw):
+        """The tokens of some bytes."""
+        letters, places, at = [], [0], 0
+        while at < len(raw):
+            letter, at = token_at(raw, at, False)
+            letters.append(letter)
+            places.append(at)
+        return cls(raw, "".join(letters), places)
+
+    def bytes(self):
+        """The bytes of the tokens."""
+        return self.raw[self.places[0] : self.places[-1]]
+
+    def part(self, start, end):
+        """Some of the tokens."""
+        return Text(self.raw, self.word[start:end], self.places[start : end + 1])
+
+    def tokens(self):
+        """The tokens, each with its letter and its bytes."""
+        return [(it, self.raw[self.places[at] : self.places[at + 1]]) for at, it in enumerate(self.word)]
+
+
+def meaning(letter, raw):
+    """The text of a token."""
+    if letter == "q":
+        return re.sub(rb"\\(.)", rb"\1", raw[1:-1], flags=re.S)
+    return b"" if letter == "w" else raw
+
+
+def as_text(raw):
+    try:
+        return raw.decode()
+    except UnicodeDecodeError:
+        return raw.decode("latin-1")
+
+
+def value_tokens(text):
+    """The tokens of a value, by kind: word, text, white or line."""
+    lines = text.split("\n")
+    lines = lines if lines[-1] else lines[:-1]
+    for number, line in enumerate(lines):
+        if number:
+            yield "line", " "
+        line = (line[:-1] if line.endswith("\r") and number + 1 < len(text.split("\n")) else line).lstrip(" \t\r\n")
+        for piece in re.split(r"(=\?[^?]*\?[^?]*\?[^?]*\?=)", line):
+            is_word = piece.encode() in WORDS
+            kind = "word" if is_word else "text" if piece.strip(" \t\r\n") else "white"
+            yield kind, WORDS[piece.encode()] if is_word else piece
+
+
+def shown(text):
+    """What a value shows: nothing between two words, nor after the last."""
+    tokens = list(value_tokens(text))
+    kinds = ["", "", *(kind for kind, _ in tokens), "", ""]
+    out = ""
+    for at, (kind, piece) in enumerate(tokens, 2):
+        is_held = kind in ("white", "line") and (
+            kinds[at - 1] == "word" or (kind == "line" and kinds[at - 2 : at] == ["word", "white"])
+        )
+        is_released = kinds[at + 1] == "text" or (kind == "white" and kinds[at + 1 : at + 3] == ["line", "text"])
+        out += piece if not is_held or is_released else ""
+    return out
+
+
+def name_of(text):
+    """The text of a display name, as bytes."""
+    pieces = re.sub("w+$", "", re.sub("w+", "w", text.word.lstrip("w")))
+    tokens = iter([it for it in text.tokens() if it[0] != "w"])
+    phrase = b"".join(b" " if letter == "w" else meaning(*next(tokens)) for letter in pieces)
+    return shown(as_text(phrase)).encode()
+
+
+def address_of(local, domain):
+    """An address in canonical form."""
+    user = b"".join(meaning(*it) for it in local.tokens())
+    host = b"".join(meaning(*it) for it in domain.tokens())
+    if not re.fullmatch(ATOM + rb"(?:\." + ATOM + rb")*", user):
+        user = b'"' + re.sub(rb'(["\\])', rb"\\\1", user) + b'"'
+    return as_text(user + b"@" + host).encode()
+
+
+def without_route(text):
+    """What follows the route of an address in angle brackets."""
+    colon = text.word.find(":")
+    route = text.word[:colon]
+    is_route = re.match("w*@", route) and all(
+        re.fullmatch("w*", stop) or (re.match("w*@", stop) and DOMAIN.fullmatch(stop.partition("@")[2]))
+        for stop in route.split(",")
+    )
+    return text.part(colon + 1, len(text.word)) if colon >= 0 and is_route else text
+
+
+def mailbox_of(text):
+    """The items of a mailbox, or None."""
+    named = NAMED.fullmatch(text.word)
+    name = b""
+    if named:
+        at = len(named[1])
+        name = name_of(text.part(0, at)) if NAME.fullmatch(named[1]) else b""
+        text = without_route(Text.read(text.part(at, at + 1).bytes()[1:-1]))
+    at = text.word.find("@")
+    if at < 0 or not LOCAL.fullmatch(text.word[:at]) or not DOMAIN.fullmatch(text.word[at + 1 :]):
+        return None
+    return ["mailbox", name, address_of(text.part(0, at), text.part(at + 1, len(text.word)))]
+
+
+def single_of(text):
+    """The items of an element without members, if there is one."""
+    if set(text.word) <= {"w"}:
+        return []
+    return mailbox_of(text) or ["unknown", text.bytes()]
+
+
+def parts_of(text, pattern):
+    """The text before each separator, which is the first group of a pattern."""
+    at = 0
+    while at < len(text.word):
+        found = pattern.match(text.word, at)
+        yield text.part(found.start(1), found.end(1))
+        at = found.end()
+
+
+def group_of(text, found):
+    """The items of a group."""
+    members = [single_of(it) for it in parts_of(text.part(found.start(2), found.end(2)), MEMBER)]
+    members = [it for it in members if it]
+    return ["group", name_of(text.part(found.start(1), found.end(1))), str(len(members)), *sum(members, [])]
+
+
+def items_of(raw):
+    """The items of a list of addresses."""
+    text, at, items = Text.read(raw), 0, []
+    while at < len(text.word):
+        found = GROUP.match(text.word, at)
+        if found and NAME.fullmatch(found[1]):
+            items += group_of(text, found)
+        else:
+            found = SINGLE.match(text.word, at)
+            items += single_of(text.part(found.start(1), found.end(1)))
+        at = found.end()
+    return items
+
+
+def made_mailbox(chance):
+    """The pieces of a mailbox."""
+    address = chance.choice(ADDRESSES)
+    if chance.random() < 0.3:
+        return [address]
+    name = [chance.choice(NAMES) for _ in range(chance.choice([0, 1, 1, 1, 2]))]
+    return [*name, b" ", b"<", chance.choice(ROUTES), address, b">"]
+
+
+def made_element(chance):
+    """The pieces of an element."""
+    if chance.random() < 0.85:
+        return made_mailbox(chance)
+    members = [[*made_mailbox(chance), b","] for _ in range(chance.randint(0, 2))]
+    return [chance.choice(NAMES), b":", *sum(members, []), b";"]
+
+
+def made_value(chance):
+    """A list of addresses, into which odd pieces come, and of which pieces are left out, doubled or moved."""
+    pieces = made_element(chance)
+    for _ in range(chance.choice([0, 0, 1, 1, 2])):
+        pieces += [chance.choice(SEPARATORS), *made_element(chance)]
+    for _ in range(chance.choice([0, 1, 1, 2])):
+        piece = chance.choice(ODD if chance.random() < 0.5 else pieces)
+        if chance.random() < 0.3 and len(pieces) > 1:
+            piece = pieces.pop(chance.randrange(len(pieces)))
+        if chance.random() < 0.8:
+            pieces.insert(chance.randrange(len(pieces) + 1), piece)
+    return b"".join(pieces)
+
+
+@pytest.mark.parametrize("part", range(20))
+def test_addresses(part, seed, tmp_path):
+    """5,000 values."""
+    chance = random.Random(f"{seed} {part * PART}")
+    values = [made_value(chance) for _ in range(PART)]
+    file = tmp_path / "addresses.txt"
+    file.write_text("\n".join(["== Made addresses", *(line_of(Row("", "addresses", [it], items_of(it))) for it in values), ""]))
+    ended = run([program("mail_vectors"), file])
+    assert ended.stderr.splitlines()[-1] == b"%d passed, 0 failed" % PART, ended.stdout[:5000]

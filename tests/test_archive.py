@@ -1,0 +1,352 @@
+"""The programs of examples/archive on this machine, with a scheduler and workers of dask and the built mail_json.
+
+The archive is a mailbox of 60 MB, a small one, a mail and a Maildir. After each complete run the shards, in the order of
+MANIFEST, are byte for byte what mail_json writes in one process. The tests run in this order: a worker is killed in the
+middle of a part; a run is killed, and continued; a part kills every worker that reads it, and a file cannot be read, and
+the next run completes it; the shards are loaded and searched, before and after the small mailbox changed; and the
+commands of docs/SCRIPTS.md for GNU parallel run unchanged. It takes about 30 s.
+"""
+
+import contextlib
+import glob
+import importlib.util
+import json
+import os
+import re
+import signal
+import sqlite3
+import subprocess
+import sys
+import time
+
+import pytest
+
+from support import FROM, TOP, missing, program, run, text_of
+
+from fences import fences_of
+from made_mails import mailbox
+
+pytestmark = pytest.mark.xdist_group("archive")
+EXAMPLES = os.path.join(TOP, "examples", "archive")
+SCALE = 6
+MAILS = 2000 * SCALE
+PART = "all.mbox (--part 9/30)"
+# as mail_json, but that a part may kill its worker, once or always, and that each run may take longer
+STAND_IN = """#!/bin/sh
+[ ! -e '{directory}/slow' ] || sleep 0.1
+case $* in
+    '--part 9/30 '*)
+        if [ -e '{directory}/deadly' ]; then
+            [ -e '{directory}/always' ] || rm '{directory}/deadly'
+            '{json}' "$@" | head -c 100000
+            kill -9 "$PPID"
+            exit 1
+        fi
+        ;;
+esac
+exec '{json}' "$@"
+"""
+SMALL = (
+    b"From: Ana Lima <ana@example.net>\nTo: Bo <bo@example.net>\nSubject: Zebra crossing\nMessage-ID: <1@small>\n"
+    b"Date: Mon, 3 Mar 2025 10:00:00 +0000\nContent-Type: multipart/mixed; boundary=b\n\n"
+    b"--b\n\nThe quagga is extinct.\n--b\nContent-Type: application/pdf; name=quagga.pdf\n\nx\n--b--\n",
+    b"From: Bo <bo@example.net>\nSubject: Re: Zebra crossing\nMessage-ID: <2@small>\nIn-Reply-To: <1@small>\n"
+    b"Date: Tue, 4 Mar 2025 10:00:00 +0000\nContent-Type: text/html\n\n<p title=okapi>So is the aurochs.</p>\n",
+    b" refused\n",
+    b"From: \x1b[31mCai@example.net\nSubject: =?utf-8?q?Zebra=0Aforged?=\nMessage-ID: <3@small>\nReferences: <0@small> <2@small>\n\n.\n",
+)
+UNREAD = ("mails/no.mbox.gz", "mails/caf\udce9")
+CHANGED = b"Subject: Changed\nMessage-ID: <4@small>\n\nAn okapi.\n"
+
+# after this number of further deaths a part is given up; dask's own number is 3
+DASK = {"DASK_DISTRIBUTED__SCHEDULER__ALLOWED_FAILURES": "1"}
+# on a machine with other work dask speaks of heartbeats that came late, which is not what is compared
+QUIET = {"DASK_LOGGING__DISTRIBUTED": "critical"}
+
+
+def write(path, data=b""):
+    """Writes a file, in a directory that is made where it has to be."""
+    os.makedirs(os.path.dirname(path), exist_ok=True)
+    with open(path, "wb") as file:
+        file.write(data)
+
+
+def make_archive(directory):
+    """Makes the archive; returns the calls of mail_json that read it."""
+    mails = os.path.join(directory, "mails")
+    write(f"{mails}/all.mbox", mailbox(SCALE))
+    write(f"{mails}/one.eml", b"Subject: one\nMessage-ID: <one>\n\nunique\n")
+    write(f"{mails}/small.mbox", b"".join(FROM + mail + b"\n" for mail in SMALL))
+    for name in (".Sent/cur/1:2,S", ".old/a", "cur/10:2,", "cur/2:2,S", "new/1", "tmp/3", "cur/.x", "index"):
+        write(f"{mails}/people/ana/{name}", FROM + b"Message-ID: <" + name.encode() + b">\n\nx\n")
+    write(f"{mails}/.hidden/x")
+    return [
+        ["--part", "1/1", *(f"{mails}/{name}" for name in ("all.mbox", "one.eml", "small.mbox"))],
+        ["--mail", f"{mails}/people/ana/.Sent/cur/1:2,S"],
+        ["--part", "1/1", f"{mails}/people/ana/.old/a"],
+        ["--mail", *(f"{mails}/people/ana/{name}" for name in ("cur/10:2,", "cur/2:2,S", "new/1"))],
+    ]
+
+
+def dask(stack, directory, name, *words):
+    """Starts a program of dask, which ends with the stack; what it says goes to a file of this name."""
+    log = stack.enter_context(open(os.path.join(directory, name), "wb"))
+    process = subprocess.Popen(
+        [sys.executable, "-m", "dask", *words], cwd=directory, stdout=log, stderr=log, env={**os.environ, **DASK}
+    )
+    stack.callback(process.wait)
+    stack.callback(process.terminate)
+    return process
+
+
+def wait_for(condition, what):
+    """Waits until a condition holds."""
+    begun = time.monotonic()
+    while not condition():
+        if time.monotonic() - begun > 120:
+            pytest.fail(f"{what} takes more than 120 s")
+        time.sleep(0.02)
+
+
+def shards(out):
+    """The shards of a directory, and when each was written."""
+    return {path: os.stat(path).st_mtime_ns for path in glob.glob(os.path.join(out, "*.jsonl"))}
+
+
+def lines(out):
+    """The lines of all shards, in the order of MANIFEST."""
+    found = b""
+    with open(os.path.join(out, "MANIFEST"), encoding="utf-8") as manifest:
+        for line in manifest:
+            with open(os.path.join(out, json.loads(line)["shard"]), "rb") as shard:
+                found += shard.read()
+    return found
+
+
+class Runs:
+    """Runs of the programs over an archive."""
+
+    def __init__(self, directory, scheduler):
+        self.directory = directory
+        self.words = [os.path.join(directory, "mails"), "--program", os.path.join(directory, "mail_json"), "--bytes", "2000000"]
+        self.scheduler = scheduler
+
+    def start(self, name, *words):
+        """Starts index_archive.py, which writes to the directory of this name."""
+        words = [os.path.join(EXAMPLES, "index_archive.py"), os.path.join(self.directory, name), *self.words, *words]
+        environment = {**os.environ, **QUIET}
+        return subprocess.Popen([sys.executable, *words], stdout=subprocess.DEVNULL, stderr=subprocess.PIPE, env=environment)
+
+    def index(self, name, *words):
+        """Runs it; returns its status and what it says."""
+        process = self.start(name, *(words or ["--scheduler", self.scheduler]))
+        told = process.communicate()[1].decode()
+        return process.returncode, told
+
+    def call(self, name, *words):
+        """What another program writes."""
+        return subprocess.run([sys.executable, os.path.join(EXAMPLES, name), *words], capture_output=True, cwd=self.directory, check=False)
+
+    def search(self, *words):
+        """The subjects of the mails that a search finds."""
+        ended = self.call("search.py", "db", *words)
+        assert (ended.returncode, ended.stderr) == (0, b""), f"search.py {words}"
+        assert not re.search(rb"[^\t\n -~\x80-\xff]", ended.stdout), f"search.py {words}: control characters"
+        return [line.split("\t")[2] for line in ended.stdout.decode().splitlines()]
+
+    def path(self, name):
+        """The path of a file or directory."""
+        return os.path.join(self.directory, name)
+
+
+@pytest.fixture(scope="module")
+def directory(tmp_path_factory):
+    """The directory of the archive and of what is made of it."""
+    return str(tmp_path_factory.mktemp("archive"))
+
+
+@pytest.fixture(scope="module")
+def stack():
+    """Ends the programs of dask."""
+    with contextlib.ExitStack() as stack:
+        yield stack
+
+
+@pytest.fixture(scope="module")
+def wanted(directory):
+    """The lines of one process over the archive."""
+    calls = make_archive(directory)
+    lines = b"".join(run([program("mail_json"), *words]).stdout for words in calls)
+    assert lines.count(b"\n") == MAILS + 10
+    write(os.path.join(directory, "mail_json"), STAND_IN.format(directory=directory, json=program("mail_json")).encode())
+    os.chmod(os.path.join(directory, "mail_json"), 0o755)
+    return lines
+
+
+@pytest.fixture(scope="module")
+def scheduler(directory, stack):
+    """The file of the scheduler."""
+    if importlib.util.find_spec("distributed") is None:
+        missing("dask is missing (Debian: python3-distributed)")
+    file = os.path.join(directory, "address")
+    words = ["--host", "127.0.0.1", "--port", "0", "--dashboard-address", "127.0.0.1:0", "--scheduler-file", file]
+    dask(stack, directory, "scheduler.log", "scheduler", *words)
+    wait_for(lambda: os.path.exists(file), "the scheduler")
+    return file
+
+
+@pytest.fixture(scope="module")
+def worker_words(directory, scheduler):
+    """How a worker is started."""
+    return ["worker", "--scheduler-file", scheduler, "--nthreads", "1", "--no-dashboard", "--local-directory", directory]
+
+
+@pytest.fixture(scope="module")
+def workers(directory, stack, worker_words):
+    """Two workers, which are not started again."""
+    return [dask(stack, directory, f"worker{number}.log", *worker_words, "--no-nanny") for number in (1, 2)]
+
+
+@pytest.fixture(scope="module")
+def nanny(directory, stack, worker_words):
+    """A worker that is started again."""
+    return dask(stack, directory, "nanny.log", *worker_words)
+
+
+@pytest.fixture(scope="module")
+def runs(directory, scheduler, wanted):
+    """Runs of the programs."""
+    with open(scheduler, encoding="utf-8") as file:
+        return Runs(directory, json.load(file)["address"])
+
+
+
+def test_killed(runs, wanted, workers):
+    """A worker that is killed in the middle of a part."""
+    write(runs.path("deadly"))
+    assert runs.index("killed")[0] == 0, "a worker is killed"
+    assert sorted(worker.poll() or 0 for worker in workers) == [-signal.SIGKILL, 0], "how the workers are"
+    assert lines(runs.path("killed")) == wanted, "a worker is killed: the lines"
+
+
+def test_broken(runs, wanted, nanny):
+    """A run that is broken off, and goes on where it was."""
+    out = runs.path("broken")
+    write(runs.path("slow"))
+    process = runs.start("broken", "--scheduler", runs.scheduler)
+    wait_for(lambda: len(shards(out)) >= 5, "the run that is broken off")
+    process.kill()
+    process.communicate()
+    assert not os.path.exists(os.path.join(out, "MANIFEST")), "broken off: there is no MANIFEST"
+    os.remove(runs.path("slow"))
+    before = shards(out)
+    assert runs.index("broken")[0] == 0, "a run goes on"
+    assert before.items() <= shards(out).items(), "a run goes on: no part is read twice"
+    assert lines(out) == wanted, "a run goes on: the lines"
+
+
+def test_faults(runs, wanted):
+    """A part that kills each worker that reads it, and a file that cannot be read."""
+    out = runs.path("faults")
+    for name in ("deadly", "always", *UNREAD):
+        write(runs.path(name))
+    status, told = runs.index("faults")
+    named = [line for line in told.splitlines() if line.startswith("index_archive.py: ")]
+    assert status == 1 and any(PART in line and "KilledWorker" in line for line in named), f"a part kills its workers: {told}"
+    assert any("no.mbox.gz" in line and "status 1" in line for line in named), f"a file cannot be read: {told}"
+    assert any("caf\\udce9': the name is not UTF-8" in line for line in named), f"a name cannot be read: {told}"
+    assert len(shards(out)) > 20, f"the other parts are read: {told}"
+    assert not os.path.exists(os.path.join(out, "MANIFEST")), "faults: there is no MANIFEST"
+    for name in ("deadly", "always", *UNREAD):
+        os.remove(runs.path(name))
+    before = shards(out)
+    assert runs.index("faults")[0] == 0, "the next run completes it"
+    assert before.items() <= shards(out).items(), "the next run reads no part twice"
+    assert lines(out) == wanted, "the next run: the lines"
+
+
+def check_loaded(runs, mails):
+    """Loads the shards: every mail has to be there once, and what was refused."""
+    ended = runs.call("load_sqlite.py", "killed", "db")
+    assert ended.returncode == 0, f"load_sqlite.py: {ended.stderr.decode()}"
+    found = []
+    for path in glob.glob(runs.path("db/*.sqlite")):
+        with contextlib.closing(sqlite3.connect(path)) as db:
+            db.execute("insert into texts(texts) values('integrity-check')")
+            found += db.execute("select message_id, error is null from mails")
+    assert sum(not is_read for _, is_read in found) == 1, "what was refused"
+    ids = [one for one, is_read in found if is_read]
+    assert (len(ids), len(set(ids))) == (mails, mails), "every mail once"
+    return ended.stderr.decode()
+
+
+def test_loaded(runs):
+    """The shards are loaded."""
+    check_loaded(runs, MAILS + 9)
+
+
+def test_searched(runs):
+    """Searches, whose mails are known."""
+    first, answer, forged = "Zebra crossing", "Re: Zebra crossing", "Zebra\ufffdforged"
+    for words, wanted in (
+        (["zebra"], [answer, first, forged]),
+        (["zebra", "quagga"], [first]),
+        (["quagga is"], [first]),
+        (["is quagga"], []),
+        (["auroch*"], [answer]),
+        (["okapi"], []),
+        (["--from", "ana@example.net"], [first]),
+        (["crossing", "--from", "bo"], [answer]),
+        (["zebra", "--after", "2025-03-04"], [answer]),
+        (["zebra", "--before", "2025-03-04"], [first]),
+        (["--attachment", "QUAGGA"], [first]),
+        (["--id", "2@small"], [answer]),
+        (["--thread", "0@small"], [answer, first, forged]),
+        (["zebra", "--limit", "1"], [answer]),
+    ):
+        assert runs.search(*words) == wanted, f"search.py {words}"
+    assert len(runs.search("--attachment", "i.png", "--limit", "99999")) == MAILS, "search.py --attachment i.png"
+    assert len(runs.search("--from", "from17@example.org")) == 1, "search.py --from from17@example.org"
+
+
+def test_changed(runs):
+    """The small mailbox changes, and is read and loaded anew, by workers that the run starts itself."""
+    write(runs.path("mails/small.mbox"), b"".join(FROM + mail + b"\n" for mail in (CHANGED, *SMALL[1:])))
+    before = shards(runs.path("killed"))
+    assert runs.index("killed", "--bytes", "2000000") == (0, ""), "a mailbox has changed"
+    after = shards(runs.path("killed"))
+    assert (len(before.items() - after.items()), len(after.items() - before.items())) == (1, 1), "old and new shards"
+    assert " mails loaded" in check_loaded(runs, MAILS + 9), "a mailbox has changed"
+    assert runs.search("quagga") == [], "what is gone"
+    assert runs.search("okapi") == ["Changed"], "what is new"
+
+
+def test_lists(runs):
+    """A line whose addresses are lists, with the hash of a file."""
+    people = [{"name": "Ana Lima", "address": "ana@example.net"}, {"group": "all", "members": [{"name": None, "address": "bo@example.net"}]}]
+    file = {"path": "1", "type": "text/plain", "attachment": True, "file_name": "a", "text": None, "sha256": "0123abcd"}
+    line = {"from": people, "to": [{"unknown": "cai"}], "cc": [], "subject": "Lists", "date": None, "parts": [file]}
+    line.update({name: [] for name in ("message_id", "in_reply_to", "references")}, file="x", start=0, end=1)
+    write(runs.path("lists/a.jsonl"), json.dumps(line).encode() + b"\n")
+    write(runs.path("lists/MANIFEST"), b'{"shard": "a.jsonl"}\n')
+    assert runs.call("load_sqlite.py", "lists", "lists.db").returncode == 0, "addresses in lists"
+    for words in (["--from", "ana@example.net"], ["--from", "bo"], ["--hash", "0123ABCD"]):
+        ended = runs.call("search.py", "lists.db", *words)
+        wanted = "-\tAna Lima <ana@example.net>, bo@example.net\tLists\ta\tx:0-1\n"
+        assert ended.stdout.decode() == wanted, f"addresses in lists: {words}"
+
+
+def test_parallel(runs):
+    """What docs/SCRIPTS.md says of GNU parallel, word for word."""
+    fence = next(fence.lines for fence in fences_of(text_of("docs/SCRIPTS.md")) if any("read_part.sh" in line for line in fence.lines))
+    commands = [line for line in fence if not line.startswith("sbatch ")]
+    place = runs.path("parallel")
+    os.mkdir(place)
+    os.symlink(os.path.join(TOP, "examples"), os.path.join(place, "examples"))
+    os.symlink(runs.path("mails/all.mbox"), os.path.join(place, "all.mbox"))
+    ended = subprocess.run(["bash", "-ec", "\n".join(commands)], cwd=place, env={**os.environ, "BUILT": "only"}, check=False)
+    assert (ended.returncode, len(commands)) == (0, 2), "GNU parallel"
+    if ended.returncode == 0:
+        wanted = subprocess.run([program("mail_json"), "--part", "1/1", "all.mbox"], cwd=place, stdout=subprocess.PIPE, check=False).stdout
+        with open(os.path.join(place, "mails.json"), "rb") as found:
+            assert found.read() == wanted, "GNU parallel: the lines"

@@ -1,0 +1,105 @@
+"""The C library: check.c under sanitizers, its exports and needs, its header, its lines beside those of mail_json, and
+the example of docs/C.md."""
+
+import json
+import os
+import re
+import subprocess
+
+import pytest
+
+from support import SAMPLES, TOP, program, run
+
+STRICT = ["-std=c11", "-Wall", "-Wextra", "-Werror"]
+
+
+def gcc(*words):
+    """Runs gcc, which must not warn."""
+    subprocess.run(["gcc", *map(str, words)], check=True)
+
+
+@pytest.fixture(scope="module")
+def check(c_library, tmp_path_factory):
+    """check.c over the static library, under the address and the undefined-behaviour sanitizer."""
+    target = tmp_path_factory.mktemp("check") / "check"
+    kit = os.path.dirname(subprocess.run(["rt", "doc"], capture_output=True, text=True, check=True).stdout.strip())
+    gcc(*STRICT, "-g", "-O1", "-fsanitize=address,undefined", "-fno-sanitize-recover=all", f"-I{TOP}/c", "-o", target,
+        TOP / "c" / "check.c", "-Wl,--wrap=malloc,--wrap=realloc,--wrap=free",
+        TOP / "crates" / "mail_c" / "out" / "libmail_c.a", f"{kit}/c/liblibc_c.a", "-lpthread")
+    return target
+
+
+def run_check(check, *words, **options):
+    """Runs check.c."""
+    sanitizers = {"ASAN_OPTIONS": "detect_stack_use_after_return=1", "UBSAN_OPTIONS": "print_stacktrace=1"}
+    return run([check, *words], env={**os.environ, **sanitizers}, timeout=900, **options)
+
+
+def passed(ended):
+    """How many cases of check.c passed; none may fail."""
+    counts = re.fullmatch(rb"(\d+) passed, 0 failed", ended.stdout.splitlines()[-1])
+    assert counts and ended.returncode == 0, ended.stdout[-5000:] + ended.stderr[-5000:]
+    return int(counts[1])
+
+
+def test_cases(check):
+    """Every code, buffers one byte short, empty inputs, null pointers with length 0, and each allocation refused."""
+    assert passed(run_check(check, "cases")) > 700
+
+
+def test_threads(check, hostile):
+    """Eight threads at once return what one does."""
+    assert passed(run_check(check, "threads", *SAMPLES, *hostile[:300])) == 8
+
+
+def as_json(line, path):
+    """The line of check.c, with a refused mail as mail_json writes it."""
+    refused = re.fullmatch(r"refused (\d+) (.*)", line)
+    if not refused:
+        return json.loads(line) | {"file": path}
+    return {"schema": 4, "file": path, "number": None, "start": 0, "end": int(refused[1]), "error": refused[2]}
+
+
+def test_lines(check, hostile):
+    """Of the samples and of 20,000 made mails the library writes what mail_json writes."""
+    paths = [str(path) for path in [*SAMPLES, *hostile]]
+    for first in range(0, len(paths), 1000):
+        batch = paths[first : first + 1000]
+        ours = run_check(check, "lines", *batch)
+        assert (ours.returncode, ours.stderr) == (0, b"")
+        wanted = run([program("mail_json"), "--mail", *batch]).stdout.decode().split("\n")
+        found = ours.stdout.decode().split("\n")
+        assert len(found) == len(wanted) == len(batch) + 1
+        for path, line, line_of_json in zip(batch, found, wanted):
+            same = line == line_of_json.replace(f'"file":{json.dumps(path, ensure_ascii=False)}', '"file":null', 1)
+            assert same or as_json(line, path) == json.loads(line_of_json), path
+
+
+def test_exports(c_library):
+    """The library needs the C library alone, and exports the calls of the header and nothing else."""
+    library = c_library / "lib" / "librocktray.so"
+    needs = run(["readelf", "-d", library]).stdout.decode()
+    assert re.findall(r"\(NEEDED\).*\[(.*)\]", needs) == ["libc.so.6"]
+    exports = run(["nm", "-D", "--defined-only", library]).stdout.decode().split()[2::3]
+    header = (TOP / "c" / "rocktray.h").read_text()
+    assert sorted(exports) == sorted(set(re.findall(r"\brocktray_[a-z_]*(?=\()", header)))
+
+
+@pytest.mark.quick
+def test_header_as_cpp():
+    """rocktray.h is C++ too."""
+    words = ["g++", "-Wall", "-Werror", f"-I{TOP}/c", "-x", "c++", "-fsyntax-only", "-"]
+    assert run(words, b'#include "rocktray.h"\n').returncode == 0
+
+
+def test_example(c_library, tmp_path):
+    """examples/attachments.c compiles by pkg-config's words, and writes what docs/C.md shows."""
+    config = (c_library / "lib" / "pkgconfig" / "rocktray.pc").read_text()
+    words = re.findall(r"^(?:Libs|Cflags): (.*)$", config.replace("${libdir}", f"{c_library}/lib")
+                       .replace("${includedir}", f"{c_library}/include"), re.M)
+    gcc(*STRICT, "-o", tmp_path / "example", TOP / "examples" / "attachments.c", *" ".join(sorted(words)).split())
+    fences = re.findall(r"^```console\n(.*?)^```$", (TOP / "docs" / "C.md").read_text(), re.M | re.S)
+    wanted = "".join(line + "\n" for fence in fences for line in fence.splitlines() if not line.startswith("$"))
+    ended = run([tmp_path / "example", "samples/attachment.eml"], cwd=TOP,
+                env={**os.environ, "LD_LIBRARY_PATH": str(c_library / "lib")})
+    assert ended.stdout.decode() + ended.stderr.decode() == wanted

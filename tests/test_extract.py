@@ -1,0 +1,155 @@
+"""The files that mail_extract saves, and its lines, beside what Python's email and hashlib make of the mails.
+
+The mails are those of samples/, except parts.eml, whose line `--bX` is no delimiter for Python, and made ones.
+"""
+
+import base64
+import email
+import email.policy
+import hashlib
+import json
+import mimetypes
+import quopri
+import re
+
+import pytest
+
+from support import SAMPLES, multipart, program, run
+
+from by_email import SHOWN_TYPES, body_of, is_saved, saved_files
+
+MEMBERS = ["file", "number", "path", "saved", "size", "sha256", "error"]
+# the types that Python's `mimetypes` has an ending for, and others
+TYPES = (
+    "application/json", "application/msword", "application/octet-stream", "application/pdf", "application/x-unknown",
+    "application/zip", "audio/mpeg", "image/gif", "image/jpeg", "image/png", "image/svg+xml", "image/tiff", "text/csv",
+    "text/html", "text/plain", "text/x-unknown", "video/mp4",
+)
+
+
+def sized():
+    """A mail with files around the block size of SHA-256, each named after its length."""
+    return multipart(b"b", *(
+        b"Content-Disposition: attachment; filename=%d\nContent-Transfer-Encoding: base64\n\n%b"
+        % (length, base64.encodebytes(bytes(number % 256 for number in range(length))))
+        for length in (0, 1, 55, 56, 63, 64, 65, 119, 120, 1000, 100_000)
+    ))
+
+
+def typed():
+    """A mail with a part of each type, without names."""
+    return multipart(b"mixed", *(b"Content-Type: %b\n\n%b" % (name.encode(), name.encode()) for name in TYPES))
+
+
+def forwarding():
+    """A mail with mails inside one another, each with a text and an image, some of them encoded."""
+    mail = b"Subject: innermost\nContent-Type: image/png\n\ninnermost"
+    for level, encode in enumerate((bytes, base64.encodebytes, bytes, quopri.encodestring, base64.encodebytes, bytes)):
+        name = b"8bit" if encode is bytes else b"base64" if encode is base64.encodebytes else b"quoted-printable"
+        mail = multipart(
+            b"mixed%d" % level, b"\nText %d" % level, b"Content-Type: image/png\n\nimage %d" % level,
+            b"Content-Type: message/%b\nContent-Transfer-Encoding: %b\n\n%b"
+            % (b"global" if level == 1 else b"rfc822", name, encode(mail)),
+            b"Content-Type: text/csv; name=%d.csv\n\n%d" % (level, level),
+        )
+    return mail
+
+
+def undelimited():
+    """A multipart whose delimiter never comes."""
+    return b"Content-Type: multipart/mixed; boundary=never\n\nNo delimiter\n--other\nis here.\n"
+
+
+MADE = {"sized": sized, "typed": typed, "forwarding": forwarding, "undelimited": undelimited}
+
+
+def wanted_files(data, with_hash):
+    """The path, the size, the hash and the bytes of each file of a mail, by Python."""
+    return [
+        (path, len(body), hashlib.sha256(body).hexdigest() if with_hash else None, body)
+        for path, body in saved_files(data)
+    ]
+
+
+def walked(data):
+    """The bytes of the parts that `walk` gives, and `iter_attachments`, of what is saved."""
+    for policy, call in ((email.policy.compat32, "walk"), (email.policy.default, "iter_attachments")):
+        for part in getattr(email.message_from_bytes(data, policy=policy), call)():
+            if not part.is_multipart() and is_saved(part):
+                yield body_of(part)
+
+
+@pytest.fixture(scope="module")
+def mails(tmp_path_factory):
+    """The paths of the samples and of the made mails."""
+    directory = tmp_path_factory.mktemp("made")
+    for name, make in MADE.items():
+        (directory / f"{name}.eml").write_bytes(make())
+    return [path for path in SAMPLES if path.name != "parts.eml"] + sorted(directory.iterdir())
+
+
+@pytest.fixture(scope="module")
+def saved(mails, tmp_path_factory):
+    """The directory into which all mails are saved, twice, and for each run its options and lines."""
+    into, runs = tmp_path_factory.mktemp("saved"), []
+    for options in (["--hash"], []):
+        ended = run([program("mail_extract"), "--into", into, *options, *mails])
+        assert (ended.returncode, ended.stderr) == (0, b"")
+        runs.append((options, [json.loads(line) for line in ended.stdout.splitlines()]))
+    return into, runs
+
+
+def test_lines(saved):
+    """Each line has the members in order, and each file a new name."""
+    into, runs = saved
+    lines = [line for _, lines in runs for line in lines]
+    assert {tuple(line) for line in lines} == {tuple(MEMBERS)}
+    names = [line["saved"] for line in lines]
+    assert sorted(names) == sorted(path.name for path in into.iterdir())
+
+
+def test_files(saved, mails):
+    """The files of each mail are saved as Python reads them."""
+    into, runs = saved
+    for options, lines in runs:
+        for path in mails:
+            found = [
+                (line["path"], line["size"], line["sha256"], (into / line["saved"]).read_bytes())
+                for line in lines if line["file"] == str(path)
+            ]
+            assert found == wanted_files(path.read_bytes(), bool(options)), path
+
+
+@pytest.mark.parametrize("name", ["typed", "forwarding"])
+def test_all_that_python_walks_is_saved(saved, name):
+    """What `walk` and `iter_attachments` give is saved."""
+    bodies = set(walked(MADE[name]()))
+    assert len(bodies) > 3
+    assert bodies <= {path.read_bytes() for path in saved[0].iterdir()}
+
+
+@pytest.mark.parametrize("kind", TYPES)
+def test_endings(saved, kind):
+    """A file without a name has the ending that Python's mimetypes has for its type."""
+    names = {re.sub(r"-\d+", "", path.name) for path in saved[0].iterdir() if path.read_bytes() == kind.encode()}
+    known = None if kind.endswith(("unknown", "octet-stream")) else mimetypes.MimeTypes(filenames=()).guess_extension(kind)
+    assert names == (set() if kind in SHOWN_TYPES else {f"unnamed{known or ''}"})
+
+
+def test_files_of_one_name(tmp_path):
+    """Files of one name get numbers, the damaged one an error, and a mail inside is read too."""
+    mail, into = tmp_path / "twins.eml", tmp_path / "into"
+    into.mkdir()
+    mail.write_bytes(multipart(
+        b"b", b'Content-Disposition: attachment; filename="../a.txt"\n\none',
+        b'Content-Disposition: attachment; filename="../a.txt"\nContent-Transfer-Encoding: base64\n\ndHdv!!!!',
+        b'Content-Type: message/rfc822\nContent-Disposition: attachment; filename=".b"\n\n'
+        b"Content-Type: image/png\n\nthree",
+    ))
+    lines = [json.loads(line) for line in run([program("mail_extract"), "--into", into, "--hash", mail]).stdout.splitlines()]
+    found = [(line["path"], line["saved"], (into / line["saved"]).read_bytes(), line["error"] is not None) for line in lines]
+    assert found == [
+        ("1", "_.._a.txt", b"one", False), ("2", "_.._a-2.txt", b"two", True),
+        ("3", "_.b", b"Content-Type: image/png\n\nthree", False), ("3.1", "unnamed.png", b"three", False),
+    ]
+    assert [line["sha256"] for line in lines] == [hashlib.sha256(body).hexdigest() for _, _, body, _ in found]

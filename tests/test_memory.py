@@ -1,0 +1,188 @@
+"""The programs and the suite when memory is refused or limited.
+
+Each allocation of a run is refused in turn, alone or with all that follow. The run then gives what it gives with ample
+memory, or ends with exit status 1 and reports only that memory ran out. The lines that mail_json and mail_extract have
+written by then are the front of what they write with ample memory, and each saved file is complete; mail_show has
+written nothing. A run that met a refusal ends in the second way.
+"""
+
+import base64
+import filecmp
+import hashlib
+import json
+import os
+import re
+import resource
+import subprocess
+
+import pytest
+
+from support import SAMPLES, TOP, program
+
+DATA = TOP / "crates" / "mail_vectors" / "data"
+FILES = (DATA.parent / "args").read_text().split()
+REFUSED = {
+    "lone_cr": b"A: 1\n\rB",
+    "part_with_space": b"Content-Type: multipart/mixed; boundary=b\n\n--b\n x\n--b\n\rz\n--b--\n",
+}
+MAILS = {path.stem: path.read_bytes() for path in SAMPLES} | REFUSED
+RUNS = [(name, [], mail) for name in ("mail_show", "mail_json") for mail in MAILS]
+RUNS += [("mail_json", ["--mbox"], "mail_json"), ("mail_extract", ["--hash", "--into", "into"], "mail_extract")]
+
+
+class Refused:
+    """Runs of a program on a mail with allocations refused, in a directory with the subdirectory `into`."""
+
+    def __init__(self, library, name, words, mail, directory):
+        self.library, self.name, self.directory = library, name, directory
+        self.command = [program(name), *words]
+        data = MAILS[mail] if mail in MAILS else (TOP / "crates" / mail / "stdin").read_bytes()
+        (directory / "mail").write_bytes(data)
+        (directory / "into").mkdir()
+        self.wanted = self.run({})[0]
+        (directory / "into").rename(directory / "saved")
+        (directory / "into").mkdir()
+
+    def run(self, environment):
+        """The exit status, output and standard error of a run; and the numbers of allocations and of refused ones."""
+        report = self.directory / "report"
+        report.write_bytes(b"")
+        for path in (self.directory / "into").iterdir():
+            path.unlink()
+        loaded = {"LD_PRELOAD": str(self.library), "REFUSE_REPORT": str(report), **environment}
+        with open(self.directory / "mail", "rb") as file:
+            ended = subprocess.run(self.command, stdin=file, capture_output=True, timeout=60, cwd=self.directory,
+                                   env={**os.environ, **loaded})
+        counts = [int(it) for it in report.read_text().split()]
+        return (ended.returncode, ended.stdout, ended.stderr), counts
+
+    def saved_files(self):
+        """Whether all files are saved, and whether each that is there is complete."""
+        compared = filecmp.dircmp(self.directory / "into", self.directory / "saved")
+        return not compared.right_only and not compared.diff_files, not compared.left_only + compared.diff_files
+
+    def is_right(self, found):
+        """Whether a run gave what it gives with ample memory."""
+        return found == self.wanted and self.saved_files()[0]
+
+    def is_short(self, found):
+        """Whether a run reports only that memory ran out."""
+        status, output, error = found
+        may_begin = self.name != "mail_show"
+        front = self.wanted[1].startswith(output) if may_begin else output == b""
+        is_reported = error.count(b"\n") == 1 and error.endswith(b"out of memory\n")
+        return status == 1 and is_reported and front and self.saved_files()[1]
+
+
+@pytest.mark.parametrize("which", ["REFUSE_AT", "REFUSE_FROM"])
+@pytest.mark.parametrize("name, words, mail", RUNS)
+def test_refused_allocations(refuse, tmp_path, name, words, mail, which):
+    """Each allocation in turn, until a run meets no refusal."""
+    runs = Refused(refuse, name, words, mail, tmp_path)
+    for number in range(1, 100_000):
+        found, (_calls, refused) = runs.run({which: str(number)})
+        assert runs.is_short(found) if refused else runs.is_right(found), f"allocation {number}: {found}"
+        if not refused:
+            break
+    assert number > 5
+
+
+def replay(refuse, report, words, **environment):
+    """The numbers of rows that passed, and how often memory ran out and was refused, in a replay of the suite."""
+    report.write_bytes(b"")
+    loaded = {"LD_PRELOAD": str(refuse), "REFUSE_REPORT": str(report), **environment}
+    ended = subprocess.run([program("mail_vectors"), *words], capture_output=True, text=True, cwd=DATA, timeout=900,
+                           env={**os.environ, **loaded})
+    rows = re.search(r"^(\d+) passed, 0 failed$", ended.stderr, re.M)
+    ran_out = re.search(r"^memory ran out (\d+) times$", ended.stderr, re.M)
+    assert ended.returncode == 0 and rows, ended.stdout[-5000:] + ended.stderr[-5000:]
+    return int(rows[1]), int(ran_out[1]) if ran_out else 0, int(report.read_text().split()[1])
+
+
+def test_suite_with_ample_memory(refuse, tmp_path):
+    """All rows, long ones too."""
+    rows, ran_out, refused = replay(refuse, tmp_path / "report", FILES)
+    assert (ran_out, refused) == (0, 0)
+    assert rows > 10_000
+
+
+@pytest.mark.parametrize("mode", ["at", "from"])
+def test_suite_with_refused_memory(refuse, tmp_path, mode):
+    """Each row is tried until no allocation is refused: first its first allocation is refused, then the second, and so
+    on; with `from` all that follow too. In the end each row returns the right result, memory has run out as often as an
+    allocation was refused, and rows that are marked so allocate nothing."""
+    files = [name for name in FILES if not name.startswith("long_")]
+    rows, ran_out, refused = replay(refuse, tmp_path / "report", ["again", *files], REFUSE_ROWS=mode)
+    assert ran_out == refused > rows > 10_000
+
+
+# a mail of 2.4 MB, and what the programs write of it
+COUNT = 60_000
+HEADER = "Subject: =?utf-8?Q?caf=C3=A9?= and more\n"
+SUBJECT = "café and more"
+LONG = (HEADER * COUNT + "\nbody").encode()
+FILE = b"a line of the file\n" * 95_000
+
+
+def json_line():
+    """The line of mail_json."""
+    size = len(LONG)
+    part = {
+        "path": "1", "type": "text/plain", "charset": "us-ascii", "params": {}, "disposition": None, "file_name": None,
+        "attachment": False, "encoding": "7bit", "start": 0, "end": size, "size": 4, "decoded_size": 4,
+        "sha256": None, "headers": [["Subject", SUBJECT]] * COUNT, "text": "body", "text_charset": "utf-8",
+    }
+    lists = ("from", "to", "cc", "bcc", "reply_to", "sender")
+    mail = {"schema": 4, "file": None, "number": None, "start": 0, "end": size, "subject": SUBJECT}
+    mail.update({name: [] for name in lists}, raw={name: None for name in lists}, date=None, message_id=[])
+    mail.update(in_reply_to=[], references=[], parts=[part], forwarded=[])
+    return json.dumps(mail, ensure_ascii=False, separators=(",", ":")) + "\n"
+
+
+def extract_line():
+    """The line of mail_extract."""
+    line = {"file": None, "number": None, "path": "1", "saved": "file", "size": len(FILE)}
+    line.update(sha256=hashlib.sha256(FILE).hexdigest(), error=None)
+    return json.dumps(line, separators=(",", ":")) + "\n"
+
+
+LIMITED = {
+    "mail_show": (LONG, lambda: f"part 0: text/plain, {COUNT} headers, 4 body bytes\n" + f"  Subject: {SUBJECT}\n" * COUNT),
+    "mail_json": (LONG, json_line),
+    "mail_extract": (
+        b"Content-Disposition: attachment; filename=file\nContent-Transfer-Encoding: base64\n\n" + base64.encodebytes(FILE),
+        extract_line,
+    ),
+}
+
+
+def run_limited(command, mail, directory, limit):
+    """A run under a limit on its memory in KB."""
+    def set_limit():
+        resource.setrlimit(resource.RLIMIT_AS, (limit * 1024, limit * 1024))
+
+    (directory / "file").unlink(missing_ok=True)
+    return subprocess.run(command, input=mail, capture_output=True, timeout=60, cwd=directory, preexec_fn=set_limit)
+
+
+@pytest.mark.parametrize("name", LIMITED)
+def test_limits(name, tmp_path):
+    """Smaller and smaller limits on memory, from 32 MB down to where the loader cannot start the program."""
+    mail, wanted = LIMITED[name][0], LIMITED[name][1]().encode()
+    command = [program(name), *(["--hash", "--into", "."] if name == "mail_extract" else [])]
+    right = short = 0
+    for limit in range(32_000, 0, -250):
+        ended = run_limited(command, mail, tmp_path, limit)
+        if b"error while loading shared libraries" in ended.stderr:
+            break
+        if name == "mail_extract":
+            is_complete = (tmp_path / "file").exists() and (tmp_path / "file").read_bytes() == FILE
+            assert is_complete or (ended.returncode == 1 and not (tmp_path / "file").exists()), f"{limit} KB"
+        if ended.returncode == 0:
+            assert (ended.stdout, ended.stderr) == (wanted, b""), f"{limit} KB"
+            right += 1
+        else:
+            assert ended.returncode == 1 and re.fullmatch(rb"%b: .*out of memory\n" % name.encode(), ended.stderr), f"{limit} KB"
+            assert wanted.startswith(ended.stdout) if name == "mail_json" else not ended.stdout, f"{limit} KB"
+            short += 1
+    assert right > 0 and short > 0

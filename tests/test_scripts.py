@@ -1,0 +1,80 @@
+"""Every script: its help, its arguments, and the launchers through symbolic links.
+
+A call for help writes to standard output alone and ends with status 0. A call with wrong arguments writes to standard
+error alone and ends with status 2.
+"""
+
+import os
+import subprocess
+
+import pytest
+
+from support import TOP, program, run
+
+SCRIPTS = sorted(
+    path for pattern in ("tools/*", "bench/*", "oracle/*", "examples/archive/*", "test")
+    for path in TOP.glob(pattern) if path.is_file() and os.access(path, os.X_OK)
+)
+LAUNCHERS = ("mail_show", "mail_json", "mail_extract")
+MAIL = (TOP / "samples" / "attachment.eml").read_bytes()
+
+
+def ends(command, status, stream, **options):
+    """Whether a command ends with this status, and writes to this stream alone."""
+    ended = subprocess.run(list(map(str, command)), stdin=subprocess.DEVNULL, capture_output=True, timeout=20, **options)
+    written = {"stdout": bool(ended.stdout), "stderr": bool(ended.stderr)}
+    assert (ended.returncode, [name for name in written if written[name]]) == (status, [stream]), ended
+
+
+@pytest.mark.quick
+@pytest.mark.parametrize("script", SCRIPTS, ids=lambda path: path.name)
+def test_script(script):
+    """Help, an unknown option, and an argument that makes no sense."""
+    ends([script, "--help"], 0, "stdout")
+    ends([script, "--no-such-option"], 2, "stderr")
+    if script.name != "test":
+        ends([script, "no/such/argument"], 2, "stderr")
+
+
+@pytest.fixture(params=LAUNCHERS)
+def link(request, tmp_path):
+    """A symbolic link to a launcher, in another directory."""
+    path = tmp_path / request.param
+    path.symlink_to(TOP / request.param)
+    return path
+
+
+@pytest.mark.quick
+def test_launcher(link):
+    """Help, an unknown option, and an empty argument."""
+    ends([link, "--help"], 0, "stdout")
+    ends([link, "--no-such-option"], 2, "stderr")
+    ends([link, ""], 2, "stderr")
+    if link.name == "mail_show":
+        ends([link, "mail", "mail"], 2, "stderr")
+        ends([link, "no/such/file"], 1, "stderr", env={**os.environ, "BUILT": "only"})
+
+
+def outputs(command, directory):
+    """What a launcher or a program writes of the mail on standard input, and of the file."""
+    found = []
+    for words, data in (([], MAIL), (["mail"], b"")):
+        into = directory / "into"
+        subprocess.run(["rm", "-rf", into], check=True)
+        into.mkdir()
+        options = ["--into", "into"] if command.name == "mail_extract" else []
+        found.append(run([command, *options, *words], data, cwd=directory).stdout)
+    return found
+
+
+def test_program(link, tmp_path):
+    """The calls of the program itself, and that its launcher writes what it writes."""
+    built = program(link.name)
+    (tmp_path / "mail").write_bytes(MAIL)
+    ends([built, "--help"], 0, "stdout")
+    ends([built, "--no-such-option"], 2, "stderr")
+    ends([built, "no/such/argument", "-h"], 0, "stdout")
+    ends([built, "mail", ""], 2, "stderr", cwd=tmp_path)
+    found = outputs(link, tmp_path)
+    assert found == outputs(type(link)(built), tmp_path)
+    assert found[0] and found[1]
