@@ -1,15 +1,11 @@
-#!/usr/bin/env python3
-"""Makes rows on outlines for the suite of crates/mail_vectors, on standard output.
+"""Rows on made outlines for the suite.
 
-Each row makes an outline step by step, and wants the bytes that it is written as, whether it is well
-formed, and where it is, the least limit on levels under which it is read and how many messages it
-holds. The keys, values, boundaries and bodies are of bytes that are likely to go wrong. This script
-writes and judges each outline by itself, and has no code in common with the library. Of each value
-that it writes as encoded words it asks `email.header.decode_header` whether they are read as the
-text. With --texts most values are texts of any characters, and there are twice as many outlines. The
-same seed gives the same rows; data/generated_outlines.txt is those of seed 1, and then those with --texts.
+Each row makes an outline step by step, and wants the bytes that it is written as, whether it is well formed, and then
+the least limit on levels under which it is read and how many messages it has. The keys, values, boundaries and bodies are
+of bytes that are likely to go wrong. This module writes and judges each outline by itself, and has no code in common with
+the library. Of each value that it writes as encoded words it asks `email.header.decode_header` whether they read as the
+text. With texts most values are texts of any characters, and there are twice as many outlines.
 """
-import argparse
 import base64
 import email.header
 import functools
@@ -228,19 +224,3 @@ def outlines(seed, texts):
         kept[good].append(outline)
         depths[outline.depth()] += good
     return kept[True] + kept[False]
-
-
-def main():
-    """Writes the rows."""
-    parser = argparse.ArgumentParser(description=__doc__, formatter_class=argparse.RawDescriptionHelpFormatter)
-    parser.add_argument("seed", metavar="SEED", type=int, nargs="?", default=1, help="a number to make the outlines from")
-    parser.add_argument("--texts", action="store_true", help="values of any text")
-    asked = parser.parse_args()
-    print("== Outlines with values of any text" if asked.texts else "== Outlines")
-    print("source: tools/make_outlines.py, from RFC 5322, section 2.1, and RFC 2046, section 5.1.1\n")
-    for outline in outlines(asked.seed, asked.texts):
-        print(outline.row())
-
-
-if __name__ == "__main__":
-    main()

@@ -16,6 +16,7 @@ def pytest_addoption(parser):
     group.addoption("--built", action="store_true", help="fail, and do not skip, if a program or another need is missing")
     group.addoption("--seed", type=int, default=1, help="the seed of made mails, values and rows (default: 1)")
     group.addoption("--oracle", metavar="PROGRAM", help="the program of oracle/crate, to compare with the Rust crate")
+    group.addoption("--patched-oracle", metavar="PROGRAM", help="the same with the crate changed where this port differs")
     group.addoption("--real", metavar="PATH", action="append", default=[], help="mails to compare with Python's email")
 
 
@@ -58,6 +59,15 @@ def oracle(request):
     path = request.config.getoption("--oracle")
     if not path:
         pytest.skip("the Rust crate is given by --oracle")
+    return os.path.abspath(path)
+
+
+@pytest.fixture(scope="session")
+def patched_oracle(request):
+    """The program of oracle/crate over a crate that is changed where docs/DIFFERENCES.md says that this port differs."""
+    path = request.config.getoption("--patched-oracle")
+    if not path:
+        pytest.skip("the changed crate is given by --patched-oracle")
     return os.path.abspath(path)
 
 
