@@ -5,7 +5,7 @@
     bench/bench.py small headers              these cases
     bench/bench.py --oracle PROGRAM --real DIRECTORY   beside the Rust crate, and on real mails
 
-A cell is nanoseconds for each byte: the least of all rounds. All readers take turns, so that a machine that slows down
+Cases named `json-..` and `show-..` measure the programs: seconds and peak memory. Else a cell is nanoseconds for each byte: the least of all rounds. All readers take turns, so that a machine that slows down
 for a while does so for each; a turn lasts a fifth of a second or one round, and a reader that takes more than a second
 for one round has three turns. With --instructions a cell is instructions for each byte, counted by valgrind's
 callgrind: the same in each run. A cell in brackets belongs to a reader that decodes less than three quarters of what
@@ -262,6 +262,8 @@ def table(asked, work):
     print("| What | " + " | ".join(titles) + " |\n" + "|---" * (len(titles) + 1) + "|")
     measure = counted if asked.instructions else timed
     for name in asked.cases:
+        if name in PROGRAMS:
+            continue
         print(f"bench.py: {name}", file=sys.stderr)
         title, works, data = input_of(name, asked, work, 0.1 if asked.instructions else 1)
         least, made_by = measure(all_readers, works, data, asked.turns)
@@ -271,6 +273,46 @@ def table(asked, work):
             cells.append("; ".join(f"{ours / theirs:.2f}" for ours, theirs in pairs if ours and theirs))
         print(f"| {title} | " + " | ".join([*cells, short(copied(data))]) + " |", flush=True)
         yield name, {f"{reader} {it}": value for (reader, it), value in least.items()}
+
+
+# by case: a program and its options, the input at a scale, and the options of by_email.py or None
+PROGRAMS = {
+    "json-attachment": ("mail_json", [], "attachment", 1, []),
+    "json-small": ("mail_json", [], "small", 1, []),
+    "json-headers": ("mail_json", [], "headers", 1, []),
+    "json-mailbox": ("mail_json", ["--mbox"], "mailbox", 10, ["--mbox"]),
+    "json-gigabytes": ("mail_json", ["--mbox"], "mailbox", 400, None),
+    "show-gigabyte": ("mail_show", [], "attachment", 50, None),
+}
+
+
+def ran(command, data):
+    """The seconds of a run, and its peak memory in MB."""
+    with open(data, "rb") as file, tempfile.NamedTemporaryFile("r") as report:
+        start = time.perf_counter()
+        subprocess.run(["/usr/bin/time", "-q", "-o", report.name, "-f", "%M", *command], stdin=file, check=True,
+                       stdout=subprocess.DEVNULL)
+        return time.perf_counter() - start, int(report.read()) / 1000
+
+
+def program_table(asked, work):
+    """Prints the times and the peak memory of the programs, and yields the figures of each case."""
+    names = [name for name in asked.cases if name in PROGRAMS]
+    if names:
+        print("\n| Program and input | seconds | peak MB | Python's email, seconds |\n|---|---|---|---|")
+    for name in names:
+        print(f"bench.py: {name}", file=sys.stderr)
+        crate, options, kind, scale, beside = PROGRAMS[name]
+        data = os.path.join(work, "input")
+        with open(data, "wb") as file:
+            file.write(made_mails.KINDS[kind][1](scale))
+        runs = [ran([program(crate), *options], data) for _ in range(3)]
+        seconds, memory = min(runs)[0], max(it for _, it in runs)
+        by_email = [sys.executable, os.path.join(TOP, "oracle", "by_email.py")]
+        theirs = min(ran([*by_email, *beside], data)[0] for _ in range(2)) if beside is not None else None
+        said = f"{theirs:.2f}" if theirs else ""
+        print(f"| {crate} on {kind}, {os.path.getsize(data) / 1e6:.0f} MB | {seconds:.3f} | {memory:.0f} | {said} |", flush=True)
+        yield name, {"seconds": seconds, "megabytes": memory, "email": theirs}
 
 
 def processor():
@@ -289,10 +331,10 @@ def arguments():
     parser.add_argument("--real", metavar="DIRECTORY", help="real mails, as fetch_real.sh makes the directory")
     parser.add_argument("--turns", metavar="N", type=int, default=16, help="the turns of each reader (16)")
     parser.add_argument("--json", metavar="FILE", help="write the figures to a file too")
-    parser.add_argument("cases", metavar="CASE", nargs="*", help=f"of {', '.join([*REAL, *CASES])}")
+    parser.add_argument("cases", metavar="CASE", nargs="*", help=f"of {', '.join([*REAL, *CASES, *PROGRAMS])}")
     asked = parser.parse_args()
     for name in asked.cases:
-        if name not in CASES and name not in REAL:
+        if name not in {**CASES, **REAL, **PROGRAMS}:
             parser.error(f"{name} is no case")
     if any(name in REAL for name in asked.cases) and not asked.real:
         parser.error("real mails are given by --real")
@@ -306,7 +348,7 @@ def main():
     """Times all cases."""
     asked = arguments()
     with tempfile.TemporaryDirectory() as work:
-        figures = dict(table(asked, work))
+        figures = dict(table(asked, work)) | dict(program_table(asked, work))
     if asked.json:
         with open(asked.json, "w", encoding="utf-8") as file:
             json.dump({"processor": processor(), "instructions": asked.instructions, "cases": figures}, file, indent=1)
