@@ -92,6 +92,13 @@ def test_header_as_cpp():
     assert run(words, b'#include "rocktray.h"\n').returncode == 0
 
 
+def test_version(c_library):
+    """The header, the pkg-config file and the programs have one version."""
+    version = run([program("mail_json"), "--version"]).stdout.decode().split()[1]
+    assert f'#define ROCKTRAY_VERSION "{version}"\n' in (TOP / "c" / "rocktray.h").read_text()
+    assert f"Version: {version}\n" in (c_library / "lib" / "pkgconfig" / "rocktray.pc").read_text()
+
+
 def test_example(c_library, tmp_path):
     """examples/attachments.c compiles by pkg-config's words, and writes what docs/C.md shows."""
     config = (c_library / "lib" / "pkgconfig" / "rocktray.pc").read_text()

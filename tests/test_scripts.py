@@ -12,7 +12,7 @@ import pytest
 from support import TOP, program, run
 
 SCRIPTS = sorted(
-    path for pattern in ("tools/*", "bench/*", "oracle/*", "examples/archive/*", "test")
+    path for pattern in ("tools/*", "bench/*", "oracle/*")
     for path in TOP.glob(pattern) if path.is_file() and os.access(path, os.X_OK)
 )
 LAUNCHERS = ("mail_show", "mail_json", "mail_extract")
@@ -32,8 +32,13 @@ def test_script(script):
     """Help, an unknown option, and an argument that makes no sense."""
     ends([script, "--help"], 0, "stdout")
     ends([script, "--no-such-option"], 2, "stderr")
-    if script.name != "test":
-        ends([script, "no/such/argument"], 2, "stderr")
+    ends([script, "no/such/argument"], 2, "stderr")
+
+
+@pytest.mark.quick
+def test_help_of_test():
+    """./test passes its other arguments to pytest."""
+    ends([TOP / "test", "--help"], 0, "stdout")
 
 
 @pytest.fixture(params=LAUNCHERS)

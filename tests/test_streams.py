@@ -19,7 +19,6 @@ CLOSED = "Bad file descriptor (os error 9)"
 DIRECTORY = "Is a directory (os error 21)"
 MISSING = "No such file or directory (os error 2)"
 FULL = "No space left on device (os error 28)"
-UNREAD = "Broken pipe (os error 32)"
 LARGE = "File too large (os error 27)"
 MAIL = TOP / "samples" / "attachment.eml"
 PROGRAMS = ("mail_show", "mail_json", "mail_extract")
@@ -83,8 +82,8 @@ def test_output(runner, redirection, arguments, why):
 
 @pytest.mark.parametrize("count", [0, 10])
 def test_pipes(runner, tmp_path, count):
-    """A pipe whose reader is gone before the first write, or after some bytes. Only mail_show reports it, since scripts
-    cut off the lines of the others on purpose."""
+    """A pipe whose reader is gone before the first write, or after some bytes: nothing is reported, since scripts cut off
+    output on purpose."""
     refused = runner.name == "mail_extract"
     (tmp_path / "mail").write_bytes((FROM + b" x\n\n") * 4000 if refused else b"A: b\n" * 100_000)
     reader, writer = os.pipe()
@@ -96,8 +95,7 @@ def test_pipes(runner, tmp_path, count):
     if count:
         assert len(os.read(reader, count)) == count
         os.close(reader)
-    said = f"mail_show: output failed: {UNREAD}\n" if runner.name == "mail_show" else ""
-    assert (process.communicate(timeout=60)[1].decode(), process.returncode) == (said, 1)
+    assert (process.communicate(timeout=60)[1], process.returncode) == (b"", 1)
 
 
 @pytest.mark.parametrize("redirection", [

@@ -8,7 +8,7 @@ writes nothing and reports whether the file is what the sources give; the last l
 each table are in crates/mail_vectors/data/tables.txt.
 
 With --indexes ORACLE it makes the indexes of the encodings of several bytes instead. ORACLE is the
-program of tools/charset_oracle, which decodes each pair and each four bytes by encoding_rs. It then
+program of oracle/encoding_rs, which decodes each pair and each four bytes by encoding_rs. It then
 reports how many entries Python's codecs read differently; docs/DIFFERENCES.md has the reasons.
 """
 import argparse

@@ -1,4 +1,4 @@
-"""Real mails compared with Python's `email`: those in the directory that ROCKTRAY_REAL names (tools/fetch_real.sh)."""
+"""Real mails compared with Python's `email`: those in the directory that ROCKTRAY_REAL names (bench/fetch_real.sh)."""
 
 import email
 import email.policy

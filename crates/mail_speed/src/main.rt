@@ -13,12 +13,12 @@
 //! - `mailbox-parse` and `mailbox-full` do so with each message of a mailbox.
 //!
 //! The size of the result goes to standard output. The nanoseconds for each byte of the input, the least
-//! and the median of the rounds, go to standard error. tools/time_codecs.sh runs it on large bodies,
-//! tools/time_charsets.py on texts in each encoding, and tools/time_mails.sh on large mails and
+//! and the median of the rounds, go to standard error. bench/bench.py runs it on large bodies,
+//! on texts in each encoding, and on large mails and
 //! mailboxes.
 //!
 //! `recode` writes the input, decoded from the encoding of several bytes that has this label, as UTF-8,
-//! for tools/check_charsets.py. The exit status is 1 if no such encoding has the label.
+//! for tests/test_charsets.py. The exit status is 1 if no such encoding has the label.
 #![tactic(auto)]
 
 mod tasks;

@@ -15,7 +15,7 @@ pub const FORM: MailParseError = MailParseError::Generic(NOT_A_ROW);
 const NOT_A_ROW: &str = "not a row of the suite";
 
 /// The capacity of a new answer, so that writing it allocates nothing more. Nothing else allocates a
-/// buffer of this size, so `tools/refuse.c`, which has the same constant, recognizes the start of a
+/// buffer of this size, so `tests/refuse.c`, which has the same constant, recognizes the start of a
 /// row by it.
 const ANSWER_SIZE: usize = 48_611;
 
