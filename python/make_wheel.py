@@ -23,7 +23,9 @@ def library_bytes():
     if named:
         return Path(named).read_bytes()
     with tempfile.TemporaryDirectory() as prefix:
-        subprocess.run([HERE.parent / "tools" / "make_c_library.sh", prefix], check=True, stdout=subprocess.DEVNULL)
+        made = subprocess.run([HERE.parent / "tools" / "make_c_library.sh", prefix], stdout=subprocess.DEVNULL)
+        if made.returncode != 0:  # the script has said why
+            raise SystemExit(made.returncode)
         return (Path(prefix) / "lib" / "librocktray.so").read_bytes()
 
 

@@ -5,6 +5,8 @@ error alone and ends with status 2.
 """
 
 import os
+import re
+import shutil
 import subprocess
 
 import pytest
@@ -17,6 +19,11 @@ SCRIPTS = sorted(
 )
 LAUNCHERS = ("mail_show", "mail_json", "mail_extract")
 MAIL = (TOP / "samples" / "attachment.eml").read_bytes()
+
+
+def version():
+    """The version of the header of the C library."""
+    return re.search(r'^#define ROCKTRAY_VERSION "(.*)"$', (TOP / "c" / "rocktray.h").read_text(), re.M)[1]
 
 
 def ends(command, status, stream, **options):
@@ -58,6 +65,30 @@ def test_launcher(link):
     if link.name == "mail_show":
         ends([link, "mail", "mail"], 2, "stderr")
         ends([link, "no/such/file"], 1, "stderr", env={**os.environ, "BUILT": "only"})
+
+
+@pytest.mark.quick
+@pytest.mark.parametrize("command", [
+    ["./mail_json", "samples/plain.eml"], ["./mail_extract", "samples/plain.eml"], ["./mail_show", "samples/plain.eml"],
+    ["tools/program.sh", "mail_json"], ["tools/make_c_library.sh", "/tmp/rocktray"], ["tools/make_wheel.py", "/tmp/wheels"],
+    ["./test"],
+])
+def test_without_the_kit(command, tmp_path):
+    """Without the kit, and in a copy where nothing is built, one line says what is needed."""
+    copy = tmp_path / "copy"
+    shutil.copytree(TOP, copy, ignore=shutil.ignore_patterns("out", ".git", "data"), symlinks=True)
+    ended = subprocess.run(command, stdin=subprocess.DEVNULL, capture_output=True, text=True, timeout=20, cwd=copy,
+                           env={"PATH": "/usr/bin:/bin"})
+    assert (ended.returncode, ended.stdout) == (2, "")
+    assert re.fullmatch(r"\w[\w.]*: this needs the Rattle kit, whose command is rt\n", ended.stderr)
+
+
+@pytest.mark.quick
+@pytest.mark.parametrize("name", LAUNCHERS)
+def test_version_without_a_program(name):
+    """The version needs no built program."""
+    ended = run([TOP / name, "--version"])
+    assert ended.stdout.decode() == f"{name} {version()}\n"
 
 
 def outputs(command, directory):

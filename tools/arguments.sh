@@ -29,6 +29,19 @@ help() {
     sed -n '1d; /^#/! q; s/^# \{0,1\}//p' "$0"
 }
 
+# need_kit: ends the script if the kit is missing
+need_kit() {
+    command -v rt > /dev/null || {
+        echo "$script: this needs the Rattle kit, whose command is rt" >&2
+        exit 2
+    }
+}
+
+# version: prints the version of the programs
+version() {
+    sed -n "s/^#define ROCKTRAY_VERSION \"\(.*\)\"\$/$script \1/p" "$top/c/rocktray.h"
+}
+
 # check_arguments ARGUMENT..: prints the help, or refuses what `arguments` does not allow
 check_arguments() {
     given=0
@@ -40,6 +53,7 @@ check_arguments() {
         fi
         case $word in
             -h | --help) help; exit 0 ;;
+            --version) case $arguments in *'[--version]'*) version; exit 0 ;; esac; usage "there is no option $word" ;;
             '') usage 'an argument is empty' ;;
             -) given=$((given + 1)) ;;
             --) are_names=1 ;;

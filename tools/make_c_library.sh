@@ -13,6 +13,7 @@ crate=$top/crates/mail_c
 archive=$crate/out/libmail_c.a
 version=$(sed -n 's/^#define ROCKTRAY_VERSION "\(.*\)"$/\1/p' "$top/c/rocktray.h")
 compiler=${CC:-cc}
+need_kit
 
 # build: proves the crate and builds the archive
 build() {

@@ -67,6 +67,7 @@ if [ ! -x "$program" ] || [ -n "$(newer)" ]; then
         echo "$script: $name is not built" >&2
         exit 1
     fi
+    need_kit
     build
 fi
 echo "$program"

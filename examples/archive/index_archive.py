@@ -125,6 +125,8 @@ def main():
     parser.add_argument("--hash", action="store_true", help="write the SHA-256 of each attachment")
     parser.add_argument("--bytes", type=int, default=32 << 20, help="the greatest size of a part; 32 MiB by default")
     given = parser.parse_args()
+    if not os.path.isfile(given.program):
+        parser.error(f"{given.program} is missing: build it by tools/program.sh mail_json")
     program = hashlib.sha256(pathlib.Path(given.program).read_bytes()).hexdigest()
     os.makedirs(given.out, exist_ok=True)
     faults, wanted = [], {}
