@@ -6,7 +6,7 @@ arguments=
 . "$(dirname "$0")/arguments.sh"
 most_tries=30
 
-# needs: the packages, each with the command or the module of Python by which it is seen
+# needs: the packages, each with the command, the module of Python or the file by which it is seen
 needs() {
     cat << 'END'
 jq command jq
@@ -19,6 +19,8 @@ python3-pytest module pytest
 python3-pytest-xdist module xdist
 python3-jsonschema module jsonschema
 python3-distributed module distributed
+cargo command cargo
+librust-encoding-rs-dev file /usr/share/cargo/registry/encoding_rs-*/Cargo.toml
 END
 }
 
@@ -28,6 +30,7 @@ look() {
     while read -r package kind name; do
         case $kind in
             command) command -v "$name" > /dev/null || missing="$missing $package" ;;
+            file) ls $name > /dev/null 2>&1 || missing="$missing $package" ;;
             module) /usr/bin/python3 -c "import $name" 2> /dev/null || missing="$missing $package" ;;
         esac
     done << END
