@@ -493,10 +493,10 @@ def test_calls():
     with open("/dev/full", "wb") as full:
         ended = run(names, stdout=full, stderr=subprocess.PIPE)
         assert ended.returncode == 1 and ended.stderr, "output that is full"
-    check_folders(names, both)
+    check_directories(names, both)
 
 
-def test_folders(names, both):
+def check_directories(names, both):
     """A closed pipe, directories, and names that are not UTF-8."""
     launcher = os.path.join(TOP, "mail_json")
     with tempfile.TemporaryDirectory() as directory:

@@ -42,7 +42,7 @@ def test_module(environment):
     """The tests in python/tests."""
     said = succeeds([sys.executable, "-m", "pytest", "-q", "-p", "no:cacheprovider", "-p", "no:xdist", TOP / "python" / "tests"],
                     env=environment)
-    assert int(said.splitlines()[-1].split()[0]) >= 40, said
+    assert int(said.splitlines()[-1].split()[0]) >= 35, said
 
 
 def test_examples_of_docstrings(environment):

@@ -3,6 +3,8 @@
 import re
 from pathlib import Path
 
+import by_rules
+import hostile
 import pytest
 import suite
 
@@ -63,7 +65,12 @@ def rows():
     return [row for path in paths if not path.name.startswith("long_") for row in suite.rows_in(path)]
 
 
-ROWS = rows()
+def made_rows():
+    """Rows of made mails, with what the second reading of the rules returns."""
+    return [suite.Row("a made mail", "mail", [raw], by_rules.mail_items(raw)) for raw in hostile.mails(2000, 1) if len(raw) < 10_000]
+
+
+ROWS = rows() + made_rows()
 
 
 def is_of_a_table(row):
