@@ -13,8 +13,8 @@ use Rattle.mail_data.specs.Bounce as report
 use Rattle.mail_data.specs.lenient.Encoding.{lenient_body_kind}
 use Rattle.mail_data.specs.lenient.Ids.{found_ids}
 use Rattle.mail_data.specs.lenient.Texts.{body_text}
-use Rattle.mail_lines.specs.Lines.{IsMailLine}
-use Rattle.mail_lines.specs.Reading.{Reading}
+use Rattle.mail_lines.specs.JsonLines.{IsMailLine}
+use Rattle.mail_lines.specs.Options.{Options}
 use Rattle.mail_lines.specs.Reports.{deliveries_text}
 use Rattle.mail_c.specs.Buffer.{Found}
 
@@ -44,12 +44,12 @@ raw_value raw name number = do
 -- Under the charsets that are known.
 module _ (known : Charsets) where
   -- no hashes, and texts as they are
-  abbrev pub plain_reading : Reading
-  plain_reading = record { known = known; hashes = false; joins_flowed = false }
+  abbrev pub plain_options : Options
+  plain_options = record { known = known; hashes = false; joins_flowed = false }
 
   -- the line of JSON of a mail
   abbrev pub IsJson : List ℕ → Found → Type 0
-  IsJson raw (Ok (Some line)) = IsMailLine plain_reading None raw true line
+  IsJson raw (Ok (Some line)) = IsMailLine plain_options None raw true line
   IsJson raw (Ok None) = ⊥
   IsJson raw (Err refusal) = read_mail_in known 100 raw ≡ Err refusal
 

@@ -7,7 +7,7 @@ ghost use Rattle.mail_c.specs.Results.{IsJson, bracketed, content, ids, raw_valu
 ghost use Rattle.mail_c.specs.Results.{text, text_in, value};
 
 use mail_data::lenient::{IdRule, body_text, find_ids, lenient_body};
-use mail_lines::{Origin, Reading, write_mail, write_recipients};
+use mail_lines::{LineOptions, Origin, write_mail, write_recipients};
 use mailparse::{
     KnownCharsets, MailHeaderMap, MailParseError, parse_headers, parse_mail, parse_mail_in,
 };
@@ -29,12 +29,12 @@ pub(crate) fn json<K: KnownCharsets>(
         start: 0,
         end: raw.len(),
     };
-    let reading = Reading {
+    let options = LineOptions {
         hashes: false,
         joins_flowed: false,
     };
     let mut line = Vec::new(alloc);
-    match write_mail(alloc, &mut line, &mail, &origin, known, reading) {
+    match write_mail(alloc, &mut line, &mail, &origin, options, known) {
         Ok(()) => {
             line.push(b'\n')?;
             Ok(Some(line))
@@ -54,7 +54,7 @@ pub(crate) fn recipients<K: KnownCharsets>(
 {
     let mail = parse_mail_in(alloc, raw, known)?;
     let mut line = Vec::new(alloc);
-    match write_recipients(alloc, &mail, &mut line, known) {
+    match write_recipients(alloc, &mut line, &mail, known) {
         Ok(()) => Ok(Some(line)),
         Err(_) => Err(MailParseError::Memory(AllocError)),
     }

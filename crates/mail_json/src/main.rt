@@ -4,11 +4,11 @@
 mod request;
 mod run;
 
-use mail_program::{Fault, VERSION, arguments};
+use mail_program::{Fault, VERSION, arguments, status_of};
 use request::{HELP, Task, USAGE, request_of};
-use run::{Outcome, run};
-use std::io;
+use run::{are_files, run};
 use std::process::ExitCode;
+use std::rt::Files;
 
 fn main(rt: HostRuntime) -> ExitCode {
     let arguments = match arguments(&rt) {
@@ -18,33 +18,28 @@ fn main(rt: HostRuntime) -> ExitCode {
             return ExitCode::FAILURE;
         }
     };
-    let Ok(request) = request_of(rt.alloc(), arguments.as_slice()) else {
-        let _ = eprintln!(rt; "mail_json: out of memory");
-        return ExitCode::FAILURE;
-    };
-    match request.task {
-        Task::Help => printed(&rt, rt.print(HELP)),
-        Task::Version => printed(&rt, println!(rt; "mail_json {VERSION}")),
-        Task::Wrong => {
-            let _ = eprintln!(rt; "{USAGE}");
-            ExitCode::from(2)
-        }
-        Task::Write => match run(&rt, &request) {
-            Outcome::Clean => ExitCode::SUCCESS,
-            Outcome::Refused => ExitCode::from(3),
-            Outcome::Wrong => ExitCode::from(2),
-            Outcome::Failed => ExitCode::FAILURE,
-        },
-    }
+    status_of(&rt, "mail_json", answer(&rt, arguments.as_slice()))
 }
 
-/// Returns the exit status of a print, and reports on standard error why it failed.
-fn printed(rt: &impl Eprint, outcome: io::Result<()>) -> ExitCode {
-    match outcome {
-        Ok(()) => ExitCode::SUCCESS,
-        Err(error) => {
-            let _ = eprintln!(rt; "mail_json: {}", Fault::Output(error));
-            ExitCode::FAILURE
+/// Does what the arguments ask for, and returns the exit status.
+fn answer(
+    rt: &(impl Files + Input + Print + Eprint + AllocGlobal + Clone + Drop),
+    arguments: &[String],
+) -> Result<ExitCode, Fault> {
+    let request = request_of(rt.alloc(), arguments)?;
+    match request.task {
+        Task::Help => rt.print(HELP)?,
+        Task::Version => println!(rt; "mail_json {VERSION}")?,
+        Task::Wrong => {
+            let _ = eprintln!(rt; "{USAGE}");
+            return Ok(ExitCode::from(2));
+        }
+        Task::Write => {
+            if request.how.part.is_some() && !are_files(rt, request.inputs.as_slice()) {
+                return Ok(ExitCode::from(2));
+            }
+            return Ok(run(rt, &request)?.status());
         }
     }
+    Ok(ExitCode::SUCCESS)
 }

@@ -2,7 +2,7 @@
 
 use mail_data::mailbox::Format;
 use mail_lines::range::FilePart;
-use mail_lines::{Form, Reading};
+use mail_lines::{InputKind, LineOptions};
 use mail_program::{Argument, Expected};
 use std::alloc::{AllocError, Global};
 
@@ -56,11 +56,11 @@ pub enum Task {
 #[derive(Clone, Copy, Debug)]
 pub struct How {
     /// What each input is.
-    pub form: Form,
+    pub kind: InputKind,
     /// Which part of each file is wanted, if not the whole input.
     pub part: Option<FilePart>,
     /// How mails are shown.
-    pub options: Reading,
+    pub options: LineOptions,
     /// Whether a long run reports its progress on standard error.
     pub reports_progress: bool,
 }
@@ -86,9 +86,9 @@ pub fn request_of<'w>(alloc: Global, arguments: &'w [String]) -> Result<Request<
     let mut request = Request {
         task: Task::Write,
         how: How {
-            form: Form::Either,
+            kind: InputKind::Either,
             part: None,
-            options: Reading::new(),
+            options: LineOptions::new(),
             reports_progress: false,
         },
         inputs: Vec::new(alloc),
@@ -127,10 +127,10 @@ impl<'w> Request<'w> {
     /// Takes an option.
     fn take_option(&mut self, option: &str) {
         match option {
-            "--mail" => self.how.form = Form::Mail,
-            "--mbox" => self.how.form = Form::Mailbox(Format::Plain),
-            "--mbox=rd" => self.how.form = Form::Mailbox(Format::Quoted),
-            "--mbox=cl" => self.how.form = Form::Mailbox(Format::Counted),
+            "--mail" => self.how.kind = InputKind::Mail,
+            "--mbox" => self.how.kind = InputKind::Mailbox(Format::Plain),
+            "--mbox=rd" => self.how.kind = InputKind::Mailbox(Format::Quoted),
+            "--mbox=cl" => self.how.kind = InputKind::Mailbox(Format::Counted),
             "--part" => self.is_part_next = true,
             "--hash" => self.how.options.hashes = true,
             "--flowed" => self.how.options.joins_flowed = true,
@@ -150,9 +150,9 @@ impl<'w> Request<'w> {
     /// Returns whether parts of the inputs can be read: they are files, and no mail gives its length.
     fn may_be_in_parts(&self) -> bool {
         let are_files = !self.inputs.is_empty() && self.inputs.iter().all(|input| input.is_some());
-        match self.how.form {
-            Form::Mail | Form::Mailbox(Format::Counted) => false,
-            Form::Either | Form::Mailbox(_) => are_files,
+        match self.how.kind {
+            InputKind::Mail | InputKind::Mailbox(Format::Counted) => false,
+            InputKind::Either | InputKind::Mailbox(_) => are_files,
         }
     }
 

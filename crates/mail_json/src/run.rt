@@ -2,18 +2,18 @@
 
 use crate::request::{How, Request};
 use mail_charsets::AllCharsets;
-use mail_lines::range::{FilePart, shows_mailbox, write_first_part, write_range};
-use mail_lines::{Form, Next, Watch, format_of, write_input, write_unread};
-use mail_program::Fault;
+use mail_lines::range::{FilePart, reading_start, shows_mailbox, write_first_part, write_range};
+use mail_lines::{InputKind, NextMail, Source, Watch, Written, write_input, write_unread};
+use mail_program::{Fault, Outcome};
 use std::alloc::{AllocError, Global};
 use std::fs::{self, OpenFile};
-use std::io::{self, BufWriter, ErrorKind, Read, Seek, SeekFrom, Write};
+use std::io::{self, BufWriter, Read, Seek, SeekFrom, Write};
 use std::rt::Files;
 
-/// After how many bytes of a mailbox a run says how far it is.
+/// The number of bytes of a mailbox after which a run reports its progress.
 const STEP: usize = 64 * 1024 * 1024;
 
-/// Says on standard error how far a mailbox is read, if that is wanted.
+/// Reports on standard error how far a mailbox is read, if that is wanted.
 #[derive(Drop)]
 struct Meter<'r, E: Eprint> {
     rt: &'r E,
@@ -23,7 +23,7 @@ struct Meter<'r, E: Eprint> {
 }
 
 impl<'r, E: Eprint> Watch for Meter<'r, E> {
-    fn note(&mut self, next: Next) {
+    fn note(&mut self, next: NextMail) {
         let bytes = next.at;
         if !self.is_wanted || bytes < self.due {
             return;
@@ -42,61 +42,8 @@ impl<'r, E: Eprint> Watch for Meter<'r, E> {
     }
 }
 
-/// How a run, or a part of it, went.
-#[derive(Clone, Copy, PartialEq, Eq)]
-pub enum Outcome {
-    /// All was read and written.
-    Clean,
-    /// All was read and written, and some mails were refused.
-    Refused,
-    /// Something could not be read or written.
-    Failed,
-    /// Parts of inputs that are not files are wanted, and nothing was read.
-    Wrong,
-}
-
-impl Outcome {
-    /// How two parts of a run went together.
-    fn and(self, other: Outcome) -> Outcome {
-        match (self, other) {
-            (Outcome::Failed, _) | (_, Outcome::Failed) => Outcome::Failed,
-            (Outcome::Refused, _) | (_, Outcome::Refused) => Outcome::Refused,
-            _ => Outcome::Clean,
-        }
-    }
-
-    /// How a part of a run went in which mails may have been refused.
-    fn of(is_clean: bool) -> Outcome {
-        if is_clean {
-            Outcome::Clean
-        } else {
-            Outcome::Refused
-        }
-    }
-}
-
-/// Writes the mails of the inputs that are asked for, and reports on standard error what could not
-/// be read or written. Where whoever reads the lines has gone, it ends without a word.
-pub fn run(
-    rt: &(impl Files + Input + Print + Eprint + AllocGlobal + Clone + Drop),
-    request: &Request<'_>,
-) -> Outcome {
-    if request.how.part.is_some() && !are_files(rt, request.inputs.as_slice()) {
-        return Outcome::Wrong;
-    }
-    match run_all(rt, request) {
-        Ok(outcome) => outcome,
-        Err(fault) => {
-            if !is_broken_pipe(&fault) {
-                let _ = eprintln!(rt; "mail_json: {fault}");
-            }
-            Outcome::Failed
-        }
-    }
-}
-
-/// Whether no input is a directory, a pipe or a device; says on standard error which is.
-fn are_files(rt: &(impl Files + Eprint + AllocGlobal), inputs: &[Option<&str>]) -> bool {
+/// Returns whether no input is a directory, a pipe or a device; reports on standard error which is.
+pub fn are_files(rt: &(impl Files + Eprint + AllocGlobal), inputs: &[Option<&str>]) -> bool {
     for input in inputs {
         if let Some(name) = input {
             if let Ok(found) = fs::metadata(rt, *name) {
@@ -110,28 +57,21 @@ fn are_files(rt: &(impl Files + Eprint + AllocGlobal), inputs: &[Option<&str>]) 
     true
 }
 
-/// Whether whoever reads what is written has gone.
-fn is_broken_pipe(fault: &Fault) -> bool {
-    match fault {
-        Fault::Output(error) => error.kind() == ErrorKind::BrokenPipe,
-        _ => false,
-    }
-}
-
-/// Does what `run` does, but returns the fault that ends the run: a write failed, or memory ran out.
-fn run_all(
+/// Writes the mails of the inputs, and reports on standard error what could not be read. Returns the
+/// fault that ends the run if a write fails or it runs out of memory.
+pub fn run(
     rt: &(impl Files + Input + Print + Eprint + AllocGlobal + Clone + Drop),
     request: &Request<'_>,
 ) -> Result<Outcome, Fault> {
     let mut out = BufWriter::new(rt.alloc(), io::writer(rt))?;
     let mut outcome = Outcome::Clean;
     if request.inputs.is_empty() {
-        outcome = run_input(rt, request.how, None, &mut rt.reader(), &mut out)?;
+        outcome = run_input(rt, &mut out, &mut rt.reader(), None, request.how)?;
     }
     for input in &request.inputs {
         let next = match input {
-            Some(name) => run_path(rt, request.how, name, &mut out)?,
-            None => run_input(rt, request.how, None, &mut rt.reader(), &mut out)?,
+            Some(name) => run_path(rt, &mut out, name, request.how)?,
+            None => run_input(rt, &mut out, &mut rt.reader(), None, request.how)?,
         };
         outcome = outcome.and(next);
     }
@@ -142,23 +82,23 @@ fn run_all(
 /// Writes the mails of a file or a directory.
 fn run_path<W: Write>(
     rt: &(impl Files + Eprint + AllocGlobal + Clone + Drop),
-    how: How,
-    name: &str,
     out: &mut W,
+    name: &str,
+    how: How,
 ) -> Result<Outcome, Fault> {
     match fs::metadata(rt, name) {
-        Ok(found) if found.is_dir() => run_directory(rt, how, name, out),
-        Ok(_) => run_file(rt, how, name, out),
-        Err(error) => fail(rt, Some(name), &error, out),
+        Ok(found) if found.is_dir() => run_directory(rt, out, name, how),
+        Ok(_) => run_file(rt, out, name, how),
+        Err(error) => fail(rt, out, Some(name), &error),
     }
 }
 
-/// Writes the line of an input that could not be read, and says the same on standard error.
+/// Writes the line of an input that could not be read, and reports the same on standard error.
 fn fail<W: Write>(
     rt: &(impl Eprint + AllocGlobal),
+    out: &mut W,
     file: Option<&str>,
     error: &io::Error,
-    out: &mut W,
 ) -> Result<Outcome, Fault> {
     let text = format!(in rt.alloc(); "{error}")?;
     let name = file.unwrap_or("input failed");
@@ -170,96 +110,107 @@ fn fail<W: Write>(
 /// Writes the mails of a file.
 fn run_file<W: Write>(
     rt: &(impl Files + Eprint + AllocGlobal),
-    how: How,
-    name: &str,
     out: &mut W,
+    name: &str,
+    how: How,
 ) -> Result<Outcome, Fault> {
     if name.ends_with(".gz") {
         let error = io::Error::other("the file is compressed; unpack it first");
-        return fail(rt, Some(name), &error, out);
+        return fail(rt, out, Some(name), &error);
     }
     match fs::open(rt, name) {
         Ok(mut file) => match how.part {
             Some(part) => {
                 let size = match file.metadata() {
                     Ok(found) => found.len(),
-                    Err(error) => return fail(rt, Some(name), &error, out),
+                    Err(error) => return fail(rt, out, Some(name), &error),
                 };
-                run_part(rt, how, part, size, name, &mut file, out)
+                run_part(rt, out, &mut file, size, name, part, how)
             }
-            None => run_input(rt, how, Some(name), &mut file, out),
+            None => run_input(rt, out, &mut file, Some(name), how),
         },
-        Err(error) => fail(rt, Some(name), &error, out),
+        Err(error) => fail(rt, out, Some(name), &error),
     }
 }
 
 /// Writes the mails of a part of a file of this size.
 fn run_part<R: Read + Seek, W: Write>(
     rt: &(impl Eprint + AllocGlobal),
-    how: How,
-    part: FilePart,
+    out: &mut W,
+    reader: &mut R,
     size: u64,
     name: &str,
-    reader: &mut R,
-    out: &mut W,
+    part: FilePart,
+    how: How,
 ) -> Result<Outcome, Fault> {
-    match write_part(rt, how, part, size, name, reader, out) {
-        Ok(is_clean) => Ok(Outcome::of(is_clean)),
-        Err(Fault::Input(error)) => fail(rt, Some(name), &error, out),
+    match write_part(rt, out, reader, size, name, part, how) {
+        Ok(written) => Ok(outcome_of(written)),
+        Err(Fault::Input(error)) => fail(rt, out, Some(name), &error),
         Err(fault) => Err(fault),
     }
 }
 
-/// Does what `run_part` does, but returns the fault of a read too.
+/// Writes the same as `run_part`, but returns the fault of a read too.
 fn write_part<R: Read + Seek, W: Write>(
     rt: &(impl Eprint + AllocGlobal),
-    how: How,
-    part: FilePart,
+    out: &mut W,
+    reader: &mut R,
     size: u64,
     name: &str,
-    reader: &mut R,
-    out: &mut W,
-) -> Result<bool, Fault> {
+    part: FilePart,
+    how: How,
+) -> Result<Written, Fault> {
     let range = part.range(size as usize);
-    let file = Some(name);
     let mut meter = Meter {
         rt,
-        file,
+        file: Some(name),
         is_wanted: how.reports_progress,
-        due: range.from.saturating_add(STEP),
+        due: range.start.saturating_add(STEP),
     };
-    let alloc = rt.alloc();
     let known = &charsets();
-    let reading = how.options;
+    let source = source_of(Some(name), how, known);
     if part.number == 1 {
-        return write_first_part(
-            alloc, reader, how.form, range.to, file, out, known, reading, &mut meter,
-        );
+        return write_first_part(rt.alloc(), out, reader, source, range.end, &mut meter);
     }
-    if !shows_mailbox(alloc, reader, how.form)? {
-        return Ok(true);
+    if !shows_mailbox(rt.alloc(), reader, how.kind)? {
+        return Ok(Written::Clean);
     }
-    let format = format_of(how.form);
-    if let Err(error) = reader.seek(SeekFrom::Start(range.reading_start() as u64)) {
+    if let Err(error) = reader.seek(SeekFrom::Start(reading_start(range.start) as u64)) {
         return Err(Fault::Input(error));
     }
-    write_range(
-        alloc, reader, format, range, file, out, known, reading, &mut meter,
-    )
+    write_range(rt.alloc(), out, reader, source, range, &mut meter)
 }
 
-/// The charsets in which mails are read: all those of the Encoding Standard.
+/// Returns the charsets in which mails are read: all those of the Encoding Standard.
 fn charsets() -> AllCharsets {
     AllCharsets::standard()
+}
+
+/// Returns an input that is read in this way.
+fn source_of<'s, K>(file: Option<&'s str>, how: How, known: &'s K) -> Source<'s, K> {
+    Source {
+        kind: how.kind,
+        file,
+        options: how.options,
+        known,
+    }
+}
+
+/// Returns the outcome of writing lines.
+fn outcome_of(written: Written) -> Outcome {
+    match written {
+        Written::Clean => Outcome::Clean,
+        Written::WithErrors => Outcome::Refused,
+    }
 }
 
 /// Writes the mails of an input.
 fn run_input<R: Read, W: Write>(
     rt: &(impl Eprint + AllocGlobal),
-    how: How,
-    file: Option<&str>,
-    reader: &mut R,
     out: &mut W,
+    reader: &mut R,
+    file: Option<&str>,
+    how: How,
 ) -> Result<Outcome, Fault> {
     let mut meter = Meter {
         rt,
@@ -268,50 +219,42 @@ fn run_input<R: Read, W: Write>(
         due: STEP,
     };
     let known = &charsets();
-    let reading = how.options;
-    match write_input(
-        rt.alloc(),
-        reader,
-        how.form,
-        file,
-        out,
-        known,
-        reading,
-        &mut meter,
-    ) {
-        Ok(is_clean) => Ok(Outcome::of(is_clean)),
-        Err(Fault::Input(error)) => fail(rt, file, &error, out),
+    let source = source_of(file, how, known);
+    match write_input(rt.alloc(), out, reader, source, &mut meter) {
+        Ok(written) => Ok(outcome_of(written)),
+        Err(Fault::Input(error)) => fail(rt, out, file, &error),
         Err(fault) => Err(fault),
     }
 }
 
-/// Writes the mails of a directory: those of a Maildir, which has a directory `cur` or `new`, or each file.
+/// Writes the mails of a directory: those of a Maildir, which has a directory `cur` or `new`, or each
+/// file.
 fn run_directory<W: Write>(
     rt: &(impl Files + Eprint + AllocGlobal + Clone + Drop),
-    how: How,
-    name: &str,
     out: &mut W,
+    name: &str,
+    how: How,
 ) -> Result<Outcome, Fault> {
     let mut outcome = Outcome::Clean;
     let mut is_maildir = false;
     let mut mail = how;
-    mail.form = Form::Mail;
+    mail.kind = InputKind::Mail;
     mail.part = None;
     for part in ["cur", "new"] {
         let path = format!(in rt.alloc(); "{name}/{part}")?;
         if is_directory(rt, path.as_str()) {
             is_maildir = true;
-            outcome = outcome.and(run_files(rt, mail, path.as_str(), out)?);
+            outcome = outcome.and(run_files(rt, out, path.as_str(), mail)?);
         }
     }
     if is_maildir {
         Ok(outcome)
     } else {
-        run_files(rt, how, name, out)
+        run_files(rt, out, name, how)
     }
 }
 
-/// Whether there is a directory of this name.
+/// Returns whether there is a directory of this name.
 fn is_directory(rt: &impl Files, name: &str) -> bool {
     match fs::metadata(rt, name) {
         Ok(found) => found.is_dir(),
@@ -319,41 +262,41 @@ fn is_directory(rt: &impl Files, name: &str) -> bool {
     }
 }
 
-/// Writes the mails of the files of a directory, in the order of their names, but for those whose names
+/// Writes the mails of the files of a directory in the order of their names, without those whose names
 /// begin with a dot.
 fn run_files<W: Write>(
     rt: &(impl Files + Eprint + AllocGlobal + Clone + Drop),
-    how: How,
-    directory: &str,
     out: &mut W,
+    directory: &str,
+    how: How,
 ) -> Result<Outcome, Fault> {
     let mut names = Vec::new(rt.alloc());
     let mut outcome = match fs::read_dir(rt, directory) {
-        Ok(entries) => list_files(rt, entries, directory, &mut names, out)?,
-        Err(error) => return fail(rt, Some(directory), &error, out),
+        Ok(entries) => list_files(rt, out, &mut names, entries, directory)?,
+        Err(error) => return fail(rt, out, Some(directory), &error),
     };
     names.sort()?;
     for name in &names {
         if !is_directory(rt, name.as_str()) {
-            outcome = outcome.and(run_file(rt, how, name.as_str(), out)?);
+            outcome = outcome.and(run_file(rt, out, name.as_str(), how)?);
         }
     }
     Ok(outcome)
 }
 
-/// Lists the paths of a directory, but for names that begin with a dot.
+/// Lists the paths in a directory, without those whose names begin with a dot.
 fn list_files<R: Files + Eprint + AllocGlobal + Clone + Drop, W: Write>(
     rt: &R,
+    out: &mut W,
+    names: &mut Vec<String>,
     entries: fs::ReadDir<R, Global>,
     directory: &str,
-    names: &mut Vec<String>,
-    out: &mut W,
 ) -> Result<Outcome, Fault> {
     let mut outcome = Outcome::Clean;
     for entry in entries {
         match entry {
             Ok(entry) => push_path(rt.alloc(), names, entry.file_name(), entry.path().as_str())?,
-            Err(error) => outcome = fail(rt, Some(directory), &error, out)?,
+            Err(error) => outcome = fail(rt, out, Some(directory), &error)?,
         }
     }
     Ok(outcome)

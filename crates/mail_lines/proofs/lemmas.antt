@@ -1,4 +1,4 @@
-pub mod Strings
+pub mod JsonText
 pub mod Escapes
 pub mod Texts
 pub mod Plain
@@ -8,7 +8,7 @@ pub mod Fields
 pub mod Part
 pub mod Inside
 pub mod Mail
-pub mod Lines
+pub mod JsonLines
 pub mod Stream
 pub mod Range
-pub mod JsonLines
+pub mod LinesAreJson

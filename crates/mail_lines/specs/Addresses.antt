@@ -8,9 +8,9 @@ use Rattle.mail_address.specs.Addresses.{Element, Single, single, group}
 use Rattle.mail_address.specs.Headers.{addresses_of}
 use Rattle.mail_address.specs.Mailbox.{Parts}
 use Rattle.mail_address.specs.Text.{address_bytes, phrase_text}
-use Rattle.mail_lines.specs.Strings.{json_text, joined, text_or_null}
+use Rattle.mail_lines.specs.JsonText.{json_text, joined, text_or_null}
 
--- a text, or none where it is empty
+-- a text, or none if it is empty
 abbrev pub unless_empty : List ℕ → Option (List ℕ)
 unless_empty [] = None
 unless_empty (b ∷ bs) = Some (b ∷ bs)
@@ -19,7 +19,7 @@ unless_empty (b ∷ bs) = Some (b ∷ bs)
 abbrev pub canonical : Parts → List ℕ
 canonical parts = value_text (address_bytes parts.local_part parts.domain)
 
--- what is no address, as it stands in the mail: each byte is the character of its number
+-- text that is not an address, as it is in the mail: each byte is the character of its number
 abbrev pub unknown_text : List ℕ → List ℕ
 unknown_text text = codes "{\"unknown\":" ++ json_text (latin1_text text) ++ codes "}"
 
@@ -29,12 +29,12 @@ module _ (known : Charsets) where
   abbrev pub name_of : List ℕ → List ℕ
   name_of phrase = lenient_value_in known (phrase_text phrase)
 
-  -- a mailbox: its name, or `null` where it has none, and its address
+  -- a mailbox: its name, or `null` if it has none, and its address
   abbrev pub mailbox_text : Parts → List ℕ
   mailbox_text parts =
       codes "{\"name\":" ++ text_or_null (unless_empty (name_of parts.display_name)) ++ codes ",\"address\":" ++ json_text (canonical parts) ++ codes "}"
 
-  -- an element without members: a mailbox, or what is no address
+  -- an element without members: a mailbox, or text that is not an address
   abbrev pub single_or_unknown : Option Parts → List ℕ → List ℕ
   single_or_unknown (Some parts) text = mailbox_text parts
   single_or_unknown None text = unknown_text text
@@ -51,11 +51,11 @@ module _ (known : Charsets) where
   element_text (single s) = single_text s
   element_text (group g) = group_text g.display_name g.members
 
-  -- the addresses in all headers with a name, after these words
+  -- the addresses in all headers with a name, after the text before them
   abbrev pub address_list_text : List ℕ → List ℕ → Node → List ℕ
   address_list_text before key node = before ++ codes "[" ++ joined element_text (addresses_of key node.headers) ++ codes "]"
 
-  -- the members of who wrote a mail and to whom
+  -- the members of the authors and recipients of a mail
   abbrev pub addresses_text : Node → List ℕ
   addresses_text node =
       address_list_text (codes ",\"from\":") (codes "From") node ++ address_list_text (codes ",\"to\":") (codes "To") node

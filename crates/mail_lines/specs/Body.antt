@@ -1,4 +1,4 @@
--- What a body is; the program's own form.
+-- The encoding of a body; the program's own form.
 use Rattle.std.specs.Prelude.{ℕ, List, codes}
 use Rattle.mailparse.specs.Body.{BodyKind, in_base64, in_quoted_printable, in_7bit, in_8bit, in_binary}
 

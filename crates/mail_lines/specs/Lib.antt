@@ -1,6 +1,6 @@
-pub mod Strings
+pub mod JsonText
 pub mod Written
-pub mod Reading
+pub mod Options
 pub mod Fields
 pub mod Addresses
 pub mod Origin
@@ -8,8 +8,8 @@ pub mod Body
 pub mod Part
 pub mod Inside
 pub mod Mail
-pub mod Lines
-pub mod Chosen
+pub mod JsonLines
+pub mod Selection
 pub mod Stream
 pub mod Range
 pub mod Values

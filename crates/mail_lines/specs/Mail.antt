@@ -15,10 +15,10 @@ use Rattle.mail_data.specs.InnerMails.{InnerMail}
 use Rattle.mail_lines.specs.Inside.{AreInside, forwarded_text, mails_inside}
 use Rattle.mail_lines.specs.Origin.{Origin, origin_text}
 use Rattle.mail_lines.specs.Part.{IsPartText, AreJoined}
-use Rattle.mail_lines.specs.Reading.{Reading}
-use Rattle.mail_lines.specs.Strings.{json_text, seconds_text, text_or_null, json_texts}
+use Rattle.mail_lines.specs.Options.{Options}
+use Rattle.mail_lines.specs.JsonText.{json_text, seconds_text, text_or_null, json_texts}
 
--- what is missing in a date, or wrong in it
+-- what is missing or wrong in a date
 abbrev pub date_fault_text : DateError → List ℕ
 date_fault_text Day = codes "no day of the month"
 date_fault_text Month = codes "no month"
@@ -27,22 +27,22 @@ date_fault_text Time = codes "no time of day"
 date_fault_text Zone = codes "no zone"
 date_fault_text TrailingText = codes "text after the zone"
 
--- the member that says that the zone of a date is not known, where it is not
+-- the member for an unknown zone of a date, or nothing if it is known
 abbrev pub zone_text : Bool → List ℕ
 zone_text true = []
 zone_text false = codes ",\"date_zone_unknown\":true"
 
--- the member of a date: its seconds, or `null` where there is none or it is refused, and then why
+-- the member of a date: its seconds, or `null` without a date; `null` and the reason for one that is refused
 abbrev pub date_text : Option (Dated Zoned) → List ℕ
 date_text None = codes ",\"date\":null"
 date_text (Some (Ok date)) = codes ",\"date\":" ++ seconds_text date.0 ++ zone_text date.1
 date_text (Some (Err fault)) = codes ",\"date\":null,\"date_error\":" ++ json_text (date_fault_text fault)
 
--- the first value with a name as it stands in the mail, after these words: each byte is the character of its number
+-- the raw value of the first header with a name, after the text before it: each byte is the character of its number
 abbrev pub raw_value_text : List ℕ → List ℕ → Node → List ℕ
 raw_value_text before key node = before ++ text_or_null (option_map (λ header. latin1_text header.value) (first_with_key key node.headers))
 
--- the member of the values of addresses as they stand in the mail
+-- the member of the raw values of addresses
 abbrev pub raw_text : Node → List ℕ
 raw_text node =
     raw_value_text (codes ",\"raw\":{\"from\":") (codes "From") node ++ raw_value_text (codes ",\"to\":") (codes "To") node
@@ -51,7 +51,7 @@ raw_text node =
 
 -- Under the charsets that are known.
 module _ (known : Charsets) where
-  -- the value of the first header with a name, after these words
+  -- the value of the first header with a name, after the text before it
   abbrev pub value_text : List ℕ → List ℕ → Node → List ℕ
   value_text before key node = before ++ text_or_null (value_of known key node)
 
@@ -59,7 +59,7 @@ module _ (known : Charsets) where
   abbrev pub values_text : Node → List ℕ
   values_text node = value_text (codes ",\"subject\":") (codes "Subject") node ++ addresses_text known node
 
-  -- the ids in the first header with a name, after these words; each with an `@` where one is needed
+  -- the ids in the first header with a name, after the text before them; only those with an `@`, if one is needed
   abbrev pub id_list_text : List ℕ → Bool → List ℕ → Node → List ℕ
   id_list_text before needs_at key node = before ++ json_texts (ids_of known needs_at key node)
 
@@ -69,15 +69,15 @@ module _ (known : Charsets) where
       id_list_text (codes ",\"message_id\":") false (codes "Message-ID") node ++ id_list_text (codes ",\"in_reply_to\":") true (codes "In-Reply-To") node
       ++ id_list_text (codes ",\"references\":") true (codes "References") node
 
-  -- the object of a mail from there, with these mails inside, whose parts have this text
+  -- the object of a mail with this origin and these mails inside, whose parts have this text
   abbrev pub mail_text : Origin → Node → List InnerMail → List ℕ → List ℕ
   mail_text origin node inside parts =
       origin_text origin ++ values_text node ++ raw_text node ++ date_text (option_map zoned_date_of (value_of known (codes "Date") node))
       ++ ids_text node ++ codes ",\"parts\":[" ++ parts ++ codes "]" ++ forwarded_text origin.start inside ++ codes "}"
 
--- a text is that of the object of a mail from there: its own parts, and then those of the mails inside
-abbrev pub IsMailText : Reading → Origin → Tree → List ℕ → Type 0
-IsMailText reading origin mail text =
-    (parts : List ℕ) × (others : List ℕ) × AreJoined (IsPartText reading (Some origin.start)) (places mail (placements 0 mail)) parts
-    × AreInside reading origin.start (mails_inside reading.known mail) others
-    × (text ≡ mail_text reading.known origin (root mail) (mails_inside reading.known mail) (parts ++ others))
+-- a text is that of the object of a mail with this origin: its own parts, and then those of the mails inside
+abbrev pub IsMailText : Options → Origin → Tree → List ℕ → Type 0
+IsMailText options origin mail text =
+    (parts : List ℕ) × (others : List ℕ) × AreJoined (IsPartText options (Some origin.start)) (places mail (placements 0 mail)) parts
+    × AreInside options origin.start (mails_inside options.known mail) others
+    × (text ≡ mail_text options.known origin (root mail) (mails_inside options.known mail) (parts ++ others))

@@ -1,4 +1,4 @@
--- The text that is written of each part of a mail; the program's own form.
+-- The text of each part of a mail; the program's own form.
 use Rattle.std.specs.Prelude.{◌≡◌, ℕ, ◌+◌, ◌^◌, ◌-◌, min, Bool, true, false, not, ◌&&◌, List, [], ◌∷◌, ◌++◌, length, map, Option, Some, None, codes}
 use Rattle.std.specs.Cmp.Lexicographic.{slice_cmp}
 use Rattle.std.specs.List.Sorted.{IsStrictlySortedBy}
@@ -22,17 +22,16 @@ use Rattle.mail_data.specs.lenient.Content.{Content, message_content}
 use Rattle.mail_data.specs.lenient.Encoding.{lenient_body_kind}
 use Rattle.mail_data.specs.lenient.Texts.{BodyText, text_read}
 use Rattle.mail_lines.specs.Body.{encoding_text}
-use Rattle.mail_lines.specs.Fields.{refusal_text, disposition_name}
-use Rattle.mail_lines.specs.Origin.{number_or_null}
-use Rattle.mail_lines.specs.Reading.{Reading}
+use Rattle.mail_lines.specs.Fields.{disposition_name}
+use Rattle.mail_lines.specs.Options.{Options}
 use Rattle.mail_program.specs.Hash.{hash_text}
-use Rattle.mail_lines.specs.Strings.{json_text, number_text, text_or_null, joined}
+use Rattle.mail_lines.specs.JsonText.{json_text, number_or_null, number_text, refusal_text, text_or_null, joined}
 
--- a sum, or the greatest number of 64 bits, where no file ends
+-- a sum, or the greatest number of 64 bits, which no file reaches
 abbrev pub saturating_add : ℕ → ℕ → ℕ
 saturating_add a b = min (a + b) (2 ^ 64 - 1)
 
--- pairs list texts: each name once, the names in the order of their bytes, and with each what stands under it
+-- pairs list texts: each name once, the names in the order of their bytes, and each with its text
 pub record Lists (texts : Texts) (pairs : List (List ℕ × List ℕ)) : Type 0 where
   pub ordered : IsStrictlySortedBy (slice_cmp nat_cmp) (map (λ p. p.0) pairs)
   pub same : (name : List ℕ) → lookup (bytes_eq name) pairs ≡ texts name
@@ -61,7 +60,8 @@ flag_text false = codes "false"
 abbrev pub is_attachment : Tree → Disposition → Bool
 is_attachment part disposition = is_leaf part && describes_attachment disposition (root part).ctype
 
--- a part of this disposition has a text that is to be read: it is not marked as an attachment, has no parts, and its type is that of a text
+-- a part of this disposition has a text that is shown: it is not marked as an attachment, has no parts, and its type is
+-- that of a text
 abbrev pub is_read : Tree → Disposition → Bool
 is_read part disposition =
     not (is_attachment_disposition disposition.kind) && is_leaf part && has_prefix (codes "text/") (text_type (root part).ctype.mimetype)
@@ -72,18 +72,18 @@ disposition_text disposition node is_attachment =
     codes ",\"disposition\":" ++ text_or_null (disposition_name disposition node) ++ codes ",\"file_name\":" ++ text_or_null (name_in disposition node.ctype)
     ++ codes ",\"attachment\":" ++ flag_text is_attachment
 
--- a place in the input, by where the mail begins in which it is counted; none, where that mail does not stand in the input
+-- an offset in the input, by the start of the mail in which it is counted; none, if that mail is encoded
 abbrev pub place_in : Option ℕ → ℕ → Option ℕ
 place_in (Some start) at = Some (saturating_add start at)
 place_in None at = None
 
--- the members of an encoding by its name, of where a part stands, and of how many bytes its body has
+-- the members of the name of an encoding, of the offsets of a part, and of the size of its body
 abbrev pub place_text : List ℕ → Option ℕ → Option ℕ → ℕ → List ℕ
 place_text name start end size =
     codes ",\"encoding\":\"" ++ name ++ codes "\",\"start\":" ++ number_or_null start ++ codes ",\"end\":" ++ number_or_null end
     ++ codes ",\"size\":" ++ number_text size
 
--- the member of the size of a decoded body, or of why the body is refused
+-- the member of the size of a decoded body, or of the reason why it is refused
 abbrev pub size_text : Option Refusal → ℕ → List ℕ
 size_text None size = codes ",\"decoded_size\":" ++ number_text size
 size_text (Some refusal) size = codes ",\"decoded_size\":null,\"error\":" ++ json_text (refusal_text refusal)
@@ -97,18 +97,19 @@ hash_of false bytes = None
 abbrev pub sha256_text : Option (List ℕ) → List ℕ
 sha256_text hash = codes ",\"sha256\":" ++ text_or_null hash
 
--- the member that says that a body is damaged, where it is
+-- the member for a damaged body, or nothing if it is not damaged
 abbrev pub damaged_text : Bool → List ℕ
 damaged_text true = codes ",\"damaged\":true"
 damaged_text false = []
 
--- the members of a text that is to be read, of the charset in which it is read, and of whether its body is damaged; otherwise `null`
+-- the members of a text that is shown, of the charset in which it is read, and of whether its body is damaged;
+-- otherwise `null`
 abbrev pub text_text : Bool → List ℕ → List ℕ → Bool → List ℕ
 text_text false text charset is_damaged = codes ",\"text\":null"
 text_text true text charset is_damaged =
     codes ",\"text\":" ++ json_text text ++ codes ",\"text_charset\":" ++ json_text charset ++ damaged_text is_damaged
 
--- a text of this type as it is shown: with each paragraph as one line where it flows, if that is wanted
+-- a text of this type as it is shown: with each flowed paragraph as one line, if that is wanted
 abbrev pub text_shown : Bool → ContentType → List ℕ → List ℕ
 text_shown true ctype text = unflowed_of ctype text
 text_shown false ctype text = text
@@ -127,28 +128,28 @@ module _ (known : Charsets) where
   abbrev pub headers_text : List Header → List ℕ
   headers_text headers = codes ",\"headers\":[" ++ joined header_text headers ++ codes "]"
 
-  -- the members of the text of a body that is to be read or not; paragraphs that flow are one line each, if that is wanted
+  -- the members of the text of a body that is shown or not; each flowed paragraph is one line, if that is wanted
   abbrev pub body_text : Bool → Bool → ContentType → Content → List ℕ
   body_text joins shows ctype content =
       let read = text_read known ctype.charset content in
       text_text shows (text_shown joins ctype read.text) read.charset read.is_damaged
 
--- For what is asked.
-module _ (reading : Reading) where
-  -- the object of a part of a mail that begins there in the input, if it stands there; its type has this text
+-- Under these options.
+module _ (options : Options) where
+  -- the object of a part of a mail that begins at this offset of the input, or is encoded; its type has this text
   abbrev pub part_text : Option ℕ → Place → List ℕ → List ℕ
   part_text start place type =
       let node = root place.part in
       let content = message_content node in
-      let disposition = shown_as_in reading.known node in
+      let disposition = shown_as_in options.known node in
       let attached = is_attachment place.part disposition in
       codes "{\"path\":" ++ json_text place.path ++ type ++ disposition_text disposition node attached
       ++ place_text (encoding_text (lenient_body_kind node)) (place_in start place.placement.whole.start) (place_in start place.placement.whole.end) (length node.body)
-      ++ size_text content.fault (length content.bytes) ++ sha256_text (hash_of (reading.hashes && attached) content.bytes)
-      ++ headers_text reading.known node.headers
-      ++ body_text reading.known reading.joins_flowed (is_read place.part disposition) node.ctype content ++ codes "}"
+      ++ size_text content.fault (length content.bytes) ++ sha256_text (hash_of (options.hashes && attached) content.bytes)
+      ++ headers_text options.known node.headers
+      ++ body_text options.known options.joins_flowed (is_read place.part disposition) node.ctype content ++ codes "}"
 
-  -- a text is that of the object of a part of a mail that begins there
+  -- a text is that of the object of a part of such a mail
   abbrev pub IsPartText : Option ℕ → Place → List ℕ → Type 0
   IsPartText start place text = (type : List ℕ) × IsTypeText (root place.part).ctype type × (text ≡ part_text start place type)
 
@@ -158,12 +159,12 @@ AreAfterCommas Is [] text = text ≡ []
 AreAfterCommas Is (x ∷ xs) text =
     (first : List ℕ) × (others : List ℕ) × Is x first × AreAfterCommas Is xs others × (text ≡ codes "," ++ (first ++ others))
 
--- a text is that of items, a comma between two
+-- a text is that of items, separated by commas
 abbrev pub AreJoined : {A : Type 0} → (A → List ℕ → Type 0) → List A → List ℕ → Type 0
 AreJoined Is [] text = text ≡ []
 AreJoined Is (x ∷ xs) text = (first : List ℕ) × (others : List ℕ) × Is x first × AreAfterCommas Is xs others × (text ≡ first ++ others)
 
--- a text is that of items, each after a comma, but the first one where it is the first of all
+-- a text is that of items, each after a comma, except the first one if it is the first of all
 abbrev pub AreItems : {A : Type 0} → (A → List ℕ → Type 0) → Bool → List A → List ℕ → Type 0
 AreItems Is true xs text = AreJoined Is xs text
 AreItems Is false xs text = AreAfterCommas Is xs text

@@ -1,13 +1,13 @@
--- What delivery reports say, as JSON; the program's own form.
+-- Delivery reports as JSON; the program's own form.
 use Rattle.std.specs.Prelude.{ℕ, List, ◌++◌, Option, codes}
 use Rattle.mail_data.specs.Bounce.{Delivery}
-use Rattle.mail_lines.specs.Strings.{joined, text_or_null}
+use Rattle.mail_lines.specs.JsonText.{joined, text_or_null}
 
--- what leads to a member, and the member's text, or `null` where there is none
+-- the text before the value of a member, and then its text, or `null` if there is none
 abbrev pub field_text : List ℕ → Option (List ℕ) → List ℕ
 field_text lead text = lead ++ text_or_null text
 
--- what is reported of a recipient, as an object
+-- the report on a recipient, as an object
 abbrev pub delivery_text : Delivery → List ℕ
 delivery_text d =
     field_text (codes "{\"final_recipient\":") d.final_recipient ++ field_text (codes ",\"original_recipient\":") d.original_recipient

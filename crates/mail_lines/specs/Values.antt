@@ -1,4 +1,4 @@
--- The values that the lines stand for, in the form that the kit's parser of JSON gives them; the program's own form.
+-- The JSON values of the lines, in the form that the kit's parser of JSON returns; the program's own form.
 use Rattle.std.specs.Prelude.{◌≡◌, ℕ, ℤ, Bool, true, false, not, ◌&&◌, ◌==◌, List, [], ◌∷◌, ◌++◌, length, map, Option, Some, None, option_map, Ok, Err, codes}
 use Rattle.std.specs.List.{flat_map, list_all, AllByRecursion}
 use Rattle.json.specs.Json.{Json, null, boolean, number, string, array, object, Members, no_members, member, document}
@@ -26,20 +26,21 @@ use Rattle.mail_address.specs.Headers.{addresses_of}
 use Rattle.mail_address.specs.Mailbox.{Parts}
 use Rattle.mail_lines.specs.Addresses.{canonical, name_of, unless_empty}
 use Rattle.mail_lines.specs.Body.{encoding_text}
-use Rattle.mail_lines.specs.Fields.{refusal_text, disposition_name, value_of, ids_of}
+use Rattle.mail_lines.specs.Fields.{disposition_name, value_of, ids_of}
 use Rattle.mail_data.specs.InnerMails.{InnerMail}
-use Rattle.mail_lines.specs.Inside.{inside_start, mails_inside, parts_inside}
+use Rattle.mail_lines.specs.Inside.{mails_inside, parts_inside}
 use Rattle.mail_lines.specs.Mail.{date_fault_text}
 use Rattle.mail_lines.specs.Origin.{Origin}
 use Rattle.mail_lines.specs.Part.{Lists, hash_of, is_attachment, is_read, place_in, text_shown}
-use Rattle.mail_lines.specs.Reading.{Reading}
-use Rattle.mail_lines.specs.Strings.{number_text, seconds_text}
+use Rattle.mail_lines.specs.Options.{Options}
+use Rattle.mail_lines.specs.JsonText.{number_text, refusal_text, seconds_text}
 
--- a byte that ends no line
+-- a byte that does not end a line
 abbrev pub is_within_line : ℕ → Bool
 is_within_line b = not (b == 10)
 
--- a text is JSON on one line: the kit's parser reads it as this value, in which no object has a key twice, and no line ends in it
+-- a text is JSON on one line: the kit's parser reads it as this value, in which no object has a key twice, and it has
+-- no line end
 pub record IsJsonLine (value : Json) (text : List ℕ) : Type 0 where
   pub read : document text ≡ Some value
   pub unique : HasUniqueKeys value
@@ -83,11 +84,11 @@ abbrev pub number_or_null_value : Option ℕ → Json
 number_or_null_value (Some n) = number_value n
 number_or_null_value None = null
 
--- the members of the number of this form and of a file
+-- the members of the number of this schema and of a file
 abbrev pub file_members : Option (List ℕ) → List Member
 file_members file = one (codes "schema") (number_value 4) ++ one (codes "file") (string_or_null file)
 
--- the members that the line of a mail begins with
+-- the first members of the line of a mail
 abbrev pub origin_members : Origin → List Member
 origin_members origin =
     file_members origin.file ++ one (codes "number") (number_or_null_value origin.number)
@@ -117,14 +118,14 @@ disposition_members disposition node is_attachment =
     one (codes "disposition") (string_or_null (disposition_name disposition node))
     ++ one (codes "file_name") (string_or_null (name_in disposition node.ctype)) ++ one (codes "attachment") (boolean is_attachment)
 
--- the members of an encoding, of where a part stands, and of how many bytes its body has
+-- the members of an encoding, of the offsets of a part, and of the size of its body
 abbrev pub place_members : BodyKind → Option ℕ → Option ℕ → ℕ → List Member
 place_members kind start end size =
     one (codes "encoding") (string (encoding_text kind)) ++ one (codes "start") (number_or_null_value start)
     ++ one (codes "end") (number_or_null_value end)
     ++ one (codes "size") (number_value size)
 
--- the member of the size of a decoded body, or of why the body is refused
+-- the member of the size of a decoded body, or of the reason why it is refused
 abbrev pub size_members : Option Refusal → ℕ → List Member
 size_members None size = one (codes "decoded_size") (number_value size)
 size_members (Some refusal) size = one (codes "decoded_size") null ++ one (codes "error") (string (refusal_text refusal))
@@ -132,7 +133,7 @@ size_members (Some refusal) size = one (codes "decoded_size") null ++ one (codes
 -- the object of a mail inside
 abbrev pub inner_value : ℕ → InnerMail → Json
 inner_value start inner =
-    object_of (one (codes "path") (string inner.path) ++ one (codes "start") (number_or_null_value (inside_start start inner.start))
+    object_of (one (codes "path") (string inner.path) ++ one (codes "start") (number_or_null_value (place_in inner.start start))
     ++ one (codes "error") (string_or_null (option_map refusal_text inner.refusal)))
 
 -- the member of the mails inside
@@ -148,7 +149,7 @@ abbrev pub damaged_members : Bool → List Member
 damaged_members true = one (codes "damaged") (boolean true)
 damaged_members false = []
 
--- the members of a text that is to be read or not
+-- the members of a text that is shown or not
 abbrev pub text_members : Bool → List ℕ → List ℕ → Bool → List Member
 text_members false text charset is_damaged = one (codes "text") null
 text_members true text charset is_damaged =
@@ -169,22 +170,22 @@ date_members None = one (codes "date") null
 date_members (Some (Ok date)) = one (codes "date") (seconds_value date.0) ++ zone_members date.1
 date_members (Some (Err fault)) = one (codes "date") null ++ one (codes "date_error") (string (date_fault_text fault))
 
--- the object of what is no address
+-- the object of text that is not an address
 abbrev pub unknown_value : List ℕ → Json
 unknown_value text = object_of (one (codes "unknown") (string (latin1_text text)))
 
--- the member of a value as it stands in the mail
+-- the member of a raw value
 abbrev pub raw_member : List ℕ → List ℕ → Node → List Member
 raw_member name key node = one name (string_or_null (option_map (λ header. latin1_text header.value) (first_with_key key node.headers)))
 
--- the members of the values of addresses as they stand in the mail
+-- the members of the raw values of addresses
 abbrev pub raw_members : Node → List Member
 raw_members node =
     raw_member (codes "from") (codes "From") node ++ raw_member (codes "to") (codes "To") node ++ raw_member (codes "cc") (codes "Cc") node
     ++ raw_member (codes "bcc") (codes "Bcc") node ++ raw_member (codes "reply_to") (codes "Reply-To") node
     ++ raw_member (codes "sender") (codes "Sender") node
 
--- each value is that of the item at its place
+-- each value is that of the item at its position
 abbrev pub AreValues : {A : Type 0} → (A → Json → Type 0) → List A → List Json → Type 0
 AreValues Is [] values = values ≡ []
 AreValues Is (x ∷ xs) values = (first : Json) × (others : List Json) × Is x first × AreValues Is xs others × (values ≡ first ∷ others)
@@ -195,13 +196,14 @@ module _ (known : Charsets) where
   abbrev pub header_value : Header → Json
   header_value header = list_of (string (key_text header) ∷ string (lenient_value_in known header.value) ∷ [])
 
-  -- the members of the text of a body that is to be read or not
+  -- the members of the text of a body that is shown or not
   abbrev pub body_members : Bool → Bool → ContentType → Content → List Member
   body_members joins shows ctype content =
       let read = text_read known ctype.charset content in
       text_members shows (text_shown joins ctype read.text) read.charset read.is_damaged
 
-  -- the members of a part of a mail that begins there, whose type has these parameters: those before its sizes, and those after them
+  -- the members of a part of a mail that begins at this offset, whose type has these parameters: those before its
+  -- sizes, and those after them
   abbrev pub front_members : Option ℕ → Place → List (List ℕ × List ℕ) → List Member
   front_members start place pairs =
       let node = root place.part in
@@ -245,7 +247,7 @@ module _ (known : Charsets) where
   abbrev pub addresses_member : List ℕ → List ℕ → Node → List Member
   addresses_member name key node = one name (list_of (map element_value (addresses_of key node.headers)))
 
-  -- the members of who wrote a mail and to whom
+  -- the members of the authors and recipients of a mail
   abbrev pub addresses_members : Node → List Member
   addresses_members node =
       addresses_member (codes "from") (codes "From") node ++ addresses_member (codes "to") (codes "To") node
@@ -261,29 +263,29 @@ module _ (known : Charsets) where
       ids_member (codes "message_id") false (codes "Message-ID") node ++ ids_member (codes "in_reply_to") true (codes "In-Reply-To") node
       ++ ids_member (codes "references") true (codes "References") node
 
-  -- the members of a mail from there, with these mails inside, whose parts have these values
+  -- the members of a mail with this origin and these mails inside, whose parts have these values
   abbrev pub mail_members : Origin → Node → List InnerMail → List Json → List Member
   mail_members origin node inside parts =
       origin_members origin ++ values_members node ++ one (codes "raw") (object_of (raw_members node))
       ++ date_members (option_map zoned_date_of (value_of known (codes "Date") node)) ++ ids_members node ++ one (codes "parts") (list_of parts)
       ++ forwarded_members origin.start inside
 
--- For what is asked.
-module _ (reading : Reading) where
+-- Under these options.
+module _ (options : Options) where
   abbrev pub content_members : Place → List Member
   content_members place =
       let node = root place.part in
       let content = message_content node in
-      let disposition = shown_as_in reading.known node in
-      sha256_members (hash_of (reading.hashes && is_attachment place.part disposition) content.bytes) ++ headers_member reading.known place
-      ++ body_members reading.known reading.joins_flowed (is_read place.part disposition) node.ctype content
+      let disposition = shown_as_in options.known node in
+      sha256_members (hash_of (options.hashes && is_attachment place.part disposition) content.bytes) ++ headers_member options.known place
+      ++ body_members options.known options.joins_flowed (is_read place.part disposition) node.ctype content
 
   abbrev pub part_members : Option ℕ → Place → List (List ℕ × List ℕ) → List Member
   part_members start place pairs =
       let content = message_content (root place.part) in
-      front_members reading.known start place pairs ++ size_members content.fault (length content.bytes) ++ content_members place
+      front_members options.known start place pairs ++ size_members content.fault (length content.bytes) ++ content_members place
 
-  -- a value is the object of a part of a mail that begins there
+  -- a value is the object of a part of a mail that begins at this offset
   abbrev pub IsPartValue : Option ℕ → Place → Json → Type 0
   IsPartValue start place value =
       (pairs : List (List ℕ × List ℕ)) × Lists (root place.part).ctype.params pairs × (value ≡ object_of (part_members start place pairs))
@@ -292,17 +294,17 @@ module _ (reading : Reading) where
   abbrev pub AreInsideValues : ℕ → List InnerMail → List Json → Type 0
   AreInsideValues start [] values = values ≡ []
   AreInsideValues start (inner ∷ mails) values =
-      (first : List Json) × (others : List Json) × AreValues (IsPartValue (inside_start start inner.start)) (parts_inside reading.known inner) first
+      (first : List Json) × (others : List Json) × AreValues (IsPartValue (place_in inner.start start)) (parts_inside options.known inner) first
       × AreInsideValues start mails others × (values ≡ first ++ others)
 
-  -- a value is the object of a mail from there: with its own parts, and then those of the mails inside
+  -- a value is the object of a mail with this origin: with its own parts, and then those of the mails inside
   abbrev pub IsMailValue : Origin → Tree → Json → Type 0
   IsMailValue origin mail value =
       (parts : List Json) × (others : List Json) × AreValues (IsPartValue (Some origin.start)) (places mail (placements 0 mail)) parts
-      × AreInsideValues origin.start (mails_inside reading.known mail) others
-      × (value ≡ object_of (mail_members reading.known origin (root mail) (mails_inside reading.known mail) (parts ++ others)))
+      × AreInsideValues origin.start (mails_inside options.known mail) others
+      × (value ≡ object_of (mail_members options.known origin (root mail) (mails_inside options.known mail) (parts ++ others)))
 
-  -- a value is that of the line of a mail from there, or of its refusal
+  -- a value is that of the line of a mail with this origin, or of its refusal
   abbrev pub IsLineValue : Origin → Reads Tree → Json → Type 0
   IsLineValue origin (Ok mail) value = IsMailValue origin mail value
   IsLineValue origin (Err refusal) value = value ≡ error_value origin (refusal_text refusal)

@@ -1,9 +1,16 @@
--- What a call wrote to a writer, where the writer tells its bytes; the program's own words.
-use Rattle.std.specs.Prelude.{ℕ, List, Option, Result, Ok, Err}
+-- What a call wrote to a writer whose bytes are known; the program's own words.
+use Rattle.std.specs.Prelude.{Bool, true, false, ℕ, List, Option, Result, Ok, Err}
 use Rattle.std.specs.Io.KnownBytes.{Appends}
 use Rattle.mailparse.specs.Outcome.{IsMemory}
 use Rattle.mail_program.specs.declared.fault.Fault.{Fault}
 use Rattle.mail_program.specs.declared.fault.Fault.TheVariants.{Input, Mail, Output}
+use Rattle.mail_lines.specs.declared.written.Written.{Written}
+use Rattle.mail_lines.specs.declared.written.Written.TheVariants.{Clean, WithErrors}
+
+-- no error is among the lines that were written
+abbrev pub is_clean : Written → Bool
+is_clean Clean = true
+is_clean WithErrors = false
 
 -- memory ran out, or a write failed
 abbrev pub IsEnd : Fault → Type 0

@@ -1,4 +1,4 @@
-//! The members of who wrote a mail and to whom.
+//! The members of the authors and recipients of a mail.
 ghost use Rattle.std.specs.Prelude.{◌≡◌, map, string_bytes};
 ghost use Rattle.mailparse.specs.Mail.{root};
 ghost use Rattle.mailparse.specs.Map.{text_found};
@@ -7,10 +7,10 @@ ghost use Rattle.mail_address.specs.AddressViews.{element_view, group_view, mail
 ghost use Rattle.mail_address.specs.AddressViews.{member_view};
 ghost use Rattle.mail_lines.specs.Addresses.{address_list_text, addresses_text, element_text};
 ghost use Rattle.mail_lines.specs.Addresses.{group_text, single_text, unknown_text, unless_empty};
-ghost use Rattle.mail_lines.specs.Strings.{joined};
+ghost use Rattle.mail_lines.specs.JsonText.{joined};
 ghost use Rattle.mail_lines.specs.Written.{Writes};
 
-use crate::strings::{write_comma, write_optional, write_owned, write_text, write_word};
+use crate::json_text::{write_comma, write_optional, write_owned, write_text, write_word};
 use mail_address::{Address, Group, Mailbox, Member, Unknown, addresses_of};
 use mail_codec::charset::decode_latin1;
 use mail_program::Fault;
@@ -18,13 +18,8 @@ use mailparse::{KnownCharsets, ParsedMail};
 use std::alloc::Global;
 use std::io::Write;
 
-/// Writes the members of who wrote a mail and to whom.
-///
-/// # Errors
-///
-/// `Fault::Output` where a write fails, and `Fault::Mail` with `MailParseError::Memory` where it runs
-/// out of memory.
-pub fn write_addresses<W: Write, K: KnownCharsets>(
+/// Writes the members of the authors and recipients of a mail.
+pub(crate) fn write_addresses<W: Write, K: KnownCharsets>(
     alloc: Global,
     out: &mut W,
     mail: &ParsedMail<'_>,
@@ -41,7 +36,7 @@ pub fn write_addresses<W: Write, K: KnownCharsets>(
     write_address_list(alloc, out, ",\"sender\":", mail, "Sender", known)
 }
 
-/// Writes the addresses in all headers with this name, after these words.
+/// Writes the addresses in all headers with this name, after the text `before`.
 fn write_address_list<W: Write, K: KnownCharsets>(
     alloc: Global,
     out: &mut W,
@@ -60,7 +55,7 @@ fn write_address_list<W: Write, K: KnownCharsets>(
     write_word(out, "]")
 }
 
-/// Writes the elements of a list, a comma between two.
+/// Writes the elements of a list, separated by commas.
 fn write_elements<W: Write, K: KnownCharsets>(
     alloc: Global,
     out: &mut W,
@@ -114,7 +109,7 @@ fn write_group<W: Write, K: KnownCharsets>(
     write_word(out, "]}")
 }
 
-/// Writes the members of a group, a comma between two.
+/// Writes the members of a group, separated by commas.
 fn write_members<W: Write, K: KnownCharsets>(
     alloc: Global,
     out: &mut W,
@@ -149,7 +144,7 @@ fn write_member<W: Write, K: KnownCharsets>(
     }
 }
 
-/// Writes a mailbox: its name, or `null` where it has none, and its address.
+/// Writes a mailbox: its name, or `null` if it has none, and its address.
 fn write_mailbox<W: Write, K: KnownCharsets>(
     alloc: Global,
     out: &mut W,
@@ -168,14 +163,14 @@ fn write_mailbox<W: Write, K: KnownCharsets>(
     write_word(out, "}")
 }
 
-/// A text, or `None` where it is empty.
+/// Returns a text, or `None` if it is empty.
 fn unless_empty(text: String) -> Option<String>
     ensures { text_found result ≡ unless_empty (string_bytes text) }
 {
     if text.is_empty() { None } else { Some(text) }
 }
 
-/// Writes what is no address, as it stands in the mail.
+/// Writes text that is not an address, as it is in the mail.
 fn write_unknown<W: Write>(alloc: Global, out: &mut W, unknown: &Unknown<'_>) -> Result<(), Fault>
     ensures { Writes (W.contents out.old) (W.contents out.new) result
         (unknown_text unknown.now.text.now) }

@@ -1,4 +1,4 @@
-//! What a body is.
+//! The encoding of a body.
 ghost use Rattle.std.specs.Prelude.{◌≡◌};
 ghost use Rattle.mailparse.specs.Body.{BodyKind};
 ghost use Rattle.mailparse.specs.BodyViews.{Content, IsBody};
@@ -6,8 +6,8 @@ ghost use Rattle.mail_lines.specs.Body.{encoding_text};
 
 use mailparse::body::Body;
 
-/// The name of the transfer encoding of a body.
-pub fn encoding_name(body: &Body<'_>) -> &'static str
+/// Returns the name of the transfer encoding of a body.
+pub(crate) fn encoding_name(body: &Body<'_>) -> &'static str
     ensures { (kind : BodyKind) (given : Content) → IsBody kind given body.now →
         result.now ≡ encoding_text kind }
 {

@@ -1,28 +1,22 @@
-//! What headers say, in the charsets that are known, and why something is refused.
-ghost use Rattle.std.specs.Prelude.{◌≡◌, Some, option_map, string_bytes, IfOk, Ok};
+//! Values of headers, in the charsets that are known.
+ghost use Rattle.std.specs.Prelude.{◌≡◌, option_map, Ok};
 ghost use Rattle.mailparse.specs.Mail.{root};
 ghost use Rattle.mailparse.specs.Map.{text_found};
-ghost use Rattle.mailparse.specs.Outcome.{AnswersOrMemory, GivesTexts, IsMemory, refusal_of};
-ghost use Rattle.mailparse.specs.Refusal.{Refusal};
+ghost use Rattle.mailparse.specs.Outcome.{AnswersOrMemory, GivesTexts};
 ghost use Rattle.mailparse.specs.Views as views;
 ghost use Rattle.mailparse.specs.Views.{kind, tree_of};
 ghost use Rattle.mail_data.specs.lenient.IdViews.{needs_at};
-ghost use Rattle.mail_lines.specs.Fields.{disposition_name, ids_of, kind_text, refusal_text};
-ghost use Rattle.mail_lines.specs.Fields.{value_of};
+ghost use Rattle.mail_lines.specs.Fields.{disposition_name, ids_of, kind_text, value_of};
 
 use mail_data::lenient::{IdRule, find_ids};
 use mailparse::{
     DispositionType, KnownCharsets, MailHeaderMap, MailParseError, ParsedContentDisposition,
     ParsedMail,
 };
-use std::alloc::{AllocError, Global};
+use std::alloc::Global;
 
-/// The value of the first header with this name.
-///
-/// # Errors
-///
-/// `MailParseError::Memory` where it runs out of memory.
-pub fn value_of<K: KnownCharsets>(
+/// Returns the value of the first header with this name.
+pub(crate) fn value_of<K: KnownCharsets>(
     alloc: Global,
     mail: &ParsedMail<'_>,
     key: &str,
@@ -35,11 +29,7 @@ pub fn value_of<K: KnownCharsets>(
 }
 
 /// Returns the message ids by this rule in the value of the first header with this name.
-///
-/// # Errors
-///
-/// `MailParseError::Memory` where it runs out of memory.
-pub fn ids_of<K: KnownCharsets>(
+pub(crate) fn ids_of<K: KnownCharsets>(
     alloc: Global,
     mail: &ParsedMail<'_>,
     key: &str,
@@ -55,8 +45,8 @@ pub fn ids_of<K: KnownCharsets>(
     }
 }
 
-/// The name of the disposition of a part, or `None` where the part has no such header.
-pub fn disposition_name<'d>(
+/// Returns the name of the disposition of a part, or `None` if the part has no such header.
+pub(crate) fn disposition_name<'d>(
     part: &ParsedMail<'_>,
     disposition: &'d ParsedContentDisposition,
 ) -> Option<&'d str>
@@ -69,7 +59,7 @@ pub fn disposition_name<'d>(
     }
 }
 
-/// The name of a kind of disposition.
+/// Returns the name of a kind of disposition.
 fn kind_name(disposition: &DispositionType) -> &str
     ensures { result.now ≡ kind_text (kind disposition.now) }
 {
@@ -78,33 +68,5 @@ fn kind_name(disposition: &DispositionType) -> &str
         DispositionType::Attachment => "attachment",
         DispositionType::FormData => "form-data",
         DispositionType::Extension(name) => name.as_str(),
-    }
-}
-
-/// Returns the text of a refusal, as `Display` shows it.
-///
-/// # Errors
-///
-/// Where it runs out of memory, and for `MailParseError::Memory`, which is no refusal.
-#[tactic(auto, unfolding(crate::specs::Fields::refusal_text))]
-pub fn refusal_text(alloc: Global, error: &MailParseError) -> Result<String, AllocError>
-    ensures read { IfOk result (λ text. (refusal : Refusal) →
-        refusal_of error.now ≡ Some refusal → string_bytes text ≡ refusal_text refusal) }
-    ensures passed_on { IfOk result (λ text. IsMemory error.now → ⊥) }
-{
-    match error {
-        MailParseError::Base64DecodeError(fault) => {
-            let group = fault.group;
-            format!(in alloc; "Base64 decode error: group {group} is no Base64 group")
-        }
-        MailParseError::EncodingError(text) => {
-            let text = text.as_str();
-            format!(in alloc; "Encoding error: {text}")
-        }
-        MailParseError::Generic(text) => String::from_str(alloc, text),
-        MailParseError::QuotedPrintableDecodeError(fault) => {
-            format!(in alloc; "QuotedPrintable decode error: {fault}")
-        }
-        MailParseError::Memory(_) => Err(AllocError),
     }
 }

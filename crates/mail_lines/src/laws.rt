@@ -1,4 +1,4 @@
-//! What holds of each line: it is JSON; and of the parts of an input: together they are the whole.
+//! Laws: each line is JSON, and the lines of all parts of an input are those of the whole.
 ghost use Rattle.std.specs.Prelude.{◌++◌, ◌-◌, ◌<◌, ◌≡◌, ◌≤◌, Bool, List, Option, codes, drop, length};
 ghost use Rattle.std.specs.Prelude.{true, ℕ};
 ghost use Rattle.std.specs.List.{flat_map, list_all};
@@ -7,54 +7,54 @@ ghost use Rattle.mail_codec.specs.Places.{values_below};
 ghost use Rattle.mail_data.specs.declared.mailbox.formats.Format.{Format};
 ghost use Rattle.mailparse.specs.Mail.{Tree};
 ghost use Rattle.mailparse.specs.Refusal.{Reads};
-ghost use Rattle.mail_lines.specs.Lines.{AreMailboxLines, IsLineOf, format_of};
+ghost use Rattle.mail_lines.specs.JsonLines.{AreMailboxLines, IsLineOf, format_of};
+ghost use Rattle.mail_lines.specs.Options.{Options};
 ghost use Rattle.mail_lines.specs.Origin.{Origin, unread_line};
-ghost use Rattle.mail_lines.specs.Reading.{Reading};
 ghost use Rattle.mail_lines.specs.Range.{ArePartLines, AreRangeLines, AreRangeLinesAt};
 ghost use Rattle.mail_lines.specs.Range.{AreUnnumberedLines, has_parts, reading_start};
-ghost use Rattle.mail_lines.specs.declared.chosen.Form.{Form};
+ghost use Rattle.mail_lines.specs.declared.options.InputKind.{InputKind};
 ghost use Rattle.mail_lines.specs.Values.{AreJsonLines, IsJsonLine, IsLineValue, unread_value};
 
-/// Each line that is written of an input is JSON and ends in the only LF that is in it: the parser
-/// of the crate `json` reads what stands before the LF as a value, in which no object has a key
-/// twice. For the line of a mail, or of its refusal, it is the value that `IsLineValue` gives, and
-/// for that of an input that could not be read the one of `unread_value`.
+/// Each line that is written of an input is JSON, and ends in its only LF: the parser of the crate
+/// `json` reads the text before the LF as a value in which no object has a key twice. For the line of a
+/// mail, or of its refusal, this is the value that `IsLineValue` gives, and for that of an input that
+/// could not be read it is `unread_value`.
 pub fn lines_are_json()
-    ensures line { (reading : Reading) (origin : Origin) (mail : Reads Tree) (is_clean : Bool)
-        (text : List ℕ) → IsLineOf reading origin mail is_clean text →
-        (value : Json) × (object : List ℕ) × IsLineValue reading origin mail value
+    ensures line { (options : Options) (origin : Origin) (mail : Reads Tree) (is_clean : Bool)
+        (text : List ℕ) → IsLineOf options origin mail is_clean text →
+        (value : Json) × (object : List ℕ) × IsLineValue options origin mail value
         × IsJsonLine value object × (text ≡ object ++ codes "\n") }
-    ensures all { (reading : Reading) (format : Format) (file : Option (List ℕ)) (bytes : List ℕ)
-        (is_clean : Bool) (text : List ℕ) → AreMailboxLines reading format file bytes is_clean text →
+    ensures all { (options : Options) (format : Format) (file : Option (List ℕ)) (bytes : List ℕ)
+        (is_clean : Bool) (text : List ℕ) → AreMailboxLines options format file bytes is_clean text →
         AreJsonLines text }
-    ensures part { (reading : Reading) (form : Form) (file : Option (List ℕ)) (bytes : List ℕ)
+    ensures part { (options : Options) (kind : InputKind) (file : Option (List ℕ)) (bytes : List ℕ)
         (count number : ℕ) (is_clean : Bool) (text : List ℕ) →
-        ArePartLines reading form file bytes count number is_clean text → AreJsonLines text }
+        ArePartLines options kind file bytes count number is_clean text → AreJsonLines text }
     ensures unread { (file : Option (List ℕ)) (text : List ℕ) → (object : List ℕ)
         × IsJsonLine (unread_value file text) object
         × (unread_line file text ≡ object ++ codes "\n") }
 {}
 
-/// The lines of equal parts of an input, one after another, are those of the whole without the
-/// numbers of mails, and no error is among them exactly if none is in any part.
+/// The lines of equal parts of an input, one after another, are those of the whole without the numbers
+/// of mails, and no error is among them exactly if none is in any part.
 pub fn parts_join()
-    ensures { (reading : Reading) (form : Form) (file : Option (List ℕ)) (bytes : List ℕ)
+    ensures { (options : Options) (kind : InputKind) (file : Option (List ℕ)) (bytes : List ℕ)
         (count : ℕ) (are_clean : ℕ → Bool) (texts : ℕ → List ℕ) →
-        has_parts (format_of form) ≡ true → 0 < count →
+        has_parts (format_of kind) ≡ true → 0 < count →
         ((k : ℕ) → k < count →
-        ArePartLines reading form file bytes count k (are_clean k) (texts k)) →
-        AreUnnumberedLines reading form file bytes
+        ArePartLines options kind file bytes count k (are_clean k) (texts k)) →
+        AreUnnumberedLines options kind file bytes
         (list_all (λ is_clean. is_clean) (values_below count are_clean))
         (flat_map (λ text. text) (values_below count texts)) }
 {}
 
-/// The lines of the mails that begin in a range of places are found by reading from its
-/// `reading_start` on.
+/// The lines of the mails that begin in a range of offsets are found by reading from its `reading_start`
+/// onwards.
 pub fn range_is_found()
-    ensures { (reading : Reading) (format : Format) (file : Option (List ℕ)) (bytes : List ℕ)
+    ensures { (options : Options) (format : Format) (file : Option (List ℕ)) (bytes : List ℕ)
         (from to : ℕ) (is_clean : Bool) (text : List ℕ) → has_parts format ≡ true →
         from ≤ length bytes →
-        AreRangeLinesAt reading format file from to (reading_start from)
+        AreRangeLinesAt options format file from to (reading_start from)
         (drop (reading_start from) bytes) is_clean text →
-        AreRangeLines reading format file from to bytes is_clean text }
+        AreRangeLines options format file from to bytes is_clean text }
 {}

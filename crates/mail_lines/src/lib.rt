@@ -3,24 +3,26 @@
 
 mod addresses;
 mod body;
-mod chosen;
 mod fields;
 mod inside;
+mod json_lines;
+mod json_text;
 pub mod laws;
-mod lines;
 mod mail;
+mod options;
 mod origin;
 mod part;
 pub mod range;
-mod reading;
 mod reports;
+mod selection;
 mod stream;
-mod strings;
+mod written;
 
-pub use chosen::{Form, Next, Which};
-pub use lines::write_single;
+pub use json_lines::write_single;
 pub use mail::write_mail;
+pub use options::{InputKind, LineOptions, Source};
 pub use origin::{Origin, write_unread};
-pub use reading::Reading;
 pub use reports::write_recipients;
-pub use stream::{Unwatched, Watch, format_of, write_input};
+pub use selection::{NextMail, Selection};
+pub use stream::{Unwatched, Watch, write_input};
+pub use written::Written;

@@ -10,17 +10,17 @@ ghost use Rattle.mail_lines.specs.Mail.{IsMailText, date_fault_text, date_text, 
 ghost use Rattle.mail_lines.specs.Mail.{ids_text, raw_text, raw_value_text, value_text, values_text};
 ghost use Rattle.mail_lines.specs.Mail.{zone_text};
 ghost use Rattle.mail_lines.specs.Origin.{origin_of};
-ghost use Rattle.mail_lines.specs.Reading.{reading_of};
-ghost use Rattle.mail_lines.specs.Strings.{seconds_text};
+ghost use Rattle.mail_lines.specs.Options.{options_of};
+ghost use Rattle.mail_lines.specs.JsonText.{seconds_text};
 ghost use Rattle.mail_lines.specs.Written.{Writes, WritesOne};
 
 use crate::addresses::write_addresses;
 use crate::fields::{ids_of, value_of};
 use crate::inside::{write_forwarded, write_inside};
+use crate::json_text::{write_optional, write_text, write_texts, write_word};
+use crate::options::LineOptions;
 use crate::origin::{Origin, write_origin};
 use crate::part::write_parts;
-use crate::reading::Reading;
-use crate::strings::{write_optional, write_text, write_texts, write_word};
 use mail_codec::charset::decode_latin1;
 use mail_data::inner_mails::inner_mails;
 use mail_data::lenient::{DateError, IdRule, zoned_date_of};
@@ -39,13 +39,13 @@ use std::io::Write;
 /// # Examples
 ///
 /// ```rust
-/// use mail_lines::{Origin, Reading, write_mail};
+/// use mail_lines::{LineOptions, Origin, write_mail};
 /// use mailparse::parse_mail;
 ///
 /// let mail = parse_mail(alloc, b"Subject: Hi\n\nHello\n")?;
 /// let origin = Origin { file: None, number: None, start: 0, end: 19 };
 /// let mut out = Vec::new(alloc);
-/// write_mail(alloc, &mut out, &mail, &origin, &(), Reading::new())?;
+/// write_mail(alloc, &mut out, &mail, &origin, LineOptions::new(), &())?;
 /// assert!(rt; out.as_slice().starts_with(b"{\"schema\":4,\"file\":null,"));
 /// ```
 pub fn write_mail<W: Write, K: KnownCharsets>(
@@ -53,12 +53,12 @@ pub fn write_mail<W: Write, K: KnownCharsets>(
     out: &mut W,
     mail: &ParsedMail<'_>,
     origin: &Origin<'_>,
+    options: LineOptions,
     known: &K,
-    reading: Reading,
 ) -> Result<(), Fault>
     requires placed { placements_of mail.now ≡ placements 0 (tree_of mail.now) }
     ensures { WritesOne (W.contents out.old) (W.contents out.new) result
-        (IsMailText (reading_of (K.known known.now) reading) (origin_of origin.now)
+        (IsMailText (options_of (K.known known.now) options) (origin_of origin.now)
         (tree_of mail.now)) }
 {
     write_origin(alloc, out, origin)?;
@@ -68,8 +68,8 @@ pub fn write_mail<W: Write, K: KnownCharsets>(
     write_ids(alloc, out, mail, known)?;
     let inside = inner_mails(alloc, mail, known)?;
     write_word(out, ",\"parts\":[")?;
-    write_parts(alloc, out, mail, origin.start, known, reading)?;
-    write_inside(alloc, out, inside.as_slice(), origin.start, known, reading)?;
+    write_parts(alloc, out, mail, origin.start, options, known)?;
+    write_inside(alloc, out, inside.as_slice(), origin.start, options, known)?;
     write_word(out, "]")?;
     write_forwarded(alloc, out, inside.as_slice(), origin.start)?;
     write_word(out, "}")
@@ -89,7 +89,7 @@ fn write_values<W: Write, K: KnownCharsets>(
     write_addresses(alloc, out, mail, known)
 }
 
-/// Writes the value of the first header with this name, after these words.
+/// Writes the value of the first header with this name, after the text `before`.
 fn write_value<W: Write, K: KnownCharsets>(
     alloc: Global,
     out: &mut W,
@@ -106,7 +106,7 @@ fn write_value<W: Write, K: KnownCharsets>(
     write_optional(alloc, out, value)
 }
 
-/// Writes the member of the values of addresses as they stand in the mail.
+/// Writes the member of the raw values of addresses.
 fn write_raw<W: Write>(alloc: Global, out: &mut W, mail: &ParsedMail<'_>) -> Result<(), Fault>
     ensures { Writes (W.contents out.old) (W.contents out.new) result
         (raw_text (root (tree_of mail.now))) }
@@ -120,8 +120,8 @@ fn write_raw<W: Write>(alloc: Global, out: &mut W, mail: &ParsedMail<'_>) -> Res
     write_word(out, "}")
 }
 
-/// Writes the value of the first header with this name as it stands in the mail, after these words:
-/// each byte is the character of its number.
+/// Writes the raw value of the first header with this name, after the text `before`: each byte is the
+/// character of its number.
 fn write_raw_value<W: Write>(
     alloc: Global,
     out: &mut W,
@@ -181,7 +181,7 @@ fn write_ids<W: Write, K: KnownCharsets>(
     )
 }
 
-/// Writes the ids by this rule in the first header with this name, after these words.
+/// Writes the ids by this rule in the first header with this name, after the text `before`.
 fn write_id_list<W: Write, K: KnownCharsets>(
     alloc: Global,
     out: &mut W,
@@ -199,8 +199,8 @@ fn write_id_list<W: Write, K: KnownCharsets>(
     write_texts(alloc, out, ids.as_slice())
 }
 
-/// Writes the date: its seconds and whether its zone is not known, or `null` where there is none or
-/// it is refused, and then why.
+/// Writes the date: its seconds, and whether its zone is unknown. Without a date it writes `null`, and
+/// so for one that is refused, with the reason.
 fn write_date<W: Write, K: KnownCharsets>(
     alloc: Global,
     out: &mut W,
@@ -225,7 +225,7 @@ fn write_date<W: Write, K: KnownCharsets>(
     }
 }
 
-/// The member that says that the zone of a date is not known, where it is not.
+/// Returns the member for an unknown zone of a date, or nothing if it is known.
 fn zone_text(is_known: bool) -> &'static str
     ensures { result.now ≡ zone_text is_known }
 {
@@ -245,7 +245,7 @@ fn write_seconds<W: Write>(out: &mut W, seconds: i64) -> Result<(), Fault>
     Ok(())
 }
 
-/// Returns what is missing in a date or wrong in it, as `Display` shows it.
+/// Returns what is missing or wrong in a date, as `Display` shows it.
 fn date_fault(error: DateError) -> &'static str
     ensures { result.now ≡ date_fault_text error }
 {

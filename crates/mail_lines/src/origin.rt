@@ -1,16 +1,15 @@
-//! Where a line is from.
+//! The origin of a line: the file, the mail and its offsets.
 ghost use Rattle.std.specs.Prelude.{option_map};
-ghost use Rattle.mail_lines.specs.Origin.{bounds_text, error_line, number_or_null, origin_of};
-ghost use Rattle.mail_lines.specs.Origin.{origin_text, unread_line};
-ghost use Rattle.mail_lines.specs.Strings.{number_text};
+ghost use Rattle.mail_lines.specs.Origin.{bounds_text, error_line, origin_of, origin_text};
+ghost use Rattle.mail_lines.specs.Origin.{unread_line};
 ghost use Rattle.mail_lines.specs.Written.{Writes};
 
-use crate::strings::{write_name, write_text, write_word};
+use crate::json_text::{write_name, write_number_or_null, write_text, write_word};
 use mail_program::Fault;
 use std::alloc::Global;
 use std::io::Write;
 
-/// Where a line is from.
+/// The origin of a line.
 #[derive(Clone, Copy, Debug)]
 pub struct Origin<'n> {
     /// The name of the file, or `None` for standard input.
@@ -23,13 +22,12 @@ pub struct Origin<'n> {
     pub end: usize,
 }
 
-/// Writes the members that the line of a mail begins with.
-///
-/// # Errors
-///
-/// `Fault::Output` where a write fails, and `Fault::Mail` with `MailParseError::Memory` where it runs
-/// out of memory.
-pub fn write_origin<W: Write>(alloc: Global, out: &mut W, origin: &Origin<'_>) -> Result<(), Fault>
+/// Writes the first members of the line of a mail.
+pub(crate) fn write_origin<W: Write>(
+    alloc: Global,
+    out: &mut W,
+    origin: &Origin<'_>,
+) -> Result<(), Fault>
     ensures { Writes (W.contents out.old) (W.contents out.new) result
         (origin_text (origin_of origin.now)) }
 {
@@ -40,7 +38,7 @@ pub fn write_origin<W: Write>(alloc: Global, out: &mut W, origin: &Origin<'_>) -
     write_bounds(out, origin.start, origin.end)
 }
 
-/// Writes the members of where a mail begins and ends.
+/// Writes the members of the offsets at which a mail begins and ends.
 fn write_bounds<W: Write>(out: &mut W, start: usize, end: usize) -> Result<(), Fault>
     ensures { Writes (W.contents out.old) (W.contents out.new) result (bounds_text start end) }
 {
@@ -48,39 +46,8 @@ fn write_bounds<W: Write>(out: &mut W, start: usize, end: usize) -> Result<(), F
     Ok(())
 }
 
-/// Writes a number, or `null` where there is none.
-///
-/// # Errors
-///
-/// `Fault::Output` where a write fails.
-pub fn write_number_or_null<W: Write>(out: &mut W, number: Option<usize>) -> Result<(), Fault>
-    ensures { Writes (W.contents out.old) (W.contents out.new) result (number_or_null number) }
-{
-    match number {
-        Some(number) => write_number(out, number),
-        None => write_word(out, "null"),
-    }
-}
-
-/// Writes a number.
-///
-/// # Errors
-///
-/// `Fault::Output` where a write fails.
-pub fn write_number<W: Write>(out: &mut W, number: usize) -> Result<(), Fault>
-    ensures { Writes (W.contents out.old) (W.contents out.new) result (number_text number) }
-{
-    write!(out, "{number}")?;
-    Ok(())
-}
-
 /// Writes the line of an error.
-///
-/// # Errors
-///
-/// `Fault::Output` where a write fails, and `Fault::Mail` with `MailParseError::Memory` where it runs
-/// out of memory.
-pub fn write_error<W: Write>(
+pub(crate) fn write_error<W: Write>(
     alloc: Global,
     out: &mut W,
     origin: &Origin<'_>,
@@ -99,8 +66,8 @@ pub fn write_error<W: Write>(
 ///
 /// # Errors
 ///
-/// `Fault::Output` where a write fails, and `Fault::Mail` with `MailParseError::Memory` where it runs
-/// out of memory.
+/// `Fault::Output` if a write fails, and `Fault::Mail` with `MailParseError::Memory` if it runs out of
+/// memory.
 ///
 /// # Examples
 ///
@@ -108,10 +75,10 @@ pub fn write_error<W: Write>(
 /// use mail_lines::write_unread;
 ///
 /// let mut out = Vec::new(alloc);
-/// write_unread(alloc, &mut out, Some("in.eml"), "it is a folder")?;
+/// write_unread(alloc, &mut out, Some("in.eml"), "it is a directory")?;
 /// let text = "{\"schema\":4,\"file\":\"in.eml\",\"number\":null,\"start\":null,\"end\":null,";
 /// assert!(rt; out.as_slice().starts_with(text.as_bytes()));
-/// assert!(rt; out.as_slice().ends_with(b"\"error\":\"it is a folder\"}\n"));
+/// assert!(rt; out.as_slice().ends_with(b"\"error\":\"it is a directory\"}\n"));
 /// ```
 pub fn write_unread<W: Write>(
     alloc: Global,

@@ -7,21 +7,21 @@ ghost use Rattle.mail_data.specs.PartPlaces.{places};
 ghost use Rattle.mail_data.specs.lenient.Content.{message_content};
 ghost use Rattle.mail_data.specs.lenient.ContentViews.{content_view};
 ghost use Rattle.mail_data.specs.PlaceViews.{place_view};
-ghost use Rattle.mail_lines.specs.Part.{AreItems, AreJoined, IsPartText, IsTypeText, body_text, damaged_text};
-ghost use Rattle.mail_lines.specs.Part.{hash_of, place_in, sha256_text};
-ghost use Rattle.mail_lines.specs.Reading.{reading_of};
+ghost use Rattle.mail_lines.specs.Part.{AreItems, AreJoined, IsPartText, IsTypeText, body_text};
+ghost use Rattle.mail_lines.specs.Part.{damaged_text, hash_of, place_in, sha256_text};
+ghost use Rattle.mail_lines.specs.Options.{options_of};
 ghost use Rattle.mail_program.specs.Hash.{hash_text};
 ghost use Rattle.mail_lines.specs.Part.{disposition_text, flag_text, header_text, headers_text};
 ghost use Rattle.mail_lines.specs.Part.{is_attachment, is_read, parameter_text, place_text, size_text};
 ghost use Rattle.mail_lines.specs.Written.{Writes, WritesOne};
 
 use crate::body::encoding_name;
-use crate::fields::{disposition_name, refusal_text};
-use crate::origin::{write_number, write_number_or_null};
-use crate::reading::Reading;
-use crate::strings::{
-    write_comma, write_name, write_optional, write_owned, write_text, write_word,
+use crate::fields::disposition_name;
+use crate::json_text::{
+    refusal_of, write_comma, write_name, write_number, write_number_or_null, write_optional,
+    write_owned, write_text, write_word,
 };
+use crate::options::LineOptions;
 use mail_data::files::{describes_attachment, is_attachment_disposition, is_leaf, named_file};
 use mail_data::flowed::flowed_text;
 use mail_data::lenient::{Content, charset_used, lenient_body, lenient_content, lenient_text};
@@ -35,23 +35,18 @@ use mailparse::{
 use std::alloc::{AllocError, Global};
 use std::io::Write;
 
-/// Writes the objects of a mail that begins at this offset of the input and of its parts, a comma
-/// between two; those of the mails inside it are not among them.
-///
-/// # Errors
-///
-/// `Fault::Output` where a write fails, and `Fault::Mail` with `MailParseError::Memory` where it runs
-/// out of memory.
-pub fn write_parts<W: Write, K: KnownCharsets>(
+/// Writes the objects of a mail that begins at this offset of the input and of its parts, separated by
+/// commas, without those of the mails inside it.
+pub(crate) fn write_parts<W: Write, K: KnownCharsets>(
     alloc: Global,
     out: &mut W,
     mail: &ParsedMail<'_>,
     start: usize,
+    options: LineOptions,
     known: &K,
-    reading: Reading,
 ) -> Result<(), Fault>
     ensures { WritesOne (W.contents out.old) (W.contents out.new) result
-        (AreJoined (IsPartText (reading_of (K.known known.now) reading) (Some start))
+        (AreJoined (IsPartText (options_of (K.known known.now) options) (Some start))
         (places (tree_of mail.now) (placements_of mail.now))) }
 {
     let found = places(alloc, mail)?;
@@ -61,96 +56,85 @@ pub fn write_parts<W: Write, K: KnownCharsets>(
         found.as_slice(),
         true,
         Some(start),
+        options,
         known,
-        reading,
     )
 }
 
-/// Writes the objects of parts of a mail that begins there, each after a comma, but the first one
-/// where it is the first of all.
-///
-/// # Errors
-///
-/// `Fault::Output` where a write fails, and `Fault::Mail` with `MailParseError::Memory` where it runs
-/// out of memory.
-pub fn write_found<W: Write, K: KnownCharsets>(
+/// Writes the objects of parts of a mail that begins at this offset of the input, each after a comma,
+/// except the first one if it is the first of all.
+pub(crate) fn write_found<W: Write, K: KnownCharsets>(
     alloc: Global,
     out: &mut W,
     found: &[Place<'_, '_>],
     begins: bool,
     start: Option<usize>,
+    options: LineOptions,
     known: &K,
-    reading: Reading,
 ) -> Result<(), Fault>
     ensures { WritesOne (W.contents out.old) (W.contents out.new) result
-        (AreItems (IsPartText (reading_of (K.known known.now) reading) start) begins
+        (AreItems (IsPartText (options_of (K.known known.now) options) start) begins
         (map place_view found.now)) }
 {
     let mut is_first = begins;
     for place in found {
         write_comma(out, is_first)?;
-        write_part(alloc, out, place, start, known, reading)?;
+        write_part(alloc, out, place, start, options, known)?;
         is_first = false;
     }
     Ok(())
 }
 
-/// Writes the object of a part, without its parts. The mail begins there, if it stands in the input.
-///
-/// # Errors
-///
-/// `Fault::Output` where a write fails, and `Fault::Mail` with `MailParseError::Memory` where it runs
-/// out of memory.
-pub fn write_part<W: Write, K: KnownCharsets>(
+/// Writes the object of a part, without its parts. The mail begins at the offset `mail_start` of the
+/// input, or is encoded.
+pub(crate) fn write_part<W: Write, K: KnownCharsets>(
     alloc: Global,
     out: &mut W,
     place: &Place<'_, '_>,
-    start: Option<usize>,
+    mail_start: Option<usize>,
+    options: LineOptions,
     known: &K,
-    reading: Reading,
 ) -> Result<(), Fault>
     ensures { WritesOne (W.contents out.old) (W.contents out.new) result
-        (IsPartText (reading_of (K.known known.now) reading) start (place_view place.now)) }
+        (IsPartText (options_of (K.known known.now) options) mail_start (place_view place.now)) }
 {
     let part = place.part;
     write_word(out, "{\"path\":")?;
     write_text(alloc, out, place.path.as_str())?;
     write_type(alloc, out, &part.ctype)?;
     let disposition = part.get_content_disposition_in(alloc, known)?;
-    let is_attachment = is_attachment(alloc, part, &disposition)?;
-    write_disposition(alloc, out, part, &disposition, is_attachment)?;
+    let attached = is_attachment(alloc, part, &disposition)?;
+    write_disposition(alloc, out, part, &disposition, attached)?;
     let body = lenient_body(alloc, part)?;
-    let begin = place_in(start, place.byte_range.start);
-    let end = place_in(start, place.byte_range.end);
-    write_place(out, encoding_name(&body), begin, end, body.get_raw().len())?;
+    let start = place_in(mail_start, place.byte_range.start);
+    let end = place_in(mail_start, place.byte_range.end);
+    write_place(out, encoding_name(&body), start, end, body.get_raw().len())?;
     let content = lenient_content(alloc, &body)?;
     write_decoded_size(alloc, out, &content)?;
-    let is_hashed = is_hashed(reading.hashes, is_attachment);
-    write_hash(alloc, out, content.bytes.as_slice(), is_hashed)?;
+    let hashed = is_hashed(options.hashes, attached);
+    write_hash(alloc, out, content.bytes.as_slice(), hashed)?;
     write_headers(alloc, out, part.headers.as_slice(), known)?;
-    let is_read = is_read(part, &disposition);
-    write_part_text(alloc, out, &content, part, is_read, known, reading)?;
+    let shown = is_read(part, &disposition);
+    write_part_text(alloc, out, &content, part, shown, options, known)?;
     write_word(out, "}")
 }
 
-/// Whether a part has its hash: where hashes are asked for, a file has.
+/// Returns whether a part has its hash: an attachment has, if hashes are asked for.
 fn is_hashed(hashes: bool, is_attachment: bool) -> bool
     ensures { result ≡ (hashes && is_attachment) }
 {
     hashes && is_attachment
 }
 
-/// A place in the input, by where the mail begins in which it is counted.
-fn place_in(start: Option<usize>, at: usize) -> Option<usize>
+/// Returns an offset in the input by the offset `at` in a mail that begins at `start`, or `None` if the
+/// mail is encoded.
+pub(crate) fn place_in(start: Option<usize>, at: usize) -> Option<usize>
     ensures { result ≡ place_in start at }
 {
-    match start {
-        Some(start) => Some(start.saturating_add(at)),
-        None => None,
-    }
+    Some(start?.saturating_add(at))
 }
 
-/// Whether the body of a part is a text that is to be read.
+/// Returns whether the body of a part is a text that is shown.
 fn is_read(part: &ParsedMail<'_>, disposition: &ParsedContentDisposition) -> bool
     ensures { result ≡ is_read (tree_of part.now) (views.disposition disposition.now) }
 {
@@ -159,7 +143,7 @@ fn is_read(part: &ParsedMail<'_>, disposition: &ParsedContentDisposition) -> boo
         && text_type(part.ctype.mimetype.as_str()).starts_with("text/")
 }
 
-/// Writes the name of an encoding, where a part stands, and how many bytes its body has.
+/// Writes the name of an encoding, the offsets of a part, and the size of its body.
 fn write_place<W: Write>(
     out: &mut W,
     encoding: &str,
@@ -214,7 +198,7 @@ fn write_parameter<W: Write>(
     write_text(alloc, out, value)
 }
 
-/// Whether a part of this disposition is an attachment: it has no parts of its own, and its
+/// Returns whether a part of this disposition is an attachment: it has no parts of its own, and its
 /// disposition and its type are those of one.
 fn is_attachment(
     alloc: Global,
@@ -230,7 +214,7 @@ fn is_attachment(
     describes_attachment(alloc, disposition, &part.ctype)
 }
 
-/// Writes the disposition, the name of the file and whether the part is an attachment.
+/// Writes the disposition, the name of the file, and whether the part is an attachment.
 fn write_disposition<W: Write>(
     alloc: Global,
     out: &mut W,
@@ -250,14 +234,14 @@ fn write_disposition<W: Write>(
     write_word(out, flag_text(is_attachment))
 }
 
-/// `true` or `false`.
+/// Returns `true` or `false`.
 fn flag_text(flag: bool) -> &'static str
     ensures { result.now ≡ flag_text flag }
 {
     if flag { "true" } else { "false" }
 }
 
-/// Writes how many bytes the decoded body has, or `null` if it is refused, and then why.
+/// Writes the size of the decoded body. If it is refused, writes `null` and the reason.
 fn write_decoded_size<W: Write>(
     alloc: Global,
     out: &mut W,
@@ -274,9 +258,9 @@ fn write_decoded_size<W: Write>(
             Ok(())
         }
         Some(fault) => {
-            let text = refusal_text(alloc, &MailParseError::from(fault))?;
+            let text = refusal_of(alloc, &MailParseError::from(fault))?;
             write_word(out, ",\"decoded_size\":null,\"error\":")?;
-            write_text(alloc, out, text.as_str())
+            write_optional(alloc, out, text)
         }
     }
 }
@@ -307,28 +291,28 @@ fn write_sha256<W: Write>(alloc: Global, out: &mut W, bytes: &[u8]) -> Result<()
     write_owned(alloc, out, text)
 }
 
-/// Writes the members of the text of a part that is to be read, or `null` where it is not to be.
+/// Writes the members of the text of a part, or `null` if it is not shown.
 fn write_part_text<W: Write, K: KnownCharsets>(
     alloc: Global,
     out: &mut W,
     content: &Content<'_>,
     part: &ParsedMail<'_>,
     is_read: bool,
+    options: LineOptions,
     known: &K,
-    reading: Reading,
 ) -> Result<(), Fault>
     ensures { let node = root (tree_of part.now) in
         content_view content.now ≡ message_content node →
         Writes (W.contents out.old) (W.contents out.new) result (body_text
-        (K.known known.now) reading.joins_flowed is_read node.ctype (message_content node)) }
+        (K.known known.now) options.joins_flowed is_read node.ctype (message_content node)) }
 {
-    if reading.joins_flowed {
+    if options.joins_flowed {
         return write_flowed(alloc, out, part, is_read, known);
     }
     write_body_text(alloc, out, content, &part.ctype, is_read, known)
 }
 
-/// Does what `write_part_text` does, with each paragraph that flows as one line.
+/// Writes the same as `write_part_text`, with each flowed paragraph as one line.
 fn write_flowed<W: Write, K: KnownCharsets>(
     alloc: Global,
     out: &mut W,
@@ -351,8 +335,8 @@ fn write_flowed<W: Write, K: KnownCharsets>(
     write_word(out, damaged_text(read.is_damaged))
 }
 
-/// Writes the members of the text of a body that is to be read, or `null` where it is not to be: the
-/// text, the charset in which it is read, and whether the body is damaged.
+/// Writes the members of the text of a body, or `null` if it is not shown: the text, the charset in
+/// which it is read, and whether the body is damaged.
 fn write_body_text<W: Write, K: KnownCharsets>(
     alloc: Global,
     out: &mut W,
@@ -376,7 +360,7 @@ fn write_body_text<W: Write, K: KnownCharsets>(
     write_word(out, damaged_text(content.fault.is_some()))
 }
 
-/// The member that says that a body is damaged, where it is.
+/// Returns the member for a damaged body, or nothing if it is not damaged.
 fn damaged_text(is_damaged: bool) -> &'static str
     ensures { result.now ≡ damaged_text is_damaged }
 {

@@ -1,4 +1,4 @@
-//! What delivery reports say, as JSON.
+//! Delivery reports as JSON.
 ghost use Rattle.std.specs.Prelude.{◌≡◌, codes, option_map};
 ghost use Rattle.mailparse.specs.Views.{tree_of};
 ghost use Rattle.mail_data.specs.Bounce.{recipients};
@@ -6,22 +6,22 @@ ghost use Rattle.mail_data.specs.BounceViews.{delivery};
 ghost use Rattle.mail_lines.specs.Reports.{deliveries_text, delivery_text, field_text};
 ghost use Rattle.mail_lines.specs.Written.{Writes};
 
-use crate::strings::{write_comma, write_name, write_word};
+use crate::json_text::{write_comma, write_name, write_word};
 use mail_data::bounce::{Recipient, recipients};
 use mail_program::Fault;
 use mailparse::{KnownCharsets, ParsedMail};
 use std::alloc::Global;
 use std::io::Write;
 
-/// Writes what a delivery report says of each recipient (RFC 3464, section 2.3), as a line with one
-/// list: an object for each, with the members `final_recipient`, `original_recipient`, `action`,
-/// `status` and `diagnostic_code`, which are strings or `null`. The list is empty where the mail is no
-/// such report. Takes memory as `mail_data::bounce::recipients` does, and for each string.
+/// Writes the recipients of a delivery report (RFC 3464, section 2.3), as a line with one list. Each is
+/// an object with the members `final_recipient`, `original_recipient`, `action`, `status` and
+/// `diagnostic_code`, which are strings or `null`. The list is empty if the mail is no such report.
+/// Takes memory as `mail_data::bounce::recipients` does, and for each string.
 ///
 /// # Errors
 ///
-/// `Fault::Output` where a write fails, and `Fault::Mail` with `MailParseError::Memory` where it runs
-/// out of memory.
+/// `Fault::Output` if a write fails, and `Fault::Mail` with `MailParseError::Memory` if it runs out of
+/// memory.
 ///
 /// # Examples
 ///
@@ -34,15 +34,15 @@ use std::io::Write;
 ///     Reporting-MTA: dns; mx.example.org\n\n\
 ///     Final-Recipient: rfc822; ann@example.org\nAction: failed\n\n--b--\n";
 /// let mut out = Vec::new(alloc);
-/// write_recipients(alloc, &parse_mail(alloc, raw)?, &mut out, &())?;
+/// write_recipients(alloc, &mut out, &parse_mail(alloc, raw)?, &())?;
 /// let line = b"[{\"final_recipient\":\"ann@example.org\",\"original_recipient\":null,";
 /// assert!(rt; out.as_slice().starts_with(line));
 /// assert!(rt; out.as_slice().ends_with(b"\"status\":null,\"diagnostic_code\":null}]\n"));
 /// ```
 pub fn write_recipients<W: Write, K: KnownCharsets>(
     alloc: Global,
-    mail: &ParsedMail<'_>,
     out: &mut W,
+    mail: &ParsedMail<'_>,
     known: &K,
 ) -> Result<(), Fault>
     ensures { Writes (W.contents out.old) (W.contents out.new) result
@@ -88,7 +88,7 @@ fn write_recipient<W: Write>(alloc: Global, out: &mut W, recipient: &Recipient) 
     write_word(out, "}")
 }
 
-/// Writes what leads to a member, and its string, or `null` where there is none.
+/// Writes the text before the value of a member, and then its string, or `null` if there is none.
 fn write_field<W: Write>(
     alloc: Global,
     out: &mut W,

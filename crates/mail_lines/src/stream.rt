@@ -1,31 +1,32 @@
 //! The lines of an input that is read in blocks.
 ghost use Rattle.std.specs.Prelude.{◌≡◌, ◌++◌, IfErr, IfOk, [], option_map, true};
-ghost use Rattle.mail_lines.specs.Reading.{reading_of};
 ghost use Rattle.mail_data.specs.Mailbox.{has_front};
 ghost use Rattle.mail_data.specs.MailboxFormats.{entries_in};
 ghost use Rattle.mail_data.specs.MailboxParts.{placed_from};
-ghost use Rattle.mail_lines.specs.Chosen.{AreChosen, AreInputChosen, AreMailboxChosen};
-ghost use Rattle.mail_lines.specs.Lines.{AreInputLines, WritesInput, WritesLines};
-ghost use Rattle.mail_lines.specs.Lines.{format_of, is_mailbox};
+ghost use Rattle.mail_lines.specs.JsonLines.{AreInputLines, WritesInput, WritesLines};
+ghost use Rattle.mail_lines.specs.JsonLines.{format_of, is_mailbox};
+ghost use Rattle.mail_lines.specs.Options.{options_of};
+ghost use Rattle.mail_lines.specs.Selection.{AreChosen, AreInputChosen, AreMailboxChosen};
 ghost use Rattle.mail_lines.specs.Stream.{ReadsUntil, WritesChosen, WritesSettled};
 ghost use Rattle.mail_lines.specs.Stream.{first_wanted, is_there};
-ghost use Rattle.mail_lines.specs.Written.{IsEnd, Writes};
+ghost use Rattle.mail_lines.specs.Written.{IsEnd, Writes, is_clean};
 
-use crate::chosen::{Form, Next, Which};
-use crate::lines::{write_entry, write_front, write_mailbox, write_mails, write_single};
-use crate::reading::Reading;
+use crate::json_lines::{write_entry, write_front, write_mailbox, write_mails, write_single};
+use crate::options::{InputKind, Source};
+use crate::selection::{NextMail, Selection};
+use crate::written::Written;
 use mail_data::mailbox::{self, Format, has_front, has_line, read_mailbox, settled_entry};
 use mail_program::{Fault, read_more};
 use mailparse::KnownCharsets;
-use std::alloc::{AllocError, Global};
+use std::alloc::Global;
 use std::io::{self, ErrorKind, Read, Write};
 
-/// What is wanted of the bytes of an input before lines are written of it.
-#[derive(Clone, Copy, Debug)]
-pub enum Wanted {
-    /// Its first line, so that it shows whether it is a mailbox.
+/// How much of an input is read before lines are written.
+#[derive(Clone, Copy)]
+pub(crate) enum Wanted {
+    /// Its first line, which shows whether it is a mailbox.
     FirstLine,
-    /// What stands before the first separator of a mailbox.
+    /// The text before the first separator of a mailbox.
     Front,
     /// The first mail of a mailbox in this format.
     FirstMail(Format),
@@ -33,18 +34,18 @@ pub enum Wanted {
     End,
 }
 
-/// What is told how far the lines of an input are.
+/// Takes note of the progress of writing the lines of an input.
 pub trait Watch {
-    /// Takes note of which mail of a mailbox comes next, and at which place.
+    /// Takes note of the next mail of a mailbox and its offset.
     ///
     /// # Examples
     ///
     /// ```rust
-    /// use mail_lines::{Next, Unwatched, Watch, Which};
+    /// use mail_lines::{NextMail, Selection, Unwatched, Watch};
     ///
-    /// Unwatched.note(Next { which: Which::Numbered(2), at: 1000 });
+    /// Unwatched.note(NextMail { selection: Selection::Numbered(2), at: 1000 });
     /// ```
-    fn note(&mut self, next: Next);
+    fn note(&mut self, next: NextMail);
 }
 
 /// Takes note of nothing.
@@ -52,193 +53,143 @@ pub trait Watch {
 pub struct Unwatched;
 
 impl Watch for Unwatched {
-    fn note(&mut self, _next: Next) {}
+    fn note(&mut self, _next: NextMail) {}
 }
 
-/// What was written of the mails at the front of a mailbox.
+/// What remains of a mailbox after the mails at its front were written.
 #[derive(Drop)]
 struct Settled<'a> {
-    /// The bytes behind them.
+    /// The bytes after them.
     rest: &'a [u8],
-    /// The mail behind them.
-    next: Next,
-    /// Whether none of them was refused.
-    is_clean: bool,
+    /// The mail after them.
+    next: NextMail,
+    /// Whether one of them was refused.
+    written: Written,
 }
 
-/// Writes the lines of an input, each mail of a mailbox as soon as it was read. Returns whether there
-/// was no error.
+/// Writes the lines of an input, each mail of a mailbox as soon as it was read.
 ///
 /// # Errors
 ///
-/// `Fault::Input` where a read fails, `Fault::Output` where a write fails, and `Fault::Mail` with
-/// `MailParseError::Memory` where it runs out of memory.
+/// `Fault::Input` if a read fails, `Fault::Output` if a write fails, and `Fault::Mail` with
+/// `MailParseError::Memory` if it runs out of memory.
 ///
 /// # Examples
 ///
 /// ```rust
-/// use mail_lines::{Form, Reading, Unwatched, write_input};
+/// use mail_lines::{InputKind, LineOptions, Source, Unwatched, Written, write_input};
 ///
 /// let mut reader = b"From a@b Fri Jul  8 12:08:34 2011\nSubject: Hi\n\nHello\n".as_slice();
 /// let mut out = Vec::new(alloc);
-/// let (form, reading, watch) = (Form::Either, Reading::new(), &mut Unwatched);
-/// let is_clean = write_input(alloc, &mut reader, form, None, &mut out, &(), reading, watch)?;
-/// assert!(rt; is_clean);
+/// let source = Source {
+///     kind: InputKind::Either,
+///     file: None,
+///     options: LineOptions::new(),
+///     known: &(),
+/// };
+/// let written = write_input(alloc, &mut out, &mut reader, source, &mut Unwatched)?;
+/// assert_eq!(rt; written, Written::Clean);
 /// assert!(rt; out.as_slice().starts_with(b"{\"schema\":4,\"file\":null,\"number\":1,\"start\":34,"));
 /// ```
 pub fn write_input<R: Read, W: Write, M: Watch, K: KnownCharsets>(
     alloc: Global,
-    reader: &mut R,
-    form: Form,
-    file: Option<&str>,
     out: &mut W,
-    known: &K,
-    reading: Reading,
+    reader: &mut R,
+    source: Source<'_, K>,
     watch: &mut M,
-) -> Result<bool, Fault>
+) -> Result<Written, Fault>
     ensures { WritesInput (R.remaining reader.old) (R.remaining reader.new)
         (W.contents out.old) (W.contents out.new) result (AreInputLines
-        (reading_of (K.known known.now) reading) form (option_map (λ name. name.now) file.entry)) }
+        (options_of (K.known source.entry.known.now) source.entry.options) source.entry.kind
+        (option_map (λ name. name.now) source.entry.file)) }
 {
-    let which = Which::Numbered(1);
-    write_chosen(alloc, reader, form, which, file, out, known, reading, watch)
+    write_chosen(alloc, out, reader, source, Selection::Numbered(1), watch)
 }
 
-/// Writes the lines of an input, of a mailbox those of the mails that are to have one, each as soon as
-/// it was read. Returns whether there was no error.
-///
-/// # Errors
-///
-/// `Fault::Input` where a read fails, `Fault::Output` where a write fails, and `Fault::Mail` with
-/// `MailParseError::Memory` where it runs out of memory.
-pub fn write_chosen<R: Read, W: Write, M: Watch, K: KnownCharsets>(
+/// Writes the lines of an input, of a mailbox those of the mails that have one, each as soon as it was
+/// read.
+pub(crate) fn write_chosen<R: Read, W: Write, M: Watch, K: KnownCharsets>(
     alloc: Global,
-    reader: &mut R,
-    form: Form,
-    which: Which,
-    file: Option<&str>,
     out: &mut W,
-    known: &K,
-    reading: Reading,
+    reader: &mut R,
+    source: Source<'_, K>,
+    selection: Selection,
     watch: &mut M,
-) -> Result<bool, Fault>
-    ensures { WritesChosen which (R.remaining reader.old) (R.remaining reader.new)
+) -> Result<Written, Fault>
+    ensures { WritesChosen selection (R.remaining reader.old) (R.remaining reader.new)
         (W.contents out.old) (W.contents out.new) result (AreInputChosen
-        (reading_of (K.known known.now) reading) form (option_map (λ name. name.now) file.entry)
-        which) }
+        (options_of (K.known source.entry.known.now) source.entry.options) source.entry.kind
+        (option_map (λ name. name.now) source.entry.file) selection) }
 {
     let mut read = Vec::new(alloc);
-    let has_ended = read_until(alloc, reader, &mut read, first_wanted(form))?;
+    let has_ended = read_until(alloc, &mut read, reader, first_wanted(source.kind))?;
     if has_ended {
-        return write_whole(
-            alloc,
-            read.as_slice(),
-            form,
-            which,
-            file,
-            out,
-            known,
-            reading,
-        );
+        return write_whole(alloc, out, read.as_slice(), source, selection);
     }
-    if is_mailbox(form, read.as_slice()) {
-        let format = format_of(form);
+    if is_mailbox(source.kind, read.as_slice()) {
         return write_following(
             alloc,
+            out,
             reader,
             read.as_slice(),
-            format,
-            which,
-            file,
-            out,
-            known,
-            reading,
+            source,
+            selection,
             watch,
         );
     }
-    read_until(alloc, reader, &mut read, Wanted::End)?;
-    write_single(alloc, read.as_slice(), file, out, known, reading)
+    read_until(alloc, &mut read, reader, Wanted::End)?;
+    let (file, options, known) = (source.file, source.options, source.known);
+    write_single(alloc, out, read.as_slice(), file, options, known)
 }
 
-/// Writes the lines of an input that was read to its end. Returns whether there was no error.
+/// Writes the lines of an input that was read to its end.
 fn write_whole<W: Write, K: KnownCharsets>(
     alloc: Global,
-    input: &[u8],
-    form: Form,
-    which: Which,
-    file: Option<&str>,
     out: &mut W,
-    known: &K,
-    reading: Reading,
-) -> Result<bool, Fault>
+    input: &[u8],
+    source: Source<'_, K>,
+    selection: Selection,
+) -> Result<Written, Fault>
     ensures { WritesLines (W.contents out.old) (W.contents out.new) result
-        (AreInputChosen (reading_of (K.known known.now) reading) form
-        (option_map (λ name. name.now) file.entry) which input.now) }
+        (AreInputChosen (options_of (K.known source.entry.known.now) source.entry.options)
+        source.entry.kind (option_map (λ name. name.now) source.entry.file) selection input.now) }
 {
-    if is_mailbox(form, input) {
-        write_mailbox(
-            alloc,
-            input,
-            format_of(form),
-            which,
-            file,
-            out,
-            known,
-            reading,
-        )
+    if is_mailbox(source.kind, input) {
+        write_mailbox(alloc, out, input, source, selection)
     } else {
-        write_single(alloc, input, file, out, known, reading)
+        let (file, options, known) = (source.file, source.options, source.known);
+        write_single(alloc, out, input, file, options, known)
     }
 }
 
-/// Whether an input of this form that begins so is a mailbox.
-pub fn is_mailbox(form: Form, input: &[u8]) -> bool
-    ensures { result ≡ is_mailbox form input.now }
+/// Returns whether an input of this kind that begins with these bytes is a mailbox.
+pub(crate) fn is_mailbox(kind: InputKind, input: &[u8]) -> bool
+    ensures { result ≡ is_mailbox kind input.now }
 {
-    match form {
-        Form::Either => mailbox::is_mailbox(input),
-        Form::Mail => false,
-        Form::Mailbox(_) => true,
+    match kind {
+        InputKind::Either => mailbox::is_mailbox(input),
+        InputKind::Mail => false,
+        InputKind::Mailbox(_) => true,
     }
 }
 
-/// The format of a mailbox of this form.
-///
-/// # Examples
-///
-/// ```rust
-/// use mail_data::mailbox::Format;
-/// use mail_lines::{Form, format_of};
-///
-/// assert!(rt; format_of(Form::Either) == Format::Plain);
-/// assert!(rt; format_of(Form::Mailbox(Format::Quoted)) == Format::Quoted);
-/// ```
-pub fn format_of(form: Form) -> Format
-    ensures { result ≡ format_of form }
+/// Returns how much of an input of this kind is read before lines are written.
+fn first_wanted(kind: InputKind) -> Wanted
+    ensures { result ≡ first_wanted kind }
 {
-    match form {
-        Form::Either | Form::Mail => Format::Plain,
-        Form::Mailbox(format) => format,
+    match kind {
+        InputKind::Either => Wanted::FirstLine,
+        InputKind::Mail => Wanted::End,
+        InputKind::Mailbox(_) => Wanted::Front,
     }
 }
 
-/// What is wanted before lines are written of an input of this form.
-fn first_wanted(form: Form) -> Wanted
-    ensures { result ≡ first_wanted form }
-{
-    match form {
-        Form::Either => Wanted::FirstLine,
-        Form::Mail => Wanted::End,
-        Form::Mailbox(_) => Wanted::Front,
-    }
-}
-
-/// Reads on behind these bytes until what is wanted is there, or to the end. Returns whether it is
-/// the end. Between two looks the bytes are doubled, so the time is linear.
-pub fn read_until<R: Read>(
+/// Appends what the reader has left until the bytes contain what is wanted, or to its end. Returns
+/// whether it is at its end. The bytes are doubled from one look to the next, so the time is linear.
+pub(crate) fn read_until<R: Read>(
     alloc: Global,
-    reader: &mut R,
     bytes: &mut Vec<u8>,
+    reader: &mut R,
     wanted: Wanted,
 ) -> Result<bool, Fault>
     ensures { ReadsUntil wanted (R.remaining reader.old) (R.remaining reader.new)
@@ -256,7 +207,7 @@ pub fn read_until<R: Read>(
     Err(Fault::Input(io::Error::from(ErrorKind::Interrupted)))
 }
 
-/// Whether what is wanted is there.
+/// Returns whether these bytes contain what is wanted.
 fn is_there(wanted: Wanted, bytes: &[u8]) -> bool
     ensures { result ≡ is_there wanted bytes.now }
 {
@@ -268,132 +219,106 @@ fn is_there(wanted: Wanted, bytes: &[u8]) -> bool
     }
 }
 
-/// Writes the lines of a mailbox in a format of which these bytes were read, the first separator
-/// among them. Returns whether there was no error.
+/// Writes the lines of a mailbox of which these bytes were read, up to the first separator or further.
 fn write_following<R: Read, W: Write, M: Watch, K: KnownCharsets>(
     alloc: Global,
+    out: &mut W,
     reader: &mut R,
     read: &[u8],
-    format: Format,
-    which: Which,
-    file: Option<&str>,
-    out: &mut W,
-    known: &K,
-    reading: Reading,
+    source: Source<'_, K>,
+    selection: Selection,
     watch: &mut M,
-) -> Result<bool, Fault>
+) -> Result<Written, Fault>
     requires { has_front read.now ≡ true }
-    ensures { WritesChosen which (R.remaining reader.old) (R.remaining reader.new)
+    ensures { WritesChosen selection (R.remaining reader.old) (R.remaining reader.new)
         (W.contents out.old) (W.contents out.new) result (λ more. AreMailboxChosen
-        (reading_of (K.known known.now) reading) format (option_map (λ name. name.now) file.entry)
-        which
+        (options_of (K.known source.entry.known.now) source.entry.options)
+        (format_of source.entry.kind) (option_map (λ name. name.now) source.entry.file) selection
         (read.now ++ more)) }
 {
-    let front = read_mailbox(read, format).front();
-    let is_all_whitespace = write_front(alloc, front, file, out)?;
-    let first = Next {
-        which,
+    let front = read_mailbox(read, source.kind.format()).front();
+    let written = write_front(alloc, out, front, source.file)?;
+    let first = NextMail {
+        selection,
         at: front.len(),
     };
     let rest = &read[front.len()..];
-    let are_read = write_rest(
-        alloc, reader, rest, format, first, file, out, known, reading, watch,
-    )?;
-    Ok(is_all_whitespace & are_read)
+    Ok(written.and(write_rest(alloc, out, reader, rest, source, first, watch)?))
 }
 
-/// Writes the lines of the mails of a mailbox in a format from the first one on, of which these bytes
-/// were read. Returns whether none was refused. It ends before the input does where no mail that
-/// follows is to have a line.
-///
-/// # Errors
-///
-/// `Fault::Input` where a read fails, `Fault::Output` where a write fails, and `Fault::Mail` with
-/// `MailParseError::Memory` where it runs out of memory.
-pub fn write_rest<R: Read, W: Write, M: Watch, K: KnownCharsets>(
+/// Writes the lines of the mails of a mailbox from the first one onwards, of which these bytes were
+/// read. Stops before the end of the input if no mail that follows has a line.
+pub(crate) fn write_rest<R: Read, W: Write, M: Watch, K: KnownCharsets>(
     alloc: Global,
+    out: &mut W,
     reader: &mut R,
     read: &[u8],
-    format: Format,
-    first: Next,
-    file: Option<&str>,
-    out: &mut W,
-    known: &K,
-    reading: Reading,
+    source: Source<'_, K>,
+    first: NextMail,
     watch: &mut M,
-) -> Result<bool, Fault>
-    ensures { WritesChosen first.which (R.remaining reader.old) (R.remaining reader.new)
+) -> Result<Written, Fault>
+    ensures { WritesChosen first.selection (R.remaining reader.old) (R.remaining reader.new)
         (W.contents out.old) (W.contents out.new) result (λ more. AreChosen
-        (reading_of (K.known known.now) reading) format (option_map (λ name. name.now) file.entry)
-        first.which (placed_from first.at (entries_in format (read.now ++ more)))) }
+        (options_of (K.known source.entry.known.now) source.entry.options)
+        (format_of source.entry.kind) (option_map (λ name. name.now) source.entry.file)
+        first.selection (placed_from first.at (entries_in (format_of source.entry.kind) (read.now ++ more)))) }
 {
-    let mut is_clean = true;
+    let format = source.kind.format();
+    let mut written = Written::Clean;
     let mut next = first;
-    let mut pending = copy(alloc, read)?;
+    let mut pending = read.to_vec(alloc)?;
     for _turn in 0..u64::MAX {
         if next.is_past() {
-            return Ok(is_clean);
+            return Ok(written);
         }
-        let has_ended = read_until(alloc, reader, &mut pending, Wanted::FirstMail(format))?;
+        let has_ended = read_until(alloc, &mut pending, reader, Wanted::FirstMail(format))?;
         if has_ended {
             let mails = read_mailbox(pending.as_slice(), format);
-            let are_read = write_mails(alloc, mails, format, next, file, out, known, reading)?;
-            return Ok(is_clean & are_read);
+            return Ok(written.and(write_mails(alloc, out, mails, source, next)?));
         }
         let bytes = pending.as_slice();
-        let settled = write_settled(alloc, bytes, format, next, file, out, known, reading)?;
+        let settled = write_settled(alloc, out, bytes, source, next)?;
         flush(out)?;
-        is_clean &= settled.is_clean;
+        written = written.and(settled.written);
         next = settled.next;
         watch.note(next);
-        pending = copy(alloc, settled.rest)?;
+        pending = settled.rest.to_vec(alloc)?;
     }
     Err(Fault::Input(io::Error::from(ErrorKind::Interrupted)))
 }
 
-/// Writes the mails at the front of what was read that nothing which follows changes.
+/// Writes the lines of the mails at the front of these bytes that no further bytes can change.
 fn write_settled<'a, W: Write, K: KnownCharsets>(
     alloc: Global,
-    bytes: &'a [u8],
-    format: Format,
-    first: Next,
-    file: Option<&str>,
     out: &mut W,
-    known: &K,
-    reading: Reading,
+    bytes: &'a [u8],
+    source: Source<'_, K>,
+    first: NextMail,
 ) -> Result<Settled<'a>, Fault>
     ensures written { IfOk result (λ s. WritesSettled
-        (reading_of (K.known known.now) reading) format (option_map (λ name. name.now) file.entry)
-        (W.contents out.old) (W.contents out.new)
-        first.which first.at bytes.now s.next.which s.next.at s.rest.now s.is_clean) }
+        (options_of (K.known source.entry.known.now) source.entry.options)
+        (format_of source.entry.kind) (option_map (λ name. name.now) source.entry.file)
+        (W.contents out.old) (W.contents out.new) first.selection first.at bytes.now s.next.selection s.next.at s.rest.now
+        (is_clean s.written)) }
     ensures failed { IfErr result IsEnd }
 {
+    let format = source.kind.format();
     let mut rest = bytes;
     let mut next = first;
-    let mut is_clean = true;
+    let mut written = Written::Clean;
     'mails: while let Some((entry, after)) = settled_entry(rest, format) {
-        let is_read = write_entry(alloc, &entry, format, next, file, out, known, reading)?;
-        is_clean &= is_read;
+        written = written.and(write_entry(alloc, out, &entry, source, next)?);
         next = next.after(&entry);
         rest = after;
     }
     Ok(Settled {
         rest,
         next,
-        is_clean,
+        written,
     })
 }
 
-/// The bytes in a list.
-fn copy(alloc: Global, bytes: &[u8]) -> Result<Vec<u8>, AllocError>
-    ensures { IfOk result (λ copied. copied.items ≡ bytes.now) }
-{
-    let mut copied = Vec::new(alloc);
-    copied.extend_from_slice(bytes)?;
-    Ok(copied)
-}
-
-/// Hands on what was written.
+/// Flushes the writer.
 fn flush<W: Write>(out: &mut W) -> Result<(), Fault>
     ensures { Writes (W.contents out.old) (W.contents out.new) result [] }
 {

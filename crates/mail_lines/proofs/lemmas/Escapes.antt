@@ -1,4 +1,4 @@
--- What the kit's parser reads in a string as it is written: each character has an escape that is read back, or stands as it is.
+-- How the kit's parser reads a written string: each character has an escape that is read back, or is unchanged.
 use Rattle.std.proofs.Common.{◌≡◌, ℕ, suc, ◌<◌, ◌≤◌, Bool, true, false, cond, not, ◌&&◌, ◌||◌, ◌==◌, List, [], ◌∷◌, ◌++◌, length, get_or, Option, Some, None, inl, inr, ◌⊎◌, refl, sym, ap, ap₂, subst, ◌∙◌, arith, append_assoc, append-nil, flat_map, IsUtf8, bytes_eq, encode_utf8_all, true≢false}
 use Rattle.std.proofs.lemmas.Bool.{agree_below, agree_below_at, and_parts, and_from, cases_lt, cases_Bool, cases_eq, eqb-true, le-ltb, ne_eqb, or_parts, not-true, eqb-false, ltb-false, cond-true, cond-false}
 use Rattle.std.proofs.lemmas.Grind.{flat_map-append}
@@ -17,11 +17,11 @@ use Rattle.json.specs.Print.{escape, escape_byte, quoted}
 use Rattle.json.specs.Run.{is_plain}
 use Rattle.json.specs.Text.{content, plain, prepend, code_unit, short_escape, is_high_surrogate, is_low_surrogate}
 use Rattle.json.specs.Word.{is_operator, is_space}
-use Rattle.mail_lines.specs.Strings.{is_hidden, character_text, escaped, json_text, utf8_text}
+use Rattle.mail_lines.specs.JsonText.{is_hidden, character_text, escaped, json_text, utf8_text}
 use Rattle.mail_lines.specs.Values.{is_within_line}
-use Rattle.mail_lines.proofs.lemmas.Strings.{character_plain}
+use Rattle.mail_lines.proofs.lemmas.JsonText.{character_plain}
 
--- what both readers make of a piece of a string, before any text; and no line ends in it
+-- how both readers read a piece of a string before any text; and the piece has no line end
 pub record Passes (bytes piece : List ℕ) : Type 0 where
   pub read : (r : List ℕ) → content plain (piece ++ r) ≡ prepend bytes (content plain r)
   pub lexed : (r : List ℕ) → lex in_string (piece ++ r) ≡ lex in_string r
@@ -35,7 +35,7 @@ abbrev spells : List ℕ → Option ℕ → Bool
 spells bytes None = false
 spells bytes (Some u) = not (is_high_surrogate u) && not (is_low_surrogate u) && bytes_eq bytes (encode_utf8 u)
 
--- the piece stands for the bytes: a plain byte, a short escape, or `\u` and four digits
+-- the piece is read as the bytes: a plain byte, a short escape, or `\u` and four digits
 abbrev stands_for : List ℕ → List ℕ → Bool
 stands_for bytes [] = false
 stands_for bytes (x ∷ []) = is_plain x && bytes_eq bytes (x ∷ [])
@@ -287,7 +287,7 @@ quoted_open : (inner : List ℕ) → flat_map character_text (chars (34 ∷ inne
 unfolding character_text is_hidden encode_utf8 chars
 quoted_open inner = ap (flat_map character_text) (chars-append (34 ∷ []) inner (IsUtf8-are_ascii (34 ∷ []) refl))
 
--- what stands between the quotation marks of a text
+-- the text between the quotation marks
 pub record IsInside (text inner : List ℕ) : Type 0 where
   pub passes : Passes text inner
   pub written : json_text text ≡ 34 ∷ (inner ++ 34 ∷ [])
@@ -332,7 +332,7 @@ lex-json_text text r =
     ∙ ap₂ (λ o l. token (string_token o) ∷ l)
     (f.read (34 ∷ r) ∙ ap Some (append-nil text)) (f.lexed (34 ∷ r))
 
--- no line ends in a string
+-- a string has no line end
 pub one_line-json_text : (text : List ℕ) → list_all is_within_line (json_text text) ≡ true
 one_line-json_text text =
     let i = inside text in

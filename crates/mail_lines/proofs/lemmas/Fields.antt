@@ -1,4 +1,4 @@
--- Lemmas on what headers say, and on refusals.
+-- Lemmas on values of headers, and on refusals.
 use Rattle.std.proofs.Common.{◌≡◌, Some, Result, Ok, Err, refl}
 use Rattle.std.specs.Cow.{cow_str_bytes}
 use Rattle.mailparse.specs.Outcome.{IsMemory, IsRefusalOrMemory, refusal_of}
@@ -6,7 +6,7 @@ use Rattle.mailparse.specs.Refusal.{Reads, Refusal, generic, encoding, base64_fa
 use Rattle.mailparse.specs.declared.error.MailParseError.{MailParseError}
 use Rattle.mailparse.specs.declared.error.MailParseError.TheVariants.{QuotedPrintableDecodeError, Base64DecodeError, EncodingError, Generic, Memory}
 
--- the refusal that an error is, which does not say that memory ran out
+-- the refusal of an error that is not the end of memory
 pub refused_or_memory : {Y : Type 0} (e : MailParseError) (given : Reads Y) → (IsMemory e → ⊥) → IsRefusalOrMemory e given
     → (r : Refusal) × (refusal_of e ≡ Some r) × (given ≡ Err r)
 refused_or_memory (QuotedPrintableDecodeError fault) given n h = absurd h

@@ -4,7 +4,7 @@ use Rattle.std.specs.Prelude.{option_map, codes}
 use Rattle.mail_data.specs.lenient.Date.{Dated, Zoned, zoned_date_of}
 use Rattle.mail_data.specs.declared.lenient.date.error.DateError.{DateError}
 use Rattle.mail_lines.specs.Mail.{date_fault_text, date_text, zone_text}
-use Rattle.mail_lines.specs.Strings.{json_text, seconds_text}
+use Rattle.mail_lines.specs.JsonText.{json_text, seconds_text}
 
 -- a date that is refused
 pub date_refused : (found : Option (List ℕ)) (date : List ℕ) (fault : DateError) → found ≡ Some date → zoned_date_of date ≡ Err fault

@@ -25,14 +25,14 @@ use Rattle.mail_data.specs.lenient.Content.{Content, message_content}
 use Rattle.mail_data.specs.lenient.Texts.{BodyText, text_read}
 use Rattle.mail_lines.specs.Part.{Lists, AreAfterCommas, AreItems, body_text, hash_of, read_text, sha256_text}
 use Rattle.mail_program.specs.Hash.{hash_text}
-use Rattle.mail_lines.specs.Strings.{comma}
+use Rattle.mail_lines.specs.JsonText.{comma}
 use Rattle.mail_lines.specs.Written.{WritesOne}
 use Rattle.mail_data.specs.PartPlaces.{Place}
 use Rattle.mail_program.specs.declared.fault.Fault.{Fault}
 
--- ---- the objects, a comma between two
+-- ---- the objects, separated by commas
 
--- what was written, which any text of what is left completes
+-- a text that any text of the items that are left completes
 abbrev pub Completes : (Left All : List ℕ → Type 0) → List ℕ → Type 0
 Completes Left All done = (rest : List ℕ) → Left rest → All (done ++ rest)
 
@@ -65,7 +65,7 @@ pub items_end : {A : Type 0} (Is : A → List ℕ → Type 0) (All : List ℕ �
 items_end {A = A} Is All is_first left done e here =
     completes_end (AreItems Is is_first left) All done (subst (λ (xs : List A). AreItems Is is_first xs []) (sym e) (no_items Is is_first)) here
 
--- the same parts at the same place by other names
+-- the same parts at the same offset by other names
 pub found_as : {T : Type 0} (Are : Option ℕ → List Place → List ℕ → Type 0) (s t : Option ℕ) (xs ys : List Place) (old new : Option (List ℕ)) (r : Result T Fault) → s ≡ t
     → xs ≡ ys → WritesOne old new r (Are s xs) → WritesOne old new r (Are t ys)
 found_as Are s t xs ys old new r e f h =

@@ -1,4 +1,4 @@
--- A name of plain ASCII characters stands as it is between its quotation marks.
+-- A name of plain ASCII characters is unchanged between its quotation marks.
 use Rattle.std.proofs.Common.{◌≡◌, ℕ, zero, suc, ◌<◌, ◌≤◌, Bool, true, false, not, ◌&&◌, ◌==◌, nat_lt, nat_le, List, [], ◌∷◌, ◌++◌, flat_map, IsAscii, refl, ap, ap₂, ◌∙◌, arith}
 use Rattle.std.proofs.lemmas.Bool.{and_parts, and_from, cond-true, ltb-true, leb-true, lt-ltb, not-true, eqb-false}
 use Rattle.std.proofs.lemmas.List.Folds.{list_all-append}
@@ -7,10 +7,10 @@ use Rattle.std.specs.List.{list_all}
 use Rattle.std.specs.Str.{is_utf8}
 use Rattle.json.proofs.Printed.Strings.{escape_byte_plain}
 use Rattle.json.specs.Print.{escape, quoted}
-use Rattle.mail_lines.specs.Strings.{is_hidden, character_text, escaped, json_text, utf8_text}
-use Rattle.mail_lines.proofs.lemmas.Strings.{character_plain}
+use Rattle.mail_lines.specs.JsonText.{is_hidden, character_text, escaped, json_text, utf8_text}
+use Rattle.mail_lines.proofs.lemmas.JsonText.{character_plain}
 
--- a character that no escape stands for
+-- a character without an escape
 abbrev pub is_plain_byte : ℕ → Bool
 is_plain_byte c = nat_le 32 c && nat_lt c 127 && (not (c == 34) && not (c == 92))
 

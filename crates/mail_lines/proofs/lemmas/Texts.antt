@@ -12,11 +12,11 @@ use Rattle.json.specs.Print.{IsNumber}
 use Rattle.json.specs.Token.{Token}
 use Rattle.json.specs.Tree.{json_tokens, items_tokens, members_tokens, depth, HasNumbers, ItemsHaveNumbers, MembersHaveNumbers}
 use Rattle.json.specs.Word.{ends_word, word}
-use Rattle.mail_lines.specs.Strings.{json_text}
+use Rattle.mail_lines.specs.JsonText.{json_text}
 use Rattle.mail_lines.specs.Values.{is_within_line}
 use Rattle.mail_lines.proofs.lemmas.Escapes.{lex-json_text, one_line-json_text}
 
--- a comma, where something stands before
+-- a comma, if a member or an item comes before
 abbrev pub comma_if : Bool → List ℕ → List ℕ
 comma_if true text = 44 ∷ text
 comma_if false text = text
@@ -43,7 +43,7 @@ abbrev mutual
   members_text later no_members = 125 ∷ []
   members_text later (member k j ms) = comma_if later (json_text k ++ (58 ∷ (text_of j ++ members_text true ms)))
 
--- ---- what the lexer reads
+-- ---- how the lexer reads it
 
 abbrev lexeme_if : Bool → List Lexeme → List Lexeme
 lexeme_if true ls = comma ∷ ls
@@ -66,7 +66,7 @@ abbrev mutual
   members_lexemes later no_members = token Token.end_object ∷ []
   members_lexemes later (member k j ms) = lexeme_if later (token (Token.string k) ∷ colon ∷ (value_lexemes j ++ members_lexemes true ms))
 
--- after a value stands a comma or a closing bracket
+-- a comma or a closing bracket follows a value
 items_end : (js : Items) (r : List ℕ) → ends_word (items_text true js ++ r) ≡ true
 items_end no_items r = refl
 items_end (item j js) r = refl
@@ -122,7 +122,7 @@ mutual
       (both (text_of j) (members_text true ms) r (value_lexemes j) (members_lexemes true ms)
       (lex-value j (members_text true ms ++ r) h.0 (members_end ms r)) (lex-members true ms r h.1)))
 
--- ---- what the grammar makes of it
+-- ---- how the grammar reads it
 
 allowed : (b : Bool) (t : Token) (k : Place → List Token) (next : Place) → b ≡ true → if_allowed b t k next ≡ t ∷ k next
 allowed b t k next e = ap (λ x. if_allowed x t k next) e
@@ -200,9 +200,9 @@ pub document-text_of : (j : Json) → HasNumbers j → depth j ≤ max_depth →
 document-text_of j numbers shallow =
     ap (option_and_then (λ p. if_last p.0 p.1)) (ap (value max_depth) (tokens-text_of j numbers) ∙ value-json_tokens j max_depth [] shallow)
 
--- ---- no line ends in it
+-- ---- it has no line end
 
--- the numbers are numbers of JSON, and no line ends in one
+-- the numbers are numbers of JSON, without line ends
 abbrev pub IsLineNumber : List ℕ → Type 0
 IsLineNumber s = IsNumber s × (list_all is_within_line s ≡ true)
 

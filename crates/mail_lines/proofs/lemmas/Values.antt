@@ -1,4 +1,4 @@
--- The objects are texts of their values: members with commas between them, each with what is good of its value.
+-- The objects are texts of their values: members separated by commas, each with a proof that its value is good.
 use Rattle.std.proofs.Common.{◌≡◌, ℕ, ℤ, pos, negsuc, zero, suc, ◌-◌, ◌^◌, ◌<◌, ◌≤◌, min, Bool, true, false, not, ◌&&◌, List, [], ◌∷◌, ◌++◌, length, get_or, drop, map, Less, Option, Some, None, refl, sym, ap, subst, ◌∙◌, arith, append_assoc, append-nil, decimal, bytes_eq}
 use Rattle.std.proofs.lemmas.Bool.{and_parts, and_from, not-true, ne_eqb}
 use Rattle.std.proofs.lemmas.Fmt.{decimal_is_IsNumeral, decimal_digit}
@@ -18,7 +18,7 @@ use Rattle.json.specs.Strict.{keys, AreDistinct, HasUniqueKeys, ItemsHaveUniqueK
 use Rattle.json.specs.Tree.{depth, items_depth, members_depth}
 use Rattle.json.specs.Value.{items_of}
 use Rattle.mail_lines.specs.Part.{flag_text}
-use Rattle.mail_lines.specs.Strings.{json_text, number_text, seconds_text, text_or_null, after_commas, joined}
+use Rattle.mail_lines.specs.JsonText.{json_text, number_text, seconds_text, text_or_null, after_commas, joined}
 use Rattle.mail_lines.specs.Values.{is_within_line, IsJsonLine, Member, members_of, object_of, list_of, one, string_or_null, number_value}
 use Rattle.mail_lines.proofs.lemmas.Plain.{are_plain, json_text-plain}
 use Rattle.mail_lines.proofs.lemmas.Texts.{text_of, items_text, members_text, document-text_of, IsLineNumber, LineNumbers, ItemsLineNumbers, MembersLineNumbers, HasNumbers-lines, one_line-text_of}
@@ -27,7 +27,8 @@ use Rattle.mail_lines.proofs.lemmas.Texts.{text_of, items_text, members_text, do
 abbrev pub member_text : Member → List ℕ
 member_text m = json_text m.0 ++ (58 ∷ text_of m.1)
 
--- what is good of a value: its numbers are numbers of JSON on one line, no object has a key twice, and it nests no deeper than that
+-- a value is good: its numbers are numbers of JSON on one line, no object has a key twice, and it nests no deeper than
+-- `d`
 pub record IsGood (d : ℕ) (j : Json) : Type 0 where
   pub numbers : LineNumbers j
   pub unique : HasUniqueKeys j
@@ -95,12 +96,12 @@ seconds_written d z = record { same = refl; good = record { numbers = seconds_te
 
 -- ---- members
 
--- what holds of the elements of two lists
+-- a property of the elements of two lists
 pub all_then : {X : Type 0} (P : X → Type 0) (xs ys : List X) → AllByRecursion P xs → AllByRecursion P ys → AllByRecursion P (xs ++ ys)
 all_then P [] ys h k = k
 all_then P (x ∷ xs) ys h k = (h.0, all_then P xs ys h.1 k)
 
--- the words before the value of a member with a plain name: `,"name":`
+-- the text before the value of a member with a plain name: `,"name":`
 abbrev pub before_value : List ℕ → List ℕ
 before_value name = 44 ∷ 34 ∷ (name ++ (34 ∷ 58 ∷ []))
 
@@ -130,7 +131,7 @@ more_written d ms a name plain value text p w =
     subst (AreWritten d (ms ++ one name value)) (sym (append_assoc a (before_value name) text))
     (then_written d ms (one name value) a (before_value name ++ text) p (one_written d name plain value text w))
 
--- one member more, whose value stands between brackets or quotation marks
+-- one member more, whose value is between brackets or quotation marks
 pub enclosed_written : (d : ℕ) (ms : List Member) (a name : List ℕ) → are_plain name ≡ true → (value : Json) (before inner after : List ℕ)
     → AreWritten d ms a → IsWritten d value (before ++ (inner ++ after))
     → AreWritten d (ms ++ one name value) (((a ++ (44 ∷ 34 ∷ (name ++ (34 ∷ 58 ∷ before)))) ++ inner) ++ after)
@@ -234,7 +235,7 @@ keys-members_of : (ms : List Member) → names ms ≡ keys (members_of ms)
 keys-members_of [] = refl
 keys-members_of (m ∷ ms) = ap (λ ks. m.0 ∷ ks) (keys-members_of ms)
 
--- an object, by its members as they are written after a comma each
+-- an object, by its members, each written after a comma
 pub object_written : (d : ℕ) (ms : List Member) (text : List ℕ) → AreWritten d ms text → AreDistinct (names ms)
     → IsWritten (suc d) (object_of ms) (123 ∷ (drop 1 text ++ (125 ∷ [])))
 object_written d ms text w distinct = record {
@@ -246,9 +247,9 @@ object_written d ms text w distinct = record {
   };
 }
 
--- ---- no name twice
+-- ---- no name occurs twice
 
--- whether no name of a list comes twice
+-- no name of a list occurs twice
 abbrev pub all_distinct : List (List ℕ) → Bool
 all_distinct [] = true
 all_distinct (x ∷ xs) = list_all (λ y. not (bytes_eq x y)) xs && all_distinct xs
@@ -274,7 +275,7 @@ unfolding IsDistinct IsStrictlySortedBy
 sorted_distinct [] h = tt
 sorted_distinct (x ∷ xs) h = (less_distinct x xs h.0, sorted_distinct xs h.1)
 
--- names in their order come once each
+-- names in their order occur once each
 pub sorted_names : (xs : List (List ℕ)) → IsStrictlySortedBy (slice_cmp nat_cmp) xs → AreDistinct xs
 sorted_names xs h = AllPairs-from_IsDistinct bytes_eq-Decides xs (sorted_distinct xs h)
 

@@ -3,7 +3,7 @@ use Rattle.std.proofs.KnownBytes.{Appends-trans}
 use Rattle.mail_address.specs.AddressViews.{element_view}
 use Rattle.mail_address.specs.Headers.{addresses_of}
 use Rattle.mail_lines.specs.Addresses.{element_text}
-use Rattle.mail_lines.specs.Strings.{joined}
+use Rattle.mail_lines.specs.JsonText.{joined}
 use Rattle.mail_lines.proofs.lemmas.Fields.{ok_same}
 use Rattle.mail_lines.proofs.lemmas.Part.{headers-out}
 use Rattle.mail_lines.proofs.lemmas.Written.{appends_as, writes_then}

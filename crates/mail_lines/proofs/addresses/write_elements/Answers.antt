@@ -1,7 +1,7 @@
 use Rattle.std.proofs.Common.{arith}
 use Rattle.mail_address.specs.AddressViews.{element_view}
 use Rattle.mail_lines.specs.Addresses.{element_text}
-use Rattle.mail_lines.proofs.lemmas.Strings.{wrote_item, wrote_items}
+use Rattle.mail_lines.proofs.lemmas.JsonText.{wrote_item, wrote_items}
 use Rattle.mail_lines.proofs.addresses.write_elements.Goals as goal
 
 pub loop-element-preserved : goal.loop-element-preserved

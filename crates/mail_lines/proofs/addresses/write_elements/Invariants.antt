@@ -2,7 +2,7 @@
 use Rattle.std.proofs.Common.{drop, map}
 use Rattle.mail_address.specs.AddressViews.{element_view}
 use Rattle.mail_lines.specs.Addresses.{element_text}
-use Rattle.mail_lines.proofs.lemmas.Strings.{Wrote}
+use Rattle.mail_lines.proofs.lemmas.JsonText.{Wrote}
 use Rattle.mail_lines.proofs.addresses.write_elements.Given as goal
 
 abbrev pub invariant-loop-element : goal.invariant-loop-element

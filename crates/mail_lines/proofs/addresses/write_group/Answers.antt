@@ -3,7 +3,7 @@ use Rattle.std.proofs.KnownBytes.{Appends-trans}
 use Rattle.mail_address.specs.AddressViews.{member_view}
 use Rattle.mail_address.specs.declared.list.Member.{Member}
 use Rattle.mail_lines.specs.Addresses.{single_text}
-use Rattle.mail_lines.specs.Strings.{joined, json_text}
+use Rattle.mail_lines.specs.JsonText.{joined, json_text}
 use Rattle.mail_lines.proofs.lemmas.Fields.{ok_same}
 use Rattle.mail_lines.proofs.lemmas.Written.{appends_as, writes_then}
 use Rattle.mail_lines.proofs.addresses.write_group.Goals as goal

@@ -2,7 +2,7 @@ use Rattle.std.proofs.Common.{arith}
 use Rattle.std.proofs.lemmas.List.{get_or_default}
 use Rattle.mail_address.specs.AddressViews.{member_view}
 use Rattle.mail_lines.specs.Addresses.{single_text}
-use Rattle.mail_lines.proofs.lemmas.Strings.{wrote_item, wrote_items}
+use Rattle.mail_lines.proofs.lemmas.JsonText.{wrote_item, wrote_items}
 use Rattle.mail_lines.proofs.addresses.write_members.Goals as goal
 
 pub loop-member-preserved : goal.loop-member-preserved

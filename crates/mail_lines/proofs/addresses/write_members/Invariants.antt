@@ -2,7 +2,7 @@
 use Rattle.std.proofs.Common.{drop, map}
 use Rattle.mail_address.specs.AddressViews.{member_view}
 use Rattle.mail_lines.specs.Addresses.{single_text}
-use Rattle.mail_lines.proofs.lemmas.Strings.{Wrote}
+use Rattle.mail_lines.proofs.lemmas.JsonText.{Wrote}
 use Rattle.mail_lines.proofs.addresses.write_members.Given as goal
 
 abbrev pub invariant-loop-member : goal.invariant-loop-member

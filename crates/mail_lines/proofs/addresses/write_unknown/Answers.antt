@@ -1,6 +1,6 @@
 use Rattle.std.proofs.Common.{ap, ◌∙◌}
 use Rattle.std.proofs.KnownBytes.{Appends-trans}
-use Rattle.mail_lines.specs.Strings.{json_text}
+use Rattle.mail_lines.specs.JsonText.{json_text}
 use Rattle.mail_lines.proofs.lemmas.Written.{appends_as, writes_then}
 use Rattle.mail_lines.proofs.addresses.write_unknown.Goals as goal
 

@@ -2,7 +2,7 @@ use Rattle.std.proofs.Common.{arith}
 use Rattle.std.proofs.KnownBytes.{Appends-trans}
 use Rattle.mail_data.specs.InnerMailViews.{inner_view}
 use Rattle.mail_lines.specs.Inside.{inner_text}
-use Rattle.mail_lines.proofs.lemmas.Strings.{wrote_item, wrote_items}
+use Rattle.mail_lines.proofs.lemmas.JsonText.{wrote_item, wrote_items}
 use Rattle.mail_lines.proofs.lemmas.Written.{writes_then}
 use Rattle.mail_lines.proofs.inside.write_forwarded.Goals as goal
 

@@ -2,7 +2,7 @@
 use Rattle.std.proofs.Common.{drop, map}
 use Rattle.mail_data.specs.InnerMailViews.{inner_view}
 use Rattle.mail_lines.specs.Inside.{inner_text}
-use Rattle.mail_lines.proofs.lemmas.Strings.{Wrote}
+use Rattle.mail_lines.proofs.lemmas.JsonText.{Wrote}
 use Rattle.mail_lines.proofs.inside.write_forwarded.Given as goal
 
 abbrev pub invariant-loop-mail : goal.invariant-loop-mail

@@ -6,9 +6,8 @@ use Rattle.mailparse.specs.Placement.{Placement}
 use Rattle.mailparse.specs.Views.{placements_of, tree_of}
 use Rattle.mail_data.specs.InnerMails.{places_under}
 use Rattle.mail_data.specs.PartPlaces.{Place}
-use Rattle.mail_lines.specs.Inside.{inside_start}
-use Rattle.mail_lines.specs.Part.{AreAfterCommas, IsPartText}
-use Rattle.mail_lines.specs.Reading.{reading_of}
+use Rattle.mail_lines.specs.Part.{AreAfterCommas, IsPartText, place_in}
+use Rattle.mail_lines.specs.Options.{options_of}
 use Rattle.mail_lines.proofs.lemmas.Fields.{refused_or_memory}
 use Rattle.mail_lines.proofs.lemmas.Part.{found_as}
 use Rattle.mail_data.specs.PlaceViews.{place_view}
@@ -17,22 +16,22 @@ use Rattle.mail_lines.proofs.inside.write_inner_parts.Goals as goal
 
 pub returns-in_ok-found-in-Ok : goal.returns-in_ok-found-in-Ok
 returns-in_ok-found-in-Ok g c =
-    let reading = reading_of (g.K.KnownCharsets.known c.args.known.now) c.args.reading in
+    let options = options_of (g.K.KnownCharsets.known c.args.known.now) c.args.options in
     let inner = c.args.inner.now in
     let mail = c.in-Ok.mail in
-    let bytes = ap (λ (b : List ℕ). read_mail_in reading.known 100 b) c.as_slice.ensures.value in
-    let given : read_mail_in reading.known 100 inner.bytes.items ≡ Ok (tree_of mail) = sym bytes ∙ c.in-Ok.ensures.read in
+    let bytes = ap (λ (b : List ℕ). read_mail_in options.known 100 b) c.as_slice.ensures.value in
+    let given : read_mail_in options.known 100 inner.bytes.items ≡ Ok (tree_of mail) = sym bytes ∙ c.in-Ok.ensures.read in
     let path = ap (λ (p : List ℕ). places_under p (tree_of mail) (placements_of mail)) c.as_str.ensures.value in
     let placed = ap (λ (ps : List Placement). places_under (string_bytes inner.path) (tree_of mail) ps) c.in-Ok.ensures.places in
     let parts = ap (map place_view) c.as_slice-in-Ok.ensures.value ∙ c.in_ok-found-in-Ok.ensures ∙ path ∙ placed ∙ parts-read (string_bytes inner.path) _ (tree_of mail) given in
-    found_as (λ start. AreAfterCommas (IsPartText reading start)) _ _ _ _ _ _ c.write_found.result c.inside_start-start.ensures parts c.write_found.ensures
+    found_as (λ start. AreAfterCommas (IsPartText options start)) _ _ _ _ _ _ c.write_found.result c.place_in-start.ensures parts c.write_found.ensures
 
 pub returns-in_ok-refused-in-Err : goal.returns-in_ok-refused-in-Err
 returns-in_ok-refused-in-Err g c =
-    let reading = reading_of (g.K.KnownCharsets.known c.args.known.now) c.args.reading in
+    let options = options_of (g.K.KnownCharsets.known c.args.known.now) c.args.options in
     let inner = c.args.inner.now in
-    let bytes = ap (λ (b : List ℕ). read_mail_in reading.known 100 b) c.as_slice.ensures.value in
-    let refusal = refused_or_memory c.in-Err.error (read_mail_in reading.known 100 c.as_slice.result.now) c.in_ok-refused-in-Err.ensures c.in-Err.ensures.read in
-    let given : read_mail_in reading.known 100 inner.bytes.items ≡ Err refusal.0 = sym bytes ∙ refusal.2 in
+    let bytes = ap (λ (b : List ℕ). read_mail_in options.known 100 b) c.as_slice.ensures.value in
+    let refusal = refused_or_memory c.in-Err.error (read_mail_in options.known 100 c.as_slice.result.now) c.in_ok-refused-in-Err.ensures c.in-Err.ensures.read in
+    let given : read_mail_in options.known 100 inner.bytes.items ≡ Err refusal.0 = sym bytes ∙ refusal.2 in
     let none = parts-refused (string_bytes inner.path) _ refusal.0 given in
-    ([], subst (λ (xs : List Place). AreAfterCommas (IsPartText reading (inside_start c.args.start inner.start)) xs []) none refl, Appends-nil _)
+    ([], subst (λ (xs : List Place). AreAfterCommas (IsPartText options (place_in inner.start c.args.start)) xs []) none refl, Appends-nil _)

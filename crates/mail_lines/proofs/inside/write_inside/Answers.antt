@@ -2,9 +2,9 @@ use Rattle.std.proofs.Common.{◌+◌, [], ◌++◌, drop, map, ap, arith}
 use Rattle.std.proofs.KnownBytes.{Appends-nil, Appends-trans}
 use Rattle.std.proofs.lemmas.List.{drop_all}
 use Rattle.mail_data.specs.InnerMailViews.{inner_view}
-use Rattle.mail_lines.specs.Reading.{reading_of}
+use Rattle.mail_lines.specs.Options.{options_of}
 use Rattle.mail_lines.proofs.lemmas.Inside.{insides_end, insides_more}
-use Rattle.mail_lines.proofs.lemmas.Strings.{drop_next}
+use Rattle.mail_lines.proofs.lemmas.JsonText.{drop_next}
 use Rattle.mail_lines.proofs.inside.write_inside.Goals as goal
 
 pub loop-mail-init : goal.loop-mail-init
@@ -18,7 +18,7 @@ loop-mail-preserved g c =
     let part = c.in_ok-write_inner_parts.ensures in (
       here.0 ++ part.0,
       Appends-trans _ _ _ here.0 part.0 here.1 part.2,
-      insides_more (reading_of (g.K.KnownCharsets.known c.args.known.now) c.args.reading) c.args.start (inner_view c.mail-item.result) _ (map inner_view (drop (c.loop-mail.mail-index + 1) mails)) (map inner_view mails)
+      insides_more (options_of (g.K.KnownCharsets.known c.args.known.now) c.args.options) c.args.start (inner_view c.mail-item.result) _ (map inner_view (drop (c.loop-mail.mail-index + 1) mails)) (map inner_view mails)
           here.0 part.0 left here.2 part.1,
     )
 
@@ -26,4 +26,4 @@ pub returns : goal.returns
 returns g c =
     let here = c.loop-mail.invariant in
     let none = drop_all c.loop-mail.mail-index c.args.mails.now (omega arith) in
-    (here.0, insides_end (reading_of (g.K.KnownCharsets.known c.args.known.now) c.args.reading) c.args.start _ (map inner_view c.args.mails.now) here.0 (ap (map inner_view) none) here.2, here.1)
+    (here.0, insides_end (options_of (g.K.KnownCharsets.known c.args.known.now) c.args.options) c.args.start _ (map inner_view c.args.mails.now) here.0 (ap (map inner_view) none) here.2, here.1)

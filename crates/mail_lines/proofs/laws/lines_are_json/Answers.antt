@@ -1,4 +1,4 @@
-use Rattle.mail_lines.proofs.lemmas.JsonLines.{line_is_json, mailbox_is_lines, part_is_lines, unread_is_json}
+use Rattle.mail_lines.proofs.lemmas.LinesAreJson.{line_is_json, mailbox_is_lines, part_is_lines, unread_is_json}
 use Rattle.mail_lines.proofs.laws.lines_are_json.Goals as goal
 
 pub returns-clause-line : goal.returns-clause-line

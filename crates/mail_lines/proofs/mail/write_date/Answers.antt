@@ -2,7 +2,7 @@ use Rattle.std.proofs.Common.{◌++◌, ℕ, List, SFits, rules, w64, Some, sym,
 use Rattle.std.proofs.lemmas.Int.{to_z-of_z}
 use Rattle.std.specs.Prelude.{ℤ, codes}
 use Rattle.mailparse.specs.Map.{text_found}
-use Rattle.mail_lines.specs.Strings.{json_text, seconds_text}
+use Rattle.mail_lines.specs.JsonText.{json_text, seconds_text}
 use Rattle.mail_lines.proofs.lemmas.Mail.{date_read, date_refused}
 use Rattle.mail_lines.proofs.lemmas.Fields.{ok_same}
 use Rattle.mail_lines.proofs.lemmas.Written.{appends_as, writes_as, writes_then}

@@ -1,7 +1,7 @@
 use Rattle.std.proofs.Common.{◌++◌, ap, ◌∙◌, to_z-of_z, w64}
 use Rattle.std.specs.Prelude.{codes}
 use Rattle.std.specs.Fmt.{signed_decimal}
-use Rattle.mail_lines.proofs.lemmas.Strings.{seconds_text-fits}
+use Rattle.mail_lines.proofs.lemmas.JsonText.{seconds_text-fits}
 use Rattle.mail_lines.proofs.lemmas.Written.{appends_as}
 use Rattle.mail_lines.proofs.mail.write_seconds.Goals as goal
 

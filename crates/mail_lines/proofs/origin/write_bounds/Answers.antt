@@ -1,6 +1,6 @@
 use Rattle.std.proofs.Common.{◌++◌}
 use Rattle.std.specs.Prelude.{codes}
-use Rattle.mail_lines.proofs.lemmas.Strings.{number_text-fits}
+use Rattle.mail_lines.proofs.lemmas.JsonText.{number_text-fits}
 use Rattle.mail_lines.proofs.lemmas.Written.{appends_as}
 use Rattle.mail_lines.proofs.origin.write_bounds.Goals as goal
 

@@ -5,7 +5,7 @@ use Rattle.mail_data.specs.lenient.ContentViews.{content_view, fault_view}
 use Rattle.mail_data.specs.lenient.Texts.{charset_used, lenient_text}
 use Rattle.mail_data.proofs.lemmas.lenient.Texts.{some-mapped}
 use Rattle.mail_lines.specs.Part.{text_text}
-use Rattle.mail_lines.specs.Strings.{json_text}
+use Rattle.mail_lines.specs.JsonText.{json_text}
 use Rattle.mail_lines.proofs.lemmas.Fields.{ok_same}
 use Rattle.mail_lines.proofs.lemmas.Part.{text-hidden, text-shown}
 use Rattle.mail_lines.proofs.lemmas.Written.{appends_as, writes_as, writes_then}

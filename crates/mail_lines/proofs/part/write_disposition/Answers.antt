@@ -2,7 +2,7 @@ use Rattle.std.proofs.Common.{ap, ◌∙◌}
 use Rattle.std.proofs.KnownBytes.{Appends-trans}
 use Rattle.mailparse.specs.Views.{disposition}
 use Rattle.mail_data.specs.Files.{name_in}
-use Rattle.mail_lines.specs.Strings.{text_or_null}
+use Rattle.mail_lines.specs.JsonText.{text_or_null}
 use Rattle.mail_lines.proofs.lemmas.Written.{appends_as, writes_as, writes_then}
 use Rattle.mail_lines.proofs.lemmas.Part.{ctype-out}
 use Rattle.mail_lines.proofs.part.write_disposition.Goals as goal

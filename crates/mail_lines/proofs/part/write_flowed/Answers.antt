@@ -4,7 +4,7 @@ use Rattle.mailparse.specs.Mail.{root}
 use Rattle.mailparse.specs.Views.{tree_of}
 use Rattle.mail_data.specs.lenient.Content.{message_content}
 use Rattle.mail_data.specs.lenient.TextViews.{text_view}
-use Rattle.mail_lines.specs.Strings.{json_text}
+use Rattle.mail_lines.specs.JsonText.{json_text}
 use Rattle.mail_lines.proofs.lemmas.Fields.{ok_same}
 use Rattle.mail_lines.proofs.lemmas.Part.{text-flowed, text-hidden}
 use Rattle.mail_lines.proofs.lemmas.Written.{appends_as, writes_as, writes_then}

@@ -2,7 +2,7 @@ use Rattle.std.proofs.Common.{◌+◌, drop, arith}
 use Rattle.std.proofs.KnownBytes.{Appends-trans}
 use Rattle.std.proofs.lemmas.List.{drop_all}
 use Rattle.mail_lines.specs.Part.{header_text}
-use Rattle.mail_lines.proofs.lemmas.Strings.{drop_next, wrote_all, wrote_more}
+use Rattle.mail_lines.proofs.lemmas.JsonText.{drop_next, wrote_all, wrote_more}
 use Rattle.mail_lines.proofs.lemmas.Written.{writes_then}
 use Rattle.mail_lines.proofs.part.write_headers.Goals as goal
 

@@ -1,7 +1,7 @@
 -- What was written after the bracket is completed by the headers that are left.
 use Rattle.std.proofs.Common.{drop}
 use Rattle.mail_lines.specs.Part.{header_text}
-use Rattle.mail_lines.proofs.lemmas.Strings.{Wrote}
+use Rattle.mail_lines.proofs.lemmas.JsonText.{Wrote}
 use Rattle.mail_lines.proofs.part.write_headers.Given as goal
 
 abbrev pub invariant-loop-header : goal.invariant-loop-header

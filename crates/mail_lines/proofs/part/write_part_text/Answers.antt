@@ -9,11 +9,11 @@ use Rattle.mail_lines.proofs.lemmas.Part.{ctype-out}
 use Rattle.mail_lines.proofs.lemmas.Written.{writes_as}
 use Rattle.mail_lines.proofs.part.write_part_text.Goals as goal
 
-pub returns-then-reading : goal.returns-then-reading
-returns-then-reading g c = λ is.
+pub returns-then-options : goal.returns-then-options
+returns-then-options g c = λ is.
     let node = root (tree_of c.args.part.now) in
     writes_as _ _ c.write_flowed.result _ _
-    (ap (λ joins. body_text (g.K.KnownCharsets.known c.args.known.now) joins c.args.is_read node.ctype (message_content node)) (sym c.if-reading.true))
+    (ap (λ joins. body_text (g.K.KnownCharsets.known c.args.known.now) joins c.args.is_read node.ctype (message_content node)) (sym c.if-options.true))
     c.write_flowed.ensures
 
 pub returns : goal.returns
@@ -23,5 +23,5 @@ returns g c = λ is.
     writes_as _ _ c.write_body_text.result _ _
     (ap (λ (t : ContentType). body_text known false c.args.is_read t (content_view c.args.content.now)) (ctype-out c.args.part.now)
     ∙ ap (body_text known false c.args.is_read node.ctype) is
-    ∙ ap (λ joins. body_text known joins c.args.is_read node.ctype (message_content node)) (sym c.if-reading.false))
+    ∙ ap (λ joins. body_text known joins c.args.is_read node.ctype (message_content node)) (sym c.if-options.false))
     c.write_body_text.ensures

@@ -2,10 +2,10 @@ use Rattle.std.proofs.Common.{◌∷◌, map, refl, sym, ap, ◌∙◌}
 use Rattle.std.proofs.KnownBytes.{Appends-trans}
 use Rattle.std.specs.String.{string_bytes}
 use Rattle.mailparse.specs.Views.{content_type}
-use Rattle.mail_lines.specs.Strings.{json_text}
+use Rattle.mail_lines.specs.JsonText.{json_text}
 use Rattle.mail_lines.specs.Part.{IsTypeText, parameter_text, type_text}
 use Rattle.mail_lines.proofs.lemmas.Written.{appends_as, writes_one, writes_then}
-use Rattle.mail_lines.proofs.lemmas.Strings.{wrote_all, wrote_more}
+use Rattle.mail_lines.proofs.lemmas.JsonText.{wrote_all, wrote_more}
 use Rattle.mail_lines.proofs.lemmas.Part.{lists-entries, pair_of}
 use Rattle.mail_lines.proofs.part.write_type.Goals as goal
 

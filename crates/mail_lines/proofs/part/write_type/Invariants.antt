@@ -1,7 +1,7 @@
 -- What was written after the brace is completed by the parameters that are left.
 use Rattle.std.proofs.Common.{map}
 use Rattle.mail_lines.specs.Part.{parameter_text}
-use Rattle.mail_lines.proofs.lemmas.Strings.{Wrote}
+use Rattle.mail_lines.proofs.lemmas.JsonText.{Wrote}
 use Rattle.mail_lines.proofs.lemmas.Part.{pair_of}
 use Rattle.mail_lines.proofs.part.write_type.Given as goal
 

@@ -4,7 +4,7 @@ use Rattle.mailparse.specs.Views.{tree_of}
 use Rattle.mail_data.specs.Bounce.{recipients}
 use Rattle.mail_data.specs.BounceViews.{delivery}
 use Rattle.mail_lines.specs.Reports.{deliveries_text, delivery_text}
-use Rattle.mail_lines.proofs.lemmas.Strings.{wrote_item, wrote_items}
+use Rattle.mail_lines.proofs.lemmas.JsonText.{wrote_item, wrote_items}
 use Rattle.mail_lines.proofs.lemmas.Written.{writes_as, writes_then}
 use Rattle.mail_lines.proofs.reports.write_recipients.Goals as goal
 

@@ -2,7 +2,7 @@
 use Rattle.std.proofs.Common.{map, drop}
 use Rattle.mail_data.specs.BounceViews.{delivery}
 use Rattle.mail_lines.specs.Reports.{delivery_text}
-use Rattle.mail_lines.proofs.lemmas.Strings.{Wrote}
+use Rattle.mail_lines.proofs.lemmas.JsonText.{Wrote}
 use Rattle.mail_lines.proofs.reports.write_recipients.Given as goal
 
 abbrev pub invariant-loop-recipient : goal.invariant-loop-recipient

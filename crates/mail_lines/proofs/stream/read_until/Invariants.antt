@@ -1,4 +1,4 @@
--- What was taken off the reader came behind the bytes that were there.
+-- The bytes that were taken off the reader follow those that were there.
 use Rattle.std.proofs.Common.{◌≡◌, ◌++◌, ℕ, List}
 use Rattle.std.specs.Io.KnownBytes.{Consumes}
 use Rattle.mail_lines.proofs.stream.read_until.Given as goal

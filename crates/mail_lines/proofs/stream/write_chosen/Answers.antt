@@ -1,11 +1,10 @@
 use Rattle.std.proofs.Common.{◌≡◌, ◌++◌, List, ℕ, true, false, ap, option_map, subst, sym, ◌∙◌}
 use Rattle.std.proofs.KnownBytes.{Consumes-trans}
 use Rattle.std.specs.Io.KnownBytes.{Consumes}
-use Rattle.mail_lines.specs.Reading.{reading_of}
+use Rattle.mail_lines.specs.Options.{options_of}
 use Rattle.mail_data.specs.Mailbox.{has_front}
-use Rattle.mail_data.specs.declared.mailbox.formats.Format.{Format}
-use Rattle.mail_lines.specs.Chosen.{AreInputChosen, AreMailboxChosen}
-use Rattle.mail_lines.specs.Lines.{IsMailLine, format_of, is_mailbox}
+use Rattle.mail_lines.specs.Selection.{AreInputChosen, AreMailboxChosen}
+use Rattle.mail_lines.specs.JsonLines.{IsMailLine, format_of, is_mailbox}
 use Rattle.mail_lines.specs.Stream.{Ends, first_wanted, is_there}
 use Rattle.mail_lines.specs.declared.stream.Wanted.{Wanted}
 use Rattle.mail_lines.proofs.lemmas.Stream.{all_read, ends_here, form_front, input_after, input_lines, input_whole}
@@ -13,61 +12,60 @@ use Rattle.mail_lines.proofs.stream.write_chosen.Goals as goal
 
 pub write_following-requires : goal.write_following-requires
 write_following-requires g c =
-    let form = c.args.form in
+    let kind = c.args.source.kind in
     let read = c.read_until.new.bytes.items in
-    let there : is_there (first_wanted form) read ≡ true =
+    let there : is_there (first_wanted kind) read ≡ true =
     ap (λ (w : Wanted). is_there w read) (sym c.first_wanted.ensures) ∙ c.in_ok-has_ended.ensures.4 c.if-has_ended.false in
-    let which : is_mailbox form read ≡ true = ap (is_mailbox form) (sym c.as_slice-2.ensures.value) ∙ sym c.is_mailbox.ensures ∙ c.if-is_mailbox.true in
-    ap has_front c.as_slice-then-is_mailbox.ensures.value ∙ form_front form read there which
+    let selection : is_mailbox kind read ≡ true = ap (is_mailbox kind) (sym c.as_slice-2.ensures.value) ∙ sym c.is_mailbox.ensures ∙ c.if-is_mailbox.true in
+    ap has_front c.as_slice-then-is_mailbox.ensures.value ∙ form_front kind read there selection
 
 pub returns-then-has_ended : goal.returns-then-has_ended
 returns-then-has_ended g c =
-    let reading = reading_of (g.K.KnownCharsets.known c.args.known.now) c.args.reading in
-    let file = option_map (λ name. name.now) c.args.file in
+    let options = options_of (g.K.KnownCharsets.known c.args.source.known.now) c.args.source.options in
+    let file = option_map (λ name. name.now) c.args.source.file in
     let taken = c.in_ok-has_ended.ensures in
     let bytes = c.as_slice.result.now in
     let whole : bytes ≡ taken.0 = c.as_slice.ensures.value ∙ taken.2 ∙ ap (λ (bs : List ℕ). bs ++ taken.0) c.new-read.ensures.items in
-    input_whole (Ends c.args.which) _ _ _ _ c.write_whole.result taken.0 (AreInputChosen reading c.args.form file c.args.which bytes) (AreInputChosen reading c.args.form file c.args.which)
-    taken.1 (ends_here c.args.which _ (taken.3 c.if-has_ended.true))
-    (λ is_clean text h. subst (λ (bs : List ℕ). AreInputChosen reading c.args.form file c.args.which bs is_clean text) whole h)
+    input_whole (Ends c.args.selection) _ _ _ _ c.write_whole.result taken.0 (AreInputChosen options c.args.source.kind file c.args.selection bytes) (AreInputChosen options c.args.source.kind file c.args.selection)
+    taken.1 (ends_here c.args.selection _ (taken.3 c.if-has_ended.true))
+    (λ is_clean text h. subst (λ (bs : List ℕ). AreInputChosen options c.args.source.kind file c.args.selection bs is_clean text) whole h)
     c.write_whole.ensures
 
 pub returns-then-is_mailbox : goal.returns-then-is_mailbox
 returns-then-is_mailbox g c =
-    let reading = reading_of (g.K.KnownCharsets.known c.args.known.now) c.args.reading in
-    let file = option_map (λ name. name.now) c.args.file in
-    let form = c.args.form in
-    let wanted = c.args.which in
+    let options = options_of (g.K.KnownCharsets.known c.args.source.known.now) c.args.source.options in
+    let file = option_map (λ name. name.now) c.args.source.file in
+    let kind = c.args.source.kind in
+    let wanted = c.args.selection in
     let read = c.read_until.new.bytes.items in
     let bytes = c.as_slice-then-is_mailbox.result.now in
     let taken = c.in_ok-has_ended.ensures in
-    let there : is_there (first_wanted form) read ≡ true =
+    let there : is_there (first_wanted kind) read ≡ true =
     ap (λ (w : Wanted). is_there w read) (sym c.first_wanted.ensures) ∙ taken.4 c.if-has_ended.false in
-    let is_form : is_mailbox form read ≡ true = ap (is_mailbox form) (sym c.as_slice-2.ensures.value) ∙ sym c.is_mailbox.ensures ∙ c.if-is_mailbox.true in
+    let is_form : is_mailbox kind read ≡ true = ap (is_mailbox kind) (sym c.as_slice-2.ensures.value) ∙ sym c.is_mailbox.ensures ∙ c.if-is_mailbox.true in
     let whole : read ≡ taken.0 = taken.2 ∙ ap (λ (bs : List ℕ). bs ++ taken.0) c.new-read.ensures.items in
-    input_after (Ends wanted) _ _ _ _ _ c.write_following.result read (λ more. AreMailboxChosen reading c.format_of-format.result file wanted (bytes ++ more)) (AreInputChosen reading form file wanted)
+    input_after (Ends wanted) _ _ _ _ _ c.write_following.result read (λ more. AreMailboxChosen options (format_of kind) file wanted (bytes ++ more)) (AreInputChosen options kind file wanted)
     (subst (λ (bs : List ℕ). Consumes (g.R.Read.remaining c.args.reader.now) (g.R.Read.remaining c.read_until.new.reader) bs) (sym whole) taken.1)
-    (λ more is_clean text h. input_lines reading (format_of form) file form wanted read more (bytes ++ more) true is_clean text
-    (ap (λ (bs : List ℕ). bs ++ more) c.as_slice-then-is_mailbox.ensures.value) there is_form
-    (subst (λ (f : Format). AreMailboxChosen reading f file wanted (bytes ++ more) is_clean text) c.format_of-format.ensures h))
+    (λ more is_clean text h. input_lines options (format_of kind) file kind wanted read more (bytes ++ more) true is_clean text
+    (ap (λ (bs : List ℕ). bs ++ more) c.as_slice-then-is_mailbox.ensures.value) there is_form h)
     c.write_following.ensures
 
 pub returns : goal.returns
 returns g c =
-    let reading = reading_of (g.K.KnownCharsets.known c.args.known.now) c.args.reading in
-    let file = option_map (λ name. name.now) c.args.file in
-    let form = c.args.form in
-    let wanted = c.args.which in
+    let options = options_of (g.K.KnownCharsets.known c.args.source.known.now) c.args.source.options in
+    let file = option_map (λ name. name.now) c.args.source.file in
+    let kind = c.args.source.kind in
+    let wanted = c.args.selection in
     let read = c.read_until.new.bytes.items in
     let bytes = c.as_slice-3.result.now in
     let taken = c.in_ok-has_ended.ensures in
     let last = c.in_ok-read_until.ensures in
-    let there : is_there (first_wanted form) read ≡ true =
+    let there : is_there (first_wanted kind) read ≡ true =
     ap (λ (w : Wanted). is_there w read) (sym c.first_wanted.ensures) ∙ taken.4 c.if-has_ended.false in
-    let is_form : is_mailbox form read ≡ false = ap (is_mailbox form) (sym c.as_slice-2.ensures.value) ∙ sym c.is_mailbox.ensures ∙ c.if-is_mailbox.false in
+    let is_form : is_mailbox kind read ≡ false = ap (is_mailbox kind) (sym c.as_slice-2.ensures.value) ∙ sym c.is_mailbox.ensures ∙ c.if-is_mailbox.false in
     let whole : read ≡ taken.0 = taken.2 ∙ ap (λ (bs : List ℕ). bs ++ taken.0) c.new-read.ensures.items in
     let first = subst (λ (bs : List ℕ). Consumes (g.R.Read.remaining c.args.reader.now) (g.R.Read.remaining c.read_until.new.reader) bs) (sym whole) taken.1 in
-    input_whole (Ends wanted) _ _ _ _ c.write_single.result (read ++ last.0) (IsMailLine reading file bytes) (AreInputChosen reading form file wanted)
+    input_whole (Ends wanted) _ _ _ _ c.write_single.result (read ++ last.0) (IsMailLine options file bytes) (AreInputChosen options kind file wanted)
     (Consumes-trans _ _ _ read last.0 first last.1) (ends_here wanted _ (all_read _ c.in_ok-read_until.field-0 last.3 last.4))
-    (λ is_clean text h. input_lines reading (format_of form) file form wanted read last.0 bytes false is_clean text (c.as_slice-3.ensures.value ∙ last.2) there is_form h)
+    (λ is_clean text h. input_lines options (format_of kind) file kind wanted read last.0 bytes false is_clean text (c.as_slice-3.ensures.value ∙ last.2) there is_form h)
     c.write_single.ensures

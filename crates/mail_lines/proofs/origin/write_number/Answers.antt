@@ -1,6 +1,0 @@
-use Rattle.mail_lines.proofs.lemmas.Strings.{number_text-fits}
-use Rattle.mail_lines.proofs.lemmas.Written.{appends_as}
-use Rattle.mail_lines.proofs.origin.write_number.Goals as goal
-
-pub returns : goal.returns
-returns g c = appends_as _ _ _ _ (number_text-fits c.args.number c.ranges.number.fits) c.in_ok-write.ensures.bytes

@@ -1,0 +1,202 @@
+//! JSON text of strings, numbers and refusals (RFC 8259, sections 4 to 7).
+ghost use Rattle.std.specs.Prelude.{◌≡◌, ◌++◌, false, map, option_map, string_bytes, IfOk, OnOk};
+ghost use Rattle.mail_lines.specs.JsonText.{character_text, comma, escaped, is_hidden, json_text};
+ghost use Rattle.mail_lines.specs.JsonText.{json_texts, number_or_null, number_text, refusal_text};
+ghost use Rattle.mail_lines.specs.JsonText.{text_or_null, utf8_text};
+ghost use Rattle.mail_lines.specs.Written.{Writes};
+ghost use Rattle.mailparse.specs.Map.{text_found};
+ghost use Rattle.mailparse.specs.Outcome.{IsMemory, refusal_of};
+
+use mail_program::Fault;
+use mailparse::MailParseError;
+use serde_json::Value;
+use std::alloc::{AllocError, Global};
+use std::io::Write;
+
+/// Writes a string.
+pub(crate) fn write_text<W: Write>(alloc: Global, out: &mut W, text: &str) -> Result<(), Fault>
+    ensures { Writes (W.contents out.old) (W.contents out.new) result (json_text text.now) }
+{
+    write_owned(alloc, out, String::from_str(alloc, text)?)
+}
+
+/// Writes a string, which is not copied first.
+pub(crate) fn write_owned<W: Write>(alloc: Global, out: &mut W, text: String) -> Result<(), Fault>
+    ensures { Writes (W.contents out.old) (W.contents out.new) result
+        (json_text (string_bytes text)) }
+{
+    write_quoted(alloc, out, text)
+}
+
+/// Writes the same as `write_owned`. Its contract says that the text is UTF-8.
+#[tactic(auto, unfolding(crate::specs::JsonText::utf8_text))]
+fn write_quoted<W: Write>(alloc: Global, out: &mut W, text: String) -> Result<(), Fault>
+    ensures { Writes (W.contents out.old) (W.contents out.new) result
+        (utf8_text (string_bytes text)) }
+{
+    let json = Value::String(text).to_string(alloc)?;
+    if has_hidden(json.as_str()) {
+        let json = escaped(alloc, json.as_str())?;
+        return write_word(out, json.as_str());
+    }
+    write_word(out, json.as_str())
+}
+
+/// Writes a string, or `null` for `None`.
+pub(crate) fn write_optional<W: Write>(
+    alloc: Global,
+    out: &mut W,
+    text: Option<String>,
+) -> Result<(), Fault>
+    ensures { Writes (W.contents out.old) (W.contents out.new) result
+        (text_or_null (text_found text)) }
+{
+    match text {
+        Some(text) => write_owned(alloc, out, text),
+        None => write_word(out, "null"),
+    }
+}
+
+/// Writes a name as a string, or `null` for `None`.
+pub(crate) fn write_name<W: Write>(
+    alloc: Global,
+    out: &mut W,
+    name: Option<&str>,
+) -> Result<(), Fault>
+    ensures { Writes (W.contents out.old) (W.contents out.new) result
+        (text_or_null (option_map (λ text. text.now) name.entry)) }
+{
+    match name {
+        Some(name) => write_text(alloc, out, name),
+        None => write_word(out, "null"),
+    }
+}
+
+/// Writes a list of strings.
+pub(crate) fn write_texts<W: Write>(
+    alloc: Global,
+    out: &mut W,
+    texts: &[String],
+) -> Result<(), Fault>
+    ensures { Writes (W.contents out.old) (W.contents out.new) result
+        (json_texts (map (λ t. string_bytes t) texts.now)) }
+{
+    write_word(out, "[")?;
+    let mut is_first = true;
+    for text in texts {
+        write_comma(out, is_first)?;
+        write_text(alloc, out, text.as_str())?;
+        is_first = false;
+    }
+    write_word(out, "]")
+}
+
+/// Writes the comma before an item or a member that is not the first.
+pub(crate) fn write_comma<W: Write>(out: &mut W, is_first: bool) -> Result<(), Fault>
+    ensures { Writes (W.contents out.old) (W.contents out.new) result (comma is_first) }
+{
+    if is_first {
+        return Ok(());
+    }
+    write_word(out, ",")
+}
+
+/// Writes text as it is.
+pub(crate) fn write_word<W: Write>(out: &mut W, word: &str) -> Result<(), Fault>
+    ensures { Writes (W.contents out.old) (W.contents out.new) result word.now }
+{
+    out.write_all(word.as_bytes())?;
+    Ok(())
+}
+
+/// Writes a number, or `null` for `None`.
+pub(crate) fn write_number_or_null<W: Write>(
+    out: &mut W,
+    number: Option<usize>,
+) -> Result<(), Fault>
+    ensures { Writes (W.contents out.old) (W.contents out.new) result (number_or_null number) }
+{
+    match number {
+        Some(number) => write_number(out, number),
+        None => write_word(out, "null"),
+    }
+}
+
+/// Writes a number.
+pub(crate) fn write_number<W: Write>(out: &mut W, number: usize) -> Result<(), Fault>
+    ensures { Writes (W.contents out.old) (W.contents out.new) result (number_text number) }
+{
+    write!(out, "{number}")?;
+    Ok(())
+}
+
+/// Returns why something is refused, as `Display` shows it, or `None` for an error that refuses
+/// nothing. Fails if it runs out of memory, and for `MailParseError::Memory`.
+#[tactic(auto, unfolding(crate::specs::JsonText::refusal_text))]
+pub(crate) fn refusal_of(
+    alloc: Global,
+    error: &MailParseError,
+) -> Result<Option<String>, AllocError>
+    ensures read { IfOk result (λ text.
+        text_found text ≡ option_map refusal_text (refusal_of error.now)) }
+    ensures passed_on { IfOk result (λ text. IsMemory error.now → ⊥) }
+{
+    let text = match error {
+        MailParseError::Base64DecodeError(fault) => {
+            let group = fault.group;
+            format!(in alloc; "Base64 decode error: group {group} is no Base64 group")
+        }
+        MailParseError::EncodingError(text) => {
+            let text = text.as_str();
+            format!(in alloc; "Encoding error: {text}")
+        }
+        MailParseError::Generic(text) => String::from_str(alloc, text),
+        MailParseError::QuotedPrintableDecodeError(_) => return Ok(None),
+        MailParseError::Memory(_) => Err(AllocError),
+    };
+    Ok(Some(text?))
+}
+
+/// Returns `false` only if `escaped` leaves the text as it is.
+fn has_hidden(text: &str) -> bool
+    ensures { result ≡ false → escaped text.now ≡ text.now }
+{
+    for c in text.chars() {
+        if is_hidden(c) {
+            return true;
+        }
+    }
+    false
+}
+
+/// Returns whether a character, which JSON allows in a string, moves the cursor of a terminal or ends a
+/// line for some readers: DEL, the controls from U+0080 to U+009F, and the separators U+2028 and U+2029.
+#[tactic(auto, unfolding(crate::specs::JsonText::is_hidden))]
+fn is_hidden(c: char) -> bool
+    ensures { result ≡ is_hidden c }
+{
+    matches!(c, '\u{7f}'..='\u{9f}' | '\u{2028}' | '\u{2029}')
+}
+
+/// Returns a JSON text with escapes for such characters, which occur only within its strings.
+fn escaped(alloc: Global, json: &str) -> Result<String, AllocError>
+    ensures { IfOk result (λ text. string_bytes text ≡ escaped json.now) }
+{
+    let mut text = String::with_capacity(alloc, json.len())?;
+    for c in json.chars() {
+        push_escaped(&mut text, c)?;
+    }
+    Ok(text)
+}
+
+/// Appends a character, or its escape.
+fn push_escaped(text: &mut String, c: char) -> Result<(), AllocError>
+    ensures { OnOk result (string_bytes text.new ≡ string_bytes text.old ++ character_text c) }
+{
+    if is_hidden(c) {
+        let number = u32::from(c);
+        return write!(text, "\\u{number:04x}");
+    }
+    text.push(c)?;
+    Ok(())
+}

@@ -1,0 +1,72 @@
+//! What an input is, and how its mails are read and shown.
+ghost use Rattle.std.specs.Prelude.{◌≡◌, false};
+ghost use Rattle.mail_lines.specs.JsonLines.{format_of};
+
+use mail_data::mailbox::Format;
+
+/// What an input is.
+#[derive(Clone, Copy, Debug, PartialEq, Eq)]
+pub enum InputKind {
+    /// A mailbox if it begins with a separator, otherwise a mail.
+    Either,
+    /// One mail.
+    Mail,
+    /// A mailbox in this format.
+    Mailbox(Format),
+}
+
+impl InputKind {
+    /// Returns the format in which an input of this kind is read if it is a mailbox.
+    pub(crate) fn format(self) -> Format
+        ensures { result ≡ format_of self }
+    {
+        match self {
+            InputKind::Either | InputKind::Mail => Format::Plain,
+            InputKind::Mailbox(format) => format,
+        }
+    }
+}
+
+/// How mails are read and shown.
+#[derive(Clone, Copy, Debug)]
+pub struct LineOptions {
+    /// Whether files have their SHA-256.
+    pub hashes: bool,
+    /// Whether each paragraph of a flowed text is one line (RFC 3676).
+    pub joins_flowed: bool,
+}
+
+impl LineOptions {
+    /// Returns options that show no hashes, and texts as they are.
+    ///
+    /// # Examples
+    ///
+    /// ```rust
+    /// use mail_lines::LineOptions;
+    ///
+    /// assert!(rt; !LineOptions::new().hashes);
+    /// ```
+    pub fn new() -> LineOptions
+        ensures hashes { result.hashes ≡ false }
+        ensures joins_flowed { result.joins_flowed ≡ false }
+    {
+        LineOptions {
+            hashes: false,
+            joins_flowed: false,
+        }
+    }
+}
+
+/// What is known of an input, and how its mails are read and shown.
+#[derive_where(Clone, Copy, Debug)]
+pub struct Source<'s, K> {
+    /// What the input is.
+    pub kind: InputKind,
+    /// The name of the file, or `None` for standard input.
+    pub file: Option<&'s str>,
+    /// How its mails are shown.
+    pub options: LineOptions,
+    /// The charsets in which its mails are read.
+    #[derive_where(skip(Debug))]
+    pub known: &'s K,
+}
