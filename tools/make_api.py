@@ -132,8 +132,8 @@ def body_of(begin, text):
     return "".join(found(rf"^{begin}[^\n]* \{{\n(.*?)^\}}$", text))
 
 
-def source_folder(path):
-    """The folder `src` that a source file is in."""
+def source_directory(path):
+    """The directory `src` of a source file."""
     return re.match(r".*/src(?=/)", path).group()
 
 
@@ -175,7 +175,7 @@ class Module:
             self.items.append(item)
             item.members = members(self.body(rf"pub {kind} {item.name}\b"), kind)
             item.members += members(self.body(rf"impl(?:<[^>]*>)? {item.name}\b(?! for)"), "impl")
-            tables = os.path.join(source_folder(path), "tables.rt")
+            tables = os.path.join(source_directory(path), "tables.rt")
             if os.path.isfile(tables) and path != tables:
                 item.members += members(body_of(rf"impl(?:<[^>]*>)? {item.name}\b", text_of(tables)), "impl")
 
