@@ -19,6 +19,8 @@ import pytest
 
 from support import SAMPLES, TOP, program
 
+from suite import rows_in
+
 DATA = TOP / "crates" / "mail_vectors" / "data"
 FILES = (DATA.parent / "args").read_text().split()
 REFUSED = {
@@ -99,11 +101,16 @@ def replay(refuse, report, words, **environment):
     return int(rows[1]), int(ran_out[1]) if ran_out else 0, int(report.read_text().split()[1])
 
 
+def rows_of(files):
+    """The number of rows in files of the suite."""
+    return sum(1 for name in files for _ in rows_in(DATA / name))
+
+
 def test_suite_with_ample_memory(refuse, tmp_path):
     """All rows, long ones too."""
     rows, ran_out, refused = replay(refuse, tmp_path / "report", FILES)
     assert (ran_out, refused) == (0, 0)
-    assert rows > 10_000
+    assert rows == rows_of(FILES)
 
 
 @pytest.mark.parametrize("mode", ["at", "from"])
@@ -113,7 +120,8 @@ def test_suite_with_refused_memory(refuse, tmp_path, mode):
     allocation was refused, and rows that are marked so allocate nothing."""
     files = [name for name in FILES if not name.startswith("long_")]
     rows, ran_out, refused = replay(refuse, tmp_path / "report", ["again", *files], REFUSE_ROWS=mode)
-    assert ran_out == refused > rows > 10_000
+    assert rows == rows_of(files)
+    assert ran_out == refused > rows
 
 
 # a mail of 2.4 MB, and what the programs write of it
