@@ -45,7 +45,7 @@ def test_rows_in_python():
 def test_rows_in_the_crate(oracle):
     """Each row that the crate can read agrees, or has a mark that says why not."""
     rows = rows_of(ORACLE, "/long_")
-    assert len(rows) > 10_000
+    assert len(rows) > 2500
     assert list(faults("crate", rows, by_oracle(oracle, rows))) == []
 
 
