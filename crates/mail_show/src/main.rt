@@ -35,9 +35,9 @@ fn answer(
             let _ = eprintln!(rt; "{USAGE}");
             return Ok(ExitCode::from(2));
         }
-        Request::Input => run(rt.alloc(), &mut io::writer(rt), &mut rt.reader())?,
+        Request::Input => run(rt.alloc(), &mut rt.reader(), &mut io::writer(rt))?,
         Request::File(name) => match fs::open(rt, name) {
-            Ok(mut file) => run(rt.alloc(), &mut io::writer(rt), &mut file)?,
+            Ok(mut file) => run(rt.alloc(), &mut file, &mut io::writer(rt))?,
             Err(error) => {
                 let _ = eprintln!(rt; "mail_show: {name}: {error}");
                 return Ok(ExitCode::FAILURE);

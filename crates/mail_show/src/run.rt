@@ -12,16 +12,16 @@ use std::io::{Read, Write};
 
 /// Reads a mail to the end of `reader`, writes its text to `writer`, and flushes it.
 ///
-/// Nothing is written before the whole text is made, so `Mail` and `Input` leave the writer as it was.
-/// An interrupted read or write is tried again; a failed flush is not. Takes memory for the input, its
-/// headers and the text.
+/// Nothing is written before the whole text is made, so `Mail` and `Input` leave the writer as it
+/// was. An interrupted read or write is tried again; a failed flush is not. Takes memory for the
+/// input, its headers and the text.
 ///
 /// # Errors
 ///
 /// - `Fault::Mail` if `parse_mail` refuses the input, with its refusal, and if it runs out of memory,
 /// - `Fault::Input` if a read fails,
 /// - `Fault::Output` if a write or the flush fails.
-pub fn run<R: Read, W: Write>(alloc: Global, writer: &mut W, reader: &mut R) -> Result<(), Fault>
+pub fn run<R: Read, W: Write>(alloc: Global, reader: &mut R, writer: &mut W) -> Result<(), Fault>
     ensures written { IfOk result (λ done. HasWritten (R.remaining reader.old) (R.remaining reader.new)
         (W.contents writer.old) (W.contents writer.new)) }
     ensures refused { IfErr result (IfMail (λ e.
