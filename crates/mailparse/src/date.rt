@@ -15,10 +15,10 @@ use words::next_word;
 /// Returns the seconds from 1 January 1970, 00:00 UTC, to a date as written in mail (RFC 5322,
 /// sections 3.3 and 4.3).
 ///
-/// The words, separated by spaces and colons, are a day, a month, a year, an hour, a minute, a second
-/// and a zone, in this order. Text before the first number below 256 and after the zone is ignored.
-/// Words at the end may be missing: a text without a year gives 0. A year below 100 is one from 1970
-/// to 2069, and a day past the end of its month lies in the next one. Takes no memory.
+/// The words, separated by spaces and colons, are a day, a month, a year, an hour, a minute, a
+/// second and a zone, in this order. Text before the first number below 256 and after the zone is
+/// ignored. Words at the end may be missing: a text without a year gives 0. A year below 100 is one
+/// from 1970 to 2069, and a day past the end of its month lies in the next one. Takes no memory.
 ///
 /// # Errors
 ///
@@ -72,8 +72,8 @@ fn first_number(date: &str) -> Option<(u8, &str)>
     None
 }
 
-/// Returns the seconds from 1 January 1970 to the year and time that a text begins with, on a day of
-/// a month.
+/// Returns the seconds from 1 January 1970 to the year and time that a text begins with, on a day
+/// of a month.
 fn from_year(month: usize, day: u8, text: &str) -> Result<i64, MailParseError>
     requires month { month < 12 }
     requires some { 1 ≤ day }

@@ -186,8 +186,8 @@ impl<'a> MailHeader<'a> {
         self.get_value_ref_in(alloc, &())
     }
 
-    /// Returns the text of the value as `get_value_in` does, borrowed if it is a part of the value's
-    /// bytes.
+    /// Returns the text of the value as `get_value_in` does, borrowed if it is a part of the
+    /// value's bytes.
     pub(crate) fn get_value_ref_in<K: KnownCharsets>(
         &self,
         alloc: Global,
@@ -211,8 +211,8 @@ impl<'a> MailHeader<'a> {
     ///
     /// # Errors
     ///
-    /// `MailParseError::EncodingError` if the bytes are not UTF-8, and `MailParseError::Memory` if it
-    /// runs out of memory.
+    /// `MailParseError::EncodingError` if the bytes are not UTF-8, and `MailParseError::Memory` if
+    /// it runs out of memory.
     ///
     /// # Examples
     ///

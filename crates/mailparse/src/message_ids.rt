@@ -110,8 +110,8 @@ impl fmt::Display for MessageIdList {
 ///
 /// Each id is the text between a `<` and the first `>` after it. It may be empty, and may contain
 /// whitespace and any other character except `>`. Only whitespace may surround the ids; a text of
-/// whitespace alone gives the empty list. Takes memory for the list and its ids, and none before the
-/// first whole id.
+/// whitespace alone gives the empty list. Takes memory for the list and its ids, and none before
+/// the first whole id.
 ///
 /// # Errors
 ///
@@ -145,8 +145,8 @@ pub fn msgidparse(alloc: Global, ids: &str) -> Result<MessageIdList, MailParseEr
     Ok(MessageIdList(found))
 }
 
-/// Returns the id that a text begins with, after whitespace, and the text after its `>`, or `None` if
-/// no `>` is left.
+/// Returns the id that a text begins with, after whitespace, and the text after its `>`, or `None`
+/// if no `>` is left.
 fn next_id(text: &str) -> Result<Option<(&str, &str)>, MailParseError>
     ensures { MatchResult result (λ found. IsNextIdOrNone text.now found)
         (λ e. IsRefusal e (message_ids text.now)) }

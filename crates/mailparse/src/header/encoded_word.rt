@@ -62,8 +62,8 @@ fn decode_encoded(
     }
 }
 
-/// Returns the text of an encoded word, given the text between its `=?` and its `?=`, or `None` if it
-/// does not decode. A byte order mark is not looked for.
+/// Returns the text of an encoded word, given the text between its `=?` and its `?=`, or `None` if
+/// it does not decode. A byte order mark is not looked for.
 pub(crate) fn decode_word<K: KnownCharsets>(
     alloc: Global,
     inside: &str,

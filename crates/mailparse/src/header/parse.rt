@@ -93,8 +93,8 @@ fn line_feed_from(raw: &[u8], from: usize) -> usize
     }
 }
 
-/// Returns the end of a header whose first LF after its colon is at `first`: the first LF from there
-/// onwards that no space or tab follows, or the end of the bytes.
+/// Returns the end of a header whose first LF after its colon is at `first`: the first LF from
+/// there onwards that no space or tab follows, or the end of the bytes.
 fn header_end(raw: &[u8], first: usize) -> usize
     requires within { first ≤ length raw.now }
     requires found { place_from (begins is_line_feed) raw.now first ≡ first }

@@ -111,8 +111,8 @@ fn find_closing_or_keep(line: &str, from: usize, kept: usize) -> usize
 
 /// Appends the tokens of one line, in order.
 ///
-/// The time is linear in the length of the line: the end of a word, and the fact that there is none,
-/// are kept until the search is past it.
+/// The time is linear in the length of the line: the end of a word, and the fact that there is
+/// none, are kept until the search is past it.
 pub(crate) fn push_line<'a, K: KnownCharsets>(
     alloc: Global,
     unfolded: &mut UnfoldedValue<'a>,

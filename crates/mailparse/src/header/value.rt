@@ -74,7 +74,8 @@ pub(crate) fn value_of<K: KnownCharsets>(
     String::from_str(alloc, line)
 }
 
-/// Returns the text of a value. Lines without `=?` are joined; any other value is read token by token.
+/// Returns the text of a value. Lines without `=?` are joined; any other value is read token by
+/// token.
 fn owned_value<K: KnownCharsets>(alloc: Global, text: &str, known: &K) -> Result<String, AllocError>
     ensures { IfOk result (λ value.
         string_bytes value ≡ unfolded_value (K.known known.now) text.now) }

@@ -18,8 +18,8 @@ const FIRST_HEADERS: usize = 16;
 const HEADER_BYTES: usize = 32;
 
 /// Reads the headers at the front of `raw`, up to the blank line that ends them or to the end of
-/// input, and returns them with the offset of the body, just after the blank line (RFC 5322, section
-/// 2.1).
+/// input, and returns them with the offset of the body, just after the blank line (RFC 5322,
+/// section 2.1).
 ///
 /// A blank line is LF or CR LF. Takes memory only for the list of headers.
 ///
@@ -69,7 +69,8 @@ pub fn parse_headers(
     }
 }
 
-/// Adds a header to the list of a message of `bytes` bytes. The first one reserves capacity for more.
+/// Adds a header to the list of a message of `bytes` bytes. The first one reserves capacity for
+/// more.
 fn push_header<'a>(
     headers: &mut Vec<MailHeader<'a>>,
     header: MailHeader<'a>,

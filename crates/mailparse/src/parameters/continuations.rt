@@ -79,8 +79,8 @@ fn add_bases<C: Decode, X>(
 
 /// Returns the bases; some may occur more than once.
 fn bases_of<C: Decode>(alloc: Global, sections: &Sections<C>) -> Result<Vec<String>, AllocError>
-    ensures { IfOk result (λ bases. map string_bytes bases.items
-        ≡ bases_of_sections_0 (stored_section C.text sections.now) (names_of_sections sections.now)) }
+    ensures { IfOk result (λ bases. map string_bytes bases.items ≡ bases_of_sections_0
+        (stored_section C.text sections.now) (names_of_sections sections.now)) }
 {
     let mut bases = Vec::new(alloc);
     add_bases(alloc, sections, &sections.texts, &mut bases)?;
@@ -127,8 +127,9 @@ fn put_text(
     name: String,
     text: String,
 ) -> Result<(), AllocError>
-    ensures { OnOk result ((q : List ℕ) → text_at texts.new q ≡
-        (if bytes_eq (string_bytes name) q then Some (string_bytes text) else text_at texts.old q)) }
+    ensures { OnOk result ((q : List ℕ) → text_at texts.new q
+        ≡ (if bytes_eq (string_bytes name) q then Some (string_bytes text)
+        else text_at texts.old q)) }
 {
     texts.insert(name, text)?;
     Ok(())

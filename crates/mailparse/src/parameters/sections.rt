@@ -40,7 +40,8 @@ impl<C: Decode> Sections<C> {
 
     /// Removes the entry of a name and returns it.
     pub(super) fn take(&mut self, name: &str) -> Option<Section<C>>
-        ensures taken { option_map (section_view C.text) result ≡ stored_section C.text self.old name.now }
+        ensures taken { option_map (section_view C.text) result
+            ≡ stored_section C.text self.old name.now }
         ensures left { (q : List ℕ) → stored_section C.text self.new q ≡
             (if bytes_eq name.now q then None else stored_section C.text self.old q) }
     {

@@ -20,7 +20,8 @@ pub(super) struct Joining<C: Decode> {
 impl<C: Decode> Joining<C> {
     /// Returns the state before the first section.
     pub(super) fn new(alloc: Global) -> Joining<C>
-        ensures { (sections : List words.Section) → joined_with C.text result sections ≡ joined sections }
+        ensures { (sections : List words.Section) →
+            joined_with C.text result sections ≡ joined sections }
     {
         Joining {
             text: String::new(alloc),
@@ -44,7 +45,8 @@ impl<C: Decode> Joining<C> {
     /// Appends one more section.
     pub(super) fn push(&mut self, alloc: Global, section: Section<C>) -> Result<(), AllocError>
         ensures { OnOk result ((rest : List words.Section) →
-            joined_with C.text self.old (section_view C.text section ∷ rest) ≡ joined_with C.text self.new rest) }
+            joined_with C.text self.old (section_view C.text section ∷ rest)
+            ≡ joined_with C.text self.new rest) }
     {
         match section {
             Section::Text(text) => {
@@ -58,7 +60,8 @@ impl<C: Decode> Joining<C> {
     /// Appends the bytes of a section to the open run, or opens one with them.
     fn extend_run(&mut self, charset: C, bytes: Vec<u8>) -> Result<(), AllocError>
         ensures { OnOk result ((rest : List words.Section) →
-            joined_with C.text self.old (words.octets (C.text charset) bytes.items ∷ rest) ≡ joined_with C.text self.new rest) }
+            joined_with C.text self.old (words.octets (C.text charset) bytes.items ∷ rest)
+            ≡ joined_with C.text self.new rest) }
     {
         let Some((_, mut run)) = self.run.take() else {
             self.run = Some((charset, bytes));

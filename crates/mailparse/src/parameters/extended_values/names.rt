@@ -49,7 +49,8 @@ pub(super) fn extended_names<'a, K: KnownCharsets>(
 ) -> Result<Vec<ExtendedName<'a, K::Decoder>>, AllocError>
     ensures ordered { IfOk result (λ _. IsOrdered string_cmp pairs.now) }
     ensures read { IfOk result (λ found. map (extended_view K.Decoder.text) found.items
-        ≡ extended_entries (K.known known.now) (text_at pairs.now) (map pair_view pairs.now.entries)) }
+        ≡ extended_entries (K.known known.now) (text_at pairs.now)
+        (map pair_view pairs.now.entries)) }
 {
     let mut found = Vec::new(alloc);
     for (key, value) in pairs {
