@@ -12,8 +12,8 @@ use Rattle.mailparse.specs.declared.body.content.BodyContent.{BodyContent}
 use Rattle.mailparse.specs.declared.body.encoded.Encoding.{Encoding}
 use Rattle.mailparse.specs.declared.body.encoded.Encoding.TheVariants as encoding
 use Rattle.mailparse.specs.declared.body.encoded.EncodedBody.{EncodedBody}
-use Rattle.mailparse.specs.declared.body.text.TextBody.{TextBody}
-use Rattle.mailparse.specs.declared.body.binary.BinaryBody.{BinaryBody}
+use Rattle.mailparse.specs.declared.body.unencoded.TextBody.{TextBody}
+use Rattle.mailparse.specs.declared.body.unencoded.BinaryBody.{BinaryBody}
 
 -- the content of a body: its bytes as they appear in the message, and its content type
 pub record Content : Type 0 where

@@ -6,21 +6,19 @@ ghost use Rattle.mailparse.specs.BodyViews.{Content, IsBody, body_content, kind_
 ghost use Rattle.mailparse.specs.Outcome.{AnswersOrMemory};
 ghost use Rattle.mailparse.specs.Views.{content_type};
 
-mod binary;
 mod content;
 mod encoded;
-mod text;
+mod unencoded;
 
 use crate::content_type::ParsedContentType;
 use crate::error::MailParseError;
-pub use binary::BinaryBody;
 use content::BodyContent;
 pub(crate) use content::text_under;
 pub use encoded::EncodedBody;
 use encoded::Encoding;
 use std::alloc::Global;
 use std::borrow::CowSlice;
-pub use text::TextBody;
+pub use unencoded::{BinaryBody, TextBody};
 
 /// A body by its transfer encoding (RFC 2045, section 6).
 #[derive(Debug, Drop)]

@@ -1,8 +1,11 @@
 //! The content of a body, of whichever kind it is.
 ghost use Rattle.std.specs.Prelude.{◌≡◌, string_bytes, IfOk};
 ghost use Rattle.mailparse.specs.Body.{text_under_in};
+ghost use Rattle.mailparse.specs.BodyViews.{content};
+ghost use Rattle.mailparse.specs.Outcome.{GivesText};
 
 use crate::content_type::ParsedContentType;
+use crate::error::MailParseError;
 use mail_codec::charset::{Decode, KnownCharsets, decode_ascii};
 use std::alloc::{AllocError, Global};
 
@@ -11,6 +14,20 @@ use std::alloc::{AllocError, Global};
 pub(super) struct BodyContent<'a> {
     pub(super) raw: &'a [u8],
     pub(super) ctype: &'a ParsedContentType,
+}
+
+impl<'a> BodyContent<'a> {
+    /// Returns the text of the bytes in the charset of the content type.
+    pub(super) fn text_in<K: KnownCharsets>(
+        &self,
+        alloc: Global,
+        known: &K,
+    ) -> Result<String, MailParseError>
+        ensures { GivesText result (text_under_in (K.known known.now)
+            (content self.now).ctype.charset (content self.now).raw) }
+    {
+        Ok(text_under(alloc, self.ctype.charset.as_str(), self.raw, known)?)
+    }
 }
 
 /// Decodes bytes in the charset with this label; if the label is unknown, as ASCII.
