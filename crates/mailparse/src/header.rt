@@ -1,7 +1,6 @@
 //! One header of a message: its key and its value, as bytes and as text.
 ghost use Rattle.std.specs.Prelude.{◌≡◌, ◌↔◌, Ok, IfOk, IsOk, IsErr, IsAscii, string_bytes};
 ghost use Rattle.std.specs.Cow.{cow_str_bytes, IsBorrowedStr};
-ghost use Rattle.mail_codec.specs.Tables.{charsets_with};
 ghost use Rattle.mailparse.specs.Header.{Header, key_text};
 ghost use Rattle.mailparse.specs.Outcome.{Answers, AnswersOrMemory, GivesText, ReadsText};
 ghost use Rattle.mailparse.specs.Value.{lenient_value, lenient_value_in, strict_value};
@@ -15,7 +14,7 @@ mod value;
 
 use crate::error::MailParseError;
 use crate::lossy_text::LossyText;
-use mail_codec::charset::{KnownCharsets, SingleByteTable, decode_latin1};
+use mail_codec::charset::{KnownCharsets, decode_latin1};
 use std::alloc::{AllocError, Global};
 use std::borrow::CowStr;
 use std::marker::Model;
@@ -117,33 +116,6 @@ impl<'a> MailHeader<'a> {
         ensures { GivesText result (lenient_value self.now.value) }
     {
         Ok(self.get_value_ref(alloc)?.into_owned(alloc)?)
-    }
-
-    /// Returns the text of the value as `get_value_in` does, in the built-in charsets and those of
-    /// the tables (RFC 2047, section 2). Takes memory for the text.
-    ///
-    /// # Errors
-    ///
-    /// `MailParseError::Memory` if it runs out of memory.
-    ///
-    /// # Examples
-    ///
-    /// ```rust
-    /// use mailparse::{SingleByteTable, parse_header};
-    ///
-    /// let tables = [SingleByteTable { labels: &["x-euro"], high: &['€'; 128] }];
-    /// let (header, _) = parse_header(b"Subject: =?X-Euro?Q?5_=80?=")?;
-    /// assert_eq!(rt; header.get_value_with(alloc, &tables)?.as_str(), "5 €");
-    /// ```
-    pub fn get_value_with(
-        &self,
-        alloc: Global,
-        tables: &[SingleByteTable<'_>],
-    ) -> Result<String, MailParseError>
-        ensures { GivesText result
-            (lenient_value_in (charsets_with tables.now) self.now.value) }
-    {
-        self.get_value_in(alloc, &tables)
     }
 
     /// Returns the text of the value as `get_value` does, with encoded words in any charset that

@@ -14,12 +14,14 @@ ghost use Rattle.mailparse.specs.Disposition.{disposition_in};
 ghost use Rattle.mailparse.specs.Mail.{body_text_in, read_mail_in, root, shown_as_in};
 ghost use Rattle.mailparse.specs.Outcome.{Answers, AnswersOrMemory, GivesText, ReadsText};
 ghost use Rattle.mailparse.specs.Placement.{placements};
+ghost use Rattle.mailparse.specs.Value.{lenient_value_in};
 ghost use Rattle.mailparse.specs.Views.{content_type, disposition, placements_of, tree_of};
 
 use crate::body::{BinaryBody, EncodedBody, TextBody};
 use crate::content_type::{ParsedContentType, parse_content_type_in};
 use crate::disposition::{ParsedContentDisposition, parse_content_disposition_in};
 use crate::error::MailParseError;
+use crate::header::MailHeader;
 use crate::mail::{ParsedMail, parse_mail_in};
 use mail_codec::charset::SingleByteTable;
 use std::alloc::Global;
@@ -66,6 +68,21 @@ pub fn parse_content_disposition_with(
         (Ok (disposition_in (charsets_with tables.now) text.now)) }
 {
     parse_content_disposition_in(alloc, text, &tables)
+}
+
+impl<'a> MailHeader<'a> {
+    /// Returns the text of the value as `get_value_in` does, in the built-in charsets and those of
+    /// the tables.
+    pub fn get_value_with(
+        &self,
+        alloc: Global,
+        tables: &[SingleByteTable<'_>],
+    ) -> Result<String, MailParseError>
+        ensures { GivesText result
+            (lenient_value_in (charsets_with tables.now) self.now.value) }
+    {
+        self.get_value_in(alloc, &tables)
+    }
 }
 
 impl<'a> ParsedMail<'a> {
