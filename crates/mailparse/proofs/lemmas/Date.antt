@@ -228,19 +228,6 @@ signed_number-parse word (Err e) h =
 
 -- ---- parts of a date
 
--- a number that was found at the front of words
-pub next_some : (refusal : Refusal) (ws : List (List ℕ)) (n : ℕ) (after : List (List ℕ)) → next_number refusal ws ≡ Ok (Some (n, after))
-    → (word : List ℕ) × ((ws ≡ word ∷ after) × (number_below 256 word ≡ Some n))
-next_some refusal [] n after h = let clash : ◌≡◌ {A = Result (Option (ℕ × List (List ℕ))) Refusal} (Ok None) (Ok (Some (n, after))) = h in absurd (cc)
-next_some refusal (word ∷ ws) n after h = go (number_below 256 word) refl h
-  where
-    go : (read : Option ℕ) → number_below 256 word ≡ read → ◌>>=◌ {B = Option (ℕ × List (List ℕ))} (ok_or read refusal) (λ m. Ok (Some (m, ws))) ≡ Ok (Some (n, after))
-        → (found : List ℕ) × ((word ∷ ws ≡ found ∷ after) × (number_below 256 found ≡ Some n))
-    go None e h = absurd (cc)
-    go (Some m) e h =
-        let pair : ◌≡◌ {A = ℕ × List (List ℕ)} (m, ws) (n, after) = cc in
-        (word, (ap (λ p. word ∷ p.1) pair, e ∙ ap (λ p. Some p.0) pair))
-
 -- two parts of a date together
 abbrev pub plus : Reads ℤ → Reads ℤ → Reads ℤ
 plus front later = do
@@ -248,28 +235,17 @@ plus front later = do
   more ← later
   Ok (seconds +ℤ more)
 
--- a unit of time, and what follows it
-unit_then : (seconds : ℕ) (refusal : Refusal) (later : List (List ℕ) → Reads ℤ) (word : List ℕ) (n : ℕ) (after : List (List ℕ))
-    → number_below 256 word ≡ Some n → plus (seconds_of seconds refusal word) (later after) ≡ plus (Ok (pos (seconds * n))) (later after)
-unit_then seconds refusal later word n after h = rw h refl
-
-from_hour-next : (ws after : List (List ℕ)) (n : ℕ) → next_number invalid_hour ws ≡ Ok (Some (n, after))
-    → from_hour ws ≡ plus (Ok (pos (3600 * n))) (from_minute after)
-from_hour-next ws after n h =
-    let found = next_some invalid_hour ws n after h in
-    ap from_hour found.1.0 ∙ unit_then 3600 invalid_hour from_minute found.0 n after found.1.1
-
-from_minute-next : (ws after : List (List ℕ)) (n : ℕ) → next_number invalid_minute ws ≡ Ok (Some (n, after))
-    → from_minute ws ≡ plus (Ok (pos (60 * n))) (from_second after)
-from_minute-next ws after n h =
-    let found = next_some invalid_minute ws n after h in
-    ap from_minute found.1.0 ∙ unit_then 60 invalid_minute from_second found.0 n after found.1.1
-
-from_second-next : (ws after : List (List ℕ)) (n : ℕ) → next_number invalid_second ws ≡ Ok (Some (n, after))
-    → from_second ws ≡ plus (Ok (pos (1 * n))) (from_zone after)
-from_second-next ws after n h =
-    let found = next_some invalid_second ws n after h in
-    ap from_second found.1.0 ∙ unit_then 1 invalid_second from_zone found.0 n after found.1.1
+-- a unit of time at the front of words, and what follows it
+unit_then : (unit : ℕ) (refusal : Refusal) (from later : List (List ℕ) → Reads ℤ)
+    → ((word : List ℕ) (after : List (List ℕ)) → from (word ∷ after) ≡ plus (seconds_of unit refusal word) (later after))
+    → (ws after : List (List ℕ)) (n : ℕ) → next_number refusal ws ≡ Ok (Some (n, after)) → from ws ≡ plus (Ok (pos (unit * n))) (later after)
+unit_then unit refusal from later is [] after n h = let clash : ◌≡◌ {A = Result (Option (ℕ × List (List ℕ))) Refusal} (Ok None) (Ok (Some (n, after))) = h in absurd (cc)
+unit_then unit refusal from later is (word ∷ ws) after n h = is word ws ∙ go (number_below 256 word) h
+  where
+    go : (read : Option ℕ) → ◌>>=◌ {B = Option (ℕ × List (List ℕ))} (ok_or read refusal) (λ m. Ok (Some (m, ws))) ≡ Ok (Some (n, after))
+        → plus (◌>>=◌ (ok_or read refusal) (λ m. Ok (pos (unit * m)))) (later ws) ≡ plus (Ok (pos (unit * n))) (later after)
+    go None h = absurd (cc)
+    go (Some m) h = let pair : ◌≡◌ {A = ℕ × List (List ℕ)} (m, ws) (n, after) = cc in ap (λ (p : ℕ × List (List ℕ)). plus (Ok (pos (unit * p.0))) (later p.1)) pair
 
 -- a refusal of what follows is the refusal of both
 pub plus-refused : (a : ℤ) (later : Reads ℤ) (refusal : Refusal) → later ≡ Err refusal → plus (Ok a) later ≡ Err refusal
@@ -287,8 +263,9 @@ pub from_hour-clock : (ws ws1 ws2 ws3 : List (List ℕ)) (h m s : ℕ) → next_
     → next_number invalid_minute ws1 ≡ Ok (Some (m, ws2)) → next_number invalid_second ws2 ≡ Ok (Some (s, ws3))
     → from_hour ws ≡ plus (Ok (pos (3600 * h + 60 * m + s))) (from_zone ws3)
 from_hour-clock ws ws1 ws2 ws3 h m s hour minute second =
-    from_hour-next ws ws1 h hour
-    ∙ ap (plus (Ok (pos (3600 * h)))) (from_minute-next ws1 ws2 m minute ∙ ap (plus (Ok (pos (60 * m)))) (from_second-next ws2 ws3 s second))
+    unit_then 3600 invalid_hour from_hour from_minute (λ word after. refl) ws ws1 h hour
+    ∙ ap (plus (Ok (pos (3600 * h)))) (unit_then 60 invalid_minute from_minute from_second (λ word after. refl) ws1 ws2 m minute
+    ∙ ap (plus (Ok (pos (60 * m)))) (unit_then 1 invalid_second from_second from_zone (λ word after. refl) ws2 ws3 s second))
     ∙ clock_sum (3600 * h) (60 * m) s (from_zone ws3)
 
 -- the words before the first number are skipped
