@@ -58,6 +58,7 @@ pub fn dateparse(date: &str) -> Result<i64, MailParseError>
 }
 
 /// Returns the first word that is a number below 256, and the text after it.
+#[tactic(auto, using(crate::proofs::lemmas::Date::numbers))]
 fn first_number(date: &str) -> Option<(u8, &str)>
     ensures { MatchOption result (date_words (words date.now) ≡ [])
         (λ p. IsFirstNumber date.now p.0 p.1.now) }

@@ -160,6 +160,7 @@ impl<'a> MailHeader<'a> {
 
     /// Returns the text of the value as `get_value_in` does, borrowed if it is a part of the
     /// value's bytes.
+    #[tactic(auto, using(crate::proofs::lemmas::Value::header_values))]
     pub(crate) fn get_value_ref_in<K: KnownCharsets>(
         &self,
         alloc: Global,
@@ -196,7 +197,7 @@ impl<'a> MailHeader<'a> {
     /// let (header, _) = parse_header(b"Subject: caf\xE9")?;
     /// assert!(rt; header.get_value_utf8(alloc).is_err());
     /// ```
-    #[tactic(auto, unfolding(crate::specs::Value::strict_value))]
+    #[tactic(auto, using(crate::proofs::lemmas::Value::header_values), unfolding(crate::specs::Value::strict_value))]
     pub fn get_value_utf8(&self, alloc: Global) -> Result<String, MailParseError>
         ensures read { ReadsText result (strict_value self.now.value) }
         ensures no_alloc { IsErr (strict_value self.now.value) →

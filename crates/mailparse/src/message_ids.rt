@@ -31,6 +31,7 @@ impl PartialEq for MessageIdList {
 
     ghost laws = { on_per ids_of (lists_per (partial_equiv_from_equiv nat_list_eq_equiv)) };
 
+    #[tactic(auto, using(crate::proofs::lemmas::MessageIds::same_ids))]
     fn eq(&self, other: &MessageIdList) -> bool {
         self.0 == other.0
     }
@@ -93,6 +94,7 @@ impl MessageIdList {
 impl fmt::Display for MessageIdList {
     ghost output = { λ list. Some (written_ids (ids_of list)) };
 
+    #[tactic(auto, using(crate::proofs::lemmas::MessageIds::ids_written))]
     fn fmt<W: Write>(&self, f: &mut fmt::Formatter<W>) -> fmt::Result {
         let Some((first, others)) = self.0.as_slice().split_first() else {
             return Ok(());
@@ -169,6 +171,7 @@ fn cut_at_closing(text: &str) -> Option<(&str, &str)>
 }
 
 /// Returns the text after leading whitespace and a `<`, or `None` if no `<` follows the whitespace.
+#[tactic(auto, using(crate::proofs::lemmas::MessageIds::opens_from_strip))]
 fn opened_id(text: &str) -> Option<&str>
     ensures { MatchOption result (opens_id text.now ≡ false) (λ id. IsOpenedId text.now id.now) }
 {

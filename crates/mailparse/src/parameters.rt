@@ -17,6 +17,7 @@ use std::alloc::{AllocError, Global};
 use std::collections::BTreeMap;
 
 /// Reads a text with parameters: returns its value, trimmed, and the parameters by name.
+#[tactic(auto, using(crate::proofs::lemmas::Pairs::values_and_pairs))]
 pub(crate) fn parameters<'p, K: KnownCharsets>(
     alloc: Global,
     text: &'p str,

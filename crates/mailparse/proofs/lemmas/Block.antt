@@ -373,3 +373,6 @@ read_headers-list raw block e = sym (ap (λ (b : HeaderList). b.headers) (read_h
 pub header_place-first : (raw : List ℕ) → header_place raw 0 ≡ 0
 unfolding header_place
 header_place-first raw = refl
+
+-- the end of a block
+pub ruleset block_ends = (block_end-empty, block_end-feed, block_end-return_feed, block_end-return, block_end-none)

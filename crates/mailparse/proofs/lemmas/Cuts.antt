@@ -1,6 +1,6 @@
 -- Where a line is cut.
 use Rattle.std.proofs.Common.{◌≡◌, ◌≢◌, ℕ, ◌+◌, ◌<◌, ◌≤◌, Bool, true, false, cond, eqb, List, [], ◌∷◌, ◌++◌, ◌&&◌, length, take, drop, reverse, get_or, refl, sym, ap, ◌∙◌, subst, arith, lit<, length-append}
-use Rattle.std.proofs.lemmas.List.{drop-drop, reverse-append, take_at, append-nil}
+use Rattle.std.proofs.lemmas.List.{drop-drop, reverse-append, take_at, append-nil, nil_from_length}
 use Rattle.std.proofs.lemmas.Bool.{cond-true, cond-false, and_from, and_parts, and_right, ne_eqb}
 use Rattle.std.proofs.lemmas.Str.{IsCharBoundary-after_ascii, IsCharBoundary-before_ascii, chars-append, chars-encodes, chars-nil, length-encode, len_utf8_bounds, IsUtf8-encode, IsUtf8-take, IsCharBoundary-at_seam}
 use Rattle.std.specs.Char.{IsScalar, encode_utf8, is_whitespace}
@@ -150,3 +150,9 @@ boundary_at_end text rest c utf8 scalar e = ap begins_with_boundary (reverse-cha
 
 pub boundary_of_empty : (text : List ℕ) → text ≡ [] → begins_with_boundary (reverse (chars text)) ≡ true
 boundary_of_empty text e = ap (λ t. begins_with_boundary (reverse (chars t))) e ∙ ap (λ cs. begins_with_boundary (reverse cs)) chars-nil
+
+-- the end of a text, as a boundary
+pub ruleset boundaries = (boundary_at_end, boundary_of_empty, nil_from_length)
+
+-- the token of a text outside all words
+pub ruleset outside_tokens = (outside_token-whitespace, outside_token-text)

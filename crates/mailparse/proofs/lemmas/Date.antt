@@ -274,3 +274,9 @@ date_words-here word after n h = rw h refl
 
 pub date_words-past : (word : List ℕ) (after : List (List ℕ)) → number_below 256 word ≡ None → date_words (word ∷ after) ≡ date_words after
 date_words-past word after h = rw h refl
+
+-- the numbers of a date
+pub ruleset numbers = (number_below-parse, year_of-parse, date_words-here, date_words-past)
+
+-- the first word, and the text after it
+pub ruleset next_words = (cut_after_separators, cut_after_word, words-first, words-none)

@@ -263,3 +263,9 @@ value-in_order raw = by_colon (has_colon raw) refl
         let at = header_end-key raw e in
         let within = key_end-≤ raw in
         (omega arith, omega arith, omega arith)
+
+-- where a header is cut
+pub ruleset header_cuts = (has_colon-at, feed_after, key_end-<, header_end-key, header_end-from_feed, header_length-at, header_of-key, header_of-value)
+
+-- the reading of a header
+pub ruleset header_readings = (read_header-empty, read_header-space, read_header-ok, header_length-≤, header_length->)

@@ -20,6 +20,7 @@ use Rattle.mailparse.specs.declared.mail.message.ParsedMail.{ParsedMail}
 use Rattle.mailparse.specs.declared.mail.message.ParsedMail.TheViews.{out-ParsedMail}
 use Rattle.mailparse.specs.declared.mail.message.ParsedMail.TheFolds.{fold_out-ParsedMail}
 use Rattle.mailparse.proofs.lemmas.Delimiters.{part_ranges-none, part_ranges-some, part_ranges}
+use Rattle.std.proofs.lemmas.List.{map-append, append-nil, drop_all}
 
 -- ---- the type of a message
 
@@ -222,3 +223,9 @@ module _ (known : Charsets) where
       (parts_from known (levels - 1) b dash_boundary raw (first_part dash_boundary raw index))) (sym is)
       ∙ ap (λ (n : ℕ). read_map (tree (record { bytes = raw; block = take index raw; headers = headers; ctype = ctype; body = slice_range raw index n }))
       (parts_from known (levels - 1) digest dash_boundary raw (first_part dash_boundary raw index))) (sym ends)
+
+-- the parts of a message, in order
+pub ruleset parts_within = (map-append, append-nil, drop_all, trees_within-out)
+
+-- the type of a message
+pub ruleset node_types = (node_type-some, node_type-none)

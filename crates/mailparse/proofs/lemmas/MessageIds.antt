@@ -2,7 +2,7 @@
 use Rattle.std.proofs.Common.{◌≡◌, ◌≢◌, ℕ, ◌+◌, ◌<◌, true, false, cond, ◌&&◌, eqb, List, [], ◌∷◌, ◌++◌, length, map, take, drop, get_or, Option, Some, None, Ok, Err, refl, sym, ap, ◌∙◌, arith, append_assoc, length-drop, lit<}
 use Rattle.std.proofs.lemmas.List.{length-map, length-take, map_push, take_more}
 use Rattle.std.proofs.lemmas.Str.{encode_ascii}
-use Rattle.std.proofs.lemmas.Grind.{get_or_after_one}
+use Rattle.std.proofs.lemmas.Grind.{get_or_after_one, put_two}
 use Rattle.std.specs.Prelude.{String, bytes_eq, string_bytes, string_eq}
 use Rattle.std.specs.Cmp.Lexicographic.{pointwise}
 use Rattle.std.specs.Global.{Global}
@@ -126,3 +126,6 @@ same_ids [] [] = refl
 same_ids [] (y ∷ b) = refl
 same_ids (x ∷ a) [] = refl
 same_ids (x ∷ a) (y ∷ b) = ap (λ t. string_eq x y && t) (same_ids a b)
+
+-- the ids as they are written
+pub ruleset ids_written = (put_two, written_ids-next)

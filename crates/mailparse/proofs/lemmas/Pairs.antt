@@ -78,3 +78,9 @@ value_of-first text segment more e = ap (λ ps. trim (slice_index_or ps 0 [])) e
 pub pairs_of-later : (text segment : List ℕ) (more : List (List ℕ)) → segments text ≡ segment ∷ more → pairs_of text ≡ pairs_in more
 unfolding pairs_of
 pairs_of-later text segment more e = ap (λ ps. pairs_in (drop 1 ps)) e
+
+-- the pair of a segment
+pub ruleset pair_readings = (pair_of-some, pair_of-none, pair_is)
+
+-- the value, and the pairs after it
+pub ruleset values_and_pairs = (value_of-first, pairs_of-later)

@@ -5,6 +5,7 @@ use Rattle.std.proofs.Math.ListN.{drop_of_length-le}
 use Rattle.mail_codec.specs.Places.{is_empty, place, place_from}
 use Rattle.mail_codec.proofs.lemmas.PlacesSearches.{place_none}
 use Rattle.mail_codec.proofs.lemmas.Places.{first_place-before, place_from_bounds, place_from_same, place_from_weaker}
+use Rattle.std.proofs.lemmas.List.{take_rest}
 
 -- a search that begins at a place and finds nothing
 pub place_from_none : (test : List ℕ → Bool) (bytes : List ℕ) (s : ℕ) → s ≤ length bytes → None ≡ place test (drop s bytes) → place_from test bytes s ≡ length bytes
@@ -46,3 +47,9 @@ nowhere_found test bytes end none k =
 pub nowhere_behind : (test : List ℕ → Bool) (front bytes : List ℕ) → Nowhere test (front ++ bytes) → Nowhere test bytes
 nowhere_behind test [] bytes none = none
 nowhere_behind test (b ∷ front) bytes none = nowhere_behind test front bytes (λ k. none (suc k))
+
+-- a search from an offset
+pub ruleset searches_from = (take_rest, place_from_none)
+
+-- a search that finds nothing
+pub ruleset searches_in_vain = (place_none, not_some)

@@ -19,7 +19,7 @@ use Rattle.mailparse.specs.Sections as words
 use Rattle.mailparse.specs.ExtendedValues.{extended_at, has_left, section_at, extended_value, is_starred, name_under, reading_of, starred}
 use Rattle.mailparse.specs.Pairs.{Texts}
 use Rattle.mailparse.specs.private.Filled.{filled, holds_name}
-use Rattle.mailparse.proofs.lemmas.Filled.{filled_all, holds_push, mapped_unless, shown_name, taken_name}
+use Rattle.mailparse.proofs.lemmas.Filled.{filled_all, holds_push, mapped_unless, shown_name, taken_name, removed}
 use Rattle.mailparse.proofs.lemmas.CharsetSources.{name_under_starred}
 use Rattle.mailparse.proofs.lemmas.ExtendedValues.{equal_bytes, is_some_map, same_bytes}
 
@@ -159,3 +159,6 @@ taken_both b e new_e t new_t first second = ap (λ o. option_or o (option_map wo
     go : (b : Bool) → option_or (cond b None e) (option_map words.text (cond b None t)) ≡ cond b None (option_or e (option_map words.text t))
     go true = refl
     go false = refl
+
+-- an entry that is removed
+pub ruleset removals = (removed, taken_both)

@@ -6,6 +6,7 @@ use Rattle.mail_codec.specs.Ascii.{quote, semicolon, backslash}
 use Rattle.mail_codec.specs.Places.{begins, first_place}
 use Rattle.mailparse.specs.Segments.{IsRunAfter, closing_quote, text_ends, lone_backslash, escaped_byte, plain_byte, IsSegment, segment_ends, other_byte, closed_run, open_run, AreSegments, last_segment, more_segments, QuoteState, outside, quoted, escaped, after, ends, with_front, segments_from, segments}
 use Rattle.mailparse.specs.private.Segments.{plain_len}
+use Rattle.std.proofs.lemmas.Str.{IsCharBoundary-after_ascii}
 
 pub with_front-append : (a b : List ℕ) (ps : List (List ℕ)) → with_front a (with_front b ps) ≡ with_front (a ++ b) ps
 with_front-append a b [] = refl
@@ -227,3 +228,9 @@ plain_len-searched (b ∷ bytes) = by_test (eqb b semicolon) (eqb b quote) refl 
     by_test true q f rest = refl
     by_test false true f rest = cond-true _ _ _ f
     by_test false false f rest = cond-false _ _ _ f ∙ ap suc rest
+
+-- where a segment is cut
+pub ruleset segment_cuts = (IsCharBoundary-after_ascii, reaches_plain, reaches_semicolon, semicolon_ends)
+
+-- the bytes before a quote or semicolon
+pub ruleset plain_lens = (plain_len-searched)

@@ -271,3 +271,6 @@ module _ (known : Charsets) where
   step_last line s before value new first front none p f h all =
       Completes_last line s (outside_range line s (length line) ∷ []) before value new (no_opening none)
       (Shows-at value new _ _ (ap (λ t. t ∷ []) (p ∙ ap outside_token f ∙ sym (token_of-outside line s (length line)))) h) all
+
+-- the tokens that are appended
+pub ruleset pushes = (on_push, takes_text, takes_word, takes_whitespace)

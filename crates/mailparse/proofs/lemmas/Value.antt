@@ -7,6 +7,7 @@ use Rattle.mail_codec.specs.Charset.{Charsets, four_charsets}
 use Rattle.mail_codec.specs.Latin1.{latin1_text}
 use Rattle.mailparse.specs.Refusal.{Refusal, value_not_utf8}
 use Rattle.mailparse.specs.Value.{unfolded_value, lenient_value_in, strict_value}
+use Rattle.std.proofs.lemmas.Result.{IfOk-weaker}
 
 is_utf8-false : (bytes : List ℕ) → (IsUtf8 bytes → ⊥) → is_utf8 bytes ≡ false
 is_utf8-false bytes none = false_from_ne_true _ (λ e. none (IsUtf8-from_is_utf8 bytes e))
@@ -32,3 +33,6 @@ strict-refused bytes none = rw (is_utf8-false bytes none) refl
 -- if the strict reading is not an error, it is not a refusal
 pub strict-not_err : (bytes : List ℕ) → IsUtf8 bytes → IsErr (strict_value bytes) → ⊥
 strict-not_err bytes some refused = let f : false ≡ true = subst (λ (r : Result (List ℕ) Refusal). IsErr r) (strict-utf8 bytes some) refused in cc
+
+-- the text of a value, whatever its bytes
+pub ruleset header_values = (IfOk-weaker, lenient-utf8, lenient-latin1, strict-utf8, strict-refused, strict-not_err)

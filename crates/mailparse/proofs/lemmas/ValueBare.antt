@@ -13,7 +13,8 @@ use Rattle.mailparse.specs.Header.{is_line_feed}
 use Rattle.mailparse.specs.Tokens.{begins_opening}
 use Rattle.mailparse.specs.Value.{unfolded_value}
 use Rattle.mailparse.specs.private.Plain.{IsBare, cuts_value}
-use Rattle.mailparse.proofs.lemmas.ValuePlain.{graphic_no_whitespace, unfolded_value-line}
+use Rattle.mailparse.proofs.lemmas.ValuePlain.{graphic_no_whitespace, unfolded_value-line, trim_start-whole}
+use Rattle.mailparse.proofs.lemmas.Places.{not_some}
 
 graphic : (b : ℕ) → is_ascii_graphic b ≡ true → (33 ≤ b) × (b ≤ 126)
 graphic b h = let range = and_parts (leb 33 b) (leb b 126) h in (leb-true 33 b range.0, leb-true b 126 range.1)
@@ -65,3 +66,6 @@ pub unfolded_value-bare : (known : Charsets) (text : List ℕ) → IsUtf8 text �
 unfolded_value-bare known text utf8 bare =
     unfolded_value-line known text text (no_feed text bare.uncut) (sym (trim_start-visible text utf8 bare.visible))
     (no_opening text bare.uncut)
+
+-- a value of one line
+pub ruleset plain_lines = (not_some, unfolded_value-bare, unfolded_value-line, trim_start-whole)

@@ -10,6 +10,7 @@ use Rattle.mail_codec.specs.Places.{begins, byte_place}
 use Rattle.mail_codec.proofs.lemmas.Places.{begins-at, first_place-begins, first_place-passes}
 use Rattle.mail_codec.proofs.lemmas.PlacesSearches.{place_none, place_some}
 use Rattle.mailparse.proofs.lemmas.ValuePlain.{no_line_feed, trim_start-nil}
+use Rattle.std.proofs.lemmas.Str.{IsCharBoundary-before_ascii, IsCharBoundary-after_ascii}
 
 -- the lines, joined as in the text of a value
 abbrev pub joined_text : List ℕ → List ℕ
@@ -77,3 +78,6 @@ joined_more text line rest joined all trimmed new e some b t n =
     ∙ append_assoc joined (trim_start line) (space ∷ joined_text rest)
     ∙ ap (λ r. joined ++ r) (sym (ap (λ ls. join_with_byte space (map trim_start ls)) e ∙ lines_more line (lines rest) (lines_some rest some)))
     ∙ b
+
+-- where a line is cut
+pub ruleset line_cuts = (IsCharBoundary-before_ascii, IsCharBoundary-after_ascii, feed_at, lines_cut)

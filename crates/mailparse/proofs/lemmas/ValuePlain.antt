@@ -21,7 +21,7 @@ use Rattle.std.proofs.lemmas.Str.{IsUtf8-from_ascii}
 use Rattle.mailparse.specs.Value.{IsPlain, Token, newline, token_of, outside_token, line_tokens, tokens_of_lines, value_tokens, shown_tokens, shown_after, unfolded_value, lenient_value, lenient_value_in, strict_value}
 use Rattle.mail_codec.proofs.lemmas.Places.{first_place-≤, first_place-passes, first_place-before, begins-at}
 use Rattle.mail_codec.proofs.lemmas.PlacesSearches.{place_none}
-use Rattle.mailparse.proofs.lemmas.Places.{Nowhere, nowhere_found, nowhere_behind}
+use Rattle.mailparse.proofs.lemmas.Places.{Nowhere, nowhere_found, nowhere_behind, not_some}
 use Rattle.mailparse.proofs.lemmas.Unfolded.{settled, token_of-outside}
 use Rattle.mailparse.proofs.lemmas.Tokens.{token_ranges_only}
 
@@ -184,3 +184,6 @@ strict_succeeds bytes value h = go (is_utf8 bytes) h
 -- so the value is read as itself
 pub lenient_value-plain : (value : List ℕ) → IsPlain value → lenient_value value ≡ value
 lenient_value-plain value plain = lenient-utf8 four_charsets value (IsUtf8-from_ascii value (printable_ascii value plain.printable)) ∙ unfolded_value-plain four_charsets value plain
+
+-- a value that is joined
+pub ruleset joined_values = (not_some, unfolded_value-joined)

@@ -63,6 +63,7 @@ pub(super) fn month_number(word: &str) -> Result<usize, MailParseError>
 
 /// Returns the year that a word gives: a number below 70 counts from 2000, one from 70 to 99 from
 /// 1900.
+#[tactic(auto, using(crate::proofs::lemmas::Date::numbers))]
 pub(super) fn year_number(word: &str) -> Result<u32, MailParseError>
     ensures read { Answers (λ year. year) result (year_of word.now) }
     ensures bounds { IfOk result (λ year. (1970 ≤ year) × (year < 2 ^ 32)) }
@@ -84,6 +85,7 @@ pub(super) fn year_number(word: &str) -> Result<u32, MailParseError>
 
 /// Returns the number below 256 that the first word of a text gives, and the text after it, or
 /// `None` if there is no word. Any other word is refused with the text `refusal`.
+#[tactic(auto, using(crate::proofs::lemmas::Date::numbers))]
 pub(super) fn next_number<'t>(
     text: &'t str,
     refusal: &'static str,

@@ -4,6 +4,7 @@ ghost use Rattle.std.specs.List.{prefix_len};
 ghost use Rattle.mailparse.specs.Date.{is_separator, words};
 
 /// Returns the first word of a text, and the text after it.
+#[tactic(auto, using(crate::proofs::lemmas::Date::next_words))]
 pub(super) fn next_word(text: &str) -> Option<(&str, &str)>
     ensures first { MatchOption result (words text.now ≡ [])
         (λ p. words text.now ≡ p.0.now ∷ words p.1.now) }

@@ -33,6 +33,7 @@ use mail_codec::bytescan::{find_byte, find_either};
 /// assert_eq!(rt; header.get_value(alloc)?.as_str(), "Hello, you");
 /// assert_eq!(rt; length, 22);
 /// ```
+#[tactic(auto, using(crate::proofs::lemmas::Header::header_readings))]
 pub fn parse_header(raw: &[u8]) -> Result<(MailHeader<'_>, usize), MailParseError>
     ensures read { Answers (λ found. (found.0, found.1)) result (read_header raw.now) }
     ensures bounds { IfOk result (λ found. (0 < found.1) × (found.1 ≤ length raw.now)) }
@@ -49,6 +50,7 @@ pub fn parse_header(raw: &[u8]) -> Result<(MailHeader<'_>, usize), MailParseErro
 }
 
 /// Returns the header at the front of the bytes, and its length.
+#[tactic(auto, using(crate::proofs::lemmas::Header::header_cuts))]
 fn cut_header(raw: &[u8]) -> (MailHeader<'_>, usize)
     ensures { result ≡ (header_of raw.now, header_length raw.now) }
 {
@@ -82,6 +84,7 @@ fn is_colon_at(raw: &[u8], place: usize) -> bool
 }
 
 /// Returns the offset of the first LF at or after `from`, or the length if there is none.
+#[tactic(auto, using(crate::proofs::lemmas::Places::searches_from))]
 fn line_feed_from(raw: &[u8], from: usize) -> usize
     requires within { from ≤ length raw.now }
     ensures least { result ≡ place_from (begins is_line_feed) raw.now from }

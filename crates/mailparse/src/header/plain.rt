@@ -8,6 +8,7 @@ use mail_codec::bytescan::find_either;
 
 /// Whether the bytes begin with a visible character and contain neither a LF nor a `?`: as a value
 /// they show themselves.
+#[tactic(auto, using(crate::proofs::lemmas::Places::searches_in_vain))]
 pub(super) fn is_bare(bytes: &[u8]) -> bool
     ensures { IsTrue result → IsBare bytes.now }
 {

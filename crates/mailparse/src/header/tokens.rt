@@ -31,6 +31,7 @@ fn begins_with_boundary(text: &str) -> bool
 }
 
 /// Returns whether a text is empty or its last character is a boundary.
+#[tactic(auto, using(crate::proofs::lemmas::Cuts::boundaries))]
 fn ends_with_boundary(text: &str) -> bool
     ensures { result ≡ begins_with_boundary (reverse (chars text.now)) }
 {
@@ -41,6 +42,7 @@ fn ends_with_boundary(text: &str) -> bool
 }
 
 /// Returns the token of a text outside all encoded words.
+#[tactic(auto, using(crate::proofs::lemmas::Cuts::outside_tokens))]
 fn outside_token(text: &str) -> HeaderToken<'_>
     ensures { token_view result ≡ outside_token text.now }
 {
@@ -53,6 +55,7 @@ fn outside_token(text: &str) -> HeaderToken<'_>
 
 /// Returns the first offset at or after `from` of `first` followed by `second`, or the length if
 /// there is none.
+#[tactic(auto, using(crate::proofs::lemmas::Places::searches_from))]
 fn find_two(bytes: &[u8], from: usize, first: u8, second: u8) -> usize
     requires within { from ≤ length bytes.now }
     ensures { result ≡ place_from (has_prefix (first ∷ second ∷ [])) bytes.now from }
@@ -64,6 +67,7 @@ fn find_two(bytes: &[u8], from: usize, first: u8, second: u8) -> usize
 }
 
 /// Returns the offset of the first `=?` at or after `from`.
+#[tactic(auto, using(crate::proofs::lemmas::Cuts::opening_found))]
 fn find_opening(line: &str, from: usize) -> Option<usize>
     requires within { from ≤ length line.now }
     ensures { MatchOption result (opening line.now from ≡ length line.now)

@@ -42,6 +42,7 @@ pub(crate) struct UnfoldedValue<'a> {
 
 impl<'a> UnfoldedValue<'a> {
     /// Makes an empty text, with capacity for `length` bytes.
+    #[tactic(auto, using(crate::proofs::lemmas::Unfolded::starts_here))]
     pub(crate) fn with_capacity(
         alloc: Global,
         length: usize,
@@ -56,6 +57,7 @@ impl<'a> UnfoldedValue<'a> {
     }
 
     /// Returns the text. What is still held back is dropped.
+    #[tactic(auto, using(crate::proofs::lemmas::Unfolded::ends_here))]
     pub(crate) fn into_text(self) -> String
         ensures { string_bytes result ≡ shown_with self.entry [] }
     {
@@ -63,6 +65,7 @@ impl<'a> UnfoldedValue<'a> {
     }
 
     /// Appends the next token.
+    #[tactic(auto, using(crate::proofs::lemmas::Unfolded::pushes))]
     pub(crate) fn push(&mut self, token: HeaderToken<'a>) -> Result<(), AllocError>
         ensures { OnOk result (Shows self.old (token_view token.entry ∷ []) self.new) }
     {
@@ -99,6 +102,7 @@ impl<'a> UnfoldedValue<'a> {
     }
 
     /// Appends whitespace, or holds it back directly after a decoded word.
+    #[tactic(auto, using(crate::proofs::lemmas::Unfolded::pushes))]
     fn push_whitespace(&mut self, gap: &'a str) -> Result<(), AllocError>
         ensures { OnOk result (Shows self.old (whitespace_token gap.entry.now ∷ []) self.new) }
     {

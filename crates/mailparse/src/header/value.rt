@@ -22,6 +22,7 @@ use std::borrow::CowStr;
 /// Returns the text of a value that is one line without `=?`, whatever charsets are known: the line
 /// without its leading whitespace. One search is enough for a bare value.
 #[inline(always)]
+#[tactic(auto, using(crate::proofs::lemmas::ValueBare::plain_lines))]
 fn plain_line(text: &str) -> Option<&str>
     ensures value { IfSome result (λ line. (known : Charsets) →
         line.now ≡ unfolded_value known text.now) }
@@ -76,6 +77,7 @@ pub(crate) fn value_of<K: KnownCharsets>(
 
 /// Returns the text of a value. Lines without `=?` are joined; any other value is read token by
 /// token.
+#[tactic(auto, using(crate::proofs::lemmas::ValuePlain::joined_values))]
 fn owned_value<K: KnownCharsets>(alloc: Global, text: &str, known: &K) -> Result<String, AllocError>
     ensures { IfOk result (λ value.
         string_bytes value ≡ unfolded_value (K.known known.now) text.now) }
@@ -110,6 +112,7 @@ fn joined_lines(alloc: Global, text: &str) -> Result<String, AllocError>
 
 /// Returns the first line of a text without its line end, and the text after it, or `None` if no LF
 /// ends it.
+#[tactic(auto, using(crate::proofs::lemmas::ValueJoined::line_cuts))]
 fn cut_line(text: &str) -> Option<(&str, &str)>
     ensures cut { MatchOption result (None ≡ byte_place text.now line_feed)
         (λ cut. lines text.now ≡ cut.0.now ∷ lines cut.1.now) }

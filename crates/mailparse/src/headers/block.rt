@@ -87,6 +87,7 @@ fn push_header<'a>(
 
 /// Returns the length of the blank line that ends the block here, 0 at the end of input, or `None`
 /// if a header follows.
+#[tactic(auto, using(crate::proofs::lemmas::Block::block_ends))]
 fn end_of_block(rest: &[u8]) -> Result<Option<usize>, MailParseError>
     ensures { Answers (λ found. found) result (block_end rest.now) }
 {

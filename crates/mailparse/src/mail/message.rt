@@ -398,6 +398,7 @@ impl<'m, 'a> Iterator for PartsIterator<'m, 'a> {
 }
 
 /// Appends a message and its parts to a list, each before its own parts.
+#[tactic(auto, using(crate::proofs::lemmas::Mail::parts_within))]
 fn push_parts<'m, 'a>(
     mail: &'m ParsedMail<'a>,
     found: &mut Vec<&'m ParsedMail<'a>>,

@@ -15,6 +15,7 @@ use std::collections::BTreeMap;
 
 /// Returns the type of a message with these headers: that of its first `Content-Type`, otherwise
 /// the default.
+#[tactic(auto, using(crate::proofs::lemmas::Mail::node_types))]
 pub(super) fn node_type<K: KnownCharsets>(
     alloc: Global,
     headers: &Vec<MailHeader<'_>>,

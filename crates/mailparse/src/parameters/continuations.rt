@@ -187,6 +187,7 @@ fn left_and_joined<C: Decode>(
 }
 
 /// Whether a name contains a star.
+#[tactic(auto, using(crate::proofs::lemmas::StarFree::star_found))]
 fn has_star(name: &str) -> bool
     ensures { result ≡ has_star name.now }
 {

@@ -10,6 +10,7 @@ use std::alloc::{AllocError, Global};
 use std::collections::BTreeMap;
 
 /// Reads the key and the value of a segment, or returns `None` if it contains no `=`.
+#[tactic(auto, using(crate::proofs::lemmas::Pairs::pair_readings))]
 fn pair(alloc: Global, segment: &str) -> Result<Option<(String, String)>, AllocError>
     ensures { IfOk result (λ found. option_map pair_view found ≡ pair_of segment.now) }
 {

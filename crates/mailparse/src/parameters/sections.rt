@@ -39,6 +39,7 @@ impl<C: Decode> Sections<C> {
     }
 
     /// Removes the entry of a name and returns it.
+    #[tactic(auto, using(crate::proofs::lemmas::Sections::removals))]
     pub(super) fn take(&mut self, name: &str) -> Option<Section<C>>
         ensures taken { option_map (section_view C.text) result
             ≡ stored_section C.text self.old name.now }

@@ -58,6 +58,7 @@ impl QuoteState {
 }
 
 /// Returns the offset of the first `byte`, or the length if it is absent.
+#[tactic(auto, using(crate::proofs::lemmas::Places::searches_in_vain))]
 fn length_before(bytes: &[u8], byte: u8) -> usize
     ensures least { result ≡ first_place (begins (λ b. b == byte)) bytes.now }
     ensures bounds { result ≤ length bytes.now }
@@ -69,6 +70,7 @@ fn length_before(bytes: &[u8], byte: u8) -> usize
 }
 
 /// Returns the number of leading bytes that are neither a quote nor a semicolon.
+#[tactic(auto, using(crate::proofs::lemmas::Segments::plain_lens))]
 fn plain_len(bytes: &[u8]) -> usize
     ensures plain { result ≡ plain_len bytes.now }
     ensures bounds { result ≤ length bytes.now }
@@ -78,6 +80,7 @@ fn plain_len(bytes: &[u8]) -> usize
 }
 
 /// Returns the first segment of a text, and the text after its semicolon if it ends in one.
+#[tactic(auto, using(crate::proofs::lemmas::Segments::segment_cuts))]
 pub(super) fn cut_segment(text: &str) -> (&str, Option<&str>)
     ensures cut { segments text.now ≡ result.0.now ∷ segments_of_rest result.1 }
     ensures shorter { IfSome result.1 (λ rest. length rest.now < length text.now) }

@@ -23,6 +23,7 @@ pub(super) struct ExtendedName<'a, C: Decode> {
 }
 
 /// Returns a key without the star at its end, or `None` if it does not end in one.
+#[tactic(auto, using(crate::proofs::lemmas::ExtendedValues::star_cases))]
 fn without_star(key: &str) -> Option<&str>
     ensures { option_map (λ name. name.now) result ≡ star_taken key.now }
 {
