@@ -77,17 +77,9 @@ own_beginning (suc n) (b ∷ z) = and_from _ _ (eq-eqb b b refl) (own_beginning 
 pub record IsRange (names : List (List ℕ)) (prefix : List ℕ) (place first end : ℕ) : Type 0 where
   pub until : first ≤ place
   pub from : place < end
-  pub lower : (k : ℕ) → first ≤ k → k < place → starts_with nat_eq (name_at names k) prefix ≡ true
-  pub own : starts_with nat_eq (name_at names place) prefix ≡ true
-  pub upper : (k : ℕ) → place < k → k < end → starts_with nat_eq (name_at names k) prefix ≡ true
+  pub inside : (k : ℕ) → first ≤ k → k < end → starts_with nat_eq (name_at names k) prefix ≡ true
   pub before : 0 < first → starts_with nat_eq (name_at names (first - 1)) prefix ≡ false
   pub after : end < length names → starts_with nat_eq (name_at names end) prefix ≡ false
-
-range_inside : (names : List (List ℕ)) (prefix : List ℕ) (place first end : ℕ) → IsRange names prefix place first end → (k : ℕ) → first ≤ k → k < end
-    → starts_with nat_eq (name_at names k) prefix ≡ true
-range_inside names prefix place first end r k from below =
-    ⊎_elim (λ same. ap (λ j. starts_with nat_eq (name_at names j) prefix) same ∙ r.own) (λ apart. ⊎_elim (λ lt. r.lower k from lt) (λ gt. r.upper k gt below) apart)
-    (cases_order k place)
 
 range_before : (names : List (List ℕ)) (prefix : List ℕ) (place first end : ℕ) → AreInOrder names → place < length names → IsRange names prefix place first end
     → (k : ℕ) → k < first → starts_with nat_eq (name_at names k) prefix ≡ false
@@ -96,7 +88,7 @@ range_before names prefix place first end order within r k below =
     false_from_ne_true _ (λ begins.
     ⊎_elim
     (λ lt. both_ways _ (r.before (omega arith))
-    (between prefix (name_at names k) (name_at names (first - 1)) (name_at names place) (order k (first - 1) lt (omega arith)) (order (first - 1) place (omega arith) within) begins r.own))
+    (between prefix (name_at names k) (name_at names (first - 1)) (name_at names place) (order k (first - 1) lt (omega arith)) (order (first - 1) place (omega arith) within) begins (r.inside place until r.from)))
     (λ ge. let same : k ≡ first - 1 = omega arith in
     both_ways _ (r.before (omega arith)) (sym (ap (λ j. starts_with nat_eq (name_at names j) prefix) same) ∙ begins))
     (cases_lt k (first - 1)))
@@ -108,7 +100,7 @@ range_after names prefix place first end order r k above within =
     false_from_ne_true _ (λ begins.
     ⊎_elim
     (λ lt. both_ways _ (r.after (omega arith))
-    (between prefix (name_at names place) (name_at names end) (name_at names k) (order place end from (omega arith)) (order end k lt within) r.own begins))
+    (between prefix (name_at names place) (name_at names end) (name_at names k) (order place end from (omega arith)) (order end k lt within) (r.inside place r.until from) begins))
     (λ ge. let same : k ≡ end = omega arith in
     both_ways _ (r.after (omega arith)) (sym (ap (λ j. starts_with nat_eq (name_at names j) prefix) same) ∙ begins))
     (cases_lt end k))
@@ -125,7 +117,7 @@ offered names place first end order within initial r old new before inside after
     (λ lt. before k lt ∙ sym (cond-false _ _ _ (and_right _ _ (range_before names prefix place first end order within r k lt))))
     (λ ge.
     ⊎_elim
-    (λ lt. inside k ge lt ∙ sym (cond-true _ _ _ (and_from _ _ initial (range_inside names prefix place first end r k ge lt))))
+    (λ lt. inside k ge lt ∙ sym (cond-true _ _ _ (and_from _ _ initial (r.inside k ge lt))))
     (λ past. after k past ∙ sym (cond-false _ _ _ (and_right _ _ (range_after names prefix place first end order r k past below))))
     (cases_lt k end))
     (cases_lt k first)
@@ -220,9 +212,7 @@ module _ (C : Type 0) (extended : List (ExtendedName C)) (prefix : List ℕ) (pl
       record {
         until = until;
         from = omega (arith, from);
-        lower = λ k above below. down k above (omega (arith, below));
-        own = own;
-        upper = λ k above below. up k (omega (arith, above)) (omega (arith, below));
+        inside = λ k above below. ⊎_elim (λ lt. down k above (omega arith)) (λ ge. up k ge (omega arith)) (cases_lt k place);
         before = λ some. false_from_ne_true _ (λ yes.
             let same : suc (first - 1) ≡ first = omega (arith, some) in
             not_both (first - 1) (omega (arith, some, until, within)) (before some) yes (ap begins same ∙ down first (omega arith) until));
@@ -248,3 +238,6 @@ range_found {C} extended shared are name place first last is within until from e
     (λ k above below. omega (arith, upper k above below, prefix, at k))
     (λ some. omega (arith, before some, prefix, at (first - 1)))
     (λ more. omega (arith, after (omega (arith, more, same, long)), prefix, at last)))
+
+-- an offer, up to its range
+pub ruleset offers = (long_shared, name_of_place, not_offered, within_shared)

@@ -96,6 +96,7 @@ fn write_range(places: &mut Vec<usize>, first: usize, end: usize, place: usize)
 
 /// If the name at `place` is that of an initial section, makes it the charset source of the names
 /// that begin with it, less its last byte.
+#[tactic(auto, using(crate::proofs::lemmas::CharsetSourcesRanges::offers))]
 fn offer<C: Decode>(
     extended: &[ExtendedName<'_, C>],
     shared: &[usize],
