@@ -165,7 +165,7 @@ pub fn parse_mail_limited(
 /// assert_eq!(rt; mail.subparts.len(), 1);
 /// assert!(rt; parse_mail_limited_in(alloc, raw.as_bytes(), 0, &tables.as_slice()).is_err());
 /// ```
-#[tactic(auto, unfolding(crate::specs::Mail::read_mail_in))]
+#[tactic(auto, using(crate::proofs::lemmas::Bound::bounds), unfolding(crate::specs::Mail::read_mail_in))]
 pub fn parse_mail_limited_in<'a, K: KnownCharsets>(
     alloc: Global,
     raw: &'a [u8],

@@ -3,7 +3,7 @@ use Rattle.std.proofs.Common.{◌≡◌, ℕ, zero, suc, ◌+◌, ◌<◌, ◌�
 use Rattle.std.specs.List.{starts_with}
 use Rattle.std.proofs.lemmas.Bool.{cases_lt, false≢true, not-false, not-true}
 use Rattle.std.proofs.Math.Bool.{or-true}
-use Rattle.std.proofs.lemmas.List.{drop-drop}
+use Rattle.std.proofs.lemmas.List.{drop-drop, take_rest}
 use Rattle.std.proofs.Math.ListN.{drop_of_length-le}
 use Rattle.mail_codec.specs.Places.{has_prefix, is_empty, values_below}
 use Rattle.mail_codec.proofs.lemmas.Places.{least-is, least-before, least-passes, has_prefix-starts_with}
@@ -12,6 +12,8 @@ use Rattle.mailparse.specs.Header.{Header, header_of, header_length, read_header
 use Rattle.mailparse.proofs.lemmas.Places.{not_empty}
 use Rattle.mailparse.proofs.lemmas.Header.{header_length-≤, header_length->, read_header-empty}
 use Rattle.mailparse.specs.Block.{HeaderList, blank_line, headers_end, has_header, header_place, rest_at, header_count, block_end, read_headers}
+use Rattle.std.proofs.lemmas.Result.{err_from_is_err_and}
+use Rattle.mailparse.proofs.lemmas.Outcome.{IsRefusal-along, IsRefusalOrMemory-from}
 
 -- where a header begins there are bytes
 pub has_header-nonempty : (bytes : List ℕ) → has_header bytes ≡ true → 0 < length bytes
@@ -376,3 +378,6 @@ header_place-first raw = refl
 
 -- the end of a block
 pub ruleset block_ends = (block_end-empty, block_end-feed, block_end-return_feed, block_end-return, block_end-none)
+
+-- the reading of a block
+pub ruleset block_readings = (take_rest, err_from_is_err_and, IsRefusal-along, IsRefusalOrMemory-from, refused_further, ended_further, found_further, count_further, place_further, end_further, block_end-err, block_end-header, read_headers-bounded)

@@ -151,3 +151,6 @@ pub answer-bounded : (known : Charsets) (result : Result ParsedMail MailParseErr
     → AnswersOrMemory tree_of result (read_levels known levels in_digest bytes) → IfOk result (λ mail. IsBounded (tree_of mail) (length bytes))
 answer-bounded known (Err e) levels in_digest bytes h = tt
 answer-bounded known (Ok mail) levels in_digest bytes h = IsBounded-by_weight (length bytes) (tree_of mail) (read_levels-fits known levels in_digest bytes (tree_of mail) h)
+
+-- the bound of an answer
+pub ruleset bounds = (answer-bounded)

@@ -5,12 +5,12 @@ use Rattle.std.specs.Result.{result_ok}
 use Rattle.std.specs.Borrow.{Bor}
 use Rattle.std.specs.Prelude.{ℤ, pos, negsuc, FitsSigned, option_map, ok_or, find, ◌+ℤ◌}
 use Rattle.std.specs.Int.{w32}
-use Rattle.std.proofs.lemmas.Int.{ints}
+use Rattle.std.proofs.lemmas.Int.{ints, to_z-of_z}
 use Rattle.std.specs.Str.{IsCharBoundary, IsUtf8, all_ascii_digits, str_eq_ignore_ascii_case}
 use Rattle.std.proofs.lemmas.List.Sums.{prefix_len-le-length, prefix_len_passes, prefix_len_stops}
 use Rattle.std.proofs.lemmas.Str.{IsCharBoundary-after_ascii}
 use Rattle.std.specs.Str.Parse.{ParsesUnsigned, ParsesSigned, digits_value, signed_digits_value, without_leading_plus, without_leading_sign}
-use Rattle.std.proofs.lemmas.Bool.{and_parts, cond-false, false_from_ne_true, not-true, lt-ltb, ltb-true, leb-true, eqb-true, eqb-false, not-false}
+use Rattle.std.proofs.lemmas.Bool.{and_parts, cond-false, false_from_ne_true, not-true, lt-ltb, ltb-true, leb-true, eqb-true, eqb-false, not-false, le-leb, lt-leb}
 use Rattle.std.proofs.lemmas.Str.Parse.{IsNumeralModel, numerals_by_value, tells_all_ascii_digits}
 use Rattle.mail_codec.specs.Places.{is_empty}
 use Rattle.mailparse.specs.Date.{fits_32_bits, is_separator, words, zones, date_words, from_hour, from_minute, from_second, from_zone, seconds_of, invalid_hour, invalid_minute, invalid_second, invalid_year, signed_number, number_below, year_of, year_of_number}
@@ -280,3 +280,6 @@ pub ruleset numbers = (number_below-parse, year_of-parse, date_words-here, date_
 
 -- the first word, and the text after it
 pub ruleset next_words = (cut_after_separators, cut_after_word, words-first, words-none)
+
+-- the number or the name of a zone
+pub ruleset zone_numbers = (le-leb, lt-leb, to_z-of_z, size_fits, signed_number-parse, zones-size)

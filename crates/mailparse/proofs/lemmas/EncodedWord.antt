@@ -7,6 +7,7 @@ use Rattle.std.specs.Borrow.{Bor}
 use Rattle.std.specs.Option.{MatchOption, option_and_then}
 use Rattle.mail_codec.specs.Charset.{Charsets}
 use Rattle.mailparse.specs.EncodedWord.{spaced, encoded_bytes, is_question_mark, has_question_mark, IsCutAtMark, text_of_word, word_text}
+use Rattle.mailparse.proofs.lemmas.ValueLines.{more_is_some}
 
 -- ---- a space for each `_`
 
@@ -161,3 +162,5 @@ next_piece items piece before middle new some b m e =
     e ∙ ap (λ r. r ++ piece.now) (m ∙ ap (λ r. r ++ 32 ∷ []) b)
     ∙ sym (ap (join_with_byte 32) (map_push (λ (p : Bor (List ℕ)). p.now) items piece)
     ∙ join_next 32 (map (λ p. p.now) items) piece.now (λ h. more (omega arith)))
+
+pub ruleset spaced_pieces = (more_is_some, first_piece, next_piece)

@@ -14,6 +14,7 @@ use Rattle.mailparse.specs.ExtendedValues.{is_starred, label_in, name_under, sta
 use Rattle.mailparse.specs.private.ExtendedValues.{Found, found_at, star_taken, extended_entries, extended_view}
 use Rattle.mailparse.specs.private.Pairs.{pair_view}
 use Rattle.mailparse.specs.declared.parameters.extended_values.names.ExtendedName.{ExtendedName}
+use Rattle.std.proofs.lemmas.Iterator.Consumers.{YieldsList-end, YieldsList-from_rest}
 
 -- an entry that a walk showed, by its bytes
 abbrev pub shown_view : Bor (String Global) × Bor (String Global) → List ℕ × List ℕ
@@ -111,3 +112,6 @@ pub shown_all : (shown : List (Bor (String Global) × Bor (String Global))) (ent
     → map (λ e. (e.0.now, e.1.now)) shown ≡ entries → map shown_view shown ≡ map pair_view entries
 shown_all [] entries h = ap (map pair_view) h
 shown_all (e ∷ shown) entries h = ap (λ r. shown_view e ∷ r) (shown_all shown (map (λ e. (e.0.now, e.1.now)) shown) refl) ∙ ap (map pair_view) h
+
+-- the names that are found
+pub ruleset names_found = (YieldsList-end, YieldsList-from_rest, shown_view, is_some_map, found_unstarred, found_key, found_name, found_more, found_push, found_same, shown_all)

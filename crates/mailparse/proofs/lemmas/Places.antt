@@ -3,7 +3,7 @@ use Rattle.std.proofs.Common.{◌≡◌, ℕ, suc, ◌<◌, ◌≤◌, Bool, tru
 use Rattle.std.proofs.lemmas.Bool.{cases_lt}
 use Rattle.std.proofs.Math.ListN.{drop_of_length-le}
 use Rattle.mail_codec.specs.Places.{is_empty, place, place_from}
-use Rattle.mail_codec.proofs.lemmas.PlacesSearches.{place_none}
+use Rattle.mail_codec.proofs.lemmas.PlacesSearches.{place_none, place_some}
 use Rattle.mail_codec.proofs.lemmas.Places.{first_place-before, place_from_bounds, place_from_same, place_from_weaker}
 use Rattle.std.proofs.lemmas.List.{take_rest}
 
@@ -53,3 +53,6 @@ pub ruleset searches_from = (take_rest, place_from_none)
 
 -- a search that finds nothing
 pub ruleset searches_in_vain = (place_none, not_some)
+
+-- a search
+pub ruleset searches = (place_none, place_some)

@@ -2,14 +2,15 @@
 use lib.Utf8.{encode}
 use Rattle.std.proofs.Common.{◌≡◌, ◌≢◌, ℕ, suc, Bool, true, false, not, cond, eqb, ◌&&◌, None, List, [], ◌∷◌, ◌++◌, refl, sym, ap, subst, ◌∙◌, append_assoc}
 use Rattle.std.proofs.lemmas.Bool.{cond-true, cond-false, and_right, eq-eqb, eqb-true, false_from_ne_true, false≢true, ne_eqb}
-use Rattle.std.proofs.lemmas.List.{append-nil}
-use Rattle.std.proofs.lemmas.Str.{chars-nil, chars_past_char, encodes-chars}
+use Rattle.std.proofs.lemmas.List.{append-nil, nil_from_length}
+use Rattle.std.proofs.lemmas.Str.{chars-nil, chars_past_char, encodes-chars, IsUtf8-past_char}
 use Rattle.std.specs.Char.{encode_utf8}
 use Rattle.std.specs.Str.{chars, encode_utf8_all, IsUtf8}
 use Rattle.mail_codec.specs.Ascii.{backslash}
 use Rattle.mail_codec.specs.Places.{begins, place}
 use Rattle.mailparse.specs.Segments.{is_odd, without_escapes}
-use Rattle.mailparse.proofs.lemmas.Places.{Nowhere, nowhere_found, nowhere_behind}
+use Rattle.mailparse.proofs.lemmas.Places.{Nowhere, nowhere_found, nowhere_behind, not_some}
+use Rattle.std.proofs.lemmas.Result.{IfOk-weaker}
 
 -- the characters that stay, by a flag: whether the first of them is escaped
 abbrev pub stays_after : Bool → List ℕ → List ℕ
@@ -87,3 +88,6 @@ unescapes_nothing text utf8 none =
     let whole = encodes-chars text utf8 in
     let absent = nowhere_found (begins (λ b. eqb b backslash)) text refl none in
     sym whole ∙ ap encode_utf8_all (sym (no_backslash_stays (chars text) (subst (Nowhere (begins (λ b. eqb b backslash))) (sym whole) absent)))
+
+-- a text without its escapes
+pub ruleset unescapes = (nil_from_length, IfOk-weaker, IsUtf8-past_char, not_some, unescapes_nothing, unescapes_start, unescapes_end, unescapes_backslash, unescapes_other, stays_escaped, stays_plain)

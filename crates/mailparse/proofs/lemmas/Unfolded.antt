@@ -274,3 +274,6 @@ module _ (known : Charsets) where
 
 -- the tokens that are appended
 pub ruleset pushes = (on_push, takes_text, takes_word, takes_whitespace)
+
+-- the end of a line
+pub ruleset line_ends = (holds_line_end, holds_whitespace_line_end, takes_line_end)

@@ -1,6 +1,6 @@
 -- The lines of a text, cut off one at a time.
 use Rattle.std.proofs.Common.{◌≡◌, ℕ, ◌+◌, ◌<◌, eqb, List, [], ◌∷◌, ◌++◌, length, map, take, drop, get_or, Option, Some, None, refl, sym, ap, ◌∙◌, arith, append_assoc}
-use Rattle.std.proofs.lemmas.Bool.{cond-false, eqb-true, ne_eqb}
+use Rattle.std.proofs.lemmas.Bool.{cond-false, eqb-true, ne_eqb, eqb-false}
 use Rattle.std.proofs.lemmas.List.Splits.{slice_split_first, slice_split_none, length-slice_split}
 use Rattle.std.specs.List.{join_with_byte, slice_split}
 use Rattle.std.specs.Str.{trim_start}
@@ -81,3 +81,6 @@ joined_more text line rest joined all trimmed new e some b t n =
 
 -- where a line is cut
 pub ruleset line_cuts = (IsCharBoundary-before_ascii, IsCharBoundary-after_ascii, feed_at, lines_cut)
+
+-- lines that are joined
+pub ruleset joins = (eqb-true, eqb-false, joined_alone, joined_last, joined_more)

@@ -118,6 +118,7 @@ pub(super) fn zone_seconds(text: &str) -> Result<i64, MailParseError>
 }
 
 /// Returns the zone that a word gives, as hours times 100 plus minutes: a number, or a name.
+#[tactic(auto, using(crate::proofs::lemmas::Date::zone_numbers), unfolding(crate::specs::Date::zone_of))]
 fn zone_number(word: &str) -> Result<i32, MailParseError>
     ensures read { Answers (λ zone. zone) result (zone_of word.now) }
     ensures bounds { IfOk result (HasSizeAtMost 2400) }

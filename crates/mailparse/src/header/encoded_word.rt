@@ -17,6 +17,7 @@ fn cut_at_question_mark(text: &str) -> Option<(&str, &str)>
 }
 
 /// Returns a text with a space in place of each `_`.
+#[tactic(auto, using(crate::proofs::lemmas::EncodedWord::spaced_pieces))]
 fn with_spaces(alloc: Global, encoded: &str) -> Result<String, AllocError>
     ensures { IfOk result (λ text. string_bytes text ≡ spaced encoded.now) }
 {

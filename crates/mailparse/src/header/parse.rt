@@ -66,6 +66,7 @@ fn cut_header(raw: &[u8]) -> (MailHeader<'_>, usize)
 }
 
 /// Returns where the key ends: at the first colon or LF, or at the end of the bytes.
+#[tactic(auto, using(crate::proofs::lemmas::Places::searches), unfolding(crate::specs::Header::key_end))]
 fn key_end(raw: &[u8]) -> usize
     ensures least { result ≡ key_end raw.now }
     ensures bounds { result ≤ length raw.now }

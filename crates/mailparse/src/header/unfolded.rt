@@ -115,6 +115,7 @@ impl<'a> UnfoldedValue<'a> {
     }
 
     /// Appends a line end, or holds it back after a decoded word and after whitespace held back.
+    #[tactic(auto, using(crate::proofs::lemmas::Unfolded::line_ends))]
     fn push_newline(&mut self) -> Result<(), AllocError>
         ensures { OnOk result (Shows self.old (newline ∷ []) self.new) }
     {

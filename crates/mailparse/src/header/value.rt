@@ -92,6 +92,7 @@ fn owned_value<K: KnownCharsets>(alloc: Global, text: &str, known: &K) -> Result
 }
 
 /// Returns the lines of a text without their leading whitespace, joined by spaces.
+#[tactic(auto, using(crate::proofs::lemmas::ValueJoined::joins))]
 fn joined_lines(alloc: Global, text: &str) -> Result<String, AllocError>
     ensures { IfOk result (λ joined.
         string_bytes joined ≡ join_with_byte space (map trim_start (lines text.now))) }

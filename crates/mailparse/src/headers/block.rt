@@ -46,6 +46,7 @@ const HEADER_BYTES: usize = 32;
 /// assert_eq!(rt; to.as_str(), "you");
 /// assert_eq!(rt; body, 21);
 /// ```
+#[tactic(auto, using(crate::proofs::lemmas::Block::block_readings))]
 pub fn parse_headers(
     alloc: Global,
     raw: &[u8],

@@ -120,6 +120,7 @@ pub(super) fn unescape(alloc: Global, text: &str) -> Result<String, AllocError>
 }
 
 /// Returns a text without the backslashes that are not escaped themselves.
+#[tactic(auto, using(crate::proofs::lemmas::SegmentsQuoted::unescapes))]
 fn without_escapes(alloc: Global, text: &str) -> Result<String, AllocError>
     ensures { IfOk result (λ plain.
         string_bytes plain ≡ encode_utf8_all (without_escapes 0 (chars text.now))) }

@@ -43,6 +43,7 @@ fn charset_in<K: KnownCharsets>(value: &str, known: &K) -> Option<K::Decoder>
 }
 
 /// Returns the extended names, in the order of their starred keys.
+#[tactic(auto, using(crate::proofs::lemmas::ExtendedValues::names_found))]
 pub(super) fn extended_names<'a, K: KnownCharsets>(
     alloc: Global,
     pairs: &'a BTreeMap<String, String>,

@@ -1,11 +1,10 @@
-use Rattle.std.proofs.Common.{◌≡◌, ◌++◌, String, Some, None, map, sym, ap, ◌∙◌}
-use Rattle.std.proofs.lemmas.Iterator.Consumers.{YieldsList-end, YieldsList-from_rest}
+use Rattle.std.proofs.Common.{◌≡◌, ◌++◌, String, Some, map, sym, ap, ◌∙◌}
 use Rattle.std.specs.Borrow.{Bor}
 use Rattle.std.specs.Global.{Global}
 use Rattle.std.specs.String.{string_bytes}
 use Rattle.mailparse.specs.Pairs.{text_at}
-use Rattle.mailparse.specs.private.ExtendedValues.{star_taken, extended_entries, extended_view}
-use Rattle.mailparse.proofs.lemmas.ExtendedValues.{shown_view, is_some_map, found_unstarred, found_key, found_name, found_more, found_push, found_same, shown_all}
+use Rattle.mailparse.specs.private.ExtendedValues.{star_taken, extended_view}
+use Rattle.mailparse.proofs.lemmas.ExtendedValues.{shown_view, is_some_map, found_key, found_name, found_more, found_push, found_same}
 use Rattle.mailparse.proofs.parameters.extended_values.names.extended_names.Goals as goal
 
 pub loop-key-preserved-in-Continue-1 : goal.loop-key-preserved-in-Continue-1
@@ -27,18 +26,3 @@ loop-key-preserved-else-not-contains_key g c =
     let taken : star_taken (string_bytes c.in-Some.key.now) ≡ Some c.in-Some-without_star.name.now = ap star_taken (sym c.as_str.ensures.value) ∙ sym c.in-Some-without_star.ensures in
     let some = is_some_map string_bytes _ ∙ sym c.if-not-contains_key.ensures in
     found_same (g.K.KnownCharsets.known c.args.known.now) keys c.loop-key.yielded e _ c.loop-key.invariant (found_key (g.K.KnownCharsets.known c.args.known.now) keys (shown_view e) c.in-Some-without_star.name.now taken some)
-
-pub loop-key-preserved : goal.loop-key-preserved
-loop-key-preserved g c =
-    let keys = text_at c.args.pairs.now in
-    let e : Bor (String Global) × Bor (String Global) = (c.in-Some.key, c.in-Some.value) in
-    let taken : star_taken (string_bytes c.in-Some.key.now) ≡ None = ap star_taken (sym c.as_str.ensures.value) ∙ sym c.in_default.ensures in
-    found_same (g.K.KnownCharsets.known c.args.known.now) keys c.loop-key.yielded e _ c.loop-key.invariant (found_unstarred (g.K.KnownCharsets.known c.args.known.now) keys (shown_view e) taken)
-
-pub returns : goal.returns
-returns g c =
-    let all = YieldsList-end (YieldsList-from_rest c.args.pairs.now.entries c.into_iter-key-iterator.ensures.into_iter_gives.0) c.loop-key.yielded _ c.loop-key.yielded_by _ _ c.in-None.is c.next.ensures.steps in
-    record {
-      ordered = c.into_iter-key-iterator.ensures.into_iter_gives.5;
-      read = c.loop-key.invariant ∙ ap (extended_entries (g.K.KnownCharsets.known c.args.known.now) (text_at c.args.pairs.now)) (shown_all c.loop-key.yielded c.args.pairs.now.entries all.0);
-    }
