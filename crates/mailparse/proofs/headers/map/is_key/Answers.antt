@@ -1,4 +1,4 @@
-use Rattle.std.proofs.Common.{map, sym, ap, rules, ◌∙◌, arith}
+use Rattle.std.proofs.Common.{map, sym, ap, rules, ◌∙◌}
 use Rattle.std.specs.Char.{to_ascii_lowercase}
 use lib.Pointwise.{bytes_decides}
 use Rattle.mailparse.proofs.lemmas.Map.{same_tested}
