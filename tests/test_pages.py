@@ -18,8 +18,8 @@ from fences import fences_of
 from make_api import PAGE, base, crates, found, libraries, page, sources
 
 PAGES = (
-    "*.md", "docs/*.md", "python/*.md", "crates/*/data/README.md", "tests/*.md", "bench/**/*.md", "oracle/**/*.md",
-    "examples/*/README.md",
+    "*.md", "docs/*.md", "python/*.md", "crates/*/data/README.md", "tests/*.md", "tools/*.md", "bench/**/*.md",
+    "oracle/**/*.md", "examples/*/README.md",
 )
 CLAIMS = ("docs/ARCHITECTURE.md", "docs/CALLING.md", "docs/PROVED.md")
 SOURCES = ("crates/*/src/**/*.rt", "crates/*/specs/**/*.antt")

@@ -1,4 +1,5 @@
-/* What the readers of this directory share: the command `bench ROUNDS WORK..`, as README.md says. */
+/* What the readers of this directory share: the command `bench ROUNDS WORK..`. A work is `parse`, `all` (also the value
+   of each header, and the decoded body of each part), `mailbox-parse` or `mailbox-all`. */
 #ifndef BENCH_H
 #define BENCH_H
 
