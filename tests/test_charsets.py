@@ -237,7 +237,7 @@ NAMES = ("gbk", "gb18030", "big5", "euc-kr", "euc-jp", "shift_jis", "iso-2022-jp
 def test_mails(name, known, seed, tmp_path):
     """The subject, the name, the text and the names of the file come back as they were written."""
     rng = random.Random(f"{seed} {name}")
-    mails = [mail_of(rng, known[name]) for _ in range(2000)]
+    mails = [mail_of(rng, known[name]) for _ in range(2100)]
     path = tmp_path / "mails.mbox"
     path.write_bytes(b"".join(FROM + data + b"\n" for data, _ in mails))
     ended = run([program("mail_json"), "--mbox", path])

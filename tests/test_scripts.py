@@ -14,7 +14,7 @@ import pytest
 from support import TOP, program, run
 
 SCRIPTS = sorted(
-    path for pattern in ("tools/*", "bench/*", "oracle/*")
+    path for pattern in ("tools/*", "bench/*", "oracle/*", "examples/archive/*.py")
     for path in TOP.glob(pattern) if path.is_file() and os.access(path, os.X_OK)
 )
 LAUNCHERS = ("mail_show", "mail_json", "mail_extract")
@@ -44,8 +44,9 @@ def test_script(script):
 
 @pytest.mark.quick
 def test_help_of_test():
-    """./test passes its other arguments to pytest."""
+    """./test passes its other arguments to pytest, which refuses unknown ones with exit status 4."""
     ends([TOP / "test", "--help"], 0, "stdout")
+    ends([TOP / "test", "--no-such-option"], 4, "stderr")
 
 
 @pytest.fixture(params=LAUNCHERS)
