@@ -99,13 +99,14 @@ def saved(mails, tmp_path_factory):
     return into, runs
 
 
-def test_lines(saved):
-    """Each line has the members in order, and each file a new name."""
+def test_lines(saved, mails):
+    """Each line has the members in order, and each file a new name; no file is missing."""
     into, runs = saved
     lines = [line for _, lines in runs for line in lines]
     assert {tuple(line) for line in lines} == {tuple(MEMBERS)}
     names = [line["saved"] for line in lines]
     assert sorted(names) == sorted(path.name for path in into.iterdir())
+    assert len(names) == 2 * sum(len(wanted_files(path.read_bytes(), False)) for path in mails) > 20
 
 
 def test_files(saved, mails):
