@@ -1,6 +1,7 @@
 pub mod Spans
 pub mod Disposition
 pub mod StarFree
+pub mod Runs
 pub mod Boundaries
 pub mod WordTokens
 pub mod Date

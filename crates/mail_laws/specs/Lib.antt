@@ -1,5 +1,6 @@
 pub mod Spans
 pub mod StarFree
+pub mod Runs
 pub mod Boundaries
 pub mod Percent
 pub mod Least

@@ -1,5 +1,5 @@
 //! The parameters of a value: its segments, its pairs and their meaning.
-ghost use Rattle.std.specs.Prelude.{[], ◌++◌, ◌/◌, ◌==◌, ◌↔◌, ◌∷◌, ◌≡◌, ℕ, Contains, Decides, IsSome, List, codes, false, map, replicate};
+ghost use Rattle.std.specs.Prelude.{[], ◌++◌, ◌/◌, ◌==◌, ◌↔◌, ◌∷◌, ◌≡◌, ℕ, Contains, Decides, IsSome, List, None, codes, false, map, replicate};
 ghost use Rattle.std.specs.Cmp.Lexicographic.{slice_cmp};
 ghost use Rattle.std.specs.List.{list_any};
 ghost use Rattle.std.specs.Ordering.{is_lt, nat_cmp};
@@ -20,6 +20,7 @@ ghost use Rattle.mail_laws.specs.Boundaries.{IsAlphanumeric, boundary_type, one_
 ghost use Rattle.mail_laws.specs.CharsetSources.{IsCandidate};
 ghost use Rattle.mail_laws.specs.Escapes.{staying};
 ghost use Rattle.mail_laws.specs.Percent.{is_percent};
+ghost use Rattle.mail_laws.specs.Runs.{walked_after};
 ghost use Rattle.mail_laws.specs.StarFree.{AreStarFree};
 
 /// Exactly one list of segments fits a text: the computed one.
@@ -51,10 +52,12 @@ pub fn pairs_without_stars_are_parameters()
         (name : List ℕ) → parameters_in known pairs name ≡ last_of pairs name }
 {}
 
-/// The bytes of extended sections that follow one another are decoded together, in the charset of
-/// the last of them: two such sections make the same text as one with the bytes of both.
+/// The text that the sections of a value make is that of one walk over them, which collects the
+/// bytes of extended sections up to a text or the end, and decodes them then, in the charset of the
+/// last of them. So two adjacent extended sections make the same text as one with the bytes of both.
 pub fn runs_are_read_once()
-    ensures { (first last : List ℕ → List ℕ) (a b : List ℕ) (rest : List Section) →
+    ensures walk { (sections : List Section) → joined sections ≡ walked_after None [] sections }
+    ensures adjacent { (first last : List ℕ → List ℕ) (a b : List ℕ) (rest : List Section) →
         joined (octets first a ∷ octets last b ∷ rest) ≡ joined (octets last (a ++ b) ∷ rest) }
 {}
 
