@@ -57,8 +57,8 @@ pub fn encode_value(alloc: Global, text: &str) -> Result<String, AllocError>
     Ok(written)
 }
 
-/// Returns whether a value is plain, so that `encode_value` writes it as it is: printable ASCII that
-/// does not begin with a space and does not contain `=?` (RFC 2047, section 2).
+/// Returns whether a value is plain, so that `encode_value` writes it as it is: printable ASCII
+/// that does not begin with a space and does not contain `=?` (RFC 2047, section 2).
 ///
 /// Allocates nothing.
 ///

@@ -1,7 +1,7 @@
 -- Lemmas on lists of addresses.
 use Rattle.std.proofs.Common.{◌≡◌, ℕ, zero, suc, ◌+◌, ◌-◌, ◌<◌, ◌≤◌, Bool, true, false, cond, eqb, ◌&&◌, List, [], ◌∷◌, ◌++◌, length, take, drop, refl, sym, ap, ◌∙◌, arith, length-drop, append_assoc}
 use Rattle.std.specs.Prelude.{nat_eq, min}
-use Rattle.std.proofs.lemmas.Bool.{and_parts, false≢true, ne_eqb}
+use Rattle.std.proofs.lemmas.Bool.{and_parts, cond_both, false≢true, ne_eqb}
 use Rattle.std.proofs.lemmas.List.{append-nil}
 use Rattle.mail_codec.specs.Places.{begins}
 use Rattle.mail_address.specs.declared.tokens.Span.TheVariants.{BeforeSeparator}
@@ -87,11 +87,9 @@ member_len-some bytes low = omega arith
 
 pub element_len-some : (bytes : List ℕ) → 0 < length bytes → 0 < element_len bytes
 unfolding element_len group_len
-element_len-some bytes low = go (is_group bytes)
-  where
-    go : (g : Bool) → 0 < cond g (group_len bytes + separator_len (drop (group_len bytes) bytes)) (min (suc (run BeforeSeparator bytes)) (length bytes))
-    go true = omega arith
-    go false = omega arith
+element_len-some bytes low =
+    cond_both (is_group bytes) (group_len bytes + separator_len (drop (group_len bytes) bytes)) (min (suc (run BeforeSeparator bytes)) (length bytes)) (λ n. 0 < n)
+    (λ e. omega arith) (λ e. omega arith)
 
 -- a test for emptiness, and what it says of the length
 pub some_bytes : (bytes : List ℕ) {r : Bool} → r ≡ nat_eq (length bytes) 0 → r ≡ false → 0 < length bytes

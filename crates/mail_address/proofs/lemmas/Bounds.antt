@@ -1,8 +1,8 @@
 -- Lemmas on how long tokens and runs of them are.
-use Rattle.std.proofs.Common.{◌≡◌, ◌≢◌, ℕ, zero, suc, ◌+◌, ◌<◌, ◌≤◌, Bool, true, false, cond, eqb, not, ◌&&◌, List, [], ◌∷◌, length, drop, refl, sym, ap, ◌∙◌, arith, length-drop}
+use Rattle.std.proofs.Common.{◌≡◌, ◌≢◌, ℕ, zero, suc, ◌+◌, ◌<◌, ◌≤◌, Bool, true, false, cond, eqb, not, ◌&&◌, List, [], ◌∷◌, length, drop, refl, sym, ap, ◌∙◌, ⊎_elim, arith, length-drop}
 use Rattle.std.specs.Prelude.{min, nat_lt}
 use Rattle.std.specs.List.{prefix_len}
-use Rattle.std.proofs.lemmas.Bool.{cond_both, eqb-false, eqb-true, ltb-true}
+use Rattle.std.proofs.lemmas.Bool.{cases_Bool, cond_both, eqb-false, eqb-true, ltb-true}
 use Rattle.std.proofs.lemmas.List.{drop-drop}
 use Rattle.std.proofs.lemmas.List.Sums.{prefix_len-le-length}
 use Rattle.mail_codec.specs.Places.{begins}
@@ -62,17 +62,12 @@ angle-fits rest =
     (λ e. let low = begins-within (λ b. eqb b 62) n rest e in (omega arith, omega arith)) (λ e. (omega arith, omega arith))
 
 plain-fits : (b : ℕ) (rest : List ℕ) → Fits (suc (length rest)) (plain_token (b ∷ rest))
-plain-fits b rest = go (is_white b) (is_atom_byte b) (eqb b 40) (eqb b 34) (eqb b 91) (eqb b 92)
-  where
-    go : (w a c q l s : Bool) → Fits (suc (length rest)) (cond w (tok Blank (1 + prefix_len is_white rest)) (cond a (tok Atom (1 + prefix_len is_atom_byte rest))
-        (cond c (comment_token rest) (cond q (quoted_token rest) (cond l (literal_token rest) (cond s (tok Other (min 2 (1 + length rest))) (tok (single_kind b) 1)))))))
-    go true a c q l s = let low = prefix_len-le-length is_white rest in (omega arith, omega arith)
-    go false true c q l s = let low = prefix_len-le-length is_atom_byte rest in (omega arith, omega arith)
-    go false false true q l s = comment-fits rest
-    go false false false true l s = quoted-fits rest
-    go false false false false true s = literal-fits rest
-    go false false false false false true = (omega arith, omega arith)
-    go false false false false false false = (omega arith, omega arith)
+plain-fits b rest =
+    cond_both (is_white b) (tok Blank (1 + prefix_len is_white rest)) _ (Fits (suc (length rest))) (λ e. let low = prefix_len-le-length is_white rest in (omega arith, omega arith))
+    (λ e. cond_both (is_atom_byte b) (tok Atom (1 + prefix_len is_atom_byte rest)) _ (Fits (suc (length rest))) (λ e. let low = prefix_len-le-length is_atom_byte rest in (omega arith, omega arith))
+    (λ e. cond_both (eqb b 40) _ _ (Fits (suc (length rest))) (λ e. comment-fits rest) (λ e. cond_both (eqb b 34) _ _ (Fits (suc (length rest))) (λ e. quoted-fits rest)
+    (λ e. cond_both (eqb b 91) _ _ (Fits (suc (length rest))) (λ e. literal-fits rest)
+    (λ e. cond_both (eqb b 92) (tok Other (min 2 (1 + length rest))) (tok (single_kind b) 1) (Fits (suc (length rest))) (λ e. (omega arith, omega arith)) (λ e. (omega arith, omega arith)))))))
 
 pub token-fits : (b : ℕ) (rest : List ℕ) → Fits (suc (length rest)) (front_token (b ∷ rest))
 unfolding front_token
@@ -107,24 +102,16 @@ pub far-over : (pass : List ℕ → ℕ) → ((bytes : List ℕ) → pass bytes 
 far-over pass within zero bytes short low = absurd (omega arith)
 far-over pass within (suc most) [] short low = absurd (omega arith)
 far-over pass within (suc most) (b ∷ bytes) short low =
-    go (eqb (pass (b ∷ bytes)) 0) refl (far-over pass within most (drop (pass (b ∷ bytes)) (b ∷ bytes)))
-  where
-    go : (t : Bool) → eqb (pass (b ∷ bytes)) 0 ≡ t
-        → (length (drop (pass (b ∷ bytes)) (b ∷ bytes)) ≤ most → far pass (drop (pass (b ∷ bytes)) (b ∷ bytes)) < length (drop (pass (b ∷ bytes)) (b ∷ bytes))
-        → pass (drop (far pass (drop (pass (b ∷ bytes)) (b ∷ bytes))) (drop (pass (b ∷ bytes)) (b ∷ bytes))) ≡ 0)
-        → pass (drop (far pass (b ∷ bytes)) (b ∷ bytes)) ≡ 0
-    go true e later =
-        let none : pass (b ∷ bytes) ≡ 0 = eqb-true (pass (b ∷ bytes)) 0 e in
-        ap (λ n. pass (drop n (b ∷ bytes))) (far-stop pass (b ∷ bytes) none) ∙ none
-    go false e later =
-        let some : pass (b ∷ bytes) ≢ 0 = eqb-false (pass (b ∷ bytes)) 0 e in
-        let more = far-more pass (b ∷ bytes) (omega arith) some in
-        let cut = length-drop (pass (b ∷ bytes)) (b ∷ bytes) in
-        let fits = within (b ∷ bytes) in
-        let positive : 0 < pass (b ∷ bytes) = omega (arith, some) in
-        ap (λ n. pass (drop n (b ∷ bytes))) more
-        ∙ ap pass (sym (drop-drop (far pass (drop (pass (b ∷ bytes)) (b ∷ bytes))) (pass (b ∷ bytes)) (b ∷ bytes)))
-        ∙ later (omega arith) (omega arith)
+    ⊎_elim (λ e. let none : pass (b ∷ bytes) ≡ 0 = eqb-true (pass (b ∷ bytes)) 0 e in ap (λ n. pass (drop n (b ∷ bytes))) (far-stop pass (b ∷ bytes) none) ∙ none)
+    (λ e. let some : pass (b ∷ bytes) ≢ 0 = eqb-false (pass (b ∷ bytes)) 0 e in
+    let more = far-more pass (b ∷ bytes) (omega arith) some in
+    let cut = length-drop (pass (b ∷ bytes)) (b ∷ bytes) in
+    let fits = within (b ∷ bytes) in
+    let positive : 0 < pass (b ∷ bytes) = omega (arith, some) in
+    ap (λ n. pass (drop n (b ∷ bytes))) more
+    ∙ ap pass (sym (drop-drop (far pass (drop (pass (b ∷ bytes)) (b ∷ bytes))) (pass (b ∷ bytes)) (b ∷ bytes)))
+    ∙ far-over pass within most (drop (pass (b ∷ bytes)) (b ∷ bytes)) (omega arith) (omega arith))
+    (cases_Bool (eqb (pass (b ∷ bytes)) 0))
 
 pub run-within : (span : Span) (bytes : List ℕ) → run span bytes ≤ length bytes
 run-within span bytes = far-within (step span) (step-within span) bytes

@@ -1,8 +1,8 @@
 -- Lemmas on what nothing within separates.
-use Rattle.std.proofs.Common.{◌≡◌, ℕ, suc, ◌+◌, ◌-◌, ◌<◌, Bool, true, false, cond, eqb, ◌||◌, List, [], ◌∷◌, ◌++◌, length, drop, refl, sym, ap, ◌∙◌, arith, append_assoc, length-append}
+use Rattle.std.proofs.Common.{◌≡◌, ℕ, suc, ◌+◌, ◌-◌, ◌<◌, Bool, true, false, cond, eqb, ◌||◌, List, [], ◌∷◌, ◌++◌, length, drop, refl, sym, ap, ◌∙◌, ⊎_elim, arith, append_assoc, length-append}
 use Rattle.std.specs.Prelude.{min, nat_lt}
 use Rattle.std.specs.List.{prefix_len}
-use Rattle.std.proofs.lemmas.Bool.{cond-false, eq-eqb, false≢true, lt-ltb, ne_eqb}
+use Rattle.std.proofs.lemmas.Bool.{cases_Bool, cond_both, cond-false, cond-true, eq-eqb, false≢true, lt-ltb, ne_eqb, or_right}
 use Rattle.std.proofs.lemmas.List.{drop_at}
 use Rattle.mail_codec.specs.Places.{begins}
 use Rattle.mail_address.specs.declared.tokens.Kind.{Kind}
@@ -18,11 +18,7 @@ use Rattle.mail_address.proofs.lemmas.Tokens.{atom_byte-visible, far-more, far-s
 -- the closing delimiter of enclosed bytes is found directly after them
 module _ (one other : ℕ) (first : eqb 92 one ≡ false) (second : eqb 92 other ≡ false) where
   between-place : {text : List ℕ} → IsBetween one other text → (rest : List ℕ) → unquoted_place one other false (text ++ other ∷ rest) ≡ length text
-  between-place no_bytes rest = rw (eq-eqb other other refl) (go (eqb other one))
-    where
-      go : (t : Bool) → cond (t || true) 0 (suc (unquoted_place one other (eqb other 92) rest)) ≡ 0
-      go true = refl
-      go false = refl
+  between-place no_bytes rest = cond-true _ _ _ (or_right (eqb other one) (eqb other other) (eq-eqb other other refl))
   between-place (quoted_pair between) rest = let later = between-place between rest in rw (first, second) (ap suc (ap suc later))
   between-place (plain_byte {b = b} not_one not_other no_backslash between) rest =
       let later = between-place between rest in
@@ -175,55 +171,33 @@ far-run pass test is b bytes h =
     go [] = omega arith
     go (c ∷ cs) = next c cs (test c) refl
 
-white-step : (c : ℕ) (cs : List ℕ) → is_white c ≡ true → angle_step (c ∷ cs) ≡ suc (prefix_len is_white cs)
-white-step c cs h = rw h (omega arith)
-
-atom-step : (c : ℕ) (cs : List ℕ) → is_atom_byte c ≡ true → angle_step (c ∷ cs) ≡ suc (prefix_len is_atom_byte cs)
-atom-step c cs h = rw (atom_byte-visible c h, h) (omega arith)
-
 single-is_no_angle : (b : ℕ) → eqb b 60 ≡ false → eqb b 62 ≡ false → is_angle (single_kind b) ≡ false
 unfolding single_kind
-single-is_no_angle b opening closing = rw (opening, closing) (go (eqb b 46) (eqb b 64) (eqb b 44) (eqb b 59) (eqb b 58))
-  where
-    go : (d a c s k : Bool) → is_angle (cond d Dot (cond a At (cond c Comma (cond s Semicolon (cond k Colon Other))))) ≡ false
-    go true a c s k = refl
-    go false true c s k = refl
-    go false false true s k = refl
-    go false false false true k = refl
-    go false false false false true = refl
-    go false false false false false = refl
+single-is_no_angle b opening closing =
+    rw (opening, closing) (cond_both (eqb b 46) _ _ (λ k. is_angle k ≡ false) (λ e. refl) (λ e. cond_both (eqb b 64) _ _ (λ k. is_angle k ≡ false) (λ e. refl)
+    (λ e. cond_both (eqb b 44) _ _ (λ k. is_angle k ≡ false) (λ e. refl) (λ e. cond_both (eqb b 59) _ _ (λ k. is_angle k ≡ false) (λ e. refl)
+    (λ e. cond_both (eqb b 58) Colon Other (λ k. is_angle k ≡ false) (λ e. refl) (λ e. refl))))))
 
 not_opener : (b delimiter : ℕ) → is_opener b ≡ false → is_opener delimiter ≡ true → eqb b delimiter ≡ false
 not_opener b delimiter h opens = ne_eqb b delimiter (λ e. false≢true (sym h ∙ ap is_opener e ∙ opens))
 
 -- a byte that opens nothing is a step of its own
 angle-byte : (b : ℕ) (bytes : List ℕ) → is_opener b ≡ false → far angle_step (b ∷ bytes) ≡ suc (far angle_step bytes)
-angle-byte b bytes h = by_white (is_white b) refl
+angle-byte b bytes h =
+    ⊎_elim (λ white. far-run angle_step is_white (λ c cs h. rw h (omega arith)) b bytes white) (λ no_white. ⊎_elim
+    (λ atom. far-run angle_step is_atom_byte (λ c cs h. rw (atom_byte-visible c h, h) (omega arith)) b bytes atom)
+    (λ no_atom. let passed = far-token angle_step (b ∷ []) bytes (omega arith) (one no_white no_atom) in omega (arith, passed))
+    (cases_Bool (is_atom_byte b))) (cases_Bool (is_white b))
   where
     one : (is_white b ≡ false) → (is_atom_byte b ≡ false) → angle_step (b ∷ bytes) ≡ 1
     one no_white no_atom =
         rw (no_white, no_atom, not_opener b 40 h refl, not_opener b 34 h refl, not_opener b 91 h refl, not_opener b 92 h refl)
         (rw (single-is_no_angle b (not_opener b 60 h refl) (not_opener b 62 h refl)) refl)
 
-    by_atom : (t : Bool) → is_white b ≡ false → is_atom_byte b ≡ t → far angle_step (b ∷ bytes) ≡ suc (far angle_step bytes)
-    by_atom true no_white e = far-run angle_step is_atom_byte atom-step b bytes e
-    by_atom false no_white e = let passed = far-token angle_step (b ∷ []) bytes (omega arith) (one no_white e) in omega (arith, passed)
-
-    by_white : (t : Bool) → is_white b ≡ t → far angle_step (b ∷ bytes) ≡ suc (far angle_step bytes)
-    by_white true e = far-run angle_step is_white white-step b bytes e
-    by_white false e = by_atom (is_atom_byte b) e refl
-
 -- a backslash takes the byte after it
 pair-step : (b : ℕ) (bytes : List ℕ) → angle_step (92 ∷ b ∷ bytes) ≡ 2
 unfolding is_atom_byte
 pair-step b bytes = omega arith
-
-closed-step : {kind : Kind} {bytes : List ℕ} → ClosedToken kind bytes → (rest : List ℕ) → angle_step (bytes ++ rest) ≡ length bytes
-closed-step token rest = rw (token.token rest) (rw (token.no_angle) refl)
-
-closing-step : (rest : List ℕ) → angle_step (62 ∷ rest) ≡ 0
-unfolding is_atom_byte single_kind
-closing-step rest = refl
 
 angles-passed : {text : List ℕ} → IsInAngles text → (rest : List ℕ) → far angle_step (text ++ rest) ≡ length text + far angle_step rest
 angles-passed angles_end rest = omega arith
@@ -238,18 +212,18 @@ angles-passed (angles_byte {b = b} {rest = inner} h more) rest =
 angles-passed (angles_closed {closed = front} {rest = inner} {bytes = bytes} shut more e) rest =
     let later = angles-passed more rest in
     let token = (closed-token shut).1 in
-    let here = far-token angle_step front (inner ++ rest) token.some (closed-step token (inner ++ rest)) in
+    let here = far-token angle_step front (inner ++ rest) token.some (rw (token.token (inner ++ rest)) (rw (token.no_angle) refl)) in
     let len : length bytes ≡ length front + length inner = ap length e ∙ length-append front inner in
     let whole : far angle_step (bytes ++ rest) ≡ far angle_step (front ++ (inner ++ rest)) =
     ap (λ b. far angle_step (b ++ rest)) e ∙ ap (far angle_step) (append_assoc front inner rest) in
     omega (arith, whole, here, later, len)
 
 angle-is : (inner rest : List ℕ) → IsInAngles inner → angle_token (inner ++ 62 ∷ rest) ≡ record { kind = Angle; len = length inner + 2 }
-unfolding angle_token
+unfolding angle_token is_atom_byte single_kind
 angle-is inner rest inside =
     let at : angle_place (inner ++ 62 ∷ rest) ≡ length inner =
     let passed = angles-passed inside (62 ∷ rest) in
-    let stops = far-stop angle_step (62 ∷ rest) (closing-step rest) in
+    let stops = far-stop angle_step (62 ∷ rest) refl in
     omega (arith, passed, stops) in
     rw (byte-after (angle_place (inner ++ 62 ∷ rest)) 62 inner rest at) (ap (λ n. record { kind = Angle; len = n + 2 }) at)
 
@@ -282,10 +256,7 @@ enclosed-passed span text rest goes (in_angles {inner = inner} inside e) =
 
 pair-front : (b : ℕ) (rest : List ℕ) → front_token (92 ∷ b ∷ rest) ≡ record { kind = Other; len = 2 }
 unfolding front_token is_atom_byte
-pair-front b rest = ap (λ n. record { kind = Other; len = n }) (two rest)
-  where
-    two : (rest : List ℕ) → min 2 (1 + suc (length rest)) ≡ 2
-    two rest = omega arith
+pair-front b rest = let two : min 2 (1 + suc (length rest)) ≡ 2 = omega arith in ap (λ n. record { kind = Other; len = n }) two
 
 -- outside of all of them a backslash takes the byte after it
 pub pair-passed : (span : Span) (b : ℕ) (rest : List ℕ) → is_in span Angle ≡ true → run span (92 ∷ b ∷ rest) ≡ 2 + run span rest

@@ -4,7 +4,7 @@ use Rattle.std.specs.Prelude.{nat_le, encode_utf8_all, flat_map}
 use Rattle.std.specs.Char.{encode_utf8}
 use Rattle.std.specs.List.{All, list_all}
 use Rattle.std.specs.Str.{IsAscii}
-use Rattle.std.proofs.lemmas.Bool.{cond-true, cond-false, leb-true, leb-false, le-leb, lt-leb, ne_eqb}
+use Rattle.std.proofs.lemmas.Bool.{cond_both, cond-true, cond-false, leb-true, leb-false, le-leb, lt-leb, ne_eqb}
 use Rattle.std.proofs.lemmas.Bool.Decides.{nat_tests}
 use Rattle.std.proofs.lemmas.List.{append-nil}
 use Rattle.std.proofs.lemmas.List.Sums.{AllPass-from_list_all, list_all-from_AllPass}
@@ -50,14 +50,9 @@ more_is_some (b ∷ word) c e = cc
 are_words_after : (word cs : List ℕ) → word ≢ [] → size word ≤ most → AreWords (word ++ cs) (words_after word cs)
 are_words_after word [] some fits = next_word {word = word} {rest = []} some fits tt no_word refl
 are_words_after word (c ∷ cs) some fits =
-    go (nat_le (size (word ++ c ∷ [])) most) refl (are_words_after (word ++ c ∷ []) cs (more_is_some word c)) (are_words_after (c ∷ []) cs (λ e. cc) (size-one c))
-  where
-    go : (t : Bool) → nat_le (size (word ++ c ∷ [])) most ≡ t
-        → (size (word ++ c ∷ []) ≤ most → AreWords ((word ++ c ∷ []) ++ cs) (words_after (word ++ c ∷ []) cs))
-        → AreWords (c ∷ cs) (words_after (c ∷ []) cs)
-        → AreWords (word ++ c ∷ cs) (cond t (words_after (word ++ c ∷ []) cs) (word ∷ words_after (c ∷ []) cs))
-    go true e longer next = subst (λ all. AreWords all (words_after (word ++ c ∷ []) cs)) (append_assoc word (c ∷ []) cs) (longer (leb-true _ _ e))
-    go false e longer next = next_word {word = word} {rest = c ∷ cs} some fits (leb-false _ _ e) next refl
+    cond_both (nat_le (size (word ++ c ∷ [])) most) _ _ (AreWords (word ++ c ∷ cs))
+    (λ e. subst (λ all. AreWords all (words_after (word ++ c ∷ []) cs)) (append_assoc word (c ∷ []) cs) (are_words_after (word ++ c ∷ []) cs (more_is_some word c) (leb-true _ _ e)))
+    (λ e. next_word {word = word} {rest = c ∷ cs} some fits (leb-false _ _ e) (are_words_after (c ∷ []) cs (λ e. cc) (size-one c)) refl)
 
 pub words_fit : (cs : List ℕ) → AreWords cs (words_of cs)
 words_fit [] = no_word

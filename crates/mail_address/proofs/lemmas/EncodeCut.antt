@@ -3,7 +3,7 @@ use Rattle.std.proofs.Common.{◌≡◌, ℕ, ◌+◌, ◌-◌, ◌<◌, ◌≤�
 use Rattle.std.specs.Prelude.{nat_le, encode_utf8_all, codes}
 use Rattle.std.specs.Char.{encode_utf8, len_utf8}
 use Rattle.std.specs.Str.{chars, IsUtf8, IsCharBoundary}
-use Rattle.std.proofs.lemmas.Bool.{cond-true, cond-false, le-leb, lt-leb}
+use Rattle.std.proofs.lemmas.Bool.{cond_both, cond-true, cond-false, le-leb, lt-leb}
 use Rattle.std.proofs.lemmas.List.{append-nil, take_all, take-append-le, drop-drop, length-take-le}
 use Rattle.std.proofs.lemmas.Str.{chars-nil, chars_past_char, encodes-append, encodes-chars, IsCharBoundary-start, length-encode, IsUtf8-past_char, IsCharBoundary-past_char, drop_past_char}
 use Rattle.mail_address.specs.Encode.{most, size, letters, one_word, encoded_word, word_lines, words_after, words_of}
@@ -28,12 +28,9 @@ words_begin c cs = cond-true _ _ _ (le-leb _ _ (size-one c))
 
 words_some : (word cs : List ℕ) → (first : List ℕ) × (more : List (List ℕ)) × (words_after word cs ≡ first ∷ more)
 words_some word [] = (word, [], refl)
-words_some word (c ∷ cs) = go (nat_le (size (word ++ c ∷ [])) most) (words_some (word ++ c ∷ []) cs)
-  where
-    go : (t : Bool) → (first : List ℕ) × (more : List (List ℕ)) × (words_after (word ++ c ∷ []) cs ≡ first ∷ more)
-        → (first : List ℕ) × (more : List (List ℕ)) × (cond t (words_after (word ++ c ∷ []) cs) (word ∷ words_after (c ∷ []) cs) ≡ first ∷ more)
-    go true some = some
-    go false some = (word, words_after (c ∷ []) cs, refl)
+words_some word (c ∷ cs) =
+    cond_both (nat_le (size (word ++ c ∷ [])) most) _ _ (λ ws. (first : List ℕ) × (more : List (List ℕ)) × (ws ≡ first ∷ more)) (λ e. words_some (word ++ c ∷ []) cs)
+    (λ e. (word, words_after (c ∷ []) cs, refl))
 
 lines_more : (word next cs : List ℕ)
     → word_lines (word ∷ words_after next cs) ≡ encoded_word word ++ (13 ∷ 10 ∷ 32 ∷ word_lines (words_after next cs))

@@ -6,7 +6,7 @@ use Rattle.std.specs.List.{All, list_all, slice_split}
 use Rattle.std.specs.Option.{option_or}
 use Rattle.std.specs.Str.{chars, trim_start, skip_leading_whitespace, IsAscii, IsUtf8}
 use Rattle.std.specs.Str.Lines.{lines, lines_of_parts, strip_carriage_return}
-use Rattle.std.proofs.lemmas.Bool.{cond-true, cond-false, and_parts, cases_lt, false≢true, lt-ltb, ne_eqb, eq-eqb, not-true}
+use Rattle.std.proofs.lemmas.Bool.{cond_both, cond-true, cond-false, and_parts, cases_lt, false≢true, lt-ltb, ne_eqb, eq-eqb, not-true}
 use Rattle.std.proofs.lemmas.List.{get_or_push, take_all, take-append-le, drop_all}
 use Rattle.std.proofs.lemmas.List.Folds.{list_all-append}
 use Rattle.std.proofs.lemmas.List.Elements.{All-append}
@@ -269,13 +269,9 @@ plain_reads known value h =
 pub written_reads : (known : Charsets) (text : List ℕ) → KnowUtf8 known ⊎ (is_plain_value text ≡ true) → IsUtf8 text
     → lenient_value_in known (written_value text) ≡ text
 unfolding written_value
-written_reads known text able utf8 = go (is_plain_value text) refl able
-  where
-    go : (t : Bool) → is_plain_value text ≡ t → KnowUtf8 known ⊎ (is_plain_value text ≡ true)
-        → lenient_value_in known (cond t text (word_lines (words_of (chars text)))) ≡ text
-    go true e able = plain_reads known text e
-    go false e (inl knows) = encoded_reads_back known knows text utf8
-    go false e (inr plain) = absurd (false≢true (sym e ∙ plain))
+written_reads known text able utf8 =
+    cond_both (is_plain_value text) text (word_lines (words_of (chars text))) (λ value. lenient_value_in known value ≡ text) (plain_reads known text)
+    (λ e. ⊎_elim (λ knows. encoded_reads_back known knows text utf8) (λ plain. absurd (false≢true (sym e ∙ plain))) able)
 
 pub written_reads_back : (text : List ℕ) → IsUtf8 text → lenient_value (written_value text) ≡ text
 written_reads_back text utf8 = written_reads four_charsets text (inl refl) utf8

@@ -1,5 +1,6 @@
 -- The elements of a list are the mailboxes that the grammar says they are.
 use Rattle.std.proofs.Common.{ℕ, zero, suc, ◌+◌, Bool, true, false, cond, List, [], ◌∷◌, ◌++◌, length, take, drop, map}
+use Rattle.std.proofs.lemmas.Bool.{cond_both}
 use Rattle.mail_address.specs.declared.tokens.Span.TheVariants.{BeforeComma, BeforeSeparator}
 use Rattle.mail_address.specs.Addresses.{addresses, after_name, Element, element_at, element_len, group, group_at, inner_len, is_group, items, items_within, member_at, member_len, members_at, name_len, single, Single, single_at}
 use Rattle.mail_address.specs.Grammar.{AreByGrammar, FollowGrammar}
@@ -33,11 +34,8 @@ elements-append (group g ∷ xs) ys first second = (first.0, elements-append xs 
 
 single-follows : (start : ℕ) (text : List ℕ) → AreByGrammar (single_at start text)
 unfolding single_at
-single-follows start text = go (is_all_white text)
-  where
-    go : (t : Bool) → AreByGrammar (cond t [] (record { start = start; text = text; mailbox = mailbox_of text } ∷ []))
-    go true = tt
-    go false = (λ m. (mailbox-made text m, mailbox-read text m), tt)
+single-follows start text =
+    cond_both (is_all_white text) _ _ AreByGrammar (λ e. tt) (λ e. (λ m. (mailbox-made text m, mailbox-read text m), tt))
 
 singles-follow : (ss : List Single) → AreByGrammar ss → FollowGrammar (map single ss)
 singles-follow [] are = tt
@@ -56,11 +54,9 @@ group-follows start bytes = members-follow (start + suc (name_len bytes)) (take 
 
 element-follows : (start : ℕ) (bytes : List ℕ) → FollowGrammar (element_at start bytes)
 unfolding element_at
-element-follows start bytes = go (is_group bytes)
-  where
-    go : (t : Bool) → FollowGrammar (cond t (group (group_at start bytes) ∷ []) (map single (single_at start (take (run BeforeSeparator bytes) bytes))))
-    go true = (group-follows start bytes, tt)
-    go false = singles-follow (single_at start (take (run BeforeSeparator bytes) bytes)) (single-follows start (take (run BeforeSeparator bytes) bytes))
+element-follows start bytes =
+    let text : List ℕ = take (run BeforeSeparator bytes) bytes in
+    cond_both (is_group bytes) _ _ FollowGrammar (λ e. (group-follows start bytes, tt)) (λ e. singles-follow (single_at start text) (single-follows start text))
 
 pub elements-follow : (raw : List ℕ) → FollowGrammar (addresses raw)
 elements-follow raw = items-hold element_at element_len FollowGrammar tt elements-append element-follows 0 raw

@@ -3,6 +3,7 @@ use Rattle.std.proofs.Common.{◌≡◌, ◌≢◌, ◌⊎◌, inl, inr, ℕ, ze
 use Rattle.std.specs.Prelude.{min, nat_lt}
 use Rattle.std.specs.List.{list_all, prefix_len}
 use Rattle.std.proofs.lemmas.Bool.{and_from, and_parts, cases_lt, cond_both, eqb-false, eqb-true, false≢true, ltb-true, not-true, or_parts}
+use Rattle.std.proofs.lemmas.Option.{same_Some}
 use Rattle.std.proofs.lemmas.List.{append-nil, drop_at, take_all, take_at, take-append-drop}
 use Rattle.std.proofs.Math.Seq.{take-add}
 use Rattle.mail_codec.specs.Places.{begins}
@@ -19,7 +20,7 @@ use Rattle.mail_address.specs.Names.{IsNameWord, atom_word, quoted_word}
 use Rattle.mail_address.specs.Tokens.{angle_place, angle_token, closes_comment, comment_place, comment_token, depth_after, far, far_within, front_token, is_all_white, is_atom_byte, is_in, is_white, literal_token, plain_token, quoted_token, run, single_kind, step, unquoted_place}
 use Rattle.mail_address.proofs.lemmas.Addresses.{begins-within}
 use Rattle.mail_address.proofs.lemmas.Bounds.{far-over, step-within, token-fits}
-use Rattle.mail_address.proofs.lemmas.Enclosed.{delimited, delimited-length}
+use Rattle.mail_address.proofs.lemmas.Enclosed.{delimited, delimited-length, step-token}
 use Rattle.mail_address.proofs.lemmas.Tokens.{far-more, far-nothing}
 use Rattle.mail_address.proofs.lemmas.Passed.{comma-front, passed-up_to, run-stops, span_of, white-passed}
 
@@ -43,10 +44,6 @@ cut-closed : (first last n : ℕ) (bytes : List ℕ) → begins (λ b. eqb b las
 cut-closed first last n bytes h =
     let two : n + 2 ≡ suc (suc n) = omega arith in
     ap (λ k. take k (first ∷ bytes)) two ∙ ap (λ (r : List ℕ). first ∷ r) (cut-at last n bytes h)
-
-begins-cut : (last : ℕ) (bytes : List ℕ) → begins (λ b. eqb b last) bytes ≡ true → bytes ≡ last ∷ drop 1 bytes
-begins-cut last [] h = absurd (false≢true h)
-begins-cut last (b ∷ bytes) h = ap (λ (c : ℕ). c ∷ bytes) (eqb-true b last h)
 
 -- ---- the bytes between two delimiters
 
@@ -82,12 +79,16 @@ found-or_later : (ends : Bool) (test : ℕ → Bool) (b : ℕ) (rest : List ℕ)
 found-or_later true test b rest here later low = here refl
 found-or_later false test b rest here later low = later (omega (arith, low))
 
-between-delimiter : (one other : ℕ) (quoted : Bool) (bytes : List ℕ) → unquoted_place one other quoted bytes < length bytes
-    → begins (λ b. eqb b one || eqb b other) (drop (unquoted_place one other quoted bytes) bytes) ≡ true
-between-delimiter one other quoted [] low = absurd (omega (arith, low))
-between-delimiter one other quoted (b ∷ rest) low =
-    found-or_later (not quoted && (eqb b one || eqb b other)) (λ c. eqb c one || eqb c other) b rest (λ e. (and_parts (not quoted) (eqb b one || eqb b other) e).1)
-    (between-delimiter one other (not quoted && eqb b 92) rest) low
+or-same : (t : Bool) → (t || t) ≡ true → t ≡ true
+or-same true h = refl
+or-same false h = h
+
+between-delimiter : (one : ℕ) (quoted : Bool) (bytes : List ℕ) → unquoted_place one one quoted bytes < length bytes
+    → begins (λ b. eqb b one) (drop (unquoted_place one one quoted bytes) bytes) ≡ true
+between-delimiter one quoted [] low = absurd (omega (arith, low))
+between-delimiter one quoted (b ∷ rest) low =
+    found-or_later (not quoted && (eqb b one || eqb b one)) (λ c. eqb c one) b rest (λ e. or-same (eqb b one) (and_parts (not quoted) (eqb b one || eqb b one) e).1)
+    (between-delimiter one (not quoted && eqb b 92) rest) low
 
 -- ---- comments
 
@@ -177,19 +178,10 @@ tok k n = record { kind = k; len = n }
 prefix-has : (P : List ℕ → Type 0) (test : ℕ → Bool) → P [] → ((b : ℕ) (rest : List ℕ) → test b ≡ true → P rest → P (b ∷ rest)) → (bytes : List ℕ)
     → P (take (prefix_len test bytes) bytes)
 prefix-has P test none more [] = none
-prefix-has P test none more (b ∷ bytes) = go (test b) refl (prefix-has P test none more bytes)
-  where
-    go : (t : Bool) → test b ≡ t → P (take (prefix_len test bytes) bytes) → P (take (cond t (1 + prefix_len test bytes) 0) (b ∷ bytes))
-    go true e later =
-        let one : suc (prefix_len test bytes) ≡ 1 + prefix_len test bytes = omega arith in
-        subst (λ n. P (take n (b ∷ bytes))) one (more b (take (prefix_len test bytes) bytes) e later)
-    go false e later = none
-
-prefix-white : (bytes : List ℕ) → IsWhite (take (prefix_len is_white bytes) bytes)
-prefix-white = prefix-has IsWhite is_white white_ends (λ b rest e more. white_byte e more)
-
-prefix-atoms : (bytes : List ℕ) → list_all is_atom_byte (take (prefix_len is_atom_byte bytes) bytes) ≡ true
-prefix-atoms = prefix-has (λ text. list_all is_atom_byte text ≡ true) is_atom_byte refl (λ b rest e more. and_from _ _ e more)
+prefix-has P test none more (b ∷ bytes) =
+    cond_both (test b) (1 + prefix_len test bytes) 0 (λ n. P (take n (b ∷ bytes)))
+    (λ e. let one : suc (prefix_len test bytes) ≡ 1 + prefix_len test bytes = omega arith in
+    subst (λ n. P (take n (b ∷ bytes))) one (more b (take (prefix_len test bytes) bytes) e (prefix-has P test none more bytes))) (λ e. none)
 
 comment-meets : (rest : List ℕ) → IsMet (40 ∷ rest) (comment_token rest)
 unfolding comment_token
@@ -200,21 +192,13 @@ comment-meets rest =
     white_comment {inner = take n rest} {rest = []} (closes-zero (comment-made false 0 rest low)) white_ends (cut-closed 40 41 n rest (comment-delimiter false 0 rest low)))
     (λ e. tt)
 
-or-same : (t : Bool) → (t || t) ≡ true → t ≡ true
-or-same true h = refl
-or-same false h = h
-
-begins-either : (one : ℕ) (bytes : List ℕ) → begins (λ b. eqb b one || eqb b one) bytes ≡ true → begins (λ b. eqb b one) bytes ≡ true
-begins-either one [] h = h
-begins-either one (b ∷ bytes) h = or-same (eqb b one) h
-
 quoted-meets : (rest : List ℕ) → IsMet (34 ∷ rest) (quoted_token rest)
 unfolding quoted_token
 quoted-meets rest =
     let n : ℕ = unquoted_place 34 34 false rest in
     cond_both (nat_lt n (length rest)) (tok Quoted (n + 2)) (tok Other 1) (IsMet (34 ∷ rest))
     (λ e. let low = ltb-true n (length rest) e in
-    quoted_word {inner = take n rest} (between-made 34 34 false rest low) (cut-closed 34 34 n rest (begins-either 34 (drop n rest) (between-delimiter 34 34 false rest low))))
+    quoted_word {inner = take n rest} (between-made 34 34 false rest low) (cut-closed 34 34 n rest (between-delimiter 34 false rest low)))
     (λ e. tt)
 
 literal-meets : (rest : List ℕ) → IsMet (91 ∷ rest) (literal_token rest)
@@ -232,36 +216,27 @@ angle-meets rest =
 
 single-meets : (b : ℕ) → Meets (single_kind b) (b ∷ [])
 unfolding single_kind
-single-meets b = go (eqb b 46) refl (eqb b 64) (eqb b 44) refl (eqb b 59) refl (eqb b 58) (eqb b 60) (eqb b 62)
-  where
-    go : (d : Bool) → eqb b 46 ≡ d → (a c : Bool) → eqb b 44 ≡ c → (s : Bool) → eqb b 59 ≡ s → (k o e : Bool)
-        → Meets (cond d Dot (cond a At (cond c Comma (cond s Semicolon (cond k Colon (cond o Opening (cond e Closing Other))))))) (b ∷ [])
-    go true ed a c ec s es k o e = ap (λ (x : ℕ). x ∷ []) (eqb-true b 46 ed)
-    go false ed true c ec s es k o e = tt
-    go false ed false true ec s es k o e = ap (λ (x : ℕ). x ∷ []) (eqb-true b 44 ec)
-    go false ed false false ec true es k o e = ap (λ (x : ℕ). x ∷ []) (eqb-true b 59 es)
-    go false ed false false ec false es true o e = tt
-    go false ed false false ec false es false true e = tt
-    go false ed false false ec false es false false true = tt
-    go false ed false false ec false es false false false = tt
+single-meets b =
+    cond_both (eqb b 46) _ _ (λ k. Meets k (b ∷ [])) (λ e. ap (λ (x : ℕ). x ∷ []) (eqb-true b 46 e))
+    (λ e. cond_both (eqb b 64) _ _ (λ k. Meets k (b ∷ [])) (λ e. tt)
+    (λ e. cond_both (eqb b 44) _ _ (λ k. Meets k (b ∷ [])) (λ e. ap (λ (x : ℕ). x ∷ []) (eqb-true b 44 e))
+    (λ e. cond_both (eqb b 59) _ _ (λ k. Meets k (b ∷ [])) (λ e. ap (λ (x : ℕ). x ∷ []) (eqb-true b 59 e))
+    (λ e. cond_both (eqb b 58) _ _ (λ k. Meets k (b ∷ [])) (λ e. tt)
+    (λ e. cond_both (eqb b 60) _ _ (λ k. Meets k (b ∷ [])) (λ e. tt) (λ e. cond_both (eqb b 62) _ _ (λ k. Meets k (b ∷ [])) (λ e. tt) (λ e. tt)))))))
 
 plain-meets : (b : ℕ) (rest : List ℕ) → IsMet (b ∷ rest) (plain_token (b ∷ rest))
-plain-meets b rest = go (is_white b) refl (is_atom_byte b) refl (eqb b 40) refl (eqb b 34) refl (eqb b 91) refl (eqb b 92)
-  where
-    go : (w : Bool) → is_white b ≡ w → (a : Bool) → is_atom_byte b ≡ a → (c : Bool) → eqb b 40 ≡ c → (q : Bool) → eqb b 34 ≡ q → (l : Bool) → eqb b 91 ≡ l → (s : Bool)
-        → IsMet (b ∷ rest) (cond w (tok Blank (1 + prefix_len is_white rest)) (cond a (tok Atom (1 + prefix_len is_atom_byte rest))
-        (cond c (comment_token rest) (cond q (quoted_token rest) (cond l (literal_token rest) (cond s (tok Other (min 2 (1 + length rest))) (tok (single_kind b) 1)))))))
-    go true ew a ea c ec q eq l el s =
-        let one : suc (prefix_len is_white rest) ≡ 1 + prefix_len is_white rest = omega arith in
-        subst (λ n. IsWhite (take n (b ∷ rest))) one (white_byte ew (prefix-white rest))
-    go false ew true ea c ec q eq l el s =
-        let one : suc (prefix_len is_atom_byte rest) ≡ 1 + prefix_len is_atom_byte rest = omega arith in
-        subst (λ n. IsWord atoms (take n (b ∷ rest))) one (atom (and_from _ _ ea (prefix-atoms rest)))
-    go false ew false ea true ec q eq l el s = subst (λ x. IsMet (x ∷ rest) (comment_token rest)) (sym (eqb-true b 40 ec)) (comment-meets rest)
-    go false ew false ea false ec true eq l el s = subst (λ x. IsMet (x ∷ rest) (quoted_token rest)) (sym (eqb-true b 34 eq)) (quoted-meets rest)
-    go false ew false ea false ec false eq true el s = subst (λ x. IsMet (x ∷ rest) (literal_token rest)) (sym (eqb-true b 91 el)) (literal-meets rest)
-    go false ew false ea false ec false eq false el true = tt
-    go false ew false ea false ec false eq false el false = single-meets b
+plain-meets b rest =
+    cond_both (is_white b) _ _ (IsMet (b ∷ rest))
+    (λ e. let one : suc (prefix_len is_white rest) ≡ 1 + prefix_len is_white rest = omega arith in
+    subst (λ n. IsWhite (take n (b ∷ rest))) one (white_byte e (prefix-has IsWhite is_white white_ends (λ b rest e more. white_byte e more) rest)))
+    (λ e. cond_both (is_atom_byte b) _ _ (IsMet (b ∷ rest))
+    (λ e. let one : suc (prefix_len is_atom_byte rest) ≡ 1 + prefix_len is_atom_byte rest = omega arith in
+    subst (λ n. IsWord atoms (take n (b ∷ rest))) one
+    (atom (and_from _ _ e (prefix-has (λ text. list_all is_atom_byte text ≡ true) is_atom_byte refl (λ b rest e more. and_from _ _ e more) rest))))
+    (λ e. cond_both (eqb b 40) _ _ (IsMet (b ∷ rest)) (λ e. subst (λ x. IsMet (x ∷ rest) (comment_token rest)) (sym (eqb-true b 40 e)) (comment-meets rest))
+    (λ e. cond_both (eqb b 34) _ _ (IsMet (b ∷ rest)) (λ e. subst (λ x. IsMet (x ∷ rest) (quoted_token rest)) (sym (eqb-true b 34 e)) (quoted-meets rest))
+    (λ e. cond_both (eqb b 91) _ _ (IsMet (b ∷ rest)) (λ e. subst (λ x. IsMet (x ∷ rest) (literal_token rest)) (sym (eqb-true b 91 e)) (literal-meets rest))
+    (λ e. cond_both (eqb b 92) _ _ (IsMet (b ∷ rest)) (λ e. tt) (λ e. single-meets b))))))
 
 pub front-meets : (bytes : List ℕ) → IsMet bytes (front_token bytes)
 unfolding front_token
@@ -278,15 +253,15 @@ under_test true n some = (refl, refl)
 under_test false n some = absurd (some refl)
 
 -- a step that takes bytes takes a token of the span
-step-token : (span : Span) (bytes : List ℕ) → step span bytes ≢ 0 → (is_in span (front_token bytes).kind ≡ true) × (step span bytes ≡ (front_token bytes).len)
+step-takes : (span : Span) (bytes : List ℕ) → step span bytes ≢ 0 → (is_in span (front_token bytes).kind ≡ true) × (step span bytes ≡ (front_token bytes).len)
 unfolding step
-step-token span bytes some = under_test (is_in span (front_token bytes).kind) (front_token bytes).len some
+step-takes span bytes some = under_test (is_in span (front_token bytes).kind) (front_token bytes).len some
 
 -- the bytes that it takes are such a token
 step-meets : (span : Span) (P : List ℕ → Type 0) → ((kind : Kind) (text : List ℕ) → is_in span kind ≡ true → Meets kind text → P text)
     → (bytes : List ℕ) → step span bytes ≢ 0 → P (take (step span bytes) bytes)
 step-meets span P meets bytes some =
-    let token = step-token span bytes some in
+    let token = step-takes span bytes some in
     subst (λ n. P (take n bytes)) (sym token.1) (meets (front_token bytes).kind (take (front_token bytes).len bytes) token.0 (front-meets bytes))
 
 -- what a step is repeated over, in pieces
@@ -391,11 +366,8 @@ module _ (words : Words) (text : List ℕ) where
 
   word_len-made : word_len (span_of words) text ≢ 0 → IsPadded words (take (word_len (span_of words) text) text)
   unfolding word_len
-  word_len-made some = go (eqb l 0) refl some
-    where
-      go : (t : Bool) → eqb l 0 ≡ t → cond t 0 (w + l + a) ≢ 0 → IsPadded words (take (cond t 0 (w + l + a)) text)
-      go true e some = absurd (some refl)
-      go false e some = record {
+  word_len-made =
+      cond_both (eqb l 0) 0 (w + l + a) (λ n. n ≢ 0 → IsPadded words (take n text)) (λ e some. absurd (some refl)) (λ e some. record {
         before = take w text;
         word = take l (drop w text);
         after = take a (drop (w + l) text);
@@ -405,7 +377,7 @@ module _ (words : Words) (text : List ℕ) where
         made =
             take-add (w + l) a text ∙ ap (λ b. b ++ take a (drop (w + l) text)) (take-add w l text)
             ∙ append_assoc (take w text) (take l (drop w text)) (take a (drop (w + l) text));
-      }
+      })
 
 -- ---- words with dots
 
@@ -418,18 +390,15 @@ record DotWord (span : Span) (bytes : List ℕ) : Type 0 where
 dot_word-is : (span : Span) (bytes : List ℕ) → dot_word_len span bytes ≢ 0 → DotWord span bytes
 unfolding dot_word_len
 dot_word-is span [] some = absurd (some refl)
-dot_word-is span (b ∷ rest) some = go (eqb b 46) refl (eqb (word_len span rest) 0) refl some
-  where
-    go : (d : Bool) → eqb b 46 ≡ d → (z : Bool) → eqb (word_len span rest) 0 ≡ z → cond (d && not z) (1 + word_len span rest) 0 ≢ 0
-        → DotWord span (b ∷ rest)
-    go true ed true ez some = absurd (some refl)
-    go true ed false ez some = record {
+dot_word-is span (b ∷ rest) some =
+    let is = under_test (eqb b 46 && not (eqb (word_len span rest) 0)) (1 + word_len span rest) some in
+    let both = and_parts (eqb b 46) (not (eqb (word_len span rest) 0)) is.0 in
+    record {
       rest = rest;
-      cut = ap (λ (x : ℕ). x ∷ rest) (eqb-true b 46 ed);
-      some = eqb-false _ 0 ez;
-      len = rw (ed, ez) (omega arith);
+      cut = ap (λ (x : ℕ). x ∷ rest) (eqb-true b 46 both.0);
+      some = eqb-false _ 0 (not-true (eqb (word_len span rest) 0) both.1);
+      len = is.1 ∙ omega arith;
     }
-    go false ed z ez some = absurd (some refl)
 
 dot_words-more : (words : Words) (bytes : List ℕ) (k : ℕ) → dot_word_len (span_of words) bytes ≢ 0 → AreDotWords words (take k (drop (dot_word_len (span_of words) bytes) bytes))
     → AreDotWords words (take (dot_word_len (span_of words) bytes) bytes ++ take k (drop (dot_word_len (span_of words) bytes) bytes))
@@ -463,7 +432,7 @@ word-made words text h =
     let all = eqb-true n (length text) both.1 in
     subst (IsPadded words) (take_all n text (omega (arith, all))) (word_len-made words text (eqb-false n 0 (not-true (eqb n 0) both.0)))
 
-either-made : {P : Type 0} (t u : Bool) → (t ≡ true → P) → (u ≡ true → P) → (t || u) ≡ true → P
+pub either-made : {P : Type 0} (t u : Bool) → (t ≡ true → P) → (u ≡ true → P) → (t || u) ≡ true → P
 either-made true u one other h = one refl
 either-made false u one other h = other h
 
@@ -490,10 +459,6 @@ phrase_rest-made text all = far-whole (step Phrase) IsPhraseRest phrase_ends mor
     more bytes k some later =
         step-meets Phrase (λ front. IsPhraseRest (front ++ take k (drop (step Phrase bytes) bytes))) (λ kind text goes meets. phrase-append kind text goes meets later) bytes some
 
-step-is : (span : Span) (bytes : List ℕ) → is_in span (front_token bytes).kind ≡ true → step span bytes ≡ (front_token bytes).len
-unfolding step
-step-is span bytes h = rw h refl
-
 word-in_phrase : (kind : Kind) → is_in Word kind ≡ true → is_in Phrase kind ≡ true
 word-in_phrase Atom h = refl
 word-in_phrase Quoted h = refl
@@ -516,7 +481,7 @@ phrase-first [] h all = absurd (false≢true h)
 phrase-first (b ∷ more) h all =
     let bytes : List ℕ = b ∷ more in
     let low = (token-fits b more).0 in
-    let len = step-is Phrase bytes (word-in_phrase (front_token bytes).kind h) in
+    let len = step-token Phrase bytes (front_token bytes).len (front_token bytes).kind refl (word-in_phrase (front_token bytes).kind h) in
     let passed = far-more (step Phrase) bytes (omega arith) (λ none. absurd (omega (arith, none, len, low))) in
     let fits = step-within Phrase bytes in
     let cut = length-drop (step Phrase bytes) bytes in
@@ -561,7 +526,7 @@ stop-made text h =
     either-made (is_all_white text) (begins (λ b. eqb b 64) rest && is_domain (drop 1 rest)) (λ e. no_stop (all_white-made text e))
     (λ e. let both = and_parts (begins (λ b. eqb b 64) rest) (is_domain (drop 1 rest)) e in
     stop {white = take (run White text) text} {domain = drop 1 rest} (white-made text) (domain-made (drop 1 rest) both.1)
-    (sym (take-append-drop (run White text) text) ∙ ap (λ r. take (run White text) text ++ r) (begins-cut 64 rest both.0))) h
+    (sym (take-append-drop (run White text) text) ∙ ap (λ r. take (run White text) text ++ r) (cut-around 64 0 rest both.0))) h
 
 comma-meets : (kind : Kind) (text : List ℕ) → is_in BeforeComma kind ≡ false → Meets kind text → begins (λ b. eqb b 44) text ≡ true
 comma-meets Comma text h m = ap (begins (λ b. eqb b 44)) m
@@ -614,31 +579,17 @@ route-made text h =
     let both = and_parts (begins (λ b. eqb b 64) (after_white text)) (eqb (far stop_len text) (length text)) h in
     route-from (far-whole stop_len AreStops (last_stop (no_stop white_ends)) stops-more text (eqb-true (far stop_len text) (length text) both.1)) both.0
 
-record RouteCut (text : List ℕ) : Type 0 where
-  pub may_be_route : List ℕ
-  pub is : MayBeRoute may_be_route
-  pub cut : text ≡ may_be_route ++ after_route text
-
-after_route-made : (text : List ℕ) → RouteCut text
+after_route-made : (text : List ℕ) → (may_be_route : List ℕ) × MayBeRoute may_be_route × (text ≡ may_be_route ++ after_route text)
 unfolding after_route
-after_route-made text = go (begins (λ b. eqb b 58) (drop (run BeforeColon text) text) && is_route (take (run BeforeColon text) text)) refl
-  where
-    cut-from : (t : Bool) → (begins (λ b. eqb b 58) (drop (run BeforeColon text) text) && is_route (take (run BeforeColon text) text)) ≡ t
-        → after_route text ≡ cond t (drop (suc (run BeforeColon text)) text) text
-    cut-from t e = ap (λ t. cond t (drop (suc (run BeforeColon text)) text) text) e
-
-    go : (t : Bool) → (begins (λ b. eqb b 58) (drop (run BeforeColon text) text) && is_route (take (run BeforeColon text) text)) ≡ t → RouteCut text
-    go true e =
-        let both = and_parts (begins (λ b. eqb b 58) (drop (run BeforeColon text) text)) (is_route (take (run BeforeColon text) text)) e in
-        record {
-          may_be_route = take (run BeforeColon text) text ++ 58 ∷ [];
-          is = route {stops = take (run BeforeColon text) text} (route-made (take (run BeforeColon text) text) both.1) refl;
-          cut =
-              cut-around 58 (run BeforeColon text) text both.0
-              ∙ sym (append_assoc (take (run BeforeColon text) text) (58 ∷ []) (drop (suc (run BeforeColon text)) text))
-              ∙ ap (λ r. (take (run BeforeColon text) text ++ 58 ∷ []) ++ r) (sym (cut-from true e));
-        }
-    go false e = record { may_be_route = []; is = no_route; cut = sym (cut-from false e) }
+after_route-made text =
+    let len : ℕ = run BeforeColon text in
+    cond_both (begins (λ b. eqb b 58) (drop len text) && is_route (take len text)) (drop (suc len) text) text
+    (λ r. (may_be_route : List ℕ) × MayBeRoute may_be_route × (text ≡ may_be_route ++ r))
+    (λ e. let both = and_parts (begins (λ b. eqb b 58) (drop len text)) (is_route (take len text)) e in (
+      take len text ++ 58 ∷ [],
+      route {stops = take len text} (route-made (take len text) both.1) refl,
+      cut-around 58 len text both.0 ∙ sym (append_assoc (take len text) (58 ∷ []) (drop (suc len) text)),
+    )) (λ e. ([], no_route, refl))
 
 -- ---- mailboxes
 
@@ -650,30 +601,24 @@ record SpecCut (name text : List ℕ) (m : Parts) : Type 0 where
   pub cut : text ≡ local ++ 64 ∷ domain
   pub same : record { display_name = name; local_part = local; domain = domain } ≡ m
 
-some-same : {m n : Parts} → ◌≡◌ {A = Option Parts} (Some m) (Some n) → m ≡ n
-some-same e = cc
-
-none-some : {m : Parts} → ◌≡◌ {A = Option Parts} None (Some m) → ⊥
+pub none-some : {m : Parts} → ◌≡◌ {A = Option Parts} None (Some m) → ⊥
 none-some e = cc
 
 spec-made : (name text : List ℕ) (m : Parts) → spec_mailbox name text ≡ Some m → SpecCut name text m
 unfolding spec_mailbox
-spec-made name text m h = go (begins (λ b. eqb b 64) (drop (run BeforeAt text) text) && (is_local_part (take (run BeforeAt text) text) && is_domain (drop (suc (run BeforeAt text)) text))) refl h
-  where
-    go : (t : Bool) → (begins (λ b. eqb b 64) (drop (run BeforeAt text) text) && (is_local_part (take (run BeforeAt text) text) && is_domain (drop (suc (run BeforeAt text)) text))) ≡ t
-        → cond t (Some (record { display_name = name; local_part = take (run BeforeAt text) text; domain = drop (suc (run BeforeAt text)) text })) None ≡ Some m → SpecCut name text m
-    go true e h =
-        let first = and_parts (begins (λ b. eqb b 64) (drop (run BeforeAt text) text)) (is_local_part (take (run BeforeAt text) text) && is_domain (drop (suc (run BeforeAt text)) text)) e in
-        let both = and_parts (is_local_part (take (run BeforeAt text) text)) (is_domain (drop (suc (run BeforeAt text)) text)) first.1 in
-        record {
-          local = take (run BeforeAt text) text;
-          domain = drop (suc (run BeforeAt text)) text;
-          is_local = dotted-made any_words (take (run BeforeAt text) text) both.0;
-          domain_is = domain-made (drop (suc (run BeforeAt text)) text) both.1;
-          cut = cut-around 64 (run BeforeAt text) text first.0;
-          same = some-same h;
-        }
-    go false e h = absurd (none-some h)
+spec-made name text m h =
+    let len : ℕ = run BeforeAt text in
+    cond_both (begins (λ b. eqb b 64) (drop len text) && (is_local_part (take len text) && is_domain (drop (suc len) text))) _ None (λ o. o ≡ Some m → SpecCut name text m)
+    (λ e h. let first = and_parts (begins (λ b. eqb b 64) (drop len text)) (is_local_part (take len text) && is_domain (drop (suc len) text)) e in
+    let both = and_parts (is_local_part (take len text)) (is_domain (drop (suc len) text)) first.1 in
+    record {
+      local = take len text;
+      domain = drop (suc len) text;
+      is_local = dotted-made any_words (take len text) both.0;
+      domain_is = domain-made (drop (suc len) text) both.1;
+      cut = cut-around 64 len text first.0;
+      same = same_Some _ m h;
+    }) (λ e h. absurd (none-some h)) h
 
 angle-made : (kind : Kind) (text : List ℕ) → is_enclosed kind ≡ true → Meets kind text → (inner : List ℕ) × (text ≡ 60 ∷ (inner ++ 62 ∷ []))
 angle-made Angle text h m = m
@@ -686,35 +631,29 @@ within-made inner text e =
 
 named-made : (name rest : List ℕ) (m : Parts) → is_enclosed (front_token rest).kind ≡ true → named_mailbox name rest ≡ Some m → IsMailbox (name ++ rest) m
 unfolding named_mailbox
-named-made name rest m angle h = go ((is_all_white name || is_phrase name) && is_all_white (drop (front_token rest).len rest)) refl h
-  where
-    is_angle : (inner : List ℕ) × (take (front_token rest).len rest ≡ 60 ∷ (inner ++ 62 ∷ []))
-    is_angle = angle-made (front_token rest).kind (take (front_token rest).len rest) angle (front-meets rest)
-
-    go : (t : Bool) → ((is_all_white name || is_phrase name) && is_all_white (drop (front_token rest).len rest)) ≡ t
-        → cond t (spec_mailbox name (after_route (within_ends (take (front_token rest).len rest)))) None ≡ Some m → IsMailbox (name ++ rest) m
-    go true e h =
-        let both = and_parts (is_all_white name || is_phrase name) (is_all_white (drop (front_token rest).len rest)) e in
-        let inner : List ℕ = is_angle.0 in
-        let within : within_ends (take (front_token rest).len rest) ≡ inner = within-made inner (take (front_token rest).len rest) is_angle.1 in
-        let spec = spec-made name (after_route inner) m (ap (λ b. spec_mailbox name (after_route b)) (sym within) ∙ h) in
-        let routed = after_route-made inner in
-        let whole : inner ≡ routed.may_be_route ++ (spec.local ++ 64 ∷ spec.domain) = routed.cut ∙ ap (λ r. routed.may_be_route ++ r) spec.cut in
-        let cut : rest ≡ 60 ∷ (inner ++ 62 ∷ drop (front_token rest).len rest) =
-        sym (take-append-drop (front_token rest).len rest) ∙ ap (λ b. b ++ drop (front_token rest).len rest) is_angle.1 ∙ delimited 60 62 inner (drop (front_token rest).len rest) in
-        subst (IsMailbox (name ++ rest)) spec.same
-        (named_address {name = name} {may_be_route = routed.may_be_route} {local = spec.local} {domain = spec.domain} {after = drop (front_token rest).len rest} (name-made name both.0) routed.is spec.is_local spec.domain_is
-        (all_white-made (drop (front_token rest).len rest) both.1)
-        (ap (λ r. name ++ r) cut ∙ ap (λ i. name ++ 60 ∷ (i ++ 62 ∷ drop (front_token rest).len rest)) whole))
-    go false e h = absurd (none-some h)
+named-made name rest m angle h =
+    let is_angle = angle-made (front_token rest).kind (take (front_token rest).len rest) angle (front-meets rest) in
+    cond_both ((is_all_white name || is_phrase name) && is_all_white (drop (front_token rest).len rest)) (spec_mailbox name (after_route (within_ends (take (front_token rest).len rest)))) None
+    (λ o. o ≡ Some m → IsMailbox (name ++ rest) m)
+    (λ e h. let both = and_parts (is_all_white name || is_phrase name) (is_all_white (drop (front_token rest).len rest)) e in
+    let inner : List ℕ = is_angle.0 in
+    let within : within_ends (take (front_token rest).len rest) ≡ inner = within-made inner (take (front_token rest).len rest) is_angle.1 in
+    let spec = spec-made name (after_route inner) m (ap (λ b. spec_mailbox name (after_route b)) (sym within) ∙ h) in
+    let routed = after_route-made inner in
+    let whole : inner ≡ routed.0 ++ (spec.local ++ 64 ∷ spec.domain) = routed.2 ∙ ap (λ r. routed.0 ++ r) spec.cut in
+    let cut : rest ≡ 60 ∷ (inner ++ 62 ∷ drop (front_token rest).len rest) =
+    sym (take-append-drop (front_token rest).len rest) ∙ ap (λ b. b ++ drop (front_token rest).len rest) is_angle.1 ∙ delimited 60 62 inner (drop (front_token rest).len rest) in
+    subst (IsMailbox (name ++ rest)) spec.same
+    (named_address {name = name} {may_be_route = routed.0} {local = spec.local} {domain = spec.domain} {after = drop (front_token rest).len rest} (name-made name both.0) routed.1 spec.is_local spec.domain_is
+    (all_white-made (drop (front_token rest).len rest) both.1)
+    (ap (λ r. name ++ r) cut ∙ ap (λ i. name ++ 60 ∷ (i ++ 62 ∷ drop (front_token rest).len rest)) whole)))
+    (λ e h. absurd (none-some h)) h
 
 pub mailbox-made : (text : List ℕ) (m : Parts) → mailbox_of text ≡ Some m → IsMailbox text m
 unfolding mailbox_of
-mailbox-made text m h = go (is_enclosed (front_token (drop (run Phrase text) text)).kind) refl h
-  where
-    go : (t : Bool) → is_enclosed (front_token (drop (run Phrase text) text)).kind ≡ t
-        → cond t (named_mailbox (take (run Phrase text) text) (drop (run Phrase text) text)) (spec_mailbox [] text) ≡ Some m → IsMailbox text m
-    go true e h = subst (λ b. IsMailbox b m) (take-append-drop (run Phrase text) text) (named-made (take (run Phrase text) text) (drop (run Phrase text) text) m e h)
-    go false e h =
-        let spec = spec-made [] text m h in
-        subst (IsMailbox text) spec.same (address {local = spec.local} {domain = spec.domain} spec.is_local spec.domain_is spec.cut)
+mailbox-made text m h =
+    cond_both (is_enclosed (front_token (drop (run Phrase text) text)).kind) (named_mailbox (take (run Phrase text) text) (drop (run Phrase text) text)) (spec_mailbox [] text)
+    (λ o. o ≡ Some m → IsMailbox text m)
+    (λ e h. subst (λ b. IsMailbox b m) (take-append-drop (run Phrase text) text) (named-made (take (run Phrase text) text) (drop (run Phrase text) text) m e h))
+    (λ e h. let spec = spec-made [] text m h in
+    subst (IsMailbox text) spec.same (address {local = spec.local} {domain = spec.domain} spec.is_local spec.domain_is spec.cut)) h

@@ -2,7 +2,8 @@
 use Rattle.std.proofs.Common.{◌≡◌, ℕ, suc, ◌+◌, ◌-◌, ◌<◌, Bool, true, false, eqb, ◌&&◌, ◌||◌, List, [], ◌∷◌, ◌++◌, Some, Option, length, take, drop, refl, sym, ap, subst, ◌∙◌, arith, append_assoc, length-append}
 use Rattle.std.specs.Prelude.{min}
 use Rattle.std.specs.List.{list_all, prefix_len}
-use Rattle.std.proofs.lemmas.Bool.{and_from, and_parts, eq-eqb, false≢true, ne_eqb, or_left, or_right}
+use Rattle.std.proofs.lemmas.Bool.{and_from, and_parts, eq-eqb, false_from_ne_true, false≢true, ne_eqb, or_left, or_right}
+use Rattle.std.proofs.lemmas.Option.{same_Some}
 use Rattle.std.proofs.lemmas.List.{append-nil, drop_all, drop_at, take_all, take_at}
 use Rattle.mail_codec.specs.Places.{begins}
 use Rattle.mail_address.specs.declared.tokens.Kind.{Kind}
@@ -16,7 +17,7 @@ use Rattle.mail_address.specs.Names.{atom_word, quoted_word}
 use Rattle.mail_address.specs.Tokens.{far, front_token, is_all_white, is_atom_byte, is_in, run, step}
 use Rattle.mail_address.proofs.lemmas.Enclosed.{angle-front, ClosedToken, far-token, literal-closed, delimited, delimited-length, quoted-closed, step-token}
 use Rattle.mail_address.proofs.lemmas.Passed.{IsPassed, at_domain-passed, at-front, at-passed, atom_byte-front, colon-front, comma-front, comma-passed, dot-front, dotted-passed, name-passed, over-atoms, over-literals, over-words, passed-append, passed-up_to, passed-whole, phrase-passed, route-passed, route-stops, run-stops, span_of, spec-angles, stop-passed, white-passed, white-whole}
-use Rattle.mail_address.proofs.lemmas.Tokens.{atom_byte-visible, far-nothing}
+use Rattle.mail_address.proofs.lemmas.Tokens.{atom_byte-visible, drop_past, far-nothing}
 
 -- ---- one word
 
@@ -79,11 +80,7 @@ nothing-follows = record { no_atom = refl; no_white = far-nothing (step White) }
 pub white-no_atom : {white : List ℕ} → IsWhite white → (rest : List ℕ) → begins is_atom_byte rest ≡ false → begins is_atom_byte (white ++ rest) ≡ false
 unfolding is_atom_byte
 white-no_atom white_ends rest h = h
-white-no_atom (white_byte {b = b} is more) rest h = go (is_atom_byte b) refl
-  where
-    go : (t : Bool) → is_atom_byte b ≡ t → t ≡ false
-    go true e = absurd (false≢true (sym (atom_byte-visible b e) ∙ is))
-    go false e = refl
+white-no_atom (white_byte {b = b} is more) rest h = false_from_ne_true (is_atom_byte b) (λ e. false≢true (sym (atom_byte-visible b e) ∙ is))
 white-no_atom (white_comment {inner = inner} commented more e) rest h = ap (λ b. begins is_atom_byte (b ++ rest)) e
 
 word_len-is : (span : Span) (text : List ℕ) (w l a : ℕ) → run White text ≡ w → step span (drop w text) ≡ l → 0 < l → run White (drop (w + l) text) ≡ a
@@ -123,13 +120,11 @@ padded-some is =
 
 -- ---- words with dots
 
-dot-follows : (rest : List ℕ) → Follows (46 ∷ rest)
-unfolding is_atom_byte
-dot-follows rest = record { no_atom = refl; no_white = run-stops White (46 ∷ rest) 1 Dot (dot-front rest) refl }
-
 dot_words-follow : {words : Words} {bytes : List ℕ} → AreDotWords words bytes → Follows bytes
+unfolding is_atom_byte
 dot_words-follow dots_end = nothing-follows
-dot_words-follow (dot_word {word = word} {rest = rest} is more e) = subst Follows (sym e) (dot-follows (word ++ rest))
+dot_words-follow (dot_word {word = word} {rest = rest} is more e) =
+    subst Follows (sym e) (record { no_atom = refl; no_white = run-stops White (46 ∷ (word ++ rest)) 1 Dot (dot-front (word ++ rest)) refl })
 
 dot_word-len : (span : Span) (text : List ℕ) (n : ℕ) → word_len span text ≡ n → 0 < n → dot_word_len span (46 ∷ text) ≡ suc n
 unfolding dot_word_len
@@ -264,12 +259,7 @@ module _ (local domain : List ℕ) (is_local : AreDotted any_words local) (domai
   spec-read name =
       let len : run BeforeAt (local ++ 64 ∷ domain) ≡ length local =
       passed-up_to BeforeAt local (64 ∷ domain) (dotted-passed (over-words BeforeAt refl refl refl refl refl) is_local) (run-stops BeforeAt (64 ∷ domain) 1 At (at-front domain) refl) in
-      let at : drop (length local) (local ++ 64 ∷ domain) ≡ 64 ∷ domain = drop_at local (64 ∷ domain) (length local) refl in
-      let front : take (length local) (local ++ 64 ∷ domain) ≡ local = take_at local (64 ∷ domain) (length local) refl in
-      let back : drop (suc (length local)) (local ++ 64 ∷ domain) ≡ domain =
-      ap (drop (suc (length local))) (sym (append_assoc local (64 ∷ []) domain))
-      ∙ drop_at (local ++ 64 ∷ []) domain (suc (length local)) (let n = length-append local (64 ∷ []) in omega (arith, n)) in
-      rw (len, at, front, back) (rw (dotted-read is_local, domain-read domain_is) refl)
+      rw (len, drop_at local (64 ∷ domain) (length local) refl, take_at local (64 ∷ domain) (length local) refl, drop_past local 64 domain) (rw (dotted-read is_local, domain-read domain_is) refl)
 
   -- a run up to a colon contains an address
   over-spec : IsPassed BeforeColon (local ++ 64 ∷ domain)
@@ -281,8 +271,7 @@ module _ (local domain : List ℕ) (is_local : AreDotted any_words local) (domai
   unfolding after_route
   no_route-read =
       let all = passed-whole BeforeColon (local ++ 64 ∷ domain) over-spec in
-      let end : drop (length (local ++ 64 ∷ domain)) (local ++ 64 ∷ domain) ≡ [] = drop_all (length (local ++ 64 ∷ domain)) (local ++ 64 ∷ domain) (omega arith) in
-      rw all (rw end refl)
+      rw all (rw (drop_all (length (local ++ 64 ∷ domain)) (local ++ 64 ∷ domain) (omega arith)) refl)
 
   route-passes : (stops : List ℕ) → IsRoute stops → after_route (stops ++ 58 ∷ (local ++ 64 ∷ domain)) ≡ local ++ 64 ∷ domain
   unfolding after_route
@@ -292,12 +281,7 @@ module _ (local domain : List ℕ) (is_local : AreDotted any_words local) (domai
       passed-up_to BeforeColon stops (58 ∷ spec)
       (route-passed (over-atoms BeforeColon refl refl refl refl) (over-literals BeforeColon refl refl refl refl) (at-passed BeforeColon refl) (comma-passed BeforeColon refl) is)
       (run-stops BeforeColon (58 ∷ spec) 1 Colon (colon-front spec) refl) in
-      let at : drop (length stops) (stops ++ 58 ∷ spec) ≡ 58 ∷ spec = drop_at stops (58 ∷ spec) (length stops) refl in
-      let front : take (length stops) (stops ++ 58 ∷ spec) ≡ stops = take_at stops (58 ∷ spec) (length stops) refl in
-      let back : drop (suc (length stops)) (stops ++ 58 ∷ spec) ≡ spec =
-      ap (drop (suc (length stops))) (sym (append_assoc stops (58 ∷ []) spec))
-      ∙ drop_at (stops ++ 58 ∷ []) spec (suc (length stops)) (let n = length-append stops (58 ∷ []) in omega (arith, n)) in
-      rw (len, at, front) (rw (route-read is) back)
+      rw (len, drop_at stops (58 ∷ spec) (length stops) refl, take_at stops (58 ∷ spec) (length stops) refl) (rw (route-read is) (drop_past stops 58 spec))
 
   may_be_route-passes : {may_be_route : List ℕ} → MayBeRoute may_be_route → after_route (may_be_route ++ (local ++ 64 ∷ domain)) ≡ local ++ 64 ∷ domain
   may_be_route-passes no_route = no_route-read
@@ -311,8 +295,7 @@ module _ (local domain : List ℕ) (is_local : AreDotted any_words local) (domai
   address-read =
       let len : run Phrase (local ++ 64 ∷ domain) ≡ length local =
       passed-up_to Phrase local (64 ∷ domain) (dotted-passed (over-words Phrase refl refl refl refl refl) is_local) (run-stops Phrase (64 ∷ domain) 1 At (at-front domain) refl) in
-      let at : drop (length local) (local ++ 64 ∷ domain) ≡ 64 ∷ domain = drop_at local (64 ∷ domain) (length local) refl in
-      rw (len, at, at-front domain) (spec-read [])
+      rw (len, drop_at local (64 ∷ domain) (length local) refl, at-front domain) (spec-read [])
 
 -- a name, and the bytes in angle brackets
 module _ (name inner after : List ℕ) (is_name : IsName name) (inside : IsInAngles inner) (is_white : IsWhite after) where
@@ -341,9 +324,7 @@ module _ (name inner after : List ℕ) (is_name : IsName name) (inside : IsInAng
   bracket-read =
       let len : run Phrase (name ++ bracket) ≡ length name =
       passed-up_to Phrase name bracket (name-passed (over-words Phrase refl refl refl refl refl) is_name) (run-stops Phrase bracket (length inner + 2) Angle angle refl) in
-      let at : drop (length name) (name ++ bracket) ≡ bracket = drop_at name bracket (length name) refl in
-      let front : take (length name) (name ++ bracket) ≡ name = take_at name bracket (length name) refl in
-      rw (len, at, front) (rw angle named-read)
+      rw (len, drop_at name bracket (length name) refl, take_at name bracket (length name) refl) (rw angle named-read)
 
 pub mailbox-read : (text : List ℕ) (m : Parts) → IsMailbox text m → mailbox_of text ≡ Some m
 mailbox-read text m (address {local = local} {domain = domain} is_local is_domain e) = ap mailbox_of e ∙ address-read local domain is_local is_domain
@@ -352,7 +333,4 @@ mailbox-read text m (named_address {name = name} {may_be_route = may_be_route} {
     ∙ ap (spec_mailbox name) (may_be_route-passes local domain is_local is_domain is_route) ∙ spec-read local domain is_local is_domain name
 
 pub mailbox-one : (text : List ℕ) (m n : Parts) → IsMailbox text m → IsMailbox text n → m ≡ n
-mailbox-one text m n one two = some-same (sym (mailbox-read text m one) ∙ mailbox-read text n two)
-  where
-    some-same : ◌≡◌ {A = Option Parts} (Some m) (Some n) → m ≡ n
-    some-same e = cc
+mailbox-one text m n one two = same_Some m n (sym (mailbox-read text m one) ∙ mailbox-read text n two)

@@ -1,7 +1,7 @@
 -- Lemmas on the order of the elements of a list of addresses, and on what is between them.
 use Rattle.std.proofs.Common.{◌≡◌, ℕ, zero, suc, ◌+◌, ◌<◌, ◌≤◌, ◌⊎◌, inl, inr, Bool, true, false, cond, List, [], ◌∷◌, ◌++◌, length, take, drop, map, refl, sym, ap, subst, ◌∙◌, arith, length-drop, append_assoc, length-append}
 use Rattle.std.specs.Prelude.{min}
-use Rattle.std.proofs.lemmas.Bool.{cases_lt, cond-true, cond-false, false≢true}
+use Rattle.std.proofs.lemmas.Bool.{cases_lt, cond_both, cond-true, cond-false, false≢true}
 use Rattle.std.proofs.lemmas.List.{append-nil, drop_all, drop_at, drop-drop, length-take-le, take_all, take_at, take-append-drop}
 use Rattle.mail_codec.specs.Places.{begins}
 use Rattle.mail_address.specs.declared.tokens.Span.TheVariants.{BeforeSeparator, White}
@@ -54,25 +54,18 @@ group_len-within bytes h =
 -- the bytes after a group, and after a separator if there is one
 after_group_made : (place : ℕ) (rest : List ℕ) (es : List Element) → MakeUp (place + separator_len rest) (drop (separator_len rest) rest) es → MakeUp place rest es
 after_group_made place [] es later = subst (λ p. MakeUp p [] es) (omega arith) later
-after_group_made place (b ∷ rest) es later = go (is_separator b) refl later
-  where
-    go : (t : Bool) → is_separator b ≡ t → MakeUp (place + cond t 1 0) (drop (cond t 1 0) (b ∷ rest)) es → MakeUp place (b ∷ rest) es
-    go true e later = after_separator place [] rest (b ∷ rest) b (white-whole white_ends) e refl later
-    go false e later = subst (λ p. MakeUp p (b ∷ rest) es) (omega arith) later
+after_group_made place (b ∷ rest) es later =
+    cond_both (is_separator b) 1 0 (λ n. MakeUp (place + n) (drop n (b ∷ rest)) es → MakeUp place (b ∷ rest) es)
+    (λ e now. after_separator place [] rest (b ∷ rest) b (white-whole white_ends) e refl now) (λ e now. subst (λ p. MakeUp p (b ∷ rest) es) (omega arith) now) later
 
 -- ---- an element without members
 
 -- after these bytes come a separator and the rest
-pub record Ended (bytes : List ℕ) (n : ℕ) : Type 0 where
-  pub separator : ℕ
-  pub separates : is_separator separator ≡ true
-  pub cut : drop n bytes ≡ separator ∷ drop (suc n) bytes
-
-ended : (bytes : List ℕ) (n : ℕ) → begins is_separator (drop n bytes) ≡ true → Ended bytes n
+ended : (bytes : List ℕ) (n : ℕ) → begins is_separator (drop n bytes) ≡ true → (separator : ℕ) × (is_separator separator ≡ true) × (drop n bytes ≡ separator ∷ drop (suc n) bytes)
 ended [] zero none = absurd (false≢true none)
 ended [] (suc n) none = absurd (false≢true none)
-ended (b ∷ bytes) zero sep = record { separator = b; separates = sep; cut = refl }
-ended (b ∷ bytes) (suc n) sep = let later = ended bytes n sep in record { separator = later.separator; separates = later.separates; cut = later.cut }
+ended (b ∷ bytes) zero sep = (b, sep, refl)
+ended (b ∷ bytes) (suc n) sep = ended bytes n sep
 
 single_len : (bytes : List ℕ) → is_group bytes ≡ false → element_len bytes ≡ min (suc (run BeforeSeparator bytes)) (length bytes)
 unfolding element_len
@@ -90,58 +83,30 @@ abbrev here : ℕ → List ℕ → Single
 here place bytes = record { start = place; text = front bytes; mailbox = mailbox_of (front bytes) }
 
 single_made : (place : ℕ) (bytes : List ℕ) (es : List Element) → is_group bytes ≡ false → MakeUp (place + element_len bytes) (drop (element_len bytes) bytes) es
-    → (drop (element_len bytes) bytes ≡ [] → es ≡ []) → (w : Bool) → is_all_white (front bytes) ≡ w
-    → MakeUp place bytes (map single (cond w [] (here place bytes ∷ [])) ++ es)
-single_made place bytes es alone later none w is = by_end (cases_lt (run BeforeSeparator bytes) (length bytes)) w is
+    → (drop (element_len bytes) bytes ≡ [] → es ≡ []) → MakeUp place bytes (map single (cond (is_all_white (front bytes)) [] (here place bytes ∷ [])) ++ es)
+single_made place bytes es alone later none = by_end (cases_lt (run BeforeSeparator bytes) (length bytes))
   where
-    len : length (front bytes) ≡ run BeforeSeparator bytes
-    len = length-take-le (run BeforeSeparator bytes) bytes (run-within BeforeSeparator bytes)
-
-    whole : bytes ≡ front bytes ++ drop (run BeforeSeparator bytes) bytes
-    whole = sym (take-append-drop (run BeforeSeparator bytes) bytes)
-
-    separated : Ended bytes (run BeforeSeparator bytes) → run BeforeSeparator bytes < length bytes → (w : Bool) → is_all_white (front bytes) ≡ w
-        → MakeUp place bytes (map single (cond w [] (here place bytes ∷ [])) ++ es)
-    separated end low w is = go w is
-      where
-        short : element_len bytes ≡ suc (run BeforeSeparator bytes)
-        short = let same = single_len bytes alone in omega (arith, same)
-
-        after : MakeUp (place + suc (run BeforeSeparator bytes)) (drop (suc (run BeforeSeparator bytes)) bytes) es
-        after = subst (λ k. MakeUp (place + k) (drop k bytes) es) short later
-
-        cut : bytes ≡ front bytes ++ end.separator ∷ drop (suc (run BeforeSeparator bytes)) bytes
-        cut = whole ∙ ap (λ r. front bytes ++ r) end.cut
-
-        go : (w : Bool) → is_all_white (front bytes) ≡ w → MakeUp place bytes (map single (cond w [] (here place bytes ∷ [])) ++ es)
-        go true is =
-            after_separator place (front bytes) (drop (suc (run BeforeSeparator bytes)) bytes) bytes end.separator is end.separates cut
-            (subst (λ k. MakeUp (place + suc k) (drop (suc (run BeforeSeparator bytes)) bytes) es) (sym len) after)
-        go false is =
-            element_first (single (here place bytes)) (end.separator ∷ drop (suc (run BeforeSeparator bytes)) bytes) bytes es end.separates
-            (after_separator (place + length (front bytes)) [] (drop (suc (run BeforeSeparator bytes)) bytes) (end.separator ∷ drop (suc (run BeforeSeparator bytes)) bytes) end.separator (white-whole white_ends)
-            end.separates refl (subst (λ p. MakeUp p (drop (suc (run BeforeSeparator bytes)) bytes) es) (omega (arith, len)) after))
-            cut
-
-    last : length bytes ≤ run BeforeSeparator bytes → (w : Bool) → is_all_white (front bytes) ≡ w → MakeUp place bytes (map single (cond w [] (here place bytes ∷ [])) ++ es)
-    last high w is = go w is
-      where
-        all : front bytes ≡ bytes
-        all = take_all (run BeforeSeparator bytes) bytes high
-
-        over : es ≡ []
-        over = let same = single_len bytes alone in none (drop_all (element_len bytes) bytes (omega (arith, same)))
-
-        go : (w : Bool) → is_all_white (front bytes) ≡ w → MakeUp place bytes (map single (cond w [] (here place bytes ∷ [])) ++ es)
-        go true is = subst (λ es. MakeUp place bytes es) (sym over) (only_white place bytes (sym (ap is_all_white all) ∙ is))
-        go false is =
-            subst (λ es. MakeUp place bytes (single (here place bytes) ∷ es)) (sym over)
-            (element_first (single (here place bytes)) [] bytes [] tt (nothing_more (place + length (front bytes))) (sym all ∙ sym (append-nil (front bytes))))
-
-    by_end : (run BeforeSeparator bytes < length bytes) ⊎ (length bytes ≤ run BeforeSeparator bytes) → (w : Bool) → is_all_white (front bytes) ≡ w
-        → MakeUp place bytes (map single (cond w [] (here place bytes ∷ [])) ++ es)
-    by_end (inl low) w is = separated (ended bytes (run BeforeSeparator bytes) (run-separates bytes low)) low w is
-    by_end (inr high) w is = last high w is
+    by_end : (run BeforeSeparator bytes < length bytes) ⊎ (length bytes ≤ run BeforeSeparator bytes)
+        → MakeUp place bytes (map single (cond (is_all_white (front bytes)) [] (here place bytes ∷ [])) ++ es)
+    by_end (inl low) =
+        let n : ℕ = run BeforeSeparator bytes in
+        let rest : List ℕ = drop (suc n) bytes in
+        let end = ended bytes n (run-separates bytes low) in
+        let len = length-take-le n bytes (run-within BeforeSeparator bytes) in
+        let short : element_len bytes ≡ suc n = let same = single_len bytes alone in omega (arith, same, low) in
+        let after : MakeUp (place + suc n) rest es = subst (λ k. MakeUp (place + k) (drop k bytes) es) short later in
+        let cut : bytes ≡ front bytes ++ end.0 ∷ rest = sym (take-append-drop n bytes) ∙ ap (λ r. front bytes ++ r) end.2 in
+        cond_both (is_all_white (front bytes)) [] (here place bytes ∷ []) (λ ss. MakeUp place bytes (map single ss ++ es))
+        (λ is. after_separator place (front bytes) rest bytes end.0 is end.1 cut (subst (λ k. MakeUp (place + suc k) rest es) (sym len) after))
+        (λ is. element_first (single (here place bytes)) (end.0 ∷ rest) bytes es end.1
+        (after_separator (place + length (front bytes)) [] rest (end.0 ∷ rest) end.0 (white-whole white_ends) end.1 refl (subst (λ p. MakeUp p rest es) (omega (arith, len)) after)) cut)
+    by_end (inr high) =
+        let all : front bytes ≡ bytes = take_all (run BeforeSeparator bytes) bytes high in
+        let over : es ≡ [] = let same = single_len bytes alone in none (drop_all (element_len bytes) bytes (omega (arith, same, high))) in
+        cond_both (is_all_white (front bytes)) [] (here place bytes ∷ []) (λ ss. MakeUp place bytes (map single ss ++ es))
+        (λ is. subst (λ es. MakeUp place bytes es) (sym over) (only_white place bytes (sym (ap is_all_white all) ∙ is)))
+        (λ is. subst (λ es. MakeUp place bytes (single (here place bytes) ∷ es)) (sym over)
+        (element_first (single (here place bytes)) [] bytes [] tt (nothing_more (place + length (front bytes))) (sym all ∙ sym (append-nil (front bytes)))))
 
 group_made : (place : ℕ) (bytes : List ℕ) (es : List Element) → is_group bytes ≡ true → MakeUp (place + element_len bytes) (drop (element_len bytes) bytes) es
     → MakeUp place bytes (group (group_at place bytes) ∷ es)
@@ -177,14 +142,9 @@ made (suc most) start [] short = nothing_more start
 made (suc most) start (b ∷ bytes) short =
     let some = element_len-some (b ∷ bytes) (omega arith) in
     let cut = length-drop (element_len (b ∷ bytes)) (b ∷ bytes) in
-    by_group (is_group (b ∷ bytes)) refl (made most (start + element_len (b ∷ bytes)) (drop (element_len (b ∷ bytes)) (b ∷ bytes)) (omega (arith, some, cut)))
-  where
-    by_group : (g : Bool) → is_group (b ∷ bytes) ≡ g → MakeUp (start + element_len (b ∷ bytes)) (drop (element_len (b ∷ bytes)) (b ∷ bytes)) (left most start (b ∷ bytes))
-        → MakeUp start (b ∷ bytes) (cond g (group (group_at start (b ∷ bytes)) ∷ []) (map single (single_at start (front (b ∷ bytes)))) ++ left most start (b ∷ bytes))
-    by_group true e more = group_made start (b ∷ bytes) (left most start (b ∷ bytes)) e more
-    by_group false e more =
-        single_made start (b ∷ bytes) (left most start (b ∷ bytes)) e more
-        (none_left most (start + element_len (b ∷ bytes)) (drop (element_len (b ∷ bytes)) (b ∷ bytes))) (is_all_white (front (b ∷ bytes))) refl
+    let more = made most (start + element_len (b ∷ bytes)) (drop (element_len (b ∷ bytes)) (b ∷ bytes)) (omega (arith, some, cut)) in
+    cond_both (is_group (b ∷ bytes)) _ _ (λ es. MakeUp start (b ∷ bytes) (es ++ left most start (b ∷ bytes))) (λ e. group_made start (b ∷ bytes) (left most start (b ∷ bytes)) e more)
+    (λ e. single_made start (b ∷ bytes) (left most start (b ∷ bytes)) e more (none_left most (start + element_len (b ∷ bytes)) (drop (element_len (b ∷ bytes)) (b ∷ bytes))))
 
 pub elements-make_up : (raw : List ℕ) → MakeUp 0 raw (addresses raw)
 unfolding items

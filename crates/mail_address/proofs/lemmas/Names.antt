@@ -1,8 +1,8 @@
 -- Lemmas on mailboxes whose names may show anything.
-use Rattle.std.proofs.Common.{◌≡◌, ℕ, suc, ◌+◌, ◌-◌, ◌<◌, Bool, true, false, cond, eqb, ◌&&◌, ◌||◌, List, [], ◌∷◌, ◌++◌, length, take, drop, map, refl, sym, ap, ◌∙◌, arith, append_assoc, length-append}
+use Rattle.std.proofs.Common.{◌≡◌, ℕ, suc, ◌+◌, ◌-◌, ◌<◌, Bool, true, false, cond, eqb, ◌&&◌, ◌||◌, List, [], ◌∷◌, ◌++◌, Option, length, take, drop, map, refl, sym, ap, ◌∙◌, arith, append_assoc, length-append}
 use Rattle.std.specs.Prelude.{min}
 use Rattle.std.specs.List.{flat_map}
-use Rattle.std.proofs.lemmas.Bool.{cond-false, eqb-false, false≢true, ne_eqb, or_parts}
+use Rattle.std.proofs.lemmas.Bool.{cond_both, cond-false, eqb-false, false≢true, ne_eqb, or_parts}
 use Rattle.std.proofs.lemmas.List.{append-nil, drop_all, drop_at, take_at}
 use Rattle.mail_codec.specs.Places.{begins}
 use Rattle.mail_address.specs.declared.tokens.Kind.{Kind}
@@ -11,7 +11,7 @@ use Rattle.mail_address.specs.declared.tokens.Span.{Span}
 use Rattle.mail_address.specs.declared.tokens.Span.TheVariants.{BeforeDelimiter, BeforeSeparator, White, Word, BeforeComma, InGroup}
 use Rattle.mail_address.specs.Addresses.{after_name, element_at, element_len, inner_len, is_group, items, name_len, single, single_at, Single, member_at, member_len}
 use Rattle.mail_address.specs.Enclosed.{IsBetween, no_bytes, quoted_pair, plain_byte, IsInAngles, in_angles}
-use Rattle.mail_address.specs.Mailbox.{after_white, is_phrase, mailbox_of, within_ends}
+use Rattle.mail_address.specs.Mailbox.{after_route, after_white, is_phrase, mailbox_of, Parts, spec_mailbox, within_ends}
 use Rattle.mail_address.specs.Names.{AreNameWords, bracketed, IsNameWord, last_word, next_word, quoted_word, named}
 use Rattle.mail_address.specs.Text.{escaped_byte, front_len, front_meaning, meaning, quoted_text, unquoted, word_at, word_or_space, word_or_white_len}
 use Rattle.mail_address.specs.Tokens.{front_token, is_all_white, is_in, run, step}
@@ -145,10 +145,11 @@ end-left text (at_comma rest) =
     ∙ drop_at (text ++ 44 ∷ []) rest (min (suc (length text)) (length (text ++ 44 ∷ rest))) (let front = length-append text (44 ∷ []) in omega (arith, len, front))
 
 -- an element of the list, which is more than whitespace
-abbrev pub as_single : ℕ → List ℕ → Single
-as_single start text = record { start = start; text = text; mailbox = mailbox_of text }
+abbrev pub as_single : ℕ → List ℕ → Option Parts → Single
+as_single start text m = record { start = start; text = text; mailbox = m }
 
-module _ (text after left : List ℕ) (end : IsEnd after left) (over : (span : Span) → Crosses span → IsPassed span text) (shown : is_all_white text ≡ false) where
+module _ (text after left : List ℕ) (end : IsEnd after left) (over : (span : Span) → Crosses span → IsPassed span text) (shown : is_all_white text ≡ false)
+    (m : Option Parts) (is : mailbox_of text ≡ m) where
   up_to : (span : Span) → Crosses span → is_in span Comma ≡ false → run span (text ++ after) ≡ length text
   up_to span crosses stops = passed-up_to span text after (over span crosses) (end-stops span stops end)
 
@@ -168,11 +169,11 @@ module _ (text after left : List ℕ) (end : IsEnd after left) (over : (span : S
       (drop_at text after (length text) refl)
       ∙ rw (end-no_colon end) refl
 
-  single-is : (start : ℕ) → single_at start text ≡ as_single start text ∷ []
+  single-is : (start : ℕ) → single_at start text ≡ as_single start text m ∷ []
   unfolding single_at
-  single-is start = cond-false _ _ _ shown
+  single-is start = cond-false _ _ _ shown ∙ ap (λ m. as_single start text m ∷ []) is
 
-  element-is : (start : ℕ) → element_at start (text ++ after) ≡ single (as_single start text) ∷ []
+  element-is : (start : ℕ) → element_at start (text ++ after) ≡ single (as_single start text m) ∷ []
   unfolding element_at
   element-is start =
       cond-false _ _ _ no_group
@@ -186,15 +187,15 @@ module _ (text after left : List ℕ) (end : IsEnd after left) (over : (span : S
 
   -- the first element, and then those of what is left
   pub single-first : (start : ℕ) → items element_at element_len start (text ++ after)
-      ≡ single (as_single start text) ∷ items element_at element_len (start + min (suc (length text)) (length (text ++ after))) left
+      ≡ single (as_single start text m) ∷ items element_at element_len (start + min (suc (length text)) (length (text ++ after))) left
   single-first start =
       items-more element_at element_len element_len-some start (text ++ after) low
       ∙ ap (λ e. e ++ items element_at element_len (start + element_len (text ++ after)) (drop (element_len (text ++ after)) (text ++ after))) (element-is start)
-      ∙ ap (λ n. single (as_single start text) ∷ items element_at element_len (start + n) (drop n (text ++ after))) element_len-is
-      ∙ ap (λ r. single (as_single start text) ∷ items element_at element_len (start + min (suc (length text)) (length (text ++ after))) r) (end-left text end)
+      ∙ ap (λ n. single (as_single start text m) ∷ items element_at element_len (start + n) (drop n (text ++ after))) element_len-is
+      ∙ ap (λ r. single (as_single start text m) ∷ items element_at element_len (start + min (suc (length text)) (length (text ++ after))) r) (end-left text end)
 
   -- the same among the members of a group
-  member-is : (start : ℕ) → member_at start (text ++ after) ≡ as_single start text ∷ []
+  member-is : (start : ℕ) → member_at start (text ++ after) ≡ as_single start text m ∷ []
   unfolding member_at
   member-is start =
       ap (λ n. single_at start (take n (text ++ after))) (up_to BeforeComma crosses-comma refl)
@@ -206,12 +207,12 @@ module _ (text after left : List ℕ) (end : IsEnd after left) (over : (span : S
   member_len-is = ap (λ n. min (suc n) (length (text ++ after))) (up_to BeforeComma crosses-comma refl)
 
   pub member-first : (start : ℕ) → items member_at member_len start (text ++ after)
-      ≡ as_single start text ∷ items member_at member_len (start + min (suc (length text)) (length (text ++ after))) left
+      ≡ as_single start text m ∷ items member_at member_len (start + min (suc (length text)) (length (text ++ after))) left
   member-first start =
       items-more member_at member_len member_len-some start (text ++ after) low
       ∙ ap (λ e. e ++ items member_at member_len (start + member_len (text ++ after)) (drop (member_len (text ++ after)) (text ++ after))) (member-is start)
-      ∙ ap (λ n. as_single start text ∷ items member_at member_len (start + n) (drop n (text ++ after))) member_len-is
-      ∙ ap (λ r. as_single start text ∷ items member_at member_len (start + min (suc (length text)) (length (text ++ after))) r) (end-left text end)
+      ∙ ap (λ n. as_single start text m ∷ items member_at member_len (start + n) (drop n (text ++ after))) member_len-is
+      ∙ ap (λ r. as_single start text m ∷ items member_at member_len (start + min (suc (length text)) (length (text ++ after))) r) (end-left text end)
 
 -- ---- the laws
 
@@ -232,10 +233,8 @@ module _ (name inner : List ℕ) (words : AreNameWords name) (inside : IsInAngle
 
   named-first : {after left : List ℕ} → IsEnd after left → (start : ℕ)
       → items element_at element_len start (text ++ after) ≡ named start name inner ∷ items element_at element_len (start + min (suc (length text)) (length (text ++ after))) left
-  named-first {after} {left} end start =
-      single-first text after left end text-passed text-shown start
-      ∙ ap (λ m. single (record { start = start; text = text; mailbox = m }) ∷ items element_at element_len (start + min (suc (length text)) (length (text ++ after))) left)
-      (bracket-read name inner [] (phrase (names-phrase words)) inside white_ends)
+  named-first {after} {left} end =
+      single-first text after left end text-passed text-shown (spec_mailbox name (after_route inner)) (bracket-read name inner [] (phrase (names-phrase words)) inside white_ends)
 
 pub names-alone : (start : ℕ) (name inner : List ℕ) → AreNameWords name → IsInAngles inner → items element_at element_len start (name ++ bracketed inner) ≡ named start name inner ∷ []
 names-alone start name inner words inside =
@@ -256,30 +255,20 @@ names-first start name inner rest words inside =
 
 escaped-between : (text : List ℕ) → IsBetween 34 34 (flat_map escaped_byte text)
 escaped-between [] = no_bytes
-escaped-between (b ∷ text) = go (eqb b 34 || eqb b 92) refl (escaped-between text)
-  where
-    go : (t : Bool) → (eqb b 34 || eqb b 92) ≡ t → IsBetween 34 34 (flat_map escaped_byte text)
-        → IsBetween 34 34 (cond t (92 ∷ b ∷ []) (b ∷ []) ++ flat_map escaped_byte text)
-    go true e later = quoted_pair later
-    go false e later =
-        let both = or_parts (eqb b 34) (eqb b 92) e in
-        plain_byte (eqb-false b 34 both.0) (eqb-false b 34 both.0) (eqb-false b 92 both.1) later
+escaped-between (b ∷ text) =
+    cond_both (eqb b 34 || eqb b 92) (92 ∷ b ∷ []) (b ∷ []) (λ bytes. IsBetween 34 34 (bytes ++ flat_map escaped_byte text)) (λ e. quoted_pair (escaped-between text))
+    (λ e. let both = or_parts (eqb b 34) (eqb b 92) e in plain_byte (eqb-false b 34 both.0) (eqb-false b 34 both.0) (eqb-false b 92 both.1) (escaped-between text))
 
 unquoted-escaped : (text : List ℕ) → unquoted false (flat_map escaped_byte text) ≡ text
 unquoted-escaped [] = refl
-unquoted-escaped (b ∷ text) = go (eqb b 34 || eqb b 92) refl (unquoted-escaped text)
-  where
-    go : (t : Bool) → (eqb b 34 || eqb b 92) ≡ t → unquoted false (flat_map escaped_byte text) ≡ text
-        → unquoted false (cond t (92 ∷ b ∷ []) (b ∷ []) ++ flat_map escaped_byte text) ≡ b ∷ text
-    go true e later = ap (λ (r : List ℕ). b ∷ r) later
-    go false e later = rw ((or_parts (eqb b 34) (eqb b 92) e).1) (ap (λ (r : List ℕ). b ∷ r) later)
+unquoted-escaped (b ∷ text) =
+    let later = ap (λ (r : List ℕ). b ∷ r) (unquoted-escaped text) in
+    cond_both (eqb b 34 || eqb b 92) (92 ∷ b ∷ []) (b ∷ []) (λ bytes. unquoted false (bytes ++ flat_map escaped_byte text) ≡ b ∷ text) (λ e. later)
+    (λ e. rw ((or_parts (eqb b 34) (eqb b 92) e).1) later)
 
 pub quoted-is_word : (text : List ℕ) → IsNameWord (quoted_text text)
 unfolding quoted_text
 quoted-is_word text = quoted_word (escaped-between text) refl
-
-pub quoted-is_name : (text : List ℕ) → AreNameWords (quoted_text text ++ 32 ∷ [])
-quoted-is_name text = last_word (quoted-is_word text) refl
 
 pub quoted-token : (text rest : List ℕ) → front_token (quoted_text text ++ rest) ≡ record { kind = Quoted; len = length (quoted_text text) }
 unfolding quoted_text

@@ -20,9 +20,6 @@ use Rattle.mail_address.proofs.lemmas.Tokens.{atom_byte-visible, byte-other, far
 abbrev pub IsPassed : Span → List ℕ → Type 0
 IsPassed span text = (rest : List ℕ) → run span (text ++ rest) ≡ length text + run span rest
 
-passed-nil : (span : Span) → IsPassed span []
-passed-nil span rest = omega arith
-
 pub passed-append : (span : Span) (one two : List ℕ) → IsPassed span one → IsPassed span two → IsPassed span (one ++ two)
 passed-append span one two first second rest =
     let here = first (two ++ rest) in
@@ -77,28 +74,17 @@ unfolding front_token is_atom_byte single_kind
 semicolon-front rest = refl
 
 -- a token that a run may not have ends it
-pub step-stops : (span : Span) (bytes : List ℕ) (len : ℕ) (kind : Kind) → front_token bytes ≡ record { kind = kind; len = len } → is_in span kind ≡ false → step span bytes ≡ 0
-unfolding step
-step-stops span bytes len kind is stops = rw is (rw stops refl)
-
 pub run-stops : (span : Span) (bytes : List ℕ) (len : ℕ) (kind : Kind) → front_token bytes ≡ record { kind = kind; len = len } → is_in span kind ≡ false → run span bytes ≡ 0
-run-stops span bytes len kind is stops = far-stop (step span) bytes (step-stops span bytes len kind is stops)
+unfolding step
+run-stops span bytes len kind is stops = far-stop (step span) bytes (rw is (rw stops refl))
 
 -- ---- folding whitespace, and words
-
-white_byte-passed : (span : Span) (b : ℕ) (rest : List ℕ) → is_in span Blank ≡ true → is_white b ≡ true → run span (b ∷ rest) ≡ suc (run span rest)
-white_byte-passed span b rest goes h =
-    far-run (step span) is_white (λ c cs k. step-token span (c ∷ cs) (1 + prefix_len is_white cs) Blank (white_byte-front c cs k) goes ∙ omega arith) b rest h
-
-atom_byte-passed : (span : Span) (b : ℕ) (rest : List ℕ) → is_in span Atom ≡ true → is_atom_byte b ≡ true → run span (b ∷ rest) ≡ suc (run span rest)
-atom_byte-passed span b rest goes h =
-    far-run (step span) is_atom_byte (λ c cs k. step-token span (c ∷ cs) (1 + prefix_len is_atom_byte cs) Atom (atom_byte-front c cs k) goes ∙ omega arith) b rest h
 
 pub white-passed : (span : Span) → is_in span Blank ≡ true → is_in span Comment ≡ true → {bytes : List ℕ} → IsWhite bytes → IsPassed span bytes
 white-passed span blank comment white_ends rest = omega arith
 white-passed span blank comment (white_byte {b = b} {rest = more} h white) rest =
     let later = white-passed span blank comment white rest in
-    let here = white_byte-passed span b (more ++ rest) blank h in
+    let here = far-run (step span) is_white (λ c cs k. step-token span (c ∷ cs) (1 + prefix_len is_white cs) Blank (white_byte-front c cs k) blank ∙ omega arith) b (more ++ rest) h in
     omega (arith, here, later)
 white-passed span blank comment {bytes} (white_comment {inner = inner} {rest = more} commented white e) rest =
     passed-same span (e ∙ sym (delimited 40 41 inner more))
@@ -109,21 +95,14 @@ atoms-passed span goes [] h rest = omega arith
 atoms-passed span goes (b ∷ bytes) h rest =
     let both = and_parts (is_atom_byte b) (list_all is_atom_byte bytes) h in
     let later = atoms-passed span goes bytes both.1 rest in
-    let here = atom_byte-passed span b (bytes ++ rest) goes both.0 in
+    let here = far-run (step span) is_atom_byte (λ c cs k. step-token span (c ∷ cs) (1 + prefix_len is_atom_byte cs) Atom (atom_byte-front c cs k) goes ∙ omega arith) b (bytes ++ rest) both.0 in
     omega (arith, here, later)
-
-pub name_word-passed : (span : Span) → is_in span Atom ≡ true → is_in span Quoted ≡ true → {bytes : List ℕ} → IsNameWord bytes → IsPassed span bytes
-name_word-passed span goes quoted (quoted_word between e) rest = closed-passed span (quoted-closed between e) quoted rest
-name_word-passed span goes quoted (atom_word {b = b} {bytes = bytes} h) rest = atoms-passed span goes (b ∷ bytes) h rest
 
 -- the span of words
 abbrev pub span_of : Words → Span
 span_of any_words = Word
 span_of atoms = Atoms
 span_of literals = Literals
-
-dot-passed : (span : Span) → is_in span Dot ≡ true → IsPassed span (46 ∷ [])
-dot-passed span goes rest = run-token span (46 ∷ []) rest Dot (omega arith) (dot-front rest) goes
 
 pub at-passed : (span : Span) → is_in span At ≡ true → IsPassed span (64 ∷ [])
 at-passed span goes rest = run-token span (64 ∷ []) rest At (omega arith) (at-front rest) goes
@@ -142,14 +121,15 @@ pub record GoesOver (words : Words) (P : List ℕ → Type 0) : Type 0 where
 over : {words : Words} (span : Span) → is_in span Blank ≡ true → is_in span Comment ≡ true → is_in span Dot ≡ true → ((bytes : List ℕ) → IsWord words bytes → IsPassed span bytes)
     → GoesOver words (IsPassed span)
 over span blank comment dot word =
-    record { none = passed-nil span; both = passed-append span; white = λ is. white-passed span blank comment is; dot = dot-passed span dot; word = λ is. word _ is }
+    record { none = λ rest. omega arith; both = passed-append span; white = λ is. white-passed span blank comment is; dot = λ rest. run-token span (46 ∷ []) rest Dot (omega arith) (dot-front rest) dot; word = λ is. word _ is }
 
 pub over-words : (span : Span) → is_in span Blank ≡ true → is_in span Comment ≡ true → is_in span Dot ≡ true → is_in span Atom ≡ true → is_in span Quoted ≡ true
     → GoesOver any_words (IsPassed span)
 over-words span blank comment dot goes quoted = over span blank comment dot (λ bytes is. go is)
   where
     go : {bytes : List ℕ} → IsWord any_words bytes → IsPassed span bytes
-    go (any_word is) = name_word-passed span goes quoted is
+    go (any_word (quoted_word between e)) = closed-passed span (quoted-closed between e) quoted
+    go (any_word (atom_word {b = b} {bytes = bytes} h)) = atoms-passed span goes (b ∷ bytes) h
 
 pub over-atoms : (span : Span) → is_in span Blank ≡ true → is_in span Comment ≡ true → is_in span Dot ≡ true → is_in span Atom ≡ true → GoesOver atoms (IsPassed span)
 over-atoms span blank comment dot goes = over span blank comment dot (λ bytes is. go is)
@@ -234,9 +214,6 @@ angles-append (angles_byte h more) second = angles_byte h (angles-append more se
 angles-append {one} {two} (angles_closed {closed = front} {rest = rest} shut more e) second =
     angles_closed {closed = front} {rest = rest ++ two} shut (angles-append more second) (ap (λ b. b ++ two) e ∙ append_assoc front rest two)
 
-angles-same : {bytes made : List ℕ} → bytes ≡ made → IsInAngles made → IsInAngles bytes
-angles-same e is = subst IsInAngles (sym e) is
-
 angles-closed : {bytes : List ℕ} → IsClosed bytes → IsInAngles bytes
 angles-closed {bytes} is = angles_closed {closed = bytes} {rest = []} is angles_end (sym (append-nil bytes))
 
@@ -244,15 +221,9 @@ opens_not : (test : ℕ → Bool) (b : ℕ) → test b ≡ true → test 34 ≡ 
 opens_not test b h q p s e o c =
     rw (byte-other test b 34 h q, byte-other test b 40 h p, byte-other test b 91 h s, byte-other test b 92 h e, byte-other test b 60 h o, byte-other test b 62 h c) refl
 
-white_byte-angles : (b : ℕ) → is_white b ≡ true → is_opener b ≡ false
-white_byte-angles b h = opens_not is_white b h refl refl refl refl refl refl
-
-atom_byte-angles : (b : ℕ) → is_atom_byte b ≡ true → is_opener b ≡ false
-atom_byte-angles b h = let n = no_atom_bytes in opens_not is_atom_byte b h n.5 n.6 n.7 n.8 n.0 n.9
-
 white-angles : {bytes : List ℕ} → IsWhite bytes → IsInAngles bytes
 white-angles white_ends = angles_end
-white-angles (white_byte {b = b} h white) = angles_byte (white_byte-angles b h) (white-angles white)
+white-angles (white_byte {b = b} h white) = angles_byte (opens_not is_white b h refl refl refl refl refl refl) (white-angles white)
 white-angles (white_comment {inner = inner} {rest = rest} commented white e) =
     angles_closed {closed = 40 ∷ (inner ++ 41 ∷ [])} {rest = rest} (in_comment commented refl) (white-angles white) (e ∙ sym (delimited 40 41 inner rest))
 
@@ -260,7 +231,8 @@ atoms-angles : (bytes : List ℕ) → list_all is_atom_byte bytes ≡ true → I
 atoms-angles [] h = angles_end
 atoms-angles (b ∷ bytes) h =
     let both = and_parts (is_atom_byte b) (list_all is_atom_byte bytes) h in
-    angles_byte (atom_byte-angles b both.0) (atoms-angles bytes both.1)
+    let n = no_atom_bytes in
+    angles_byte (opens_not is_atom_byte b both.0 n.5 n.6 n.7 n.8 n.0 n.9) (atoms-angles bytes both.1)
 
 word-angles : {words : Words} {bytes : List ℕ} → IsWord words bytes → IsInAngles bytes
 word-angles (any_word (quoted_word between e)) = angles-closed (in_quotes between e)
@@ -280,7 +252,7 @@ over-angles words = record {
 may_be_route-angles : {bytes : List ℕ} → MayBeRoute bytes → IsInAngles bytes
 may_be_route-angles no_route = angles_end
 may_be_route-angles (route is e) =
-    angles-same e (angles-append (route-passed (over-angles atoms) (over-angles literals) (angles_byte refl angles_end) (angles_byte refl angles_end) is) (angles_byte refl angles_end))
+    subst IsInAngles (sym e) (angles-append (route-passed (over-angles atoms) (over-angles literals) (angles_byte refl angles_end) (angles_byte refl angles_end) is) (angles_byte refl angles_end))
 
 -- an address, perhaps after a route
 pub spec-angles : {may_be_route local domain : List ℕ} → MayBeRoute may_be_route → AreDotted any_words local → IsDomain domain

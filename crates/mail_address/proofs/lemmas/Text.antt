@@ -1,6 +1,7 @@
 -- Lemmas on the text of names and addresses.
 use Rattle.std.proofs.Common.{◌≡◌, ℕ, zero, suc, ◌-◌, ◌<◌, ◌≤◌, Bool, true, false, cond, eqb, List, [], ◌∷◌, ◌++◌, length, drop, refl, ap, ◌∙◌, arith, length-drop}
 use Rattle.std.specs.Str.{IsUtf8, is_utf8}
+use Rattle.std.proofs.lemmas.Bool.{cond_both, eqb-false, false_from_ne_true}
 use Rattle.std.proofs.lemmas.Str.{IsUtf8-from_is_utf8, is_utf8-from_IsUtf8}
 use Rattle.mail_codec.specs.Latin1.{latin1_text}
 use Rattle.mailparse.specs.Value.{value_text}
@@ -20,17 +21,9 @@ front_len-some (b ∷ rest) low = (token-fits b rest).0
 
 pub word_or_white-some : (bytes : List ℕ) → 0 < length bytes → 0 < word_or_white_len bytes
 unfolding word_or_white_len
-word_or_white-some bytes low = go (step White bytes) refl
-  where
-    go : (n : ℕ) → step White bytes ≡ n → 0 < cond (eqb (step White bytes) 0) (front_len bytes) (run White bytes)
-    go zero e = rw e (front_len-some bytes low)
-    go (suc n) e =
-        let more = far-more (step White) bytes low (λ none. absurd (omega (arith, none, e))) in
-        by_test (eqb (step White bytes) 0) (omega (arith, more, e))
-      where
-        by_test : (t : Bool) → 0 < run White bytes → 0 < cond t (front_len bytes) (run White bytes)
-        by_test true some = front_len-some bytes low
-        by_test false some = some
+word_or_white-some bytes low =
+    cond_both (eqb (step White bytes) 0) (front_len bytes) (run White bytes) (λ n. 0 < n) (λ e. front_len-some bytes low)
+    (λ e. let some = eqb-false (step White bytes) 0 e in let more = far-more (step White) bytes low some in omega (arith, more, some))
 
 -- ---- a loop over tokens, whose position is known from the bytes left
 
@@ -51,8 +44,4 @@ pub text-utf8 : (bytes : List ℕ) → IsUtf8 bytes → value_text bytes ≡ byt
 text-utf8 bytes some = rw (is_utf8-from_IsUtf8 bytes some) refl
 
 pub text-latin1 : (bytes : List ℕ) → (IsUtf8 bytes → ⊥) → value_text bytes ≡ latin1_text bytes
-text-latin1 bytes none = by_test (is_utf8 bytes) refl
-  where
-    by_test : (v : Bool) → is_utf8 bytes ≡ v → value_text bytes ≡ latin1_text bytes
-    by_test true e = absurd (none (IsUtf8-from_is_utf8 bytes e))
-    by_test false e = rw e refl
+text-latin1 bytes none = rw (false_from_ne_true (is_utf8 bytes) (λ e. none (IsUtf8-from_is_utf8 bytes e))) refl

@@ -1,5 +1,5 @@
 -- Lemmas on tokens and runs of them.
-use Rattle.std.proofs.Common.{◌≡◌, ℕ, zero, suc, ◌+◌, ◌-◌, ◌<◌, ◌≤◌, ◌≢◌, Bool, true, false, cond, eqb, List, [], ◌∷◌, length, drop, refl, sym, ap, ◌∙◌, arith, length-drop}
+use Rattle.std.proofs.Common.{◌≡◌, ℕ, zero, suc, ◌+◌, ◌-◌, ◌<◌, ◌≤◌, ◌≢◌, Bool, true, false, cond, eqb, List, [], ◌∷◌, ◌++◌, length, drop, refl, sym, ap, ◌∙◌, arith, length-drop}
 use Rattle.std.proofs.lemmas.Bool.{false≢true, ne_eqb}
 use Rattle.mail_address.specs.Tokens.{far, far_within, is_atom_byte, is_white}
 
@@ -63,6 +63,11 @@ RunsTo-end step bytes rest len run is none =
     omega arith
 
 -- ---- bytes of atoms
+
+-- the bytes after a list and one more byte
+pub drop_past : (front : List ℕ) (b : ℕ) (rest : List ℕ) → drop (suc (length front)) (front ++ b ∷ rest) ≡ rest
+drop_past [] b rest = refl
+drop_past (x ∷ front) b rest = drop_past front b rest
 
 pub byte-other : (test : ℕ → Bool) (b other : ℕ) → test b ≡ true → test other ≡ false → eqb b other ≡ false
 byte-other test b other h none = ne_eqb b other (λ e. false≢true (sym none ∙ ap test (sym e) ∙ h))

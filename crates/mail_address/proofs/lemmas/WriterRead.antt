@@ -1,9 +1,9 @@
 -- A list of addresses that is written is read back as itself.
 use Rattle.std.proofs.Common.{◌≡◌, ℕ, suc, ◌+◌, Bool, true, false, cond, eqb, List, [], ◌∷◌, ◌++◌, Some, None, Option, length, map, take, drop, refl, sym, ap, subst, ◌∙◌, arith, append_assoc, length-append}
 use Rattle.std.specs.Prelude.{min}
-use Rattle.std.specs.List.{list_all}
+use Rattle.std.specs.List.{flat_map, list_all}
 use Rattle.std.specs.Str.{IsUtf8}
-use Rattle.std.proofs.lemmas.Bool.{and_from, and_parts}
+use Rattle.std.proofs.lemmas.Bool.{and_from, and_parts, false_from_ne_true}
 use Rattle.std.proofs.lemmas.List.{append-nil, drop_all, drop_at, take_at}
 use Rattle.std.proofs.Math.Seq.{drop-append-add}
 use Rattle.mail_codec.specs.Charset.{Charsets}
@@ -18,28 +18,24 @@ use Rattle.mail_address.specs.declared.writer.NewAddress.{NewAddress}
 use Rattle.mail_address.specs.declared.writer.NewAddress.TheVariants as new
 use Rattle.mail_address.specs.declared.writer.NewGroup.{NewGroup}
 use Rattle.mail_address.specs.declared.writer.NewMailbox.{NewMailbox}
-use Rattle.mail_address.specs.Addresses.{addresses, after_group, after_name, element_at, element_len, group, group_at, group_len, inner_len, is_group, items, member_at, member_len, members_at, name_len, separator_len, single, single_at}
+use Rattle.mail_address.specs.Addresses.{addresses, after_group, after_name, Element, element_at, element_len, group, group_at, group_len, inner_len, is_group, items, member_at, member_len, members_at, name_len, separator_len, Single, single, single_at}
 use Rattle.mail_address.specs.Enclosed.{in_angles}
 use Rattle.mail_address.specs.Grammar.{address, any_words, AreDotted, IsDomain, IsMailbox, IsName, IsPhrase, IsWhite, MayBeRoute, named_address, no_name, no_route, phrase, white_byte, white_ends}
 use Rattle.mail_address.specs.Mailbox.{is_phrase, mailbox_of, Parts, spec_mailbox}
 use Rattle.mail_address.specs.Names.{bracketed}
 use Rattle.mail_address.specs.Text.{address_bytes, phrase_text}
 use Rattle.mail_address.specs.Tokens.{front_token, is_all_white, is_in, run}
-use Rattle.mail_address.specs.Writer.{are_writable, AreTexts, element_shows, element_shown_for, HasTexts, HaveTexts, is_element_writable, is_writable, joined, mailbox_shown_for, seen_group, seen_single, single_shows, written_address, written_element, written_list, written_local, written_mailbox, written_name, written_phrase}
+use Rattle.mail_address.specs.Writer.{are_writable, AreTexts, element_shows, element_shown_for, HasTexts, HaveTexts, is_element_writable, is_writable, joined, mailbox_shown_for, Seen, SeenElement, seen_group, seen_single, separator, single_shows, written_address, written_element, written_list, written_local, written_mailbox, written_name, written_phrase}
 use Rattle.mail_address.proofs.lemmas.Addresses.{element_len-some, items-more}
 use Rattle.mail_address.proofs.lemmas.Enclosed.{enclosed-passed, delimited}
-use Rattle.mail_address.proofs.lemmas.GrammarMade.{all_white-made}
+use Rattle.mail_address.proofs.lemmas.GrammarMade.{all_white-made, none-some}
 use Rattle.mail_address.proofs.lemmas.GrammarRead.{mailbox-read, phrase-read}
 use Rattle.mail_address.proofs.lemmas.Names.{no_items, Crosses, IsEnd, at_comma, at_end, crosses-group, crosses-delimiter, end-stops, member-first, single-first}
 use Rattle.mail_address.proofs.lemmas.Passed.{at_domain-passed, at-passed, colon-front, comma-passed, dotted-passed, IsPassed, name-passed, passed-append, passed-same, passed-up_to, passed-whole, phrase-passed, run-stops, semicolon-front, spec-angles, white-passed}
+use Rattle.mail_address.proofs.lemmas.Tokens.{drop_past}
 use Rattle.mail_address.proofs.lemmas.WriterWords.{address-shows, domain-is_domain, local-is_local, phrase-nothing, phrase-written}
 
 -- ---- runs over a mailbox
-
-angle-passed : (span : Span) → is_in span Angle ≡ true → {may_be_route local domain : List ℕ} → MayBeRoute may_be_route → AreDotted any_words local → IsDomain domain
-    → IsPassed span (bracketed (may_be_route ++ (local ++ 64 ∷ domain)))
-angle-passed span goes {may_be_route} {local} {domain} is is_local is_domain rest =
-    enclosed-passed span (bracketed (may_be_route ++ (local ++ 64 ∷ domain))) rest goes (in_angles (spec-angles is is_local is_domain) refl)
 
 mailbox-passed : {span : Span} → Crosses span → {text : List ℕ} {m : Parts} → IsMailbox text m → IsPassed span text
 mailbox-passed {span} over (address {local = local} {domain = domain} is_local is_domain e) =
@@ -49,12 +45,10 @@ mailbox-passed {span} over (named_address {name = name} {may_be_route = may_be_r
     let inner : List ℕ = may_be_route ++ (local ++ 64 ∷ domain) in
     passed-same span (e ∙ ap (λ b. name ++ b) (sym (delimited 60 62 inner after)))
     (passed-append span name (bracketed inner ++ after) (name-passed over.over_words is_name)
-    (passed-append span (bracketed inner) after (angle-passed span over.angle is_route is_local is_domain) (over.over_words.white is_white)))
+    (passed-append span (bracketed inner) after (λ rest. enclosed-passed span (bracketed inner) rest over.angle (in_angles (spec-angles is_route is_local is_domain) refl))
+    (over.over_words.white is_white)))
 
 -- ---- a mailbox is more than whitespace
-
-none-some : {m : Parts} → ◌≡◌ {A = Option Parts} None (Some m) → ⊥
-none-some e = cc
 
 white-no_mailbox : (text : List ℕ) → IsWhite text → mailbox_of text ≡ None
 unfolding mailbox_of spec_mailbox front_token
@@ -65,11 +59,8 @@ white-no_mailbox text is =
     rw (first, second, end) refl
 
 mailbox-not_white : {text : List ℕ} {m : Parts} → IsMailbox text m → is_all_white text ≡ false
-mailbox-not_white {text} {m} is = go (is_all_white text) refl
-  where
-    go : (t : Bool) → is_all_white text ≡ t → t ≡ false
-    go true e = absurd (none-some (sym (white-no_mailbox text (all_white-made text e)) ∙ mailbox-read text m is))
-    go false e = refl
+mailbox-not_white {text} {m} is =
+    false_from_ne_true (is_all_white text) (λ e. none-some (sym (white-no_mailbox text (all_white-made text e)) ∙ mailbox-read text m is))
 
 -- ---- a mailbox at the front of a list
 
@@ -78,31 +69,28 @@ separator-left : (text : List ℕ) {after left : List ℕ} → IsEnd after left 
 separator-left text at_end = drop-append-add text [] 0
 separator-left text (at_comma rest) = drop-append-add text (44 ∷ rest) 1
 
-module _ (text after left : List ℕ) (m : Parts) (is : IsMailbox text m) (end : IsEnd after left) where
-  -- the first element, and then those of what is left
-  mailbox-first : (start : ℕ) → items element_at element_len start (text ++ after)
-      ≡ single (record { start = start; text = text; mailbox = Some m }) ∷ items element_at element_len (start + min (suc (length text)) (length (text ++ after))) left
-  mailbox-first start =
-      single-first text after left end (λ span over. mailbox-passed over is) (mailbox-not_white is) start
-      ∙ ap (λ o. single (record { start = start; text = text; mailbox = o }) ∷ items element_at element_len (start + min (suc (length text)) (length (text ++ after))) left) (mailbox-read text m is)
+fold_white : IsWhite (13 ∷ 10 ∷ 32 ∷ [])
+fold_white = white_byte refl (white_byte refl (white_byte refl white_ends))
 
-  -- the same among the members of a group
-  mailbox_member-first : (start : ℕ) → items member_at member_len start (text ++ after)
-      ≡ record { start = start; text = text; mailbox = Some m } ∷ items member_at member_len (start + min (suc (length text)) (length (text ++ after))) left
-  mailbox_member-first start =
-      member-first text after left end (λ span over. mailbox-passed over is) (mailbox-not_white is) start
-      ∙ ap (λ o. record { start = start; text = text; mailbox = o } ∷ items member_at member_len (start + min (suc (length text)) (length (text ++ after))) left) (mailbox-read text m is)
-
-no_members : (start : ℕ) → items member_at member_len start [] ≡ []
-unfolding items
-no_members start = refl
+-- a list of texts with separators is read one after another, if each is read before the end or a comma
+module _ (A B C : Type 0) (at : ℕ → List ℕ → List B) (len : List ℕ → ℕ) (written : A → List ℕ) (shows : B → C) (shown : A → C) (Able : List A → Type 0)
+    (later : (x : A) (xs : List A) → Able (x ∷ xs) → Able xs)
+    (first : (before : List ℕ) (x : A) (xs : List A) (after left : List ℕ) (start : ℕ) → IsWhite before → Able (x ∷ xs) → IsEnd after left
+    → (next : ℕ) × (map shows (items at len start ((before ++ written x) ++ after)) ≡ shown x ∷ map shows (items at len next left))) where
+  joined-read : (before : List ℕ) (x : A) (xs : List A) (start : ℕ) → IsWhite before → Able (x ∷ xs)
+      → map shows (items at len start (before ++ joined written (x ∷ xs))) ≡ map shown (x ∷ xs)
+  unfolding items
+  joined-read before x [] start white able =
+      ap (λ b. map shows (items at len start b)) (sym (append_assoc before (written x) [])) ∙ (first before x [] [] [] start white able at_end).1
+  joined-read before x (y ∷ ys) start white able =
+      let left : List ℕ = (13 ∷ 10 ∷ 32 ∷ []) ++ joined written (y ∷ ys) in
+      let read = first before x (y ∷ ys) (44 ∷ left) left start white able (at_comma left) in
+      ap (λ b. map shows (items at len start b)) (sym (append_assoc before (written x) (44 ∷ left))) ∙ read.1
+      ∙ ap (λ ss. shown x ∷ ss) (joined-read (13 ∷ 10 ∷ 32 ∷ []) y ys read.0 fold_white (later x (y ∷ ys) able))
 
 -- ---- a mailbox that is written
 
 module _ (known : Charsets) (knows : KnowUtf8 known) where
-  nothing-reads : lenient_value_in known [] ≡ []
-  nothing-reads = words_read known knows [] tt
-
   -- the parts of a mailbox that is written, with whitespace before it
   abbrev parts_of : List ℕ → NewMailbox → Parts
   parts_of before m = record { display_name = before ++ written_name m.display_name.now; local_part = written_local m.local_part.now; domain = m.domain.now }
@@ -118,7 +106,7 @@ module _ (known : Charsets) (knows : KnowUtf8 known) where
       let same = append-nil before in
       record {
         is = subst IsName (sym same) (no_name white);
-        shows = ap (λ b. lenient_value_in known (phrase_text b)) same ∙ ap (lenient_value_in known) (phrase-nothing white) ∙ nothing-reads;
+        shows = ap (λ b. lenient_value_in known (phrase_text b)) same ∙ ap (lenient_value_in known) (phrase-nothing white) ∙ words_read known knows [] tt;
       }
   name-is before (b ∷ name) white utf8 =
       let written = phrase-written known knows (b ∷ name) utf8 in
@@ -141,60 +129,50 @@ module _ (known : Charsets) (knows : KnowUtf8 known) where
 
   -- ---- the members of a group
 
-  fold_white : IsWhite (13 ∷ 10 ∷ 32 ∷ [])
-  fold_white = white_byte refl (white_byte refl (white_byte refl white_ends))
-
-  members-read : (before : List ℕ) (m : NewMailbox) (ms : List NewMailbox) (start : ℕ) → IsWhite before → AreTexts (m ∷ ms) → list_all is_writable (m ∷ ms) ≡ true
-      → map (single_shows known) (items member_at member_len start (before ++ joined written_mailbox (m ∷ ms))) ≡ map mailbox_shown_for (m ∷ ms)
-  members-read before m [] start white texts able =
-      let text : List ℕ = before ++ written_mailbox m in
-      let both = and_parts (is_writable m) true able in
-      let n : ℕ = min (suc (length text)) (length (text ++ [])) in
-      ap (λ b. map (single_shows known) (items member_at member_len start b)) (sym (append_assoc before (written_mailbox m) []))
-      ∙ ap (map (single_shows known)) (mailbox_member-first text [] [] (parts_of before m) (mailbox-written before m white texts.0 both.0) at_end start)
-      ∙ ap (λ ms. single_shows known (record { start = start; text = text; mailbox = Some (parts_of before m) }) ∷ map (single_shows known) ms) (no_members (start + n))
-      ∙ ap (λ s. s ∷ []) (mailbox-shows before m start text white texts.0 both.0)
-  members-read before m (next ∷ ms) start white texts able =
-      let text : List ℕ = before ++ written_mailbox m in
-      let left : List ℕ = (13 ∷ 10 ∷ 32 ∷ []) ++ joined written_mailbox (next ∷ ms) in
-      let both = and_parts (is_writable m) (list_all is_writable (next ∷ ms)) able in
-      let n : ℕ = min (suc (length text)) (length (text ++ 44 ∷ left)) in
-      ap (λ b. map (single_shows known) (items member_at member_len start b)) (sym (append_assoc before (written_mailbox m) (44 ∷ left)))
-      ∙ ap (map (single_shows known)) (mailbox_member-first text (44 ∷ left) left (parts_of before m) (mailbox-written before m white texts.0 both.0) (at_comma left) start)
-      ∙ ap (λ ms. single_shows known (record { start = start; text = text; mailbox = Some (parts_of before m) }) ∷ ms)
-      (members-read (13 ∷ 10 ∷ 32 ∷ []) next ms (start + n) fold_white texts.1 both.1)
-      ∙ ap (λ s. s ∷ map mailbox_shown_for (next ∷ ms)) (mailbox-shows before m start text white texts.0 both.0)
-
-  members-passed : (before : List ℕ) (m : NewMailbox) (ms : List NewMailbox) → IsWhite before → AreTexts (m ∷ ms) → list_all is_writable (m ∷ ms) ≡ true
-      → IsPassed InGroup (before ++ joined written_mailbox (m ∷ ms))
-  members-passed before m [] white texts able =
-      let both = and_parts (is_writable m) true able in
-      passed-same InGroup (ap (λ b. before ++ b) (append-nil (written_mailbox m))) (mailbox-passed crosses-group (mailbox-written before m white texts.0 both.0))
-  members-passed before m (next ∷ ms) white texts able =
-      let text : List ℕ = before ++ written_mailbox m in
-      let left : List ℕ = (13 ∷ 10 ∷ 32 ∷ []) ++ joined written_mailbox (next ∷ ms) in
-      let both = and_parts (is_writable m) (list_all is_writable (next ∷ ms)) able in
-      passed-same InGroup (sym (append_assoc before (written_mailbox m) (44 ∷ left)))
-      (passed-append InGroup text (44 ∷ left) (mailbox-passed crosses-group (mailbox-written before m white texts.0 both.0))
-      (passed-append InGroup (44 ∷ []) left (comma-passed InGroup refl) (members-passed (13 ∷ 10 ∷ 32 ∷ []) next ms fold_white texts.1 both.1)))
+  others-passed : (ms : List NewMailbox) → AreTexts ms → list_all is_writable ms ≡ true → IsPassed InGroup (flat_map (λ m. separator ++ written_mailbox m) ms)
+  others-passed [] texts able = λ rest. omega arith
+  others-passed (m ∷ ms) texts able =
+      let both = and_parts (is_writable m) (list_all is_writable ms) able in
+      let text : List ℕ = (13 ∷ 10 ∷ 32 ∷ []) ++ written_mailbox m in
+      passed-append InGroup (44 ∷ text) (flat_map (λ m. separator ++ written_mailbox m) ms)
+      (passed-append InGroup (44 ∷ []) text (comma-passed InGroup refl) (mailbox-passed crosses-group (mailbox-written (13 ∷ 10 ∷ 32 ∷ []) m fold_white texts.0 both.0)))
+      (others-passed ms texts.1 both.1)
 
   all-passed : (ms : List NewMailbox) → AreTexts ms → list_all is_writable ms ≡ true → IsPassed InGroup (joined written_mailbox ms)
-  all-passed [] texts able rest = omega arith
-  all-passed (m ∷ ms) texts able rest = members-passed [] m ms white_ends texts able rest
+  all-passed [] texts able = λ rest. omega arith
+  all-passed (m ∷ ms) texts able =
+      let both = and_parts (is_writable m) (list_all is_writable ms) able in
+      passed-append InGroup (written_mailbox m) (flat_map (λ m. separator ++ written_mailbox m) ms) (mailbox-passed crosses-group (mailbox-written [] m white_ends texts.0 both.0))
+      (others-passed ms texts.1 both.1)
 
   all-read : (ms : List NewMailbox) (start : ℕ) → AreTexts ms → list_all is_writable ms ≡ true
       → map (single_shows known) (members_at start (joined written_mailbox ms)) ≡ map mailbox_shown_for ms
   unfolding items
   all-read [] start texts able = refl
-  all-read (m ∷ ms) start texts able = members-read [] m ms start white_ends texts able
+  all-read (m ∷ ms) start texts able =
+      joined-read NewMailbox Single (Option Seen) member_at member_len written_mailbox (single_shows known) mailbox_shown_for (λ ms. AreTexts ms × (list_all is_writable ms ≡ true))
+      (λ m ms h. (h.0.1, (and_parts (is_writable m) (list_all is_writable ms) h.1).1)) first [] m ms start white_ends (texts, able)
+    where
+      first : (before : List ℕ) (m : NewMailbox) (ms : List NewMailbox) (after left : List ℕ) (start : ℕ) → IsWhite before → AreTexts (m ∷ ms) × (list_all is_writable (m ∷ ms) ≡ true) → IsEnd after left
+          → (next : ℕ) × (map (single_shows known) (items member_at member_len start ((before ++ written_mailbox m) ++ after))
+          ≡ mailbox_shown_for m ∷ map (single_shows known) (items member_at member_len next left))
+      first before m ms after left start white h end =
+          let text : List ℕ = before ++ written_mailbox m in
+          let able = (and_parts (is_writable m) (list_all is_writable ms) h.1).0 in
+          let is = mailbox-written before m white h.0.0 able in
+          let n : ℕ = min (suc (length text)) (length (text ++ after)) in (
+            start + n,
+            ap (map (single_shows known)) (member-first text after left end (λ span over. mailbox-passed over is) (mailbox-not_white is) (Some (parts_of before m))
+                (mailbox-read text (parts_of before m) is) start)
+                ∙ ap (λ s. s ∷ map (single_shows known) (items member_at member_len (start + n) left)) (mailbox-shows before m start text white h.0.0 able),
+          )
 
   -- ---- a group
 
   -- the first element of a list, and then those of what is left
-  record ReadFirst (before : List ℕ) (e : NewAddress) (after left : List ℕ) (start : ℕ) : Type 0 where
-    pub next : ℕ
-    pub first : map (element_shows known) (items element_at element_len start ((before ++ written_element e) ++ after))
-        ≡ element_shown_for e ∷ map (element_shows known) (items element_at element_len next left)
+  abbrev ReadFirst : List ℕ → NewAddress → List ℕ → List ℕ → ℕ → Type 0
+  ReadFirst before e after left start = (next : ℕ) × (map (element_shows known) (items element_at element_len start ((before ++ written_element e) ++ after))
+      ≡ element_shown_for e ∷ map (element_shows known) (items element_at element_len next left))
 
   phrase-alone : (before name : List ℕ) → IsWhite before → IsUtf8 name → IsPhrase (before ++ written_phrase name) × (lenient_value_in known (phrase_text (before ++ written_phrase name)) ≡ name)
   phrase-alone before name white utf8 =
@@ -225,8 +203,7 @@ module _ (known : Charsets) (knows : KnowUtf8 known) where
     after_name-is : after_name bytes ≡ inner ++ 59 ∷ after
     after_name-is =
         ap (λ n. drop (suc n) bytes) name_len-is
-        ∙ ap (drop (suc (length name))) (sym (append_assoc name (58 ∷ []) (inner ++ 59 ∷ after)))
-        ∙ drop_at (name ++ 58 ∷ []) (inner ++ 59 ∷ after) (suc (length name)) (let n = length-append name (58 ∷ []) in omega (arith, n))
+        ∙ drop_past name 58 (inner ++ 59 ∷ after)
 
     inner_len-is : inner_len bytes ≡ length inner
     unfolding inner_len
@@ -251,8 +228,7 @@ module _ (known : Charsets) (knows : KnowUtf8 known) where
     after_group-is : after_group bytes ≡ after
     after_group-is =
         ap (λ n. drop (suc n) (after_name bytes)) inner_len-is
-        ∙ ap (drop (suc (length inner))) (after_name-is ∙ sym (append_assoc inner (59 ∷ []) after))
-        ∙ drop_at (inner ++ 59 ∷ []) after (suc (length inner)) (let n = length-append inner (59 ∷ []) in omega (arith, n))
+        ∙ ap (drop (suc (length inner))) after_name-is ∙ drop_past inner 59 after
 
     abbrev text : List ℕ
     text = name ++ 58 ∷ (inner ++ 59 ∷ [])
@@ -307,13 +283,12 @@ module _ (known : Charsets) (knows : KnowUtf8 known) where
         (all-read g.members.now (start + suc (name_len bytes)) texts able)
 
     group-read : (start : ℕ) → ReadFirst before (new.Group g) after left start
-    group-read start = record {
-      next = start + element_len bytes;
-      first =
-          ap (λ b. map (element_shows known) (items element_at element_len start (b ++ after))) (sym (append_assoc before (written_phrase g.display_name.now) (58 ∷ (inner ++ 59 ∷ []))))
+    group-read start = (
+      start + element_len bytes,
+      ap (λ b. map (element_shows known) (items element_at element_len start (b ++ after))) (sym (append_assoc before (written_phrase g.display_name.now) (58 ∷ (inner ++ 59 ∷ []))))
           ∙ ap (λ b. map (element_shows known) (items element_at element_len start b)) (sym text-whole)
-          ∙ group-first start;
-    }
+          ∙ group-first start,
+    )
 
   -- ---- a list
 
@@ -321,32 +296,20 @@ module _ (known : Charsets) (knows : KnowUtf8 known) where
       → ReadFirst before e after left start
   element-first before (new.Mailbox m) after left start white texts able end =
       let text : List ℕ = before ++ written_mailbox m in
-      let n : ℕ = min (suc (length text)) (length (text ++ after)) in
-      record {
-        next = start + n;
-        first =
-            ap (map (element_shows known)) (mailbox-first text after left (parts_of before m) (mailbox-written before m white texts able) end start)
-            ∙ ap (λ s. seen_single s ∷ map (element_shows known) (items element_at element_len (start + n) left)) (mailbox-shows before m start text white texts able);
-      }
+      let is = mailbox-written before m white texts able in
+      let n : ℕ = min (suc (length text)) (length (text ++ after)) in (
+        start + n,
+        ap (map (element_shows known)) (single-first text after left end (λ span over. mailbox-passed over is) (mailbox-not_white is) (Some (parts_of before m))
+            (mailbox-read text (parts_of before m) is) start)
+            ∙ ap (λ s. seen_single s ∷ map (element_shows known) (items element_at element_len (start + n) left)) (mailbox-shows before m start text white texts able),
+      )
   element-first before (new.Group g) after left start white texts able end = group-read before after left g white texts.0 texts.1 able end start
-
-  list-read : (before : List ℕ) (e : NewAddress) (es : List NewAddress) (start : ℕ) → IsWhite before → HaveTexts (e ∷ es) → are_writable (e ∷ es) ≡ true
-      → map (element_shows known) (items element_at element_len start (before ++ joined written_element (e ∷ es))) ≡ map element_shown_for (e ∷ es)
-  list-read before e [] start white texts able =
-      let both = and_parts (is_element_writable e) true able in
-      let read = element-first before e [] [] start white texts.0 both.0 at_end in
-      ap (λ b. map (element_shows known) (items element_at element_len start b)) (sym (append_assoc before (written_element e) []))
-      ∙ read.first
-      ∙ ap (λ es. element_shown_for e ∷ map (element_shows known) es) (no_items read.next)
-  list-read before e (next ∷ es) start white texts able =
-      let left : List ℕ = (13 ∷ 10 ∷ 32 ∷ []) ++ joined written_element (next ∷ es) in
-      let both = and_parts (is_element_writable e) (are_writable (next ∷ es)) able in
-      let read = element-first before e (44 ∷ left) left start white texts.0 both.0 (at_comma left) in
-      ap (λ b. map (element_shows known) (items element_at element_len start b)) (sym (append_assoc before (written_element e) (44 ∷ left)))
-      ∙ read.first
-      ∙ ap (λ ss. element_shown_for e ∷ ss) (list-read (13 ∷ 10 ∷ 32 ∷ []) next es read.next fold_white texts.1 both.1)
 
   pub written-reads : (list : List NewAddress) → HaveTexts list → are_writable list ≡ true → map (element_shows known) (addresses (written_list list)) ≡ map element_shown_for list
   unfolding written_list
   written-reads [] texts able = ap (map (element_shows known)) (no_items 0)
-  written-reads (e ∷ es) texts able = list-read [] e es 0 white_ends texts able
+  written-reads (e ∷ es) texts able =
+      joined-read NewAddress Element SeenElement element_at element_len written_element (element_shows known) element_shown_for (λ es. HaveTexts es × (are_writable es ≡ true))
+      (λ e es h. (h.0.1, (and_parts (is_element_writable e) (are_writable es) h.1).1))
+      (λ before e es after left start white h end. element-first before e after left start white h.0.0 (and_parts (is_element_writable e) (are_writable es) h.1).0 end)
+      [] e es 0 white_ends (texts, able)

@@ -3,7 +3,7 @@ use Rattle.std.proofs.Common.{◌≡◌, ◌≢◌, ℕ, zero, suc, ◌+◌, ◌
 use Rattle.std.specs.Prelude.{codes, encode_utf8_all}
 use Rattle.std.specs.List.{list_all}
 use Rattle.std.specs.Str.{chars, IsUtf8}
-use Rattle.std.proofs.lemmas.Bool.{and_from, and_parts, cond-false, eqb-true, false≢true, ne_eqb}
+use Rattle.std.proofs.lemmas.Bool.{and_from, and_parts, cond_both, cond-false, cond-true, eqb-true, false≢true, ne_eqb}
 use Rattle.std.proofs.lemmas.List.{append-nil, drop_all, drop_at, take_all, take_at, take-append-drop}
 use Rattle.std.proofs.lemmas.List.Folds.{list_all-append}
 use Rattle.std.proofs.lemmas.Str.{encodes-chars, scalars-chars}
@@ -22,14 +22,14 @@ use Rattle.mail_address.specs.declared.tokens.Kind.TheVariants.{Atom, Literal, Q
 use Rattle.mail_address.specs.declared.tokens.Span.TheVariants.{Atoms, Literals, White}
 use Rattle.mail_address.specs.declared.writer.NewMailbox.{NewMailbox}
 use Rattle.mail_address.specs.Addresses.{items, items_within}
-use Rattle.mail_address.specs.Grammar.{any_word, any_words, AreDotted, AreDotWords, atom, atoms, dot_word, dots_end, dotted, in_brackets, IsDomain, IsPadded, IsPhrase, IsPhraseRest, IsWhite, IsWord, literals, phrase_ends, phrase_white, phrase_word, white_ends}
+use Rattle.mail_address.specs.Grammar.{any_word, any_words, AreDotted, AreDotWords, atom, atoms, dot_word, dots_end, dotted, in_brackets, IsDomain, IsPadded, IsPhrase, IsPhraseRest, IsWhite, IsWord, literals, phrase_ends, phrase_white, phrase_word, white_ends, Words}
 use Rattle.mail_address.specs.Mailbox.{after_white, is_dotted}
 use Rattle.mail_address.specs.Names.{IsNameWord, atom_word}
 use Rattle.mail_address.specs.Text.{address_bytes, bare, front_len, front_meaning, local_text, meaning, meaning_at, needs_no_quotes, phrase_text, quoted_text, word_at, word_or_space, word_or_white_len, words_text}
 use Rattle.mail_address.specs.Tokens.{front_token, is_all_white, is_atom_byte, is_in, run, step}
 use Rattle.mail_address.specs.Writer.{are_atoms, are_atoms_after, has_no_control, is_literal, is_writable, written_address, written_local, written_phrase}
 use Rattle.mail_address.proofs.lemmas.Addresses.{items-more}
-use Rattle.mail_address.proofs.lemmas.GrammarMade.{dotted-made, front-meets, Meets, word-meets}
+use Rattle.mail_address.proofs.lemmas.GrammarMade.{dotted-made, either-made, front-meets, Meets, word-meets}
 use Rattle.mail_address.proofs.lemmas.GrammarRead.{prefix-whole, white-no_atom}
 use Rattle.mail_address.proofs.lemmas.Names.{after_white-same, Front, no_white-front, no_words, quoted-is_word, quoted-len, quoted-meaning, quoted-token, word-len, word-meaning, one_space, space-rest}
 use Rattle.mail_address.proofs.lemmas.Passed.{atom_byte-front, dot-front, passed-whole, white-passed, white-whole}
@@ -51,31 +51,26 @@ phrase-starts : (bytes : List ℕ) → Front bytes → phrase_text bytes ≡ ite
 unfolding phrase_text words_text
 phrase-starts bytes front = ap (items word_at word_or_white_len 0) (after_white-same bytes front)
 
-white-word : (bytes : List ℕ) → is_all_white bytes ≡ true → word_or_space bytes ≡ []
-unfolding word_or_space
-white-word bytes h = rw h refl
-
 white-len : (bytes : List ℕ) → step White bytes ≢ 0 → word_or_white_len bytes ≡ run White bytes
 unfolding word_or_white_len
 white-len bytes some = cond-false _ _ _ (ne_eqb (step White bytes) 0 some)
 
 white-shows : (white : List ℕ) → IsWhite white → (start : ℕ) → items word_at word_or_white_len start white ≡ []
+unfolding word_or_space
 white-shows [] is start = no_words start
 white-shows (b ∷ rest) is start =
     let all = passed-whole White (b ∷ rest) (white-passed White refl refl is) in
     items-more word_at word_or_white_len word_or_white-some start (b ∷ rest) (omega arith)
-    ∙ ap (λ s. s ++ items word_at word_or_white_len (start + word_or_white_len (b ∷ rest)) (drop (word_or_white_len (b ∷ rest)) (b ∷ rest))) (white-word (b ∷ rest) (white-whole is))
+    ∙ ap (λ s. s ++ items word_at word_or_white_len (start + word_or_white_len (b ∷ rest)) (drop (word_or_white_len (b ∷ rest)) (b ∷ rest))) (cond-true _ _ _ (white-whole is))
     ∙ ap (λ n. items word_at word_or_white_len (start + n) (drop n (b ∷ rest)))
     (white-len (b ∷ rest) (λ none. let stop = far-stop (step White) (b ∷ rest) none in absurd (omega (arith, stop, all))) ∙ all)
     ∙ ap (items word_at word_or_white_len (start + length (b ∷ rest))) (drop_all (length (b ∷ rest)) (b ∷ rest) (omega arith))
     ∙ no_words (start + length (b ∷ rest))
 
-nothing-shows : phrase_text [] ≡ []
-unfolding phrase_text words_text after_white
-nothing-shows = ap (items word_at word_or_white_len 0) (drop_all (run White []) [] (omega arith)) ∙ no_words 0
-
 pub phrase-nothing : {white : List ℕ} → IsWhite white → phrase_text white ≡ []
-phrase-nothing {white} is = ap phrase_text (sym (append-nil white)) ∙ phrase-skipped is [] ∙ nothing-shows
+unfolding phrase_text words_text after_white
+phrase-nothing {white} is =
+    let all = passed-whole White white (white-passed White refl refl is) in ap (items word_at word_or_white_len 0) (drop_all (run White white) white (omega (arith, all))) ∙ no_words 0
 
 -- ---- one word of a phrase, and then the rest
 
@@ -272,19 +267,12 @@ quoted-written known name reads = record {
       ap (lenient_value_in known) (phrase-skipped b (quoted_text name ++ white) ∙ quoted-shows name w) ∙ reads;
 }
 
-name_bytes : (name : List ℕ) → IsUtf8 name → IsBytes name
-name_bytes name utf8 = subst IsBytes (encodes-chars name utf8) (word_bytes_are (chars name) (scalars-chars name utf8))
-
-letter-atoms : (v : ℕ) → v < 64 → is_atom_byte (letter v) ≡ true
-unfolding is_atom_byte
-letter-atoms v low = all_below_at (λ v. is_atom_byte (letter v)) 64 v refl low
-
 word-atoms : (name : List ℕ) → IsUtf8 name → AreAtoms (one_word name)
 unfolding is_atom_byte
 word-atoms name utf8 =
     last_atom (atom {b = 61} {bytes = codes "?utf-8?B?" ++ (letters name ++ codes "?=")}
     (list_all-append is_atom_byte (letters name) (codes "?=")
-    ∙ ap (λ t. t && true) (letters_pass is_atom_byte letter-atoms refl name (name_bytes name utf8))))
+    ∙ ap (λ t. t && true) (letters_pass is_atom_byte (λ v low. all_below_at (λ v. is_atom_byte (letter v)) 64 v refl low) refl name (subst IsBytes (encodes-chars name utf8) (word_bytes_are (chars name) (scalars-chars name utf8))))))
 
 word-reads : (known : Charsets) → KnowUtf8 known → (name : List ℕ) → IsUtf8 name → lenient_value_in known (one_word name) ≡ name
 word-reads known knows name utf8 =
@@ -294,13 +282,11 @@ word-reads known knows name utf8 =
 
 pub phrase-written : (known : Charsets) → KnowUtf8 known → (name : List ℕ) → IsUtf8 name → IsWritten known name (written_phrase name)
 unfolding written_phrase
-phrase-written known knows name utf8 = go (is_plain_value name) refl (are_atoms name) refl
-  where
-    go : (plain : Bool) → is_plain_value name ≡ plain → (words : Bool) → are_atoms name ≡ words
-        → IsWritten known name (cond plain (cond words name (quoted_text name)) (one_word name))
-    go true plain true words = atoms-written known name name (atoms-made false name words) (plain_reads known name plain)
-    go true plain false words = quoted-written known name (plain_reads known name plain)
-    go false plain words is = atoms-written known name (one_word name) (word-atoms name utf8) (word-reads known knows name utf8)
+phrase-written known knows name utf8 =
+    cond_both (is_plain_value name) _ _ (IsWritten known name)
+    (λ plain. cond_both (are_atoms name) _ _ (IsWritten known name) (λ words. atoms-written known name name (atoms-made false name words) (plain_reads known name plain))
+    (λ words. quoted-written known name (plain_reads known name plain)))
+    (λ plain. atoms-written known name (one_word name) (word-atoms name utf8) (word-reads known knows name utf8))
 
 -- ---- local parts and domains
 
@@ -314,11 +300,10 @@ is_dot_atom b = is_atom_byte b || eqb b 46
 
 itself : (b : ℕ) (rest : List ℕ) → is_dot_atom b ≡ true → front_meaning (b ∷ rest) ≡ take (front_len (b ∷ rest)) (b ∷ rest)
 unfolding front_meaning front_len
-itself b rest h = go (is_atom_byte b) refl h
-  where
-    go : (t : Bool) → is_atom_byte b ≡ t → (t || eqb b 46) ≡ true → meaning (front_token (b ∷ rest)).kind (take (front_token (b ∷ rest)).len (b ∷ rest)) ≡ take (front_token (b ∷ rest)).len (b ∷ rest)
-    go true e h = ap (λ t. meaning t.kind (take (front_token (b ∷ rest)).len (b ∷ rest))) (atom_byte-front b rest e)
-    go false e h = ap (λ t. meaning t.kind (take (front_token (b ∷ rest)).len (b ∷ rest))) (ap (λ c. front_token (c ∷ rest)) (eqb-true b 46 h) ∙ dot-front rest)
+itself b rest h =
+    either-made (is_atom_byte b) (eqb b 46)
+    (λ e. ap (λ t. meaning t.kind (take (front_token (b ∷ rest)).len (b ∷ rest))) (atom_byte-front b rest e))
+    (λ e. ap (λ t. meaning t.kind (take (front_token (b ∷ rest)).len (b ∷ rest))) (ap (λ c. front_token (c ∷ rest)) (eqb-true b 46 e) ∙ dot-front rest)) h
 
 bare-within : (most start : ℕ) (bytes : List ℕ) → length bytes ≤ most → list_all is_dot_atom bytes ≡ true → items_within meaning_at front_len most start bytes ≡ bytes
 bare-within zero start [] low h = refl
@@ -337,17 +322,12 @@ bare-same : (bytes : List ℕ) → list_all is_dot_atom bytes ≡ true → bare 
 unfolding bare items
 bare-same bytes h = bare-within (length bytes) 0 bytes (omega arith) h
 
-nothing-bare : (start : ℕ) → items meaning_at front_len start [] ≡ []
-unfolding items
-nothing-bare start = refl
-
 bare-one : (text : List ℕ) → 0 < length text → front_len text ≡ length text → bare text ≡ front_meaning text
-unfolding bare
+unfolding bare items
 bare-one text low len =
     items-more meaning_at front_len front_len-some 0 text low
     ∙ ap (λ n. front_meaning text ++ items meaning_at front_len (0 + n) (drop n text)) len
     ∙ ap (λ r. front_meaning text ++ items meaning_at front_len (0 + length text) r) (drop_all (length text) text (omega arith))
-    ∙ ap (λ r. front_meaning text ++ r) (nothing-bare (0 + length text))
     ∙ append-nil (front_meaning text)
 
 bare-quoted : (text : List ℕ) → bare (quoted_text text) ≡ text
@@ -380,35 +360,32 @@ dot_atom-parts : (text : List ℕ) → needs_no_quotes text ≡ true → (list_a
 unfolding needs_no_quotes
 dot_atom-parts text h = and_parts (list_all is_dot_atom text) (is_dotted Atoms text) h
 
+-- a word with nothing around it
+padded-alone : {words : Words} {word : List ℕ} → IsWord words word → IsPadded words word
+padded-alone {words} {word} is = record {
+  before = [];
+  word = word;
+  after = [];
+  white_before = white_ends;
+  is_word = is;
+  white_after = white_ends;
+  made = sym (append-nil word);
+}
+
 pub local-is_local : (text : List ℕ) → AreDotted any_words (written_local text)
 unfolding written_local
-local-is_local text = go (needs_no_quotes text) refl
-  where
-    go : (t : Bool) → needs_no_quotes text ≡ t → AreDotted any_words (cond t text (quoted_text text))
-    go true e = any-dotted (dotted-made atoms text (dot_atom-parts text e).1)
-    go false e = record {
+local-is_local text =
+    cond_both (needs_no_quotes text) _ _ (AreDotted any_words) (λ e. any-dotted (dotted-made atoms text (dot_atom-parts text e).1)) (λ e. record {
       first = quoted_text text;
       rest = [];
-      is_first = record {
-        before = [];
-        word = quoted_text text;
-        after = [];
-        white_before = white_ends;
-        is_word = any_word (quoted-is_word text);
-        white_after = white_ends;
-        made = sym (append-nil (quoted_text text));
-      };
+      is_first = padded-alone (any_word (quoted-is_word text));
       are_rest = dots_end;
       made = sym (append-nil (quoted_text text));
-    }
+    })
 
 local-bare : (text : List ℕ) → bare (written_local text) ≡ text
 unfolding written_local
-local-bare text = go (needs_no_quotes text) refl
-  where
-    go : (t : Bool) → needs_no_quotes text ≡ t → bare (cond t text (quoted_text text)) ≡ text
-    go true e = bare-same text (dot_atom-parts text e).0
-    go false e = bare-quoted text
+local-bare text = cond_both (needs_no_quotes text) _ _ (λ b. bare b ≡ text) (λ e. bare-same text (dot_atom-parts text e).0) (λ e. bare-quoted text)
 
 -- a domain that can be written
 literal-parts : (text : List ℕ) → is_literal text ≡ true → (is_in Literals (front_token text).kind ≡ true) × ((front_token text).len ≡ length text)
@@ -442,22 +419,8 @@ literal-bare text h =
     ∙ take_all (front_token text).len text (omega (arith, whole))
 
 domain-from : (text : List ℕ) → (needs_no_quotes text || is_literal text) ≡ true → IsDomain text × (bare text ≡ text)
-domain-from text h = go (needs_no_quotes text) refl h
-  where
-    go : (t : Bool) → needs_no_quotes text ≡ t → (t || is_literal text) ≡ true → IsDomain text × (bare text ≡ text)
-    go true e h = (dotted (dotted-made atoms text (dot_atom-parts text e).1), bare-same text (dot_atom-parts text e).0)
-    go false e h = (
-      in_brackets (record {
-        before = [];
-        word = text;
-        after = [];
-        white_before = white_ends;
-        is_word = literal-word text h;
-        white_after = white_ends;
-        made = sym (append-nil text);
-      }),
-      literal-bare text h,
-    )
+domain-from text h =
+    either-made (needs_no_quotes text) (is_literal text) (λ e. (dotted (dotted-made atoms text (dot_atom-parts text e).1), bare-same text (dot_atom-parts text e).0)) (λ e. (in_brackets (padded-alone (literal-word text e)), literal-bare text e)) h
 
 pub domain-is_domain : (m : NewMailbox) → is_writable m ≡ true → IsDomain m.domain.now × (bare m.domain.now ≡ m.domain.now)
 unfolding is_writable
@@ -465,16 +428,11 @@ domain-is_domain m h =
     domain-from m.domain.now
     (and_parts (has_no_control m.local_part.now && has_no_control m.domain.now) (needs_no_quotes m.domain.now || is_literal m.domain.now) h).1
 
-local-same : (text : List ℕ) → cond (needs_no_quotes text) text (quoted_text text) ≡ written_local text
-unfolding written_local
-local-same text = refl
-
 -- what is written of an address is its canonical form
 pub address-shows : (m : NewMailbox) → is_writable m ≡ true → address_bytes (written_local m.local_part.now) m.domain.now ≡ written_address m
-unfolding address_bytes local_text
+unfolding address_bytes local_text written_local
 address-shows m h =
     let local = local-bare m.local_part.now in
     let domain = (domain-is_domain m h).1 in
     ap (λ l. cond (needs_no_quotes l) l (quoted_text l) ++ 64 ∷ bare m.domain.now) local
     ∙ ap (λ d. cond (needs_no_quotes m.local_part.now) m.local_part.now (quoted_text m.local_part.now) ++ 64 ∷ d) domain
-    ∙ ap (λ l. l ++ 64 ∷ m.domain.now) (local-same m.local_part.now)

@@ -3,11 +3,5 @@ use Rattle.mail_address.proofs.lemmas.EncodeRead.{caller_knows}
 use Rattle.mail_address.proofs.lemmas.WriterRead.{written-reads}
 use Rattle.mail_address.proofs.laws.written_addresses_read_back.Goals as goal
 
-pub returns-clause-shown : goal.returns-clause-shown
-returns-clause-shown c = λ known list knows texts able. written-reads known knows list texts able
-
-pub returns-clause-four : goal.returns-clause-four
-returns-clause-four c = refl
-
-pub returns-clause-tables : goal.returns-clause-tables
-returns-clause-tables c = caller_knows
+pub returns : goal.returns
+returns c = record { shown = λ known list knows texts able. written-reads known knows list texts able; four = refl; tables = caller_knows }
