@@ -44,6 +44,15 @@ pub(crate) struct Token {
     pub len: usize,
 }
 
+impl Token {
+    /// Returns the token of this kind and length.
+    fn new(kind: Kind, len: usize) -> Token
+        ensures { result ≡ record { kind = kind; len = len } }
+    {
+        Token { kind, len }
+    }
+}
+
 /// A set of kinds of tokens, which a run of tokens may have.
 #[derive(Clone, Copy)]
 pub(crate) enum Span {
@@ -161,7 +170,7 @@ fn comment_place(bytes: &[u8]) -> usize
     bytes.len()
 }
 
-/// Returns the offset of the first unquoted byte that is one of two, or the length if there is none.
+/// Returns the offset of the first unquoted byte that is one of two, or the length if none is.
 fn unquoted_place(one: u8, other: u8, bytes: &[u8]) -> usize
     ensures value { result ≡ unquoted_place one other false bytes.now }
     ensures bounds { result ≤ length bytes.now }
@@ -186,15 +195,9 @@ fn comment_token(rest: &[u8]) -> Token
 {
     let place = comment_place(rest);
     if place < rest.len() {
-        Token {
-            kind: Kind::Comment,
-            len: place + 2,
-        }
+        Token::new(Kind::Comment, place + 2)
     } else {
-        Token {
-            kind: Kind::Other,
-            len: place + 1,
-        }
+        Token::new(Kind::Other, place + 1)
     }
 }
 
@@ -207,15 +210,9 @@ fn quoted_token(rest: &[u8]) -> Token
 {
     let place = unquoted_place(b'"', b'"', rest);
     if place < rest.len() {
-        Token {
-            kind: Kind::Quoted,
-            len: place + 2,
-        }
+        Token::new(Kind::Quoted, place + 2)
     } else {
-        Token {
-            kind: Kind::Other,
-            len: 1,
-        }
+        Token::new(Kind::Other, 1)
     }
 }
 
@@ -228,15 +225,9 @@ fn literal_token(rest: &[u8]) -> Token
 {
     let place = unquoted_place(b'[', b']', rest);
     if begins_at(rest, place, b']') {
-        Token {
-            kind: Kind::Literal,
-            len: place + 2,
-        }
+        Token::new(Kind::Literal, place + 2)
     } else {
-        Token {
-            kind: Kind::Other,
-            len: 1,
-        }
+        Token::new(Kind::Other, 1)
     }
 }
 
@@ -288,23 +279,14 @@ fn plain_token(bytes: &[u8]) -> Token
     ensures some { 0 < length bytes.now → 0 < result.len }
 {
     let Some((first, rest)) = bytes.split_first() else {
-        return Token {
-            kind: Kind::Other,
-            len: 0,
-        };
+        return Token::new(Kind::Other, 0);
     };
     let byte = *first;
     if is_white(byte) {
-        return Token {
-            kind: Kind::Blank,
-            len: 1 + white_len(rest),
-        };
+        return Token::new(Kind::Blank, 1 + white_len(rest));
     }
     if is_atom_byte(byte) {
-        return Token {
-            kind: Kind::Atom,
-            len: 1 + atom_len(rest),
-        };
+        return Token::new(Kind::Atom, 1 + atom_len(rest));
     }
     if byte == b'(' {
         return comment_token(rest);
@@ -316,15 +298,9 @@ fn plain_token(bytes: &[u8]) -> Token
         return literal_token(rest);
     }
     if byte == b'\\' {
-        return Token {
-            kind: Kind::Other,
-            len: bytes.len().min(2),
-        };
+        return Token::new(Kind::Other, bytes.len().min(2));
     }
-    Token {
-        kind: single_kind(byte),
-        len: 1,
-    }
+    Token::new(single_kind(byte), 1)
 }
 
 /// Returns whether a token is an angle bracket.
@@ -357,15 +333,9 @@ fn angle_token(rest: &[u8]) -> Token
 {
     let place = far(NoAngle, rest);
     if begins_at(rest, place, b'>') {
-        Token {
-            kind: Kind::Angle,
-            len: place + 2,
-        }
+        Token::new(Kind::Angle, place + 2)
     } else {
-        Token {
-            kind: Kind::Opening,
-            len: 1,
-        }
+        Token::new(Kind::Opening, 1)
     }
 }
 
