@@ -1,12 +1,12 @@
 -- Lemmas on what nothing within separates.
-use Rattle.std.proofs.Common.{◌≡◌, ℕ, suc, ◌+◌, ◌-◌, ◌<◌, Bool, true, false, cond, eqb, ◌||◌, List, [], ◌∷◌, ◌++◌, length, drop, refl, sym, ap, ◌∙◌, ⊎_elim, arith, append_assoc, length-append}
+use Rattle.std.proofs.Common.{◌≡◌, ℕ, suc, ◌+◌, ◌-◌, ◌<◌, Bool, true, false, cond, eqb, List, [], ◌∷◌, ◌++◌, length, drop, refl, sym, ap, ◌∙◌, ⊎_elim, arith, append_assoc, length-append}
 use Rattle.std.specs.Prelude.{min, nat_lt}
 use Rattle.std.specs.List.{prefix_len}
 use Rattle.std.proofs.lemmas.Bool.{cases_Bool, cond_both, cond-false, cond-true, eq-eqb, false≢true, lt-ltb, ne_eqb, or_right}
 use Rattle.std.proofs.lemmas.List.{drop_at}
 use Rattle.mail_codec.specs.Places.{begins}
 use Rattle.mail_address.specs.declared.tokens.Kind.{Kind}
-use Rattle.mail_address.specs.declared.tokens.Kind.TheVariants.{Angle, At, Colon, Comma, Comment, Dot, Literal, Other, Quoted, Semicolon}
+use Rattle.mail_address.specs.declared.tokens.Kind.TheVariants.{Angle, Colon, Comment, Literal, Other, Quoted}
 use Rattle.mail_address.specs.declared.tokens.Span.{Span}
 use Rattle.mail_address.specs.declared.tokens.Span.TheVariants.{BeforeAt, BeforeColon, BeforeComma, BeforeSeparator, BeforeDelimiter, InGroup}
 use Rattle.mail_address.specs.Enclosed.{IsBetween, no_bytes, quoted_pair, plain_byte, IsCommented, comment_ends, comment_pair, comment_byte, comment_within, IsClosed, in_quotes, in_comment, in_literal, IsInAngles, angles_end, angles_pair, angles_byte, angles_closed, IsEnclosed, closed, in_angles, is_opener}

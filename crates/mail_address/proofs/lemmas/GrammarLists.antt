@@ -1,10 +1,9 @@
 -- The elements of a list are the mailboxes that the grammar says they are.
-use Rattle.std.proofs.Common.{ℕ, zero, suc, ◌+◌, Bool, true, false, cond, List, [], ◌∷◌, ◌++◌, length, take, drop, map}
+use Rattle.std.proofs.Common.{ℕ, zero, suc, ◌+◌, List, [], ◌∷◌, ◌++◌, length, take, drop, map}
 use Rattle.std.proofs.lemmas.Bool.{cond_both}
 use Rattle.mail_address.specs.declared.tokens.Span.TheVariants.{BeforeComma, BeforeSeparator}
 use Rattle.mail_address.specs.Addresses.{addresses, after_name, Element, element_at, element_len, group, group_at, inner_len, is_group, items, items_within, member_at, member_len, members_at, name_len, single, Single, single_at}
 use Rattle.mail_address.specs.Grammar.{AreByGrammar, FollowGrammar}
-use Rattle.mail_address.specs.Mailbox.{mailbox_of}
 use Rattle.mail_address.specs.Tokens.{is_all_white, run}
 use Rattle.mail_address.proofs.lemmas.GrammarMade.{mailbox-made}
 use Rattle.mail_address.proofs.lemmas.GrammarRead.{mailbox-read}

@@ -8,7 +8,7 @@ use Rattle.std.proofs.lemmas.List.{append-nil, drop_at, take_all, take_at, take-
 use Rattle.std.proofs.Math.Seq.{take-add}
 use Rattle.mail_codec.specs.Places.{begins}
 use Rattle.mail_address.specs.declared.tokens.Kind.{Kind}
-use Rattle.mail_address.specs.declared.tokens.Kind.TheVariants.{Blank, Comment, Atom, Quoted, Literal, Angle, Dot, At, Comma, Semicolon, Colon, Opening, Closing, Other}
+use Rattle.mail_address.specs.declared.tokens.Kind.TheVariants.{Blank, Comment, Atom, Quoted, Literal, Angle, Dot, Comma, Semicolon, Opening, Other}
 use Rattle.mail_address.specs.declared.tokens.Span.{Span}
 use Rattle.mail_address.specs.declared.tokens.Span.TheVariants.{Atoms, BeforeAt, BeforeColon, BeforeComma, BeforeSeparator, Literals, Phrase, White, Word}
 use Rattle.mail_address.specs.declared.tokens.Token.{Token}

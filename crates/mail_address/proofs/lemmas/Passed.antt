@@ -1,5 +1,5 @@
 -- Lemmas on runs over the parts of the grammar of a mailbox.
-use Rattle.std.proofs.Common.{◌≡◌, ℕ, suc, ◌+◌, Bool, true, false, List, [], ◌∷◌, ◌++◌, length, refl, sym, ap, subst, ◌∙◌, arith, append_assoc, length-append}
+use Rattle.std.proofs.Common.{◌≡◌, ℕ, ◌+◌, Bool, true, false, List, [], ◌∷◌, ◌++◌, length, refl, sym, ap, subst, ◌∙◌, arith, append_assoc, length-append}
 use Rattle.std.specs.List.{list_all, prefix_len}
 use Rattle.std.proofs.lemmas.Bool.{and_parts, cond-false, eq-eqb}
 use Rattle.std.proofs.lemmas.List.{append-nil}
@@ -9,7 +9,7 @@ use Rattle.mail_address.specs.declared.tokens.Span.{Span}
 use Rattle.mail_address.specs.declared.tokens.Span.TheVariants.{Atoms, Literals, White, Word}
 use Rattle.mail_address.specs.Enclosed.{IsClosed, IsInAngles, angles_end, angles_pair, angles_byte, angles_closed, in_comment, in_literal, in_quotes, is_opener}
 use Rattle.mail_address.specs.Grammar.{AreDotted, AreDotWords, AreStops, atom, any_word, any_words, atoms, dot_word, dots_end, dotted, in_brackets, IsDomain, IsName, IsPadded, IsPhrase, IsPhraseRest, IsRoute, IsStop, IsWhite, IsWord, last_stop, literal, literals, MayBeRoute, more_stops, next_stop, no_name, no_route, no_stop, one_stop, phrase, phrase_dot, phrase_ends, phrase_white, phrase_word, route, stop, white_byte, white_comment, white_ends, Words}
-use Rattle.mail_address.specs.Names.{IsNameWord, atom_word, quoted_word}
+use Rattle.mail_address.specs.Names.{atom_word, quoted_word}
 use Rattle.mail_address.specs.Tokens.{front_token, is_all_white, is_atom_byte, is_in, is_white, run, single_kind, step}
 use Rattle.mail_address.proofs.lemmas.Enclosed.{closed-passed, comment-closed, far-run, literal-closed, delimited, quoted-closed, run-token, step-token}
 use Rattle.mail_address.proofs.lemmas.Tokens.{atom_byte-visible, byte-other, far-nothing, far-stop, no_atom_bytes}

@@ -1,5 +1,5 @@
 -- A list of addresses that is written is read back as itself.
-use Rattle.std.proofs.Common.{◌≡◌, ℕ, suc, ◌+◌, Bool, true, false, cond, eqb, List, [], ◌∷◌, ◌++◌, Some, None, Option, length, map, take, drop, refl, sym, ap, subst, ◌∙◌, arith, append_assoc, length-append}
+use Rattle.std.proofs.Common.{◌≡◌, ℕ, suc, ◌+◌, true, false, cond, eqb, List, [], ◌∷◌, ◌++◌, Some, None, Option, length, map, take, drop, refl, sym, ap, subst, ◌∙◌, arith, append_assoc, length-append}
 use Rattle.std.specs.Prelude.{min}
 use Rattle.std.specs.List.{flat_map, list_all}
 use Rattle.std.specs.Str.{IsUtf8}
@@ -11,7 +11,7 @@ use Rattle.mail_codec.specs.Places.{begins}
 use Rattle.mailparse.specs.Value.{lenient_value_in}
 use Rattle.mail_address.specs.Encode.{KnowUtf8}
 use Rattle.mail_address.proofs.lemmas.EncodeRead.{words_read}
-use Rattle.mail_address.specs.declared.tokens.Kind.TheVariants.{Angle, Colon, Semicolon}
+use Rattle.mail_address.specs.declared.tokens.Kind.TheVariants.{Colon, Semicolon}
 use Rattle.mail_address.specs.declared.tokens.Span.{Span}
 use Rattle.mail_address.specs.declared.tokens.Span.TheVariants.{BeforeAt, BeforeDelimiter, BeforeSeparator, InGroup, Phrase, White}
 use Rattle.mail_address.specs.declared.writer.NewAddress.{NewAddress}
@@ -20,11 +20,11 @@ use Rattle.mail_address.specs.declared.writer.NewGroup.{NewGroup}
 use Rattle.mail_address.specs.declared.writer.NewMailbox.{NewMailbox}
 use Rattle.mail_address.specs.Addresses.{addresses, after_group, after_name, Element, element_at, element_len, group, group_at, group_len, inner_len, is_group, items, member_at, member_len, members_at, name_len, separator_len, Single, single, single_at}
 use Rattle.mail_address.specs.Enclosed.{in_angles}
-use Rattle.mail_address.specs.Grammar.{address, any_words, AreDotted, IsDomain, IsMailbox, IsName, IsPhrase, IsWhite, MayBeRoute, named_address, no_name, no_route, phrase, white_byte, white_ends}
+use Rattle.mail_address.specs.Grammar.{address, IsMailbox, IsName, IsPhrase, IsWhite, named_address, no_name, no_route, phrase, white_byte, white_ends}
 use Rattle.mail_address.specs.Mailbox.{is_phrase, mailbox_of, Parts, spec_mailbox}
 use Rattle.mail_address.specs.Names.{bracketed}
 use Rattle.mail_address.specs.Text.{address_bytes, phrase_text}
-use Rattle.mail_address.specs.Tokens.{front_token, is_all_white, is_in, run}
+use Rattle.mail_address.specs.Tokens.{front_token, is_all_white, run}
 use Rattle.mail_address.specs.Writer.{are_writable, AreTexts, element_shows, element_shown_for, HasTexts, HaveTexts, is_element_writable, is_writable, joined, mailbox_shown_for, Seen, SeenElement, seen_group, seen_single, separator, single_shows, written_address, written_element, written_list, written_local, written_mailbox, written_name, written_phrase}
 use Rattle.mail_address.proofs.lemmas.Addresses.{element_len-some, items-more}
 use Rattle.mail_address.proofs.lemmas.Enclosed.{enclosed-passed, delimited}
