@@ -28,9 +28,9 @@ use std::str::from_utf8;
 /// A value is one text. There is no form for addresses, phrases and parameters, so the value of a
 /// structured field has to be plain, as `encode_value` explains.
 ///
-/// Outlines may be nested to any depth. `render`, `Debug` and dropping an outline use stack for each
-/// level: 8 MB are enough for 40,000 levels, and not for 60,000. `is_well_formed` uses stack for 100
-/// levels at most.
+/// Outlines may be nested to any depth. `render`, `Debug` and dropping an outline use stack for
+/// each level: 8 MB are enough for 40,000 levels, and not for 60,000. `is_well_formed` uses stack
+/// for 100 levels at most.
 ///
 /// # Examples
 ///
@@ -200,8 +200,8 @@ fn push_delimiter(boundary: &[u8], rest: &[u8], bytes: &mut Vec<u8>) -> Result<(
 /// 3. In a branch, a header has the key `Content-Type`, ignoring ASCII case, and the value of the
 ///    first such header is exactly `multipart/mixed; boundary=` and the boundary.
 /// 4. A boundary is one or more letters and digits of ASCII.
-/// 5. In a leaf, the mimetype that the text of the first `Content-Type` names, if there is one, does
-///    not begin with `multipart`.
+/// 5. In a leaf, the mimetype that the text of the first `Content-Type` names, if there is one,
+///    does not begin with `multipart`.
 /// 6. A branch has at least one part.
 /// 7. No part, as it is written, has `--` and the boundary at its start or after a LF.
 /// 8. No outline is more than 100 levels below the whole.

@@ -3,7 +3,7 @@ use Rattle.std.proofs.Common.{◌≡◌, ℕ, zero, suc, ◌+◌, ◌-◌, ◌<�
 use Rattle.std.specs.Prelude.{nat_lt, ◌==◌, filter_map, option_and_then, codes, if◌then◌else◌}
 use Rattle.std.specs.List.{cons_option}
 use Rattle.std.specs.Option.{option_map_or}
-use Rattle.std.proofs.lemmas.Bool.{cond-true, cond-false, cases_lt, cases_eq, cases_Bool, lt-ltb, le-ltb, eq-eqb, eqb-true, ne_eqb, and_parts, and_from, and_left, or_left, or_right, false≢true}
+use Rattle.std.proofs.lemmas.Bool.{false_from_ne_true, cond-true, cond-false, cases_lt, cases_eq, cases_Bool, lt-ltb, le-ltb, eq-eqb, eqb-true, ne_eqb, and_parts, and_from, and_left, or_left, or_right, false≢true}
 use Rattle.std.proofs.lemmas.Bool.Decides.{Decides-eqb}
 use Rattle.std.proofs.lemmas.List.{drop_all}
 use Rattle.std.proofs.lemmas.Slice.Eq.{slice_eq-Decides}
@@ -145,7 +145,7 @@ module _ (d bytes : List ℕ) (body : ℕ) where
 
   not-delimiter : (s p : ℕ) → LineStarts s → s ≤ p → p < length bytes → ¬ HasDelimiterAt d bytes body p → is_delimiter d bytes s p ≡ false
   not-delimiter s p start low high not =
-      ⊎_elim (λ h. absurd (not (has-delimiter s p start low high h))) (λ h. h) (cases_Bool (is_delimiter d bytes s p))
+      false_from_ne_true (is_delimiter d bytes s p) (λ h. not (has-delimiter s p start low high h))
 
   first-out : (s p : ℕ) → LineStarts s → delimiter_from d bytes s ≡ Some p → IsFirstFrom d bytes body s p
   first-out s p start e =
@@ -171,12 +171,9 @@ module _ (d bytes : List ℕ) (body : ℕ) where
 
   -- the first delimiter at or after the start of a line has nothing or a LF before it
   line-before : (s q : ℕ) → LineStarts s → IsFirstFrom d bytes body s q → (q ≡ s) ⊎ ((s < q) × HasByteAt bytes 10 (q - 1))
-  line-before s q start first = by_place (cases_eq q s) first.is_delimiter.line
-    where
-      by_place : (q ≡ s) ⊎ (q ≡ s → ⊥) → (q ≡ body) ⊎ HasByteAt bytes 10 (q - 1) → (q ≡ s) ⊎ ((s < q) × HasByteAt bytes 10 (q - 1))
-      by_place (inl same) line = inl same
-      by_place (inr other) (inl e) = let before = body-before s start in let low = first.after in inl (omega arith)
-      by_place (inr other) (inr feed) = let low = first.after in inr (omega (arith, other), feed)
+  line-before s q start first = ⊎_elim (λ same. inl same) (λ other. inr (⊎_elim
+      (λ e. let before = body-before s start in let low = first.after in absurd (omega (arith, e, other, before, low)))
+      (λ feed. let low = first.after in (omega (arith, other), feed)) first.is_delimiter.line)) (cases_eq q s)
 
   -- ---- the end of a delimiter's line, and the close-delimiter
 
@@ -235,9 +232,6 @@ module _ (d bytes : List ℕ) (body : ℕ) where
       ⊎_elim (λ short. inl (omega arith))
       (λ long. inr ((λ e. absurd (cc)), has_prefix-from (codes "--") rest (sym (ap (λ t. t || has_prefix (codes "--") rest) (le-ltb (length rest) 2 long)) ∙ h)))
       (cases_lt (length rest) 2)
-
-  open-is : (p : ℕ) → ¬ Closes d bytes body p → is_close_delimiter d bytes p ≡ false
-  open-is p not = ⊎_elim (λ h. absurd (not (closes-out p h))) (λ h. h) (cases_Bool (is_close_delimiter d bytes p))
 
   -- ---- the delimiters and parts after a delimiter
 
@@ -330,7 +324,7 @@ module _ (d bytes : List ℕ) (body : ℕ) where
   follow-only {p} (next_delimiter {l = l} {q = q} {e = e} {places = places} {parts = parts} ends first not end more) low =
       let after = after-is p l ends in
       let by = ranges-by (suc l) (Some q) (part_after d bytes q) (first-is (suc l) q (line-starts p l low ends) first)
-      (ap (λ t. if t then None else part_after d bytes q) (open-is q not)) in
+      (ap (λ t. if t then None else part_after d bytes q) (false_from_ne_true (is_close_delimiter d bytes q) (λ h. not (closes-out q h)))) in
       let rest = follow-only more first.is_delimiter.in_body in
       let is = ends-is bytes (suc l) q e end in (
         ap (λ (ps : List ℕ). q ∷ ps) rest.0 ∙ sym (ap (λ o. found (part_ranges d bytes o)) after ∙ by.0),

@@ -1,7 +1,7 @@
 -- The form of a list of message ids, and the function that reads it.
-use Rattle.std.proofs.Common.{◌≡◌, ◌≢◌, ◌⊎◌, inl, inr, ℕ, Bool, true, false, cond, eqb, ◌&&◌, ◌||◌, List, [], ◌∷◌, ◌++◌, drop, Result, Ok, Err, refl, sym, ap, subst, ◌∙◌, append_assoc, append-nil}
+use Rattle.std.proofs.Common.{◌≡◌, ◌≢◌, ◌⊎◌, inl, inr, ℕ, true, false, cond, eqb, ◌||◌, List, [], ◌∷◌, ◌++◌, drop, Result, Ok, Err, refl, sym, ap, subst, ◌∙◌, ⊎_elim, append_assoc, append-nil}
 use Rattle.std.specs.Str.{trim_start}
-use Rattle.std.proofs.lemmas.Bool.{eqb-true, false≢true}
+use Rattle.std.proofs.lemmas.Bool.{and_parts, cases_Bool, eqb-true, false≢true}
 use Rattle.std.proofs.lemmas.List.Folds.{list_any-append}
 use Rattle.mail_codec.specs.Places.{is_empty, has_prefix}
 use Rattle.mailparse.specs.MessageIds.{id_not_closed, id_not_opened, id_of_piece, ids_at_end, ids_of_pieces, is_closing, message_ids, opens_id, with_id}
@@ -81,57 +81,42 @@ append_free piece b h e = list_any-append is_closing piece (b ∷ []) ∙ ap (λ
 
 opened_is : (t : List ℕ) → has_prefix (60 ∷ []) t ≡ true → t ≡ 60 ∷ drop 1 t
 opened_is [] h = absurd (false≢true h)
-opened_is (b ∷ t) h = go (eqb 60 b) refl
-  where
-    go : (v : Bool) → eqb 60 b ≡ v → b ∷ t ≡ 60 ∷ t
-    go true e = ap (λ x. x ∷ t) (sym (eqb-true 60 b e))
-    go false e = absurd (false≢true (sym (ap (λ v. v && true) e) ∙ h))
+opened_is (b ∷ t) h = ap (λ x. x ∷ t) (sym (eqb-true 60 b (and_parts (eqb 60 b) true h).0))
 
 -- the text without `>` that is left
 form-last : (text : List ℕ) → ContainsNoClosing text → Form text
 form-last text free = by_whitespace (trim_start text) refl
   where
-    by_open : (v : Bool) → opens_id text ≡ v → trim_start text ≢ [] → Form text
-    by_open true e some = inr (id_not_closed, not_closed free e)
-    by_open false e some = inr (id_not_opened, not_opened free some e)
-
     by_whitespace : (t : List ℕ) → trim_start text ≡ t → Form text
     by_whitespace [] e = inl ([], no_ids free e)
-    by_whitespace (b ∷ t) e = by_open (opens_id text) refl (λ none. let f : b ∷ t ≡ [] = sym e ∙ none in absurd (cc))
+    by_whitespace (b ∷ t) e =
+        let some : trim_start text ≢ [] = λ none. let f : b ∷ t ≡ [] = sym e ∙ none in absurd (cc) in
+        ⊎_elim (λ e. inr (id_not_closed, not_closed free e)) (λ e. inr (id_not_opened, not_opened free some e)) (cases_Bool (opens_id text))
 
 -- a piece up to a `>`, and the form of the text after it
 form-piece : (piece rest : List ℕ) → ContainsNoClosing piece → Form rest → Form (piece ++ 62 ∷ rest)
-form-piece piece rest free after = by_open (opens_id piece) refl after
-  where
-    by_open : (v : Bool) → opens_id piece ≡ v → Form rest → Form (piece ++ 62 ∷ rest)
-    by_open true e (inl found) = inl (id_of_piece piece ∷ found.0, one_more piece (id_of_piece piece) rest refl free (opened_is (trim_start piece) e) found.1)
-    by_open true e (inr broken) = inr (broken.0, later piece rest refl free e broken.1)
-    by_open false e after = inr (id_not_opened, not_opened_before piece rest refl free e)
+form-piece piece rest free after = ⊎_elim
+    (λ e. ⊎_elim (λ found. inl (id_of_piece piece ∷ found.0, one_more piece (id_of_piece piece) rest refl free (opened_is (trim_start piece) e) found.1))
+    (λ broken. inr (broken.0, later piece rest refl free e broken.1)) after)
+    (λ e. inr (id_not_opened, not_opened_before piece rest refl free e)) (cases_Bool (opens_id piece))
 
 -- byte by byte, after a piece that contains no `>`
 form-after : (text piece : List ℕ) → ContainsNoClosing piece → Form (piece ++ text)
 form-after [] piece free = form-last (piece ++ []) (subst ContainsNoClosing (sym (append-nil piece)) free)
 form-after (b ∷ text) piece free =
-    by_byte (form-after text [] refl) (λ more. subst Form (append_assoc piece (b ∷ []) text) (form-after text (piece ++ b ∷ []) more)) (is_closing b) refl
-  where
-    by_byte : Form text → (ContainsNoClosing (piece ++ b ∷ []) → Form (piece ++ b ∷ text)) → (v : Bool) → is_closing b ≡ v → Form (piece ++ b ∷ text)
-    by_byte after more true e = subst (λ x. Form (piece ++ x ∷ text)) (sym (eqb-true b 62 e)) (form-piece piece text free after)
-    by_byte after more false e = more (append_free piece b free e)
+    ⊎_elim (λ e. subst (λ x. Form (piece ++ x ∷ text)) (sym (eqb-true b 62 e)) (form-piece piece text free (form-after text [] refl)))
+    (λ e. subst Form (append_assoc piece (b ∷ []) text) (form-after text (piece ++ b ∷ []) (append_free piece b free e))) (cases_Bool (is_closing b))
 
 form : (text : List ℕ) → Form text
 form text = form-after text [] refl
 
 -- so what is read has the form
 pub read_is_form : (text : List ℕ) (ids : List (List ℕ)) → message_ids text ≡ Ok ids → AreIds text ids
-read_is_form text ids e = by_form (form text)
-  where
-    by_form : Form text → AreIds text ids
-    by_form (inl found) = let same : ◌≡◌ {A = Ids} (Ok found.0) (Ok ids) = sym (form_is_read found.1) ∙ e in subst (AreIds text) (ok_same same) found.1
-    by_form (inr broken) = let f : ◌≡◌ {A = Ids} (Err broken.0) (Ok ids) = sym (break_is_refused broken.1) ∙ e in absurd (cc)
+read_is_form text ids e = ⊎_elim
+    (λ found. let same : ◌≡◌ {A = Ids} (Ok found.0) (Ok ids) = sym (form_is_read found.1) ∙ e in subst (AreIds text) (ok_same same) found.1)
+    (λ broken. let f : ◌≡◌ {A = Ids} (Err broken.0) (Ok ids) = sym (break_is_refused broken.1) ∙ e in absurd (cc)) (form text)
 
 pub refused_is_break : (text : List ℕ) (refusal : Refusal) → message_ids text ≡ Err refusal → Breaks text refusal
-refused_is_break text refusal e = by_form (form text)
-  where
-    by_form : Form text → Breaks text refusal
-    by_form (inl found) = let f : ◌≡◌ {A = Ids} (Ok found.0) (Err refusal) = sym (form_is_read found.1) ∙ e in absurd (cc)
-    by_form (inr broken) = let same : ◌≡◌ {A = Ids} (Err broken.0) (Err refusal) = sym (break_is_refused broken.1) ∙ e in subst (Breaks text) (err_same same) broken.1
+refused_is_break text refusal e = ⊎_elim
+    (λ found. let f : ◌≡◌ {A = Ids} (Ok found.0) (Err refusal) = sym (form_is_read found.1) ∙ e in absurd (cc))
+    (λ broken. let same : ◌≡◌ {A = Ids} (Err broken.0) (Err refusal) = sym (break_is_refused broken.1) ∙ e in subst (Breaks text) (err_same same) broken.1) (form text)

@@ -3,7 +3,7 @@ use Rattle.std.proofs.Common.{◌≡◌, ℕ, ◌<◌, Bool, true, false, cond, 
 use Rattle.std.specs.Prelude.{All}
 use Rattle.std.specs.List.{list_any, slice_split, onto_first, position_or_len, before_first, after_first}
 use Rattle.std.specs.Str.{IsUtf8, chars, encode_utf8_all, skip_leading_whitespace, trim_start}
-use Rattle.std.proofs.lemmas.Bool.{cond-false, eqb-true, ltb-true, or_parts}
+use Rattle.std.proofs.lemmas.Bool.{cond-false, eqb-true, false_from_ne_true, ltb-true, or_parts}
 use Rattle.std.proofs.lemmas.List.{get_or-take}
 use Rattle.std.proofs.lemmas.List.Elements.{All-cons, All-head, All-tail}
 use Rattle.std.proofs.lemmas.List.Folds.{list_any_none}
@@ -138,15 +138,11 @@ cons_same a b (Ok found) ids h =
 
 not_cut : (s : Bool) (id : List ℕ) (ids : List (List ℕ)) → IsUtf8 id
     → ids_of_pieces (slice_split is_closing (front s (written_ids (id ∷ ids)))) ≡ Ok (id ∷ ids) → ContainsNoClosing id
-not_cut s id ids utf8 h = go (list_any is_closing id) refl
-  where
-    go : (t : Bool) → list_any is_closing id ≡ t → list_any is_closing id ≡ false
-    go false e = e
-    go true e =
-        let cut = sym (cut_id s id (62 ∷ after_id ids) utf8 e) ∙ sym (ap (λ t. ids_of_pieces (slice_split is_closing (front s t))) (written_first id ids)) ∙ h in
-        let same = cons_same (before_first is_closing id) id (ids_of_pieces (slice_split is_closing (after_first is_closing id ++ 62 ∷ after_id ids))) ids cut in
-        let lt = closing_place id e in
-        absurd (omega (arith, ap length same.0, length-take (position_or_len is_closing id) id))
+not_cut s id ids utf8 h = false_from_ne_true (list_any is_closing id) (λ e.
+    let cut = sym (cut_id s id (62 ∷ after_id ids) utf8 e) ∙ sym (ap (λ t. ids_of_pieces (slice_split is_closing (front s t))) (written_first id ids)) ∙ h in
+    let same = cons_same (before_first is_closing id) id (ids_of_pieces (slice_split is_closing (after_first is_closing id ++ 62 ∷ after_id ids))) ids cut in
+    let lt = closing_place id e in
+    omega (arith, ap length same.0, length-take (position_or_len is_closing id) id))
 
 later_same : (s : Bool) (id : List ℕ) (ids : List (List ℕ)) → IsUtf8 id → ContainsNoClosing id
     → ids_of_pieces (slice_split is_closing (front s (written_ids (id ∷ ids)))) ≡ Ok (id ∷ ids) → ids_of_pieces (slice_split is_closing (after_id ids)) ≡ Ok ids

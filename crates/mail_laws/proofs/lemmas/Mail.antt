@@ -1,5 +1,5 @@
 -- What is read under one limit on levels is read under every greater one, but for what the lower limit refuses.
-use Rattle.std.proofs.Common.{◌≡◌, ◌⊎◌, inl, inr, ℕ, zero, suc, ◌≤◌, Bool, false, List, [], ◌∷◌, map, Ok, Err, refl, sym, ap, ◌∙◌, subst, arith}
+use Rattle.std.proofs.Common.{◌≡◌, ◌⊎◌, inl, inr, ℕ, zero, suc, ◌≤◌, Bool, false, List, [], ◌∷◌, map, Ok, Err, refl, sym, ap, ◌∙◌, subst, ⊎_elim, arith}
 use Rattle.mail_codec.specs.Charset.{Charsets}
 use Rattle.mailparse.specs.Block.{HeaderList, read_headers}
 use Rattle.mailparse.specs.ContentType.{ContentType}
@@ -60,8 +60,5 @@ module _ (known : Charsets) where
   -- a tree that was read is read the same
   pub read_mail_in-agrees : (lower greater : ℕ) (bytes : List ℕ) (mail : Tree) → lower ≤ greater → read_mail_in known lower bytes ≡ Ok mail
       → read_mail_in known greater bytes ≡ Ok mail
-  read_mail_in-agrees lower greater bytes mail order read = by_limit (read_mail_in-limited lower greater bytes order)
-    where
-      by_limit : Limited (read_mail_in known lower bytes) (read_mail_in known greater bytes) → read_mail_in known greater bytes ≡ Ok mail
-      by_limit (inl refused) = absurd (cc)
-      by_limit (inr same) = sym same ∙ read
+  read_mail_in-agrees lower greater bytes mail order read =
+      ⊎_elim (λ refused. absurd (cc)) (λ same. sym same ∙ read) (read_mail_in-limited lower greater bytes order)

@@ -12,7 +12,7 @@ use Rattle.mailparse.specs.Ranges.{Range, Apart, moved, slice}
 use Rattle.mailparse.proofs.lemmas.Block.{header_place-≤, header_place-first, read_headers-bounded, read_headers-index, values_below-same}
 use Rattle.mailparse.proofs.lemmas.Ranges.{cut_of-apart}
 use Rattle.mailparse.proofs.lemmas.Refusal.{read_map}
-use Rattle.mail_laws.specs.Spans.{header_at, key_range, value_range}
+use Rattle.mail_laws.specs.Spans.{AreOrderedBefore, header_at, key_range, value_range}
 use Rattle.mail_laws.specs.RangeTree.{HeaderRanges, RangeNode, RangeTree, range_tree, RangeForest, no_ranges, ranges_and, range_root, header_there, node_there, tree_there, forest_there, headers_at, range_node, range_each, range_parts, range_levels, ranges_in, header_fields, wholes, LieInOrder, AreNested, AllNested, blocks_and_bodies, blocks_and_bodies_in, IsInRange}
 use Rattle.mail_laws.proofs.lemmas.Spans.{headers-at_ranges, ranges-in_order}
 
@@ -157,13 +157,10 @@ module _ (known : Charsets) (mail : List ℕ) where
       by_block (Ok block) headers ih =
           parts-there (range_levels known mail levels) (read_levels known levels) ih whole block (node_type known in_digest block.headers) headers
 
-  -- the whole of a list is the list
-  whole-all : slice mail (record { start = 0; end = length mail }) ≡ mail
-  whole-all = take_all (length mail - 0) mail (omega arith)
-
   pub ranges_in-there : (greatest : ℕ) → read_map (tree_there mail) (ranges_in known mail greatest) ≡ read_mail_in known greatest mail
   unfolding ranges_in read_mail_in
-  ranges_in-there greatest = levels-there (suc greatest) false (record { start = 0; end = length mail }) ∙ ap (read_levels known (suc greatest) false) whole-all
+  ranges_in-there greatest = levels-there (suc greatest) false (record { start = 0; end = length mail })
+      ∙ ap (read_levels known (suc greatest) false) (take_all (length mail - 0) mail (omega arith))
 
 -- ---- the ranges are disjoint
 
@@ -183,26 +180,16 @@ Apart-append gap from [] ss between to h k = Apart-wider gap between ss to from 
 Apart-append gap from (r ∷ rs) ss between to h k = (h.0, h.1, Apart-append gap r.end rs ss between to h.2 k)
 
 -- keys and values, each header from one place to the next
-record FieldsFit (f : ℕ → HeaderRanges) (place : ℕ → ℕ) : Type 0 where
-  pub key_start : (j : ℕ) → place j ≤ (f j).key.start
-  pub key : (j : ℕ) → (f j).key.start ≤ (f j).key.end
-  pub between : (j : ℕ) → (f j).key.end ≤ (f j).value.start
-  pub value : (j : ℕ) → (f j).value.start ≤ (f j).value.end
-  pub value_end : (j : ℕ) → (f j).value.end ≤ place (suc j)
+abbrev FieldsFit : (ℕ → HeaderRanges) → (ℕ → ℕ) → Type 0
+FieldsFit f place = (j : ℕ) → (place j ≤ (f j).key.start) × AreOrderedBefore (f j).key (f j).value (place (suc j))
 
 fields-apart : (n : ℕ) (f : ℕ → HeaderRanges) (place : ℕ → ℕ) → FieldsFit f place → Apart 0 (place 0) (header_fields (values_below n f)) (place n)
 fields-apart zero f place fit = omega arith
 fields-apart (suc n) f place fit =
-    let later : FieldsFit (λ j. f (suc j)) (λ j. place (suc j)) = record {
-      key_start = λ j. fit.key_start (suc j);
-      key = λ j. fit.key (suc j);
-      between = λ j. fit.between (suc j);
-      value = λ j. fit.value (suc j);
-      value_end = λ j. fit.value_end (suc j);
-    } in
-    let more = fields-apart n (λ j. f (suc j)) (λ j. place (suc j)) later in
-    let rest = Apart-wider 0 (place 1) (header_fields (values_below n (λ j. f (suc j)))) (place (suc n)) (f 0).value.end (place (suc n)) (fit.value_end 0) (omega arith) more in
-    (omega (arith, fit.key_start 0), fit.key 0, (omega (arith, fit.between 0), fit.value 0, rest))
+    let more = fields-apart n (λ j. f (suc j)) (λ j. place (suc j)) (λ j. fit (suc j)) in
+    let order = (fit 0).1 in
+    let rest = Apart-wider 0 (place 1) (header_fields (values_below n (λ j. f (suc j)))) (place (suc n)) (f 0).value.end (place (suc n)) order.ends (omega arith) more in
+    (omega (arith, (fit 0).0), order.first_is_range, (omega (arith, order.apart), order.second_is_range, rest))
 
 module _ (mail : List ℕ) (whole : Range) (block : HeaderList) (read : read_headers (slice mail whole) ≡ Ok block) where
   fields-within : Apart 0 (moved whole.start (record { start = 0; end = block.index })).start (header_fields (headers_at whole.start (slice mail whole)))
@@ -210,13 +197,16 @@ module _ (mail : List ℕ) (whole : Range) (block : HeaderList) (read : read_hea
   fields-within =
       let raw = slice mail whole in
       let f : ℕ → HeaderRanges = λ j. record { key = moved whole.start (key_range raw j); value = moved whole.start (value_range raw j) } in
-      let fit : FieldsFit f (λ j. whole.start + header_place raw j) = record {
-        key_start = λ j. omega arith;
-        key = λ j. let order = (ranges-in_order raw j).first_is_range in omega arith;
-        between = λ j. let order = (ranges-in_order raw j).apart in omega arith;
-        value = λ j. let order = (ranges-in_order raw j).second_is_range in omega arith;
-        value_end = λ j. let order = (ranges-in_order raw j).ends in omega arith;
-      } in
+      let fit : FieldsFit f (λ j. whole.start + header_place raw j) = λ j.
+      let order = ranges-in_order raw j in (
+        omega arith,
+        record {
+          first_is_range = omega (arith, order.first_is_range);
+          apart = omega (arith, order.apart);
+          second_is_range = omega (arith, order.second_is_range);
+          ends = omega (arith, order.ends);
+        },
+      ) in
       let first = header_place-first raw in
       let index = read_headers-index raw block read in
       Apart-wider 0 (whole.start + header_place raw 0) (header_fields (headers_at whole.start raw)) (whole.start + header_place raw (header_count raw))

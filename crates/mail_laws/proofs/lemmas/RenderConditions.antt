@@ -1,18 +1,19 @@
 -- Lemmas on the conditions of a well-formed outline, which are checked one after another.
-use Rattle.std.proofs.Common.{◌≡◌, inl, inr, ℕ, suc, ◌-◌, ◌<◌, max, Bool, true, false, not, cond, ◌&&◌, List, [], ◌∷◌, ◌++◌, length, take, drop, Option, Some, None, Result, Ok, Err, is_ok, refl, sym, ap, subst, ◌∙◌, arith}
+use Rattle.std.proofs.Common.{◌≡◌, inl, inr, ℕ, suc, ◌-◌, max, Bool, true, false, not, ◌&&◌, List, [], ◌∷◌, ◌++◌, length, take, drop, Option, Some, None, Result, Ok, Err, is_ok, refl, sym, ap, subst, ◌∙◌, arith}
 use Rattle.std.specs.Prelude.{MatchResult, nat_eq, nat_le, option_map}
 use Rattle.std.specs.Char.{is_ascii_alphanumeric}
 use Rattle.std.specs.List.{list_all}
 use Rattle.std.specs.Option.{option_map_or}
 use Rattle.std.specs.Str.{IsUtf8, bytes_eq, is_utf8}
-use Rattle.std.proofs.lemmas.Bool.{and_parts, cases_Bool, false_from_ne_true, leb-true, leb-false, le-leb, lt-leb, ne_eqb, false≢true}
+use Rattle.std.proofs.lemmas.Bool.{cond_both, and_parts, cases_Bool, false_from_ne_true, lt-leb, ne_eqb, false≢true}
+use Rattle.std.proofs.lemmas.Option.{same_Some}
 use Rattle.std.proofs.lemmas.Str.{IsUtf8-from_is_utf8, is_utf8-from_IsUtf8}
 use Rattle.mail_codec.specs.Places.{is_empty}
 use Rattle.mailparse.specs.Header.{Header}
-use Rattle.mailparse.specs.ContentType.{ContentType, content_type_in, content_type_of}
+use Rattle.mailparse.specs.ContentType.{ContentType}
 use Rattle.mailparse.specs.Refusal.{Refusal}
 use Rattle.mail_laws.specs.Boundaries.{boundary_type}
-use Rattle.mail_laws.specs.Render.{OutlineTree, branch, forest_of, rendered, is_key, has_keys, has_texts, has_type_key, type_header, names_its_boundary, has_plain_boundary, mimetype_of, has_some_part, contains_delimiter, contain_no_delimiter, depth, depth_of_parts, is_well_formed_within, are_well_formed_within}
+use Rattle.mail_laws.specs.Render.{OutlineTree, branch, forest_of, rendered, is_key, has_keys, has_texts, has_type_key, type_header, names_its_boundary, has_plain_boundary, has_some_part, contains_delimiter, contain_no_delimiter, depth, depth_of_parts, is_well_formed_within, are_well_formed_within}
 use lib.Pointwise.{pointwise}
 
 -- ---- the first `Content-Type`
@@ -48,36 +49,17 @@ utf8_told P Q (Ok x) bytes cases = sym (is_utf8-from_IsUtf8 bytes cases.1)
 utf8_told P Q (Err e) bytes cases = sym (false_from_ne_true (is_utf8 bytes) (λ same. cases.0 (IsUtf8-from_is_utf8 bytes same)))
 
 -- where the values are UTF-8, so is that of the first `Content-Type`
-text_found : (headers : List Header) (value : List ℕ) → list_all (λ h. is_utf8 h.value) headers ≡ true
+pub text_found : (headers : List Header) (value : List ℕ) → list_all (λ h. is_utf8 h.value) headers ≡ true
     → option_map (λ h. h.value) (type_header headers) ≡ Some value → is_utf8 value ≡ true
 text_found [] value all found = let none : ◌≡◌ {A = Option (List ℕ)} None (Some value) = found in absurd (cc)
 text_found (h ∷ headers) value all found =
     let each = and_parts (is_utf8 h.value) (list_all (λ h. is_utf8 h.value) headers) all in
-    by_key (has_type_key h) refl each.0 (text_found headers value each.1)
-  where
-    same : ◌≡◌ {A = Option (List ℕ)} (Some h.value) (Some value) → h.value ≡ value
-    same e = cc
-
-    by_key : (v : Bool) → has_type_key h ≡ v → is_utf8 h.value ≡ true
-        → (option_map (λ h. h.value) (type_header headers) ≡ Some value → is_utf8 value ≡ true) → is_utf8 value ≡ true
-    by_key true e now later =
-        subst (λ v. is_utf8 v ≡ true) (same (sym (ap (λ v. option_map (λ (h : Header). h.value) (cond v (Some h) (type_header headers))) e) ∙ found)) now
-    by_key false e now later =
-        later (sym (ap (λ v. option_map (λ (h : Header). h.value) (cond v (Some h) (type_header headers))) e) ∙ found)
-
--- and so it is a text
-pub found_text : (headers : List Header) (value : List ℕ) → list_all (λ h. is_utf8 h.value) headers ≡ true
-    → option_map (λ h. h.value) (type_header headers) ≡ Some value → IsUtf8 value
-found_text headers value all found = IsUtf8-from_is_utf8 value (text_found headers value all found)
+    cond_both (has_type_key h) (Some h) (type_header headers) (λ o. option_map (λ (h : Header). h.value) o ≡ Some value → is_utf8 value ≡ true)
+    (λ e found. subst (λ v. is_utf8 v ≡ true) (same_Some h.value value found) each.0) (λ e found. text_found headers value each.1 found) found
 
 -- the mimetype of a type that was read
 pub mimetype_read : (a b : ContentType) → ◌≡◌ {A = Result ContentType Refusal} (Ok a) (Ok b) → a.mimetype ≡ b.mimetype
 mimetype_read a b e = let same : a ≡ b = cc in ap (λ c. c.mimetype) same
-
--- the mimetype that a text names
-pub mimetype_named : (text : List ℕ) → (content_type_of text).mimetype ≡ mimetype_of text
-unfolding content_type_in
-mimetype_named text = refl
 
 -- ---- the conditions left to check
 
@@ -145,20 +127,6 @@ part_and_others boundary part parts v clear e =
 -- parts are at most `levels` levels below their outline
 abbrev pub parts_within : List OutlineTree → ℕ → Bool
 parts_within parts levels = nat_le (depth_of_parts (forest_of parts)) levels
-
--- a part, and then the others
-pub part_within : (part : OutlineTree) (parts : List OutlineTree) (levels : ℕ) (v : Bool) → 0 < levels → nat_le (depth part) (levels - 1) ≡ v
-    → parts_within (part ∷ parts) levels ≡ v && parts_within parts levels
-part_within part parts levels v h e = le_max (suc (depth part)) (depth_of_parts (forest_of parts)) levels v _ (le_below (depth part) levels v h e) refl
-  where
-    le_max : (a b n : ℕ) (v u : Bool) → nat_le a n ≡ v → nat_le b n ≡ u → nat_le (max a b) n ≡ v && u
-    le_max a b n true true e f = le-leb (max a b) n (omega (arith, leb-true a n e, leb-true b n f))
-    le_max a b n true false e f = lt-leb (max a b) n (omega (arith, leb-false b n f))
-    le_max a b n false u e f = lt-leb (max a b) n (omega (arith, leb-false a n e))
-
-    le_below : (d levels : ℕ) (v : Bool) → 0 < levels → nat_le d (levels - 1) ≡ v → nat_le (suc d) levels ≡ v
-    le_below d levels true h e = le-leb (suc d) levels (omega (arith, h, leb-true d (levels - 1) e))
-    le_below d levels false h e = lt-leb (suc d) levels (omega (arith, h, leb-false d (levels - 1) e))
 
 -- below the last level there is no part
 pub none_within : (parts : List OutlineTree) → parts_within parts 0 ≡ nat_eq (length parts) 0

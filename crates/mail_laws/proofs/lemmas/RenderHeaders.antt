@@ -14,6 +14,7 @@ use Rattle.mailparse.proofs.lemmas.Header.{header_of-value, is_line_end-false}
 use Rattle.mailparse.proofs.lemmas.Block.{with_front, read_headers-more, read_headers-none}
 use Rattle.mail_address.specs.Encode.{is_plain_byte, is_plain_value}
 use Rattle.mail_address.proofs.lemmas.Encode.{plain_byte, plain_no_feed}
+use Rattle.mail_address.proofs.lemmas.Tokens.{drop_past}
 use Rattle.mail_laws.specs.Render.{header_line, header_block, is_key_byte, is_key}
 
 -- ---- lists of bytes that pass a test
@@ -27,11 +28,6 @@ first_place-over test over fails (b ∷ front) rest all =
     let past = first_place-past test b (front ++ rest) (fails b (front ++ rest) parts.0) in
     let more = first_place-over test over fails front rest parts.1 in
     omega arith
-
--- the bytes after a list and one more byte
-pub drop_past : (front : List ℕ) (b : ℕ) (rest : List ℕ) → drop (suc (length front)) (front ++ b ∷ rest) ≡ rest
-drop_past [] b rest = refl
-drop_past (x ∷ front) b rest = drop_past front b rest
 
 -- ---- the bytes of keys and values
 
@@ -173,16 +169,13 @@ module _ (key value rest : List ℕ) (keys : list_all is_key_byte key ≡ true) 
 
 -- ---- the block
 
-has_header-graphic : (b : ℕ) (rest : List ℕ) → eqb 10 b ≡ false → eqb 13 b ≡ false → eqb 32 b ≡ false → has_header (b ∷ rest) ≡ true
-unfolding has_header headers_end blank_line
-has_header-graphic b rest feed return space = rw (feed, return, space) refl
-
 has_header-key : (key rest : List ℕ) → is_key key ≡ true → has_header (key ++ rest) ≡ true
+unfolding has_header headers_end blank_line
 has_header-key [] rest h = absurd (false≢true h)
 has_header-key (b ∷ key) rest h =
     let parts = and_parts (list_all is_key_byte (b ∷ key)) true h in
     let low = (key_byte b (and_parts (is_key_byte b) (list_all is_key_byte key) parts.0).0).0 in
-    has_header-graphic b (key ++ rest) (ne_eqb 10 b (λ e. absurd (omega (arith, low)))) (ne_eqb 13 b (λ e. absurd (omega (arith, low)))) (ne_eqb 32 b (λ e. absurd (omega (arith, low))))
+    rw (ne_eqb 10 b (λ e. absurd (omega (arith, low))), ne_eqb 13 b (λ e. absurd (omega (arith, low))), ne_eqb 32 b (λ e. absurd (omega (arith, low)))) refl
 
 no_blank-key : (key rest : List ℕ) → is_key key ≡ true → begins is_blank (key ++ rest) ≡ false
 no_blank-key [] rest h = absurd (false≢true h)

@@ -13,7 +13,7 @@ use Rattle.mailparse.specs.Delimiters.{is_delimiter, delimiter_from, line_after,
 use Rattle.mailparse.proofs.lemmas.Delimiters.{NoDelimiter, is_delimiter-line, is_delimiter-start, delimiter_from-some, starts_delimiter, part_ranges, part_ranges-none, part_ranges-some}
 use Rattle.mailparse.proofs.lemmas.Places.{not_some}
 use Rattle.mail_laws.proofs.lemmas.DelimiterPlaces.{before_line_end-crlf, before_line_end-start}
-use Rattle.mail_laws.proofs.lemmas.RenderHeaders.{drop_past}
+use Rattle.mail_address.proofs.lemmas.Tokens.{drop_past}
 
 -- ---- a text within bytes
 
@@ -59,15 +59,6 @@ line_after-crlf bytes rest p there =
 abbrev pub written : List ℕ → List (List ℕ) → List ℕ
 written d [] = d ++ 45 ∷ 45 ∷ 13 ∷ 10 ∷ []
 written d (p ∷ ps) = d ++ 13 ∷ 10 ∷ (p ++ 13 ∷ 10 ∷ written d ps)
-
--- the bytes after the first of its delimiters
-abbrev after_delimiter : List ℕ → List (List ℕ) → List ℕ
-after_delimiter d [] = 45 ∷ 45 ∷ 13 ∷ 10 ∷ []
-after_delimiter d (p ∷ ps) = 13 ∷ 10 ∷ (p ++ 13 ∷ 10 ∷ written d ps)
-
-written-after_delimiter : (d : List ℕ) (ps : List (List ℕ)) → written d ps ≡ d ++ after_delimiter d ps
-written-after_delimiter d [] = refl
-written-after_delimiter d (p ∷ ps) = refl
 
 -- a part that contains no delimiter
 pub record IsClear (d part : List ℕ) : Type 0 where

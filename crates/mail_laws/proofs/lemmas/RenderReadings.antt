@@ -55,9 +55,6 @@ AreClear-from boundary (outline_and part parts) none =
 no_return-alphanumeric : (b : ℕ) → is_ascii_alphanumeric b ≡ true → no_return b ≡ true
 no_return-alphanumeric b h = grind (arith, nat_tests)
 
-dash_boundary-free : (boundary : List ℕ) → list_all is_ascii_alphanumeric boundary ≡ true → list_all no_return (dash_boundary boundary) ≡ true
-dash_boundary-free boundary all = list_all-weaker is_ascii_alphanumeric no_return no_return-alphanumeric boundary all
-
 -- ---- the conditions of an outline by itself
 
 record IsFormed (outline : OutlineTree) : Type 0 where
@@ -147,7 +144,7 @@ module _ (known : Charsets) where
       let index = length block in
       let d = dash_boundary boundary in
       let type = type-branch known headers boundary names plain in
-      let free = dash_boundary-free boundary plain in
+      let free = list_all-weaker is_ascii_alphanumeric no_return no_return-alphanumeric boundary plain in
       let there : drop index bytes ≡ written d (part ∷ parts) = drop_at block whole index refl ∙ is in
       let body : slice bytes (cut_parts d bytes index).body ≡ [] = body-written 45 (45 ∷ boundary) free bytes index part parts clear there in
       let found : map (slice bytes) (cut_parts d bytes index).parts ≡ part ∷ parts = parts-written 45 (45 ∷ boundary) free bytes index part parts clear there in
@@ -288,13 +285,10 @@ module _ (known : Charsets) where
 pub outlines_are_one : (one two : OutlineTree) → is_well_formed_within one ≡ true → is_well_formed_within two ≡ true → rendered one ≡ rendered two → one ≡ two
 outlines_are_one one two formed also same =
     let n = depth one + depth two in
-    tree-is four_charsets one two formed also
-    (unwrap (stands_for four_charsets one) (stands_for four_charsets two)
-    (sym (outline_is_read four_charsets n one (inl refl) formed (omega arith)) ∙ ap (read_mail_in four_charsets n) same
-    ∙ outline_is_read four_charsets n two (inl refl) also (omega arith)))
-  where
-    unwrap : (t u : Tree) → ◌≡◌ {A = Reads Tree} (Ok t) (Ok u) → t ≡ u
-    unwrap t u e = cc
+    let read : ◌≡◌ {A = Reads Tree} (Ok (stands_for four_charsets one)) (Ok (stands_for four_charsets two)) =
+    sym (outline_is_read four_charsets n one (inl refl) formed (omega arith)) ∙ ap (read_mail_in four_charsets n) same
+    ∙ outline_is_read four_charsets n two (inl refl) also (omega arith) in
+    tree-is four_charsets one two formed also (cc)
 
 -- a well-formed outline is read
 pub outline_is_mail : (outline : OutlineTree) → IsWellFormed outline → read_mail (rendered outline) ≡ Ok (stands_for four_charsets outline)

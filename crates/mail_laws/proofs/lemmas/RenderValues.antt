@@ -1,13 +1,12 @@
 -- The written values of an outline: a header can carry each, and each shows its text.
-use Rattle.std.proofs.Common.{◌≡◌, ◌⊎◌, inl, inr, ℕ, ◌+◌, Bool, true, false, cond, ◌&&◌, List, [], ◌∷◌, ◌++◌, length, map, refl, sym, ap, subst, ◌∙◌, arith, append_assoc, length-append}
+use Rattle.std.proofs.Common.{◌≡◌, ◌⊎◌, inl, inr, ℕ, ◌+◌, Bool, true, false, ◌&&◌, List, [], ◌∷◌, ◌++◌, length, map, refl, sym, ap, subst, ◌∙◌, arith, append_assoc, length-append}
 use Rattle.std.specs.Prelude.{codes}
 use Rattle.std.specs.List.{list_all}
 use Rattle.std.specs.Str.{chars, IsUtf8, is_utf8}
-use Rattle.std.proofs.lemmas.Bool.{and_parts, cond-true, cond-false, false_from_ne_true}
+use Rattle.std.proofs.lemmas.Bool.{and_parts, cond_both, cond-true, cond-false, false_from_ne_true}
 use Rattle.std.proofs.lemmas.Str.{IsUtf8-from_is_utf8, is_utf8-from_IsUtf8}
-use Rattle.mail_codec.specs.Ascii.{is_blank}
 use Rattle.mail_codec.specs.Charset.{Charsets, four_charsets}
-use Rattle.mail_codec.specs.Places.{first_place, begins, has_prefix}
+use Rattle.mail_codec.specs.Places.{first_place, has_prefix}
 use Rattle.mail_codec.proofs.lemmas.Places.{first_place-past}
 use Rattle.mailparse.specs.Header.{Header, ends_header, is_line_end}
 use Rattle.mailparse.specs.Value.{lenient_value_in}
@@ -26,37 +25,19 @@ words_before w v ws rest = append_assoc (encoded_word w) (13 ∷ 10 ∷ 32 ∷ w
 words_length : (w v : List ℕ) (ws : List (List ℕ)) → length (word_lines (w ∷ v ∷ ws)) ≡ length (encoded_word w) + (3 + length (word_lines (v ∷ ws)))
 words_length w v ws = let e = length-append (encoded_word w) (13 ∷ 10 ∷ 32 ∷ word_lines (v ∷ ws)) in e ∙ omega arith
 
-words_end : (ws : List (List ℕ)) → AreTexts ws → (rest : List ℕ) → begins is_blank rest ≡ false
-    → first_place ends_header (word_lines ws ++ 13 ∷ 10 ∷ rest) ≡ length (word_lines ws) + 1
-words_end [] h rest no_blank = last_feed rest no_blank
-words_end (w ∷ []) h rest no_blank =
-    first_place-over ends_header is_plain_byte plain_passed (encoded_word w) (13 ∷ 10 ∷ rest) (word_plain w h.0)
-    ∙ ap (λ n. length (encoded_word w) + n) (last_feed rest no_blank)
-words_end (w ∷ v ∷ ws) h rest no_blank =
-    let more = word_lines (v ∷ ws) ++ 13 ∷ 10 ∷ rest in
-    let first = ap (first_place ends_header) (words_before w v ws (13 ∷ 10 ∷ rest))
-    ∙ first_place-over ends_header is_plain_byte plain_passed (encoded_word w) (13 ∷ 10 ∷ 32 ∷ more) (word_plain w h.0) in
-    let return = first_place-past ends_header 13 (10 ∷ 32 ∷ more) refl in
-    let feed = first_place-past ends_header 10 (32 ∷ more) refl in
-    let space = first_place-past ends_header 32 more refl in
-    let others = words_end (v ∷ ws) h.1 rest no_blank in
-    let size = words_length w v ws in
-    omega arith
-
-words_whole : (ws : List (List ℕ)) → AreTexts ws → first_place (list_all is_line_end) (word_lines ws ++ 13 ∷ []) ≡ length (word_lines ws)
-words_whole [] h = refl
-words_whole (w ∷ []) h =
-    let passed : first_place (list_all is_line_end) (encoded_word w ++ 13 ∷ []) ≡ length (encoded_word w) + 0 =
-    first_place-over (list_all is_line_end) is_plain_byte value_passed (encoded_word w) (13 ∷ []) (word_plain w h.0) in
-    passed ∙ omega arith
-words_whole (w ∷ v ∷ ws) h =
-    let more = word_lines (v ∷ ws) ++ 13 ∷ [] in
-    let first = ap (first_place (list_all is_line_end)) (words_before w v ws (13 ∷ []))
-    ∙ first_place-over (list_all is_line_end) is_plain_byte value_passed (encoded_word w) (13 ∷ 10 ∷ 32 ∷ more) (word_plain w h.0) in
-    let return = first_place-past (list_all is_line_end) 13 (10 ∷ 32 ∷ more) refl in
-    let feed = first_place-past (list_all is_line_end) 10 (32 ∷ more) refl in
-    let space = first_place-past (list_all is_line_end) 32 more refl in
-    let others = words_whole (v ∷ ws) h.1 in
+-- a search that stops at no byte of a word and at no line end between words passes them
+words_passed : (test : List ℕ → Bool) → ((b : ℕ) (bs : List ℕ) → is_plain_byte b ≡ true → test (b ∷ bs) ≡ false)
+    → ((more : List ℕ) → (test (13 ∷ 10 ∷ 32 ∷ more) ≡ false) × (test (10 ∷ 32 ∷ more) ≡ false)) → (ws : List (List ℕ)) → AreTexts ws → (rest : List ℕ)
+    → first_place test (word_lines ws ++ rest) ≡ length (word_lines ws) + first_place test rest
+words_passed test passes between [] h rest = omega arith
+words_passed test passes between (w ∷ []) h rest = first_place-over test is_plain_byte passes (encoded_word w) rest (word_plain w h.0)
+words_passed test passes between (w ∷ v ∷ ws) h rest =
+    let more = word_lines (v ∷ ws) ++ rest in
+    let first = ap (first_place test) (words_before w v ws rest) ∙ first_place-over test is_plain_byte passes (encoded_word w) (13 ∷ 10 ∷ 32 ∷ more) (word_plain w h.0) in
+    let return = first_place-past test 13 (10 ∷ 32 ∷ more) (between more).0 in
+    let feed = first_place-past test 10 (32 ∷ more) (between more).1 in
+    let space = first_place-past test 32 more (passes 32 more refl) in
+    let others = words_passed test passes between (v ∷ ws) h.1 rest in
     let size = words_length w v ws in
     omega arith
 
@@ -66,17 +47,21 @@ words_no_space (w ∷ []) = refl
 words_no_space (w ∷ v ∷ ws) = refl
 
 words_are_value : (ws : List (List ℕ)) → AreTexts ws → IsValue (word_lines ws)
-words_are_value ws h = record { no_space = words_no_space ws; ends = words_end ws h; whole = words_whole ws h }
+words_are_value ws h =
+    let whole : first_place (list_all is_line_end) (word_lines ws ++ 13 ∷ []) ≡ length (word_lines ws) + 0 =
+    words_passed (list_all is_line_end) value_passed (λ more. (refl, refl)) ws h (13 ∷ []) in
+    record {
+      no_space = words_no_space ws;
+      ends = λ rest no_blank. words_passed ends_header plain_passed (λ more. (refl, refl)) ws h (13 ∷ 10 ∷ rest) ∙ ap (λ n. length (word_lines ws) + n) (last_feed rest no_blank);
+      whole = whole ∙ omega arith;
+    }
 
 -- ---- any value
 
 text_is_value : (text : List ℕ) → IsUtf8 text → IsValue (written_value text)
 unfolding written_value
-text_is_value text utf8 = go (is_plain_value text) refl
-  where
-    go : (t : Bool) → is_plain_value text ≡ t → IsValue (cond t text (word_lines (words_of (chars text))))
-    go true e = plain_is_value text e
-    go false e = words_are_value (words_of (chars text)) (text_words text utf8)
+text_is_value text utf8 =
+    cond_both (is_plain_value text) _ _ IsValue (plain_is_value text) (λ e. words_are_value (words_of (chars text)) (text_words text utf8))
 
 -- UTF-8 is written as a text
 written_text : (value : List ℕ) → is_utf8 value ≡ true → written_bytes value ≡ written_value value

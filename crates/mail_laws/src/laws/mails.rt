@@ -13,8 +13,8 @@ ghost use Rattle.mail_laws.specs.DelimiterPlaces.{IsCutAt, delimiters};
 ghost use Rattle.mail_laws.specs.RangeTree.{AreNested, IsInRange, RangeTree, blocks_and_bodies, range_root, ranges_in, read_there, wholes_and_bodies};
 
 /// Exactly one list of delimiters fits a body by their offsets, and exactly one preamble with one
-/// list of parts: the computed ones. Each delimiter begins a line of the body, after the line of the
-/// one before, with none between them. The list ends at the close-delimiter, which is never the
+/// list of parts: the computed ones. Each delimiter begins a line of the body, after the line of
+/// the one before, with none between them. The list ends at the close-delimiter, which is never the
 /// first one, or at the last delimiter. Each part is the lines between a delimiter and the next,
 /// without the line end before the next, or all remaining lines if there is no next one.
 pub fn one_list_of_delimiters_fits()
@@ -46,9 +46,9 @@ pub fn ranges_give_tree()
 {}
 
 /// The offsets of a mail and its parts, as the calls that parse a mail record them, are those of
-/// its tree of ranges, whatever charsets are known and under every limit on levels. The bytes of the
-/// mail from the start to the end of a message are the message, and those from the start to the end
-/// of its body are its body, still in its transfer encoding.
+/// its tree of ranges, whatever charsets are known and under every limit on levels. The bytes of
+/// the mail from the start to the end of a message are the message, and those from the start to the
+/// end of its body are its body, still in its transfer encoding.
 pub fn placements_are_exact()
     ensures ranges { (known : Charsets) (greatest : ℕ) (mail : List ℕ) (parsed : Tree)
         (ranges : RangeTree) → read_mail_in known greatest mail ≡ Ok parsed →

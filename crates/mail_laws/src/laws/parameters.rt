@@ -31,8 +31,8 @@ pub fn one_list_of_segments_fits()
 {}
 
 /// Between quotes, a character is removed exactly if it is a backslash at an odd position of its
-/// run, that is, with no backslash or an even number of them directly before it; all others stay, in
-/// order. So n / 2 backslashes, rounded down, stay of a run of n.
+/// run, that is, with no backslash or an even number of them directly before it; all others stay,
+/// in order. So n / 2 backslashes, rounded down, stay of a run of n.
 pub fn odd_backslashes_go()
     ensures places { (text : List ℕ) → without_escapes 0 text ≡ staying text }
     ensures runs { (n : ℕ) (rest : List ℕ) → begins (λ b. b == backslash) rest ≡ false →
@@ -54,7 +54,7 @@ pub fn pairs_without_stars_are_parameters()
 
 /// The text that the sections of a value make is that of one walk over them, which collects the
 /// bytes of extended sections up to a text or the end, and decodes them then, in the charset of the
-/// last of them. So two adjacent extended sections make the same text as one with the bytes of both.
+/// last of them. So two adjacent extended sections make the text of one with the bytes of both.
 pub fn runs_are_read_once()
     ensures walk { (sections : List Section) → joined sections ≡ walked_after None [] sections }
     ensures adjacent { (first last : List ℕ → List ℕ) (a b : List ℕ) (rest : List Section) →

@@ -7,7 +7,8 @@ ghost use Rattle.mailparse.specs.Tokens.{Adjoin, AreTokens, TokenRange, token_ra
 ghost use Rattle.mailparse.specs.Value.{IsPlain, Token, lenient_value, newline, shown_tokens, strict_value, whitespace_token};
 ghost use Rattle.mail_address.specs.WordTokens.{word};
 
-/// Exactly one list of tokens fits a line of a value, whatever charsets are known: the computed one.
+/// Exactly one list of tokens fits a line of a value, whatever charsets are known: the computed
+/// one.
 pub fn one_list_of_tokens_fits()
     ensures fits { (known : Charsets) (line : List ℕ)
         → AreTokens known line (token_ranges known line) }
@@ -25,9 +26,9 @@ pub fn tokens_make_up_line()
 {}
 
 /// Only whitespace, or whitespace and one line end, between two decoded words is not shown: a value
-/// shows what it would show if the second word directly followed the first. (Whitespace at the start
-/// of a line is not part of it, so the token before a word there is empty. Each further line end
-/// shows as a space.)
+/// shows what it would show if the second word directly followed the first. (Whitespace at the
+/// start of a line is not part of it, so the token before a word there is empty. Each further line
+/// end shows as a space.)
 pub fn adjacent_words_join()
     ensures whitespace_between { (before rest : List Token) (first gap second : List ℕ) →
         shown_tokens (before ++ word first ∷ whitespace_token gap ∷ word second ∷ rest)

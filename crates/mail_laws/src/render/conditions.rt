@@ -24,8 +24,7 @@ pub(super) fn has_good_headers(headers: &Vec<(Vec<u8>, Vec<u8>)>) -> bool
     has_keys(headers) && has_texts(headers)
 }
 
-/// Returns whether each key is one or more printable bytes of ASCII other than the space and the
-/// colon.
+/// Returns whether each key is one or more printable bytes of ASCII except the space and the colon.
 fn has_keys(headers: &Vec<(Vec<u8>, Vec<u8>)>) -> bool
     ensures { result ≡ list_all (λ h. is_key h.key) (headers_seen headers.now) }
 {
@@ -37,7 +36,7 @@ fn has_keys(headers: &Vec<(Vec<u8>, Vec<u8>)>) -> bool
     true
 }
 
-/// Returns whether a key is one or more printable bytes of ASCII other than the space and the colon.
+/// Returns whether a key is one or more printable bytes of ASCII except the space and the colon.
 fn is_key(key: &[u8]) -> bool
     ensures { result ≡ is_key key.now }
 {
@@ -97,7 +96,7 @@ pub(super) fn has_boundary(headers: &Vec<(Vec<u8>, Vec<u8>)>, boundary: &[u8]) -
     names_boundary(headers, boundary) && is_plain_boundary(boundary)
 }
 
-/// Returns whether the first `Content-Type` is exactly `multipart/mixed; boundary=` and the boundary.
+/// Returns whether the first `Content-Type` is just `multipart/mixed; boundary=` and the boundary.
 fn names_boundary(headers: &Vec<(Vec<u8>, Vec<u8>)>, boundary: &[u8]) -> bool
     ensures { result ≡ option_map_or (λ h. bytes_eq h.value (boundary_type boundary.now))
         (type_header (headers_seen headers.now)) false }
