@@ -13,7 +13,8 @@ use Rattle.std.proofs.lemmas.List.{append-nil, append_cancel_left, take-append-l
 use Rattle.mail_codec.specs.Ascii.{is_blank}
 use Rattle.mail_codec.specs.Places.{first_place, begins, trimmed_at_end}
 use Rattle.mail_codec.specs.QuotedPrintable.{ends_in, without_last, lf, cr_lf, digit_value, byte_of_values, first_escape, ended_line, lines_of_pieces, lines_of, line_bytes, quoted_printable, unescaped}
-use Rattle.mail_codec.specs.private.QuotedPrintable.{is_special, HasNoEscape, IsPlain, IsReading, IsSoftBreak}
+use Rattle.mail_codec.specs.private.QuotedPrintable.{is_special, HasNoEscape, IsInBlock, IsPlain, IsReading, IsSoftBreak}
+use Rattle.mail_codec.specs.declared.transfer.quoted_printable.blocks.Specials.{Specials}
 use Rattle.mail_codec.specs.private.Vectors.{lane_mask}
 use Rattle.mail_codec.proofs.lemmas.Places.{first_place-≤, first_place-before, first_place-passes, first_place-begins}
 use Rattle.mail_codec.proofs.lemmas.Written.{written_rest, stored_after}
@@ -443,10 +444,6 @@ fresh text from output len at within after capacity so_far = record {
   is_plain = plain-empty text at;
 }
 
--- nothing has been read
-pub nothing_read : (text : List ℕ) (from : ℕ) (output : List ℕ) → from ≤ length text → IsReading text from output 0 from from
-nothing_read text from output within = fresh text from output 0 from within (omega arith) (omega arith) refl
-
 -- a part that is written at a place and goes to the end
 abbrev pub with_part : ℕ → List ℕ → List ℕ → List ℕ
 with_part place output part = put_mid place (length output - place) output part
@@ -713,3 +710,55 @@ after_both text from output len plain at h n part same few first within read nex
   where
     ys : List ℕ
     ys = with_part (len + (at - plain)) output part
+
+-- ---- the special bytes of a block
+
+-- what is read up to a line end or an escape leaves the special bytes after it
+pub in_block : {text output later : List ℕ} {found block : Specials} {end : ℕ} → IsInBlock text output found end
+    → block.read.at ≡ block.next → found.next ≤ block.next → length later ≡ length output
+    → block.read.len + found.read.plain ≤ found.read.len + block.read.plain
+    → IsReading text block.read.from later block.read.len block.read.plain block.read.at
+    → block.rest ≡ lane_mask is_special (take (end - block.next) (drop block.next text)) → IsInBlock text later block end
+in_block {text = text} {block = block} h at low same fits reading left =
+    let ahead = h.ahead in
+    let near = h.near in
+    let capacity = h.capacity in
+    let within = reading.within in
+    record {
+      reading = reading;
+      ahead = omega arith;
+      inside = omega arith;
+      is_plain = subst (IsPlain text block.read.at) at (plain-empty text block.read.at);
+      left = left;
+      near = omega arith;
+      capacity = omega arith;
+    }
+
+-- the first special byte that is left
+pub record AtSpecial (text output : List ℕ) (found : Specials) (end : ℕ) : Type 0 where
+  pub block : IsInBlock text output found end
+  pub inside : found.next < end
+  pub sign : get_or text found.next 0 ≢ 10 → get_or text found.next 0 ≡ 61
+
+pub at_special : (text output : List ℕ) (block : Specials) (end count rest : ℕ) → IsInBlock text output block end
+    → ((test : ℕ → Bool) (bytes : List ℕ) → length bytes ≤ 64 → block.rest ≡ lane_mask test bytes → (count ≡ first_place (begins test) bytes) × (count < length bytes))
+    → ((test : ℕ → Bool) (bytes : List ℕ) → block.rest ≡ lane_mask test bytes → rest ≡ lane_mask test (drop count bytes))
+    → AtSpecial text output (record { read = block.read; next = block.next + count; rest = rest }) end
+at_special text output block end count rest h least after =
+    let ahead = h.ahead in
+    let near = h.near in
+    let few = length-take (end - block.next) (drop block.next text) in
+    let first = least is_special (take (end - block.next) (drop block.next text)) (omega (arith, few)) h.left in
+    record {
+      block = record {
+        reading = h.reading;
+        ahead = omega arith;
+        inside = omega (arith, few, first.1, length-drop block.next text);
+        is_plain = plain-to_special text block.read.at block.next end count h.is_plain first.0;
+        left = matches_later text block.next end count (block.next + count) block.rest rest refl after h.left;
+        near = h.near;
+        capacity = h.capacity;
+      };
+      inside = omega (arith, few, first.1);
+      sign = special_there text block.next (end - block.next) count first.0 first.1;
+    }

@@ -2,6 +2,8 @@
 use Rattle.std.specs.Prelude.{◌≡◌, ◌⊎◌, ℕ, ◌+◌, ◌-◌, ◌<◌, ◌≤◌, Bool, false, ◌==◌, ◌||◌, List, ◌++◌, length, take, drop, slice_index, None}
 use Rattle.mail_codec.specs.Ascii.{carriage_return, equals_sign, line_feed}
 use Rattle.mail_codec.specs.QuotedPrintable.{first_escape, quoted_printable}
+use Rattle.mail_codec.specs.private.Vectors.{lane_mask}
+use Rattle.mail_codec.specs.declared.transfer.quoted_printable.blocks.Specials.{Specials}
 
 -- the byte may begin an escape or end a line; every other byte is copied
 abbrev pub is_special : ℕ → Bool
@@ -33,3 +35,14 @@ pub record IsReading (text : List ℕ) (from : ℕ) (output : List ℕ) (len pla
   pub so_far : take len output ++ quoted_printable (drop plain text) ≡ quoted_printable (drop from text)
   pub copied : take (at - plain) (drop len output) ≡ take (at - plain) (drop plain text)
   pub is_plain : IsPlain text plain at
+
+-- a block has been read up to one of its special bytes, or up to its end: the bytes since the last
+-- copied are plain, and those left are the bits of the mask
+pub record IsInBlock (text output : List ℕ) (block : Specials) (end : ℕ) : Type 0 where
+  pub reading : IsReading text block.read.from output block.read.len block.read.plain block.read.at
+  pub ahead : block.read.at ≤ block.next
+  pub inside : block.next ≤ length text
+  pub is_plain : IsPlain text block.read.at block.next
+  pub left : block.rest ≡ lane_mask is_special (take (end - block.next) (drop block.next text))
+  pub near : end ≤ block.read.at + 64
+  pub capacity : block.read.len + end + 64 ≤ length output + block.read.plain

@@ -1,10 +1,10 @@
 //! Quoted-printable in blocks of 64 bytes. All special bytes of a block are found at once, so the
 //! search for the next one does not wait until the one before is decoded.
-ghost use Rattle.std.specs.Prelude.{◌≡◌, ◌+◌, ◌*◌, ◌<◌, ◌≤◌, ◌-◌, length, take, drop, slice_index, Some};
+ghost use Rattle.std.specs.Prelude.{◌≡◌, ◌≢◌, ◌+◌, ◌*◌, ◌<◌, ◌≤◌, ◌-◌, length, take, drop, slice_index, None, Some};
 ghost use Rattle.mail_codec.specs.Ascii.{equals_sign, line_feed};
 ghost use Rattle.mail_codec.specs.QuotedPrintable.{first_escape};
-ghost use Rattle.mail_codec.specs.private.QuotedPrintable.{is_special, IsPlain, IsReading, IsSoftBreak};
-ghost use Rattle.mail_codec.specs.private.Vectors.{lane_mask};
+ghost use Rattle.mail_codec.specs.private.QuotedPrintable.{IsInBlock, IsPlain, IsReading};
+ghost use Rattle.mail_codec.specs.private.QuotedPrintable.{IsSoftBreak};
 
 use super::{after_soft_break, escape_at, put_ended_line, put_escapes};
 use crate::vectors::masks::{either_lanes, first_match, matches_after};
@@ -31,6 +31,17 @@ pub(super) struct Progress {
     pub(super) plain: usize,
     /// The offset up to which bytes have been copied since.
     pub(super) at: usize,
+}
+
+/// The special bytes of a block that are left to decode.
+#[derive(Clone, Copy)]
+struct Specials {
+    /// The progress before them.
+    read: Progress,
+    /// The offset of the byte that the lowest bit of `rest` represents.
+    next: usize,
+    /// A bit for each byte from `next` onwards, set where the byte is special.
+    rest: u64,
 }
 
 /// Decodes whole blocks from `from` onwards, up to `end`, and writes their bytes at the start of
@@ -72,8 +83,10 @@ fn put_block(output: &mut [u8], text: &[u8], read: Progress) -> Progress
         return copied_to(read, end);
     }
     let count = first_match(matches);
-    let start = copied_to(read, read.at + count);
-    put_specials(output, text, start, matches_after(matches, count), end)
+    let next = read.at + count;
+    let rest = matches_after(matches, count);
+    let read = copied_to(read, next);
+    put_specials(output, text, Specials { read, next, rest }, end)
 }
 
 /// Returns the same progress with `at` as the offset up to which bytes have been copied.
@@ -89,66 +102,113 @@ fn copied_to(read: Progress, at: usize) -> Progress
     }
 }
 
-/// Decodes the rest of a block, whose special bytes are the bits of `matches`. A `=` that begins
-/// neither an escape nor a soft line break is copied together with the bytes after it. The lowest
-/// bit of `rest` represents the byte at `next`.
+/// Decodes the rest of a block, which ends at `end`.
 #[inline(always)]
-fn put_specials(
-    output: &mut [u8],
-    text: &[u8],
-    start: Progress,
-    matches: u64,
-    end: usize,
-) -> Progress
-    requires reading { IsReading text.now start.from output.old start.len start.plain start.at }
-    requires near { (start.at ≤ end) × (end ≤ start.at + 64) }
+fn put_specials(output: &mut [u8], text: &[u8], start: Specials, end: usize) -> Progress
     requires within { end + 64 ≤ length text.now }
-    requires capacity { start.len + end + 64 ≤ length output.old + start.plain }
-    requires matches { matches ≡ lane_mask is_special (take (end - start.at) (drop start.at text.now)) }
+    requires block { IsInBlock text.now output.old start end }
     ensures reading { IsReading text.now result.from output.new result.len result.plain result.at }
-    ensures from { result.from ≡ start.from }
+    ensures from { result.from ≡ start.read.from }
     ensures after { end ≤ result.at }
 {
-    let mut read = start;
-    let mut next = start.at;
-    let mut rest = matches;
-    'specials: while rest != 0 {
-        let count = first_match(rest);
-        let special = next + count;
-        prove!(special < end);
-        let left = matches_after(rest, count);
-        if text[special] == b'\n' {
-            read = put_line_end(output, text, read, special);
-            next = special + 1;
-            rest = matches_after(left, 1);
-            continue;
-        }
-        let Some(byte) = escape_at(text, special) else {
-            let after = after_soft_break(text, special);
-            if after == special {
-                next = special + 1;
-                rest = matches_after(left, 1);
-                continue;
-            }
-            read = put_soft_break(output, text, read, special, after);
-            next = after;
-            rest = matches_after(left, after - special);
-            continue;
-        };
-        read = put_escape(output, text, read, special, byte);
-        next = special + 3;
-        rest = matches_after(left, 3);
-        if text[next] != b'=' || text[next + 3] != b'=' {
-            continue;
-        }
-        read = put_more_escapes(output, text, read);
-        if read.at >= end {
-            return read;
-        }
-        rest = matches_after(rest, read.at - next);
-        next = read.at;
+    let mut block = start;
+    'specials: while block.rest != 0 {
+        let count = first_match(block.rest);
+        let rest = matches_after(block.rest, count);
+        let next = block.next + count;
+        prove!(next < end);
+        let read = block.read;
+        block = put_special(output, text, Specials { read, next, rest }, end);
     }
-    put_rest(output, text, read, end)
+    put_rest(output, text, block.read, end)
+}
+
+/// Decodes what the special byte at `found.next` begins.
+#[inline(always)]
+fn put_special(output: &mut [u8], text: &[u8], found: Specials, end: usize) -> Specials
+    requires within { (found.next < end) × (end + 64 ≤ length text.now) }
+    requires block { IsInBlock text.now output.old found end }
+    requires special { slice_index text.now found.next ≢ line_feed
+        → slice_index text.now found.next ≡ equals_sign }
+    ensures block { IsInBlock text.now output.new result end }
+    ensures from { result.read.from ≡ found.read.from }
+    ensures after { found.next < result.next }
+{
+    if text[found.next] == b'\n' {
+        let read = put_line_end(output, text, found.read, found.next);
+        let rest = matches_after(found.rest, 1);
+        let next = found.next + 1;
+        return Specials { read, next, rest };
+    }
+    let Some(byte) = escape_at(text, found.next) else {
+        return put_sign(output, text, found, end);
+    };
+    put_escape_run(output, text, found, byte, end)
+}
+
+/// Decodes the soft line break at a `=`. A `=` that begins none is left, to be copied together with
+/// the bytes after it.
+#[inline(always)]
+fn put_sign(output: &mut [u8], text: &[u8], found: Specials, end: usize) -> Specials
+    requires within { (found.next < end) × (end + 64 ≤ length text.now) }
+    requires block { IsInBlock text.now output.old found end }
+    requires sign { slice_index text.now found.next ≡ equals_sign }
+    requires none { first_escape (drop found.next text.now) ≡ None }
+    ensures block { IsInBlock text.now output.new result end }
+    ensures from { result.read.from ≡ found.read.from }
+    ensures after { found.next < result.next }
+{
+    let after = after_soft_break(text, found.next);
+    if after == found.next {
+        let rest = matches_after(found.rest, 1);
+        let next = found.next + 1;
+        let read = found.read;
+        return Specials { read, next, rest };
+    }
+    let read = put_soft_break(output, text, found.read, found.next, after);
+    let rest = matches_after(found.rest, after - found.next);
+    let next = after;
+    Specials { read, next, rest }
+}
+
+/// Decodes the escape at `found.next`, which encodes `byte`, and the escapes after it if there are
+/// several.
+#[inline(always)]
+fn put_escape_run(
+    output: &mut [u8],
+    text: &[u8],
+    found: Specials,
+    byte: u8,
+    end: usize,
+) -> Specials
+    requires within { (found.next < end) × (end + 64 ≤ length text.now) }
+    requires block { IsInBlock text.now output.old found end }
+    requires escape { first_escape (drop found.next text.now) ≡ Some byte }
+    ensures block { IsInBlock text.now output.new result end }
+    ensures from { result.read.from ≡ found.read.from }
+    ensures after { found.next < result.next }
+{
+    let read = put_escape(output, text, found.read, found.next, byte);
+    let next = found.next + 3;
+    let rest = matches_after(found.rest, 3);
+    if text[next] != b'=' || text[next + 3] != b'=' {
+        return Specials { read, next, rest };
+    }
+    let read = put_more_escapes(output, text, read);
+    let after = read.at;
+    if after >= end {
+        return Specials {
+            read,
+            next: after,
+            rest: 0,
+        };
+    }
+    let left = matches_after(rest, after - next);
+    Specials {
+        read,
+        next: after,
+        rest: left,
+    }
 }
 
 /// Copies plain bytes up to the end of a block, unless decoding has already passed it.
