@@ -74,7 +74,8 @@ letter_value b = position (λ x. x == b) alphabet
 
 -- the first n bytes of the group of four values, if there are four
 abbrev pub bytes_of_values : ℕ → Option ℕ → Option ℕ → Option ℕ → Option ℕ → Option (List ℕ)
-bytes_of_values n (Some a) (Some b) (Some c) (Some d) = Some (take n (three_bytes (group_number a b c d)))
+bytes_of_values n (Some a) (Some b) (Some c) (Some d) =
+    Some (take n (three_bytes (group_number a b c d)))
 bytes_of_values n _ _ _ _ = None
 
 -- the bytes that four bytes encode, if they are a group

@@ -12,19 +12,22 @@ year_length year = if is_leap_year year then 366 else 365
 -- the number of days of each month of a year
 abbrev pub month_lengths : ℕ → List ℕ
 month_lengths year =
-    31 ∷ (if is_leap_year year then 29 else 28) ∷ 31 ∷ 30 ∷ 31 ∷ 30 ∷ 31 ∷ 31 ∷ 30 ∷ 31 ∷ 30 ∷ 31 ∷ []
+    31 ∷ (if is_leap_year year then 29 else 28) ∷ 31 ∷ 30 ∷ 31 ∷ 30
+    ∷ 31 ∷ 31 ∷ 30 ∷ 31 ∷ 30 ∷ 31 ∷ []
 
 -- the number of days of the first n years from 1970 onwards
 abbrev pub days_of_years : ℕ → ℕ
 days_of_years zero = 0
 days_of_years (suc n) = days_of_years n + year_length (1970 + n)
 
--- the days from 1 January 1970 to a day, by its year, its month counted from 0, and its number in the month, which may
--- exceed the length of the month
+-- the days from 1 January 1970 to a day, by its year, its month counted from 0, and its number in
+-- the month, which may exceed the length of the month
 abbrev pub day_number : ℕ → ℕ → ℕ → ℕ
-day_number year month day = days_of_years (year - 1970) + (sum (take month (month_lengths year)) + (day - 1))
+day_number year month day =
+    days_of_years (year - 1970) + (sum (take month (month_lengths year)) + (day - 1))
 
--- the names of the months, abbreviated to three letters and in full, each with the number of the month counted from 0
+-- the names of the months, abbreviated to three letters and in full, each with the number of the
+-- month counted from 0
 abbrev pub months : List (List ℕ × ℕ)
 months =
     (codes "Jan", 0) ∷ (codes "January", 0) ∷ (codes "Feb", 1) ∷ (codes "February", 1)

@@ -1,6 +1,6 @@
 -- The four built-in charsets, their labels and the text of bytes in each (the WHATWG Encoding
--- Standard, sections 4.2, 6, 8.1.1, 9.1 and 14), and the text of bytes under an unknown label, which
--- is the crate's own rule.
+-- Standard, sections 4.2, 6, 8.1.1, 9.1 and 14), and the text of bytes under an unknown label,
+-- which is the crate's own rule.
 use Rattle.std.specs.Prelude.{ℕ, ◌+◌, ◌-◌, ◌*◌, Bool, true, false, not, ◌&&◌, List, [], ◌∷◌, ◌++◌, map, drop, length, slice_index, nat_eq, nat_lt, Option, option_map, find, codes, encode_utf8_all, if◌then◌else◌}
 use Rattle.std.specs.Int.{is_in_range}
 use Rattle.std.specs.List.{list_any, starts_with}
@@ -26,9 +26,11 @@ utf_8_labels = codes "unicode-1-1-utf-8" ∷ codes "unicode11utf8" ∷ codes "un
 
 -- the labels of windows-1252
 abbrev pub windows_1252_labels : List (List ℕ)
-windows_1252_labels = codes "ansi_x3.4-1968" ∷ codes "ascii" ∷ codes "cp1252" ∷ codes "cp819" ∷ codes "csisolatin1" ∷ codes "ibm819"
-    ∷ codes "iso-8859-1" ∷ codes "iso-ir-100" ∷ codes "iso8859-1" ∷ codes "iso88591" ∷ codes "iso_8859-1" ∷ codes "iso_8859-1:1987"
-    ∷ codes "l1" ∷ codes "latin1" ∷ codes "us-ascii" ∷ codes "windows-1252" ∷ codes "x-cp1252" ∷ []
+windows_1252_labels =
+    codes "ansi_x3.4-1968" ∷ codes "ascii" ∷ codes "cp1252" ∷ codes "cp819" ∷ codes "csisolatin1"
+    ∷ codes "ibm819" ∷ codes "iso-8859-1" ∷ codes "iso-ir-100" ∷ codes "iso8859-1"
+    ∷ codes "iso88591" ∷ codes "iso_8859-1" ∷ codes "iso_8859-1:1987" ∷ codes "l1"
+    ∷ codes "latin1" ∷ codes "us-ascii" ∷ codes "windows-1252" ∷ codes "x-cp1252" ∷ []
 
 -- the labels of UTF-16 with the high byte first
 abbrev pub utf_16be_labels : List (List ℕ)
@@ -117,7 +119,8 @@ ends_in_high (unit ∷ next ∷ more) = ends_in_high (next ∷ more)
 -- both
 abbrev pub utf_16_chars : (ℕ → ℕ → ℕ) → List ℕ → List ℕ
 utf_16_chars order bytes = utf16_lossy_chars (units order bytes)
-    ++ (if has_odd_end bytes && not (ends_in_high (units order bytes)) then replacement ∷ [] else [])
+    ++ (if has_odd_end bytes && not (ends_in_high (units order bytes))
+    then replacement ∷ [] else [])
 
 -- The text of bytes, in UTF-8.
 
@@ -136,9 +139,11 @@ byte_order_marks =
 -- the charset of the byte order mark that the bytes begin with, and the length of the mark
 abbrev pub mark_at_start : List ℕ → Option (Charset × ℕ)
 mark_at_start bytes =
-    option_map {U = Charset × ℕ} (λ mark. (mark.0, length mark.1)) (find (λ mark. starts_with nat_eq bytes mark.1) byte_order_marks)
+    option_map {U = Charset × ℕ} (λ mark. (mark.0, length mark.1))
+    (find (λ mark. starts_with nat_eq bytes mark.1) byte_order_marks)
 
--- the text of bytes in a charset that is read by `reading`; a byte order mark is removed and overrides the charset
+-- the text of bytes in a charset that is read by `reading`; a byte order mark is removed and
+-- overrides the charset
 abbrev pub marked : (List ℕ → List ℕ) → List ℕ → List ℕ
 marked reading bytes =
     option_map_or (λ mark. text_of mark.0 (drop mark.1 bytes)) (mark_at_start bytes) (reading bytes)
@@ -160,6 +165,7 @@ Charsets = List ℕ → Option (List ℕ → List ℕ)
 abbrev pub four_charsets : Charsets
 four_charsets label = option_map text_of (charset_of_label label)
 
--- the charsets that two values know together: under each label the one that the first knows, or else the one that the second knows
+-- the charsets that two values know together: under each label the one that the first knows, or
+-- else the one that the second knows
 abbrev pub known_by_either : Charsets → Charsets → Charsets
 known_by_either first second label = option_or (first label) (second label)

@@ -10,7 +10,8 @@ Taken = List ℕ × ℕ
 -- of them
 abbrev pub chars_after : ℕ → (List ℕ → Taken) → List ℕ → List ℕ
 chars_after skipped front [] = []
-chars_after zero front (byte ∷ bytes) = (front (byte ∷ bytes)).0 ++ chars_after ((front (byte ∷ bytes)).1 - 1) front bytes
+chars_after zero front (byte ∷ bytes) =
+    (front (byte ∷ bytes)).0 ++ chars_after ((front (byte ∷ bytes)).1 - 1) front bytes
 chars_after (suc skipped) front (byte ∷ bytes) = chars_after skipped front bytes
 
 -- the characters of bytes of which `front` reads the first

@@ -31,7 +31,8 @@ cr_lf = carriage_return ∷ line_feed ∷ []
 -- a line that ends at a CR LF, or at an LF without a CR before it
 abbrev pub IsEndedLine : Line → Type 0
 IsEndedLine line = All (λ b. b ≢ line_feed) line.content
-    × ((line.ending ≡ cr_lf) ⊎ ((line.ending ≡ lf) × (ends_in carriage_return line.content ≡ false)))
+    × ((line.ending ≡ cr_lf)
+    ⊎ ((line.ending ≡ lf) × (ends_in carriage_return line.content ≡ false)))
 
 -- a line that ends with the text
 abbrev pub IsLastLine : Line → Type 0
@@ -86,7 +87,8 @@ unescaped (b ∷ c ∷ d ∷ rest) =
 -- removed together with the line end
 unfoldable pub line_bytes : Line → List ℕ
 line_bytes line = let kept = trimmed_at_end is_blank line.content in
-    if ends_in equals_sign kept then unescaped (without_last kept) else unescaped kept ++ line.ending
+    if ends_in equals_sign kept
+    then unescaped (without_last kept) else unescaped kept ++ line.ending
 
 -- the text encodes the bytes: they are those of its lines, in order
 abbrev pub IsQuotedPrintable : List ℕ → List ℕ → Type 0

@@ -1,5 +1,5 @@
-//! Days of the proleptic Gregorian calendar (ISO 8601), counted without a loop, and the English names
-//! of its months.
+//! Days of the proleptic Gregorian calendar (ISO 8601), counted without a loop, and the English
+//! names of its months.
 ghost use Rattle.std.specs.Prelude.{◌≡◌, ◌≤◌, ◌<◌, ◌*◌, ◌^◌, take, sum, pos, IfSome};
 ghost use Rattle.mail_codec.specs.Calendar.{day_number, days_of_years, is_leap_year, month_lengths};
 ghost use Rattle.mail_codec.specs.Calendar.{months};

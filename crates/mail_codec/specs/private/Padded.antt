@@ -32,4 +32,5 @@ cut_groups [] bytes = []
 cut_groups (p ∷ []) bytes = []
 cut_groups (p ∷ q ∷ []) bytes = []
 cut_groups (p ∷ q ∷ r ∷ []) bytes = []
-cut_groups (p ∷ q ∷ r ∷ s ∷ rest) bytes = take (group_len r s) bytes ++ cut_groups rest (drop 3 bytes)
+cut_groups (p ∷ q ∷ r ∷ s ∷ rest) bytes =
+    take (group_len r s) bytes ++ cut_groups rest (drop 3 bytes)

@@ -17,7 +17,8 @@ HasNoEscape bytes = (k : ℕ) → first_escape (drop k bytes) ≡ None
 abbrev pub IsSoftBreak : List ℕ → ℕ → ℕ → Type 0
 IsSoftBreak text at next = (slice_index text at ≡ equals_sign)
     × (((next ≡ at + 2) × (slice_index text (at + 1) ≡ line_feed))
-    ⊎ ((next ≡ at + 3) × (slice_index text (at + 1) ≡ carriage_return) × (slice_index text (at + 2) ≡ line_feed)))
+    ⊎ ((next ≡ at + 3) × (slice_index text (at + 1) ≡ carriage_return)
+    × (slice_index text (at + 2) ≡ line_feed)))
 
 -- from one place up to another there is no LF, and no escape begins
 pub record IsPlain (text : List ℕ) (from to : ℕ) : Type 0 where
@@ -32,7 +33,8 @@ pub record IsReading (text : List ℕ) (from : ℕ) (output : List ℕ) (len pla
   pub start : plain ≤ at
   pub after : from + len ≤ plain
   pub fits : len + (at - plain) ≤ length output
-  pub so_far : take len output ++ quoted_printable (drop plain text) ≡ quoted_printable (drop from text)
+  pub so_far : take len output ++ quoted_printable (drop plain text)
+      ≡ quoted_printable (drop from text)
   pub copied : take (at - plain) (drop len output) ≡ take (at - plain) (drop plain text)
   pub is_plain : IsPlain text plain at
 

@@ -23,7 +23,8 @@ is_set flag = flag == 1
 -- the ASCII whitespace with the same lower half as a byte, or 0 if there is none
 abbrev pub whitespace_of_half : ℕ → ℕ
 whitespace_of_half b =
-    slice_index (32 ∷ 0 ∷ 0 ∷ 0 ∷ 0 ∷ 0 ∷ 0 ∷ 0 ∷ 0 ∷ 9 ∷ 10 ∷ 0 ∷ 12 ∷ 13 ∷ 0 ∷ 0 ∷ []) (bit_and b 15)
+    slice_index (32 ∷ 0 ∷ 0 ∷ 0 ∷ 0 ∷ 0 ∷ 0 ∷ 0 ∷ 0 ∷ 9 ∷ 10 ∷ 0 ∷ 12 ∷ 13 ∷ 0 ∷ 0 ∷ [])
+    (bit_and b 15)
 
 -- the byte is a letter of Base64
 abbrev pub is_letter : ℕ → Bool
@@ -64,17 +65,24 @@ value_of b = (b + addition_of b) % 256
 pub record AreNumbers (n : ℕ) (values numbers : List ℕ) : Type 0 where
   pub len : length numbers ≡ n
   pub fits : (k : ℕ) → k < n → slice_index numbers k < 2 ^ 32
-  pub lanes : (k : ℕ) → k < n → slice_index values (4 * k + 2) < 64 → slice_index values (4 * k + 3) < 64
-      → slice_index numbers k ≡ group_number (slice_index values (4 * k)) (slice_index values (4 * k + 1)) (slice_index values (4 * k + 2)) (slice_index values (4 * k + 3))
+  pub lanes : (k : ℕ) → k < n
+      → slice_index values (4 * k + 2) < 64 → slice_index values (4 * k + 3) < 64
+      → slice_index numbers k ≡ group_number (slice_index values (4 * k))
+      (slice_index values (4 * k + 1)) (slice_index values (4 * k + 2))
+      (slice_index values (4 * k + 3))
 
 -- the bytes of group k of some letters, if it is a group
 abbrev pub group_of : List ℕ → ℕ → Option (List ℕ)
-group_of letters k = group_bytes (slice_index letters (4 * k)) (slice_index letters (4 * k + 1)) (slice_index letters (4 * k + 2)) (slice_index letters (4 * k + 3))
+group_of letters k =
+    group_bytes (slice_index letters (4 * k)) (slice_index letters (4 * k + 1))
+    (slice_index letters (4 * k + 2)) (slice_index letters (4 * k + 3))
 
 -- the three bytes from place 3k onwards
 abbrev pub three_at : List ℕ → ℕ → List ℕ
-three_at bytes k = slice_index bytes (3 * k) ∷ slice_index bytes (3 * k + 1) ∷ slice_index bytes (3 * k + 2) ∷ []
+three_at bytes k =
+    slice_index bytes (3 * k) ∷ slice_index bytes (3 * k + 1) ∷ slice_index bytes (3 * k + 2) ∷ []
 
 -- the bytes of the groups of letters, three for each, up to the first byte that is no letter
 abbrev pub Packs : List ℕ → List ℕ → Type 0
-Packs letters bytes = (k : ℕ) → 4 * k + 4 ≤ prefix_len is_letter letters → group_of letters k ≡ Some (three_at bytes k)
+Packs letters bytes = (k : ℕ) → 4 * k + 4 ≤ prefix_len is_letter letters
+    → group_of letters k ≡ Some (three_at bytes k)

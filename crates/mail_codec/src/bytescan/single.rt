@@ -88,7 +88,8 @@ fn free_len(bytes: &[u8], wanted: u8) -> usize
 #[inline(always)]
 fn is_free(bytes: &[u8], at: usize, wanted: u8) -> bool
     requires within { at + 128 ≤ length bytes.now }
-    ensures { result ≡ (first_place (begins (λ b. b == wanted)) (take 128 (drop at bytes.now)) == 128) }
+    ensures { result
+        ≡ (first_place (begins (λ b. b == wanted)) (take 128 (drop at bytes.now)) == 128) }
 {
     let first = equal_lanes(u8x64::from_slice(&bytes[at..]), wanted);
     let second = equal_lanes(u8x64::from_slice(&bytes[at + 64..]), wanted);

@@ -59,8 +59,8 @@ pub fn ascii_blocks_length(bytes: &[u8]) -> usize
     at
 }
 
-/// Writes the UTF-8 of the character into the buffer at `at`, and returns where it ends (the Unicode
-/// Standard, section 3.9).
+/// Writes the UTF-8 of the character into the buffer at `at`, and returns where it ends (the
+/// Unicode Standard, section 3.9).
 ///
 /// The bytes before `at` are kept. The buffer must have four bytes from `at` onwards. Takes no
 /// memory.

@@ -66,7 +66,8 @@ pub trait Decode: Copy {
         }
     }
 
-    /// Returns the text of a vector of bytes in this charset, as `decode_without_bom_handling` does.
+    /// Returns the text of a vector of bytes in this charset, as `decode_without_bom_handling`
+    /// does.
     ///
     /// Takes memory for the text, unless the charset can reuse that of the vector.
     ///

@@ -88,8 +88,8 @@ impl<'t> SingleByteTable<'t> {
 /// has it. Also returns `None` if one of the four built-in charsets has it: these come first, by
 /// this crate's own rule. Labels are matched as in the WHATWG Encoding Standard, section 4.2.
 ///
-/// ASCII whitespace around the label (space, tab, LF, FF, CR) and ASCII case are ignored; the labels
-/// of the tables are not trimmed. Takes no memory.
+/// ASCII whitespace around the label (space, tab, LF, FF, CR) and ASCII case are ignored; the
+/// labels of the tables are not trimmed. Takes no memory.
 ///
 /// # Examples
 ///

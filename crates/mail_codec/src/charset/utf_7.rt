@@ -9,8 +9,8 @@ use super::known::{Decode, KnownCharsets};
 use super::labels;
 use std::alloc::{AllocError, Global};
 
-/// UTF-7 (RFC 2152), as a charset and as the known charsets that consist of it alone. Its labels are
-/// `csunicode11utf7`, `unicode-1-1-utf-7` and `utf-7`.
+/// UTF-7 (RFC 2152), as a charset and as the known charsets that consist of it alone. Its labels
+/// are `csunicode11utf7`, `unicode-1-1-utf-7` and `utf-7`.
 ///
 /// The Encoding Standard forbids it: in a browser, text that looks harmless may read as markup. So
 /// it is known only where a caller adds it, as the second value of a pair.

@@ -1,9 +1,10 @@
 //! Base64 letters in vectors of 16 and of 64 bytes: which bytes are letters, and the bytes that
 //! groups of them encode.
 //!
-//! A processor with shorter vectors takes several for each of 64 bytes. A table is repeated for each
-//! sixteen lanes and read within them, and a vector of 16 takes the first lanes of it. No function is
-//! generic over the width, as the toolchain has no look-ups in a vector whose length is a parameter.
+//! A processor with shorter vectors takes several for each of 64 bytes. A table is repeated for
+//! each sixteen lanes and read within them, and a vector of 16 takes the first lanes of it. No
+//! function is generic over the width, as the toolchain has no look-ups in a vector whose length is
+//! a parameter.
 ghost use Rattle.std.specs.Prelude.{◌≡◌, ◌==◌, length, map};
 ghost use Rattle.std.specs.List.{prefix_len};
 ghost use Rattle.mail_codec.specs.private.Vectors.{fault_of, is_letter, value_of, AreNumbers, Packs};
