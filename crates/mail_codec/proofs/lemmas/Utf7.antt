@@ -52,11 +52,6 @@ letters_cut letters is =
     let chars = utf16_lossy_chars (map (unit_at letters) (range_with_len 0 (units_count letters))) in
     sym (ap (λ b. encode_utf8_all (chars ++ cond b [] (replacement ∷ []))) is ∙ encodes-append chars (replacement ∷ []))
 
--- a plus with letters has their characters
-pub shifted_some : (letters : List ℕ) (is_closed : Bool) → 0 < length letters → letters_chars letters ≡ shifted_chars letters is_closed
-shifted_some [] is_closed some = absurd (omega (arith, some))
-shifted_some (b ∷ bs) is_closed some = refl
-
 -- the letters after a plus, and whether a minus closes them
 pub shifted_is : (bs : List ℕ) (count : ℕ) (is_closed : Bool) → count ≡ letters_length bs → is_closed ≡ (get_or bs count 0 == 45)
     → (shifted_chars (take count bs) is_closed, 1 + count + cond is_closed 1 0) ≡ shifted bs
