@@ -2,8 +2,6 @@ pub mod Places
 pub mod PlacesLaw
 pub mod PlacesSearches
 pub mod Runs
-pub mod Words
-pub mod WordsBytes
 pub mod Vectors
 pub mod VectorsLetters
 pub mod Pairs

@@ -1,6 +1,5 @@
 -- Words that only private functions need; no public clause uses them.
 pub mod Runs
-pub mod Words
 pub mod Vectors
 pub mod Padded
 pub mod Utf16

@@ -6,7 +6,6 @@ mod alternatives;
 mod pairs;
 pub(crate) mod runs;
 mod single;
-pub(crate) mod words;
 
 use alternatives::either_len;
 use pairs::{WIDE, pair_len};

@@ -1,6 +1,5 @@
 -- Searches that go over words and steps.
 use Rattle.std.proofs.Common.{◌≡◌, ℕ, zero, suc, ◌+◌, ◌*◌, ◌/◌, ◌<◌, ◌≤◌, ◌≢◌, bit_or, Bool, true, false, ◌==◌, None, Some, List, [], ◌∷◌, length, take, drop, get_or, inl, inr, refl, sym, ap, subst, ◌∙◌, arith}
-use Rattle.std.specs.Int.{w64, trailing_zeros}
 use Rattle.std.specs.List.{slice_get}
 use Rattle.std.specs.Simd.{first_chunks}
 use Rattle.std.proofs.lemmas.Bool.{and_parts, cases_Bool, cases_lt, lt-ltb, le-ltb}
@@ -10,8 +9,8 @@ use Rattle.std.proofs.Math.Nat.{mul-suc}
 use Rattle.mail_codec.specs.Places.{first_place, begins, place, has_prefix, text_place}
 use Rattle.std.proofs.lemmas.Bool.Decides.{nat_tests, Decides-eqb}
 use Rattle.mail_codec.specs.private.Vectors.{lane_mask}
-use Rattle.mail_codec.specs.private.Words.{IsMask}
 use Rattle.mail_codec.proofs.lemmas.Places.{PassedTo, first_place-≤, first_place-drop, place_from_weaker, place-found}
+use Rattle.mail_codec.proofs.lemmas.Vectors.{no_match}
 
 -- ---- chunks
 
@@ -96,31 +95,28 @@ module _ (test : ℕ → Bool) (bytes : List ℕ) (at mask place : ℕ) (fits : 
 
 -- ---- a word at a place
 
--- the place of the lowest set bit of a mask
-match_first : (test : ℕ → Bool) (bs : List ℕ) (m : ℕ) → length bs ≡ 8 → IsMask test bs m → m ≢ 0
-    → (first_place (begins test) bs < 8) × (trailing_zeros w64 m / 8 ≡ first_place (begins test) bs)
-match_first test bs m len is some =
-    let low = is.lowest some in
-    let within = first_place-≤ (begins test) bs in
-    (elim (cases_lt (first_place (begins test) bs) 8) [ inl l ↦ l | inr ge ↦ absurd (some (is.none.1 (omega arith))) ], omega arith)
-
 -- one of the words that the bytes are cut into
 module _ (test : ℕ → Bool) (bytes : List ℕ) (words : List (List ℕ)) (i at mask : ℕ) (are : words ≡ first_chunks 8 (length bytes / 8) bytes)
-    (within : i < length bytes / 8) (place : at ≡ 8 * i) (matches : IsMask test (get_or words i []) mask) where
+    (within : i < length bytes / 8) (place : at ≡ 8 * i) (matches : mask ≡ lane_mask test (get_or words i [])) where
   pub word_is : get_or words i [] ≡ take 8 (drop at bytes)
   word_is =
       ap (λ (cs : List (List ℕ)). get_or cs i []) are ∙ chunk_at 8 (length bytes / 8) bytes i within ∙ ap (λ (j : ℕ). take 8 (drop j bytes)) (sym place)
 
+  word_long : length (get_or words i []) ≡ 8
+  word_long = ap length word_is ∙ length-take-le 8 (drop at bytes) (omega (arith, length-drop at bytes))
+
   -- it has the first place, or the search goes on after it
-  pub word_found : (answer : ℕ) → PassedTo (begins test) bytes answer at → mask ≢ 0 → (at + trailing_zeros w64 mask / 8 ≡ answer) × (trailing_zeros w64 mask / 8 < 8)
-  word_found answer h some =
-      let eight = ap length word_is ∙ length-take-le 8 (drop at bytes) (omega (arith, length-drop at bytes)) in
-      let first = match_first test (get_or words i []) mask eight matches some in
-      let found = PassedTo-found test bytes (get_or words i []) answer at 8 h (omega arith) word_is first.0 in
-      (omega (arith, found, first.1), omega (arith, first.0, first.1))
+  pub word_found : (answer first : ℕ) → PassedTo (begins test) bytes answer at
+      → ((t : ℕ → Bool) (v : List ℕ) → length v ≤ 64 → mask ≡ lane_mask t v → (first ≡ first_place (begins t) v) × (first < length v))
+      → (at + first ≡ answer) × (first < 8)
+  word_found answer first h least =
+      let is = least test (get_or words i []) (omega (arith, word_long)) matches in
+      let found = PassedTo-found test bytes (get_or words i []) answer at 8 h (omega arith) word_is (omega (arith, is.0, is.1, word_long)) in
+      (omega (arith, found, is.0), omega (arith, is.1, word_long))
 
   pub word_passed : (answer : ℕ) → PassedTo (begins test) bytes answer at → mask ≡ 0 → PassedTo (begins test) bytes answer (at + 8)
-  word_passed answer h none = PassedTo-chunk test bytes (get_or words i []) answer at 8 h (omega arith) word_is (matches.none.0 none)
+  word_passed answer h none =
+      PassedTo-chunk test bytes (get_or words i []) answer at 8 h (omega arith) word_is (sym (no_match test (get_or words i []) mask matches none) ∙ word_long)
 
 -- two masks combined are 0 if both are
 pub both_zero : (m n : ℕ) → bit_or m n ≡ 0 → (m ≡ 0) × (n ≡ 0)

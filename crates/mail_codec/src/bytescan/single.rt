@@ -2,9 +2,8 @@
 ghost use Rattle.std.specs.Prelude.{◌≡◌, ◌≤◌, ◌+◌, ◌==◌, length, take, drop};
 ghost use Rattle.mail_codec.specs.Places.{begins, first_place};
 
-use super::words::{equal_mask, first_match_byte};
 use crate::vectors::LANES;
-use crate::vectors::masks::{equal_lanes, first_lane};
+use crate::vectors::masks::{equal_lanes, first_lane, first_match};
 use std::simd::prelude::*;
 
 /// The number of bytes searched vector by vector before the search goes on by blocks.
@@ -105,9 +104,9 @@ fn words_len(bytes: &[u8], wanted: u8) -> usize
     let (words, tail) = bytes.as_chunks::<8>();
     let mut at = 0;
     for word in words {
-        let mask = equal_mask(word, wanted);
+        let mask = equal_lanes(u8x8::from_array(*word), wanted);
         if mask != 0 {
-            return at + first_match_byte(mask);
+            return at + first_match(mask);
         }
         at += 8;
     }

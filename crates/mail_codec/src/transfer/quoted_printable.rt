@@ -8,9 +8,8 @@ ghost use Rattle.mail_codec.specs.private.QuotedPrintable.{is_special, HasNoEsca
 
 mod blocks;
 
-use crate::bytescan::words::{either_mask, first_match_byte};
 use crate::vectors::LANES;
-use crate::vectors::masks::{either_lanes, first_lane};
+use crate::vectors::masks::{either_lanes, first_lane, first_match};
 use blocks::put_blocks;
 use std::alloc::{AllocError, Global};
 use std::simd::prelude::*;
@@ -300,9 +299,9 @@ fn put_words(output: &mut [u8], bytes: &[u8]) -> usize
     let mut at = 0;
     for word in words {
         output[at..at + 8].copy_from_slice(word);
-        let mask = either_mask(word, b'=', b'\n');
+        let mask = either_lanes(u8x8::from_array(*word), b'=', b'\n');
         if mask != 0 {
-            return at + first_match_byte(mask);
+            return at + first_match(mask);
         }
         at += 8;
     }

@@ -7,21 +7,25 @@ use Rattle.mail_codec.proofs.transfer.quoted_printable.put_words.Goals as goal
 
 pub returns-then-mask-ne0-clause-written : goal.returns-then-mask-ne0-clause-written
 returns-then-mask-ne0-clause-written c =
-    let is = word_is is_special c.args.bytes.now _ c.loop-word.word-index c.loop-word.at _ c.as_chunks.ensures.front (omega arith) c.loop-word.invariant.place c.either_mask-mask.ensures in
-    let found = word_found is_special c.args.bytes.now _ c.loop-word.word-index _ _ c.as_chunks.ensures.front (omega arith) c.loop-word.invariant.place c.either_mask-mask.ensures _ c.loop-word.invariant.passed c.if-mask-ne0.true in
-    word_copied c.loop-word.at _ c.first_match_byte.result c.loop-word.output c.copy_from_slice.new.self c.args.bytes.now c.loop-word.invariant.written (omega arith) (c.copy_from_slice.ensures.after ∙ is) (omega arith)
-    (omega (arith, found.1, c.first_match_byte.ensures))
+    let is = word_is is_special c.args.bytes.now _ c.loop-word.word-index c.loop-word.at _ c.as_chunks.ensures.front (omega arith) c.loop-word.invariant.place c.either_lanes-mask.ensures in
+    let found = word_found is_special c.args.bytes.now _ c.loop-word.word-index _ _ c.as_chunks.ensures.front (omega arith) c.loop-word.invariant.place c.either_lanes-mask.ensures _ _ c.loop-word.invariant.passed c.first_match.ensures.least in
+    word_copied c.loop-word.at _ c.first_match.result c.loop-word.output c.copy_from_slice.new.self c.args.bytes.now c.loop-word.invariant.written (omega arith) (c.copy_from_slice.ensures.after ∙ is) (omega arith)
+    (omega (arith, found.1))
 
 pub returns-then-mask-ne0-clause-least : goal.returns-then-mask-ne0-clause-least
 returns-then-mask-ne0-clause-least c =
-    let found = word_found is_special c.args.bytes.now _ c.loop-word.word-index _ _ c.as_chunks.ensures.front (omega arith) c.loop-word.invariant.place c.either_mask-mask.ensures _ c.loop-word.invariant.passed c.if-mask-ne0.true in
-    omega (arith, found.0, c.first_match_byte.ensures)
+    (word_found is_special c.args.bytes.now _ c.loop-word.word-index _ _ c.as_chunks.ensures.front (omega arith) c.loop-word.invariant.place c.either_lanes-mask.ensures _ _ c.loop-word.invariant.passed c.first_match.ensures.least).0
+
+pub returns-then-mask-ne0-clause-bounds : goal.returns-then-mask-ne0-clause-bounds
+returns-then-mask-ne0-clause-bounds c =
+    let found = word_found is_special c.args.bytes.now _ c.loop-word.word-index _ _ c.as_chunks.ensures.front (omega arith) c.loop-word.invariant.place c.either_lanes-mask.ensures _ _ c.loop-word.invariant.passed c.first_match.ensures.least in
+    omega (arith, found.1)
 
 pub loop-word-preserved : goal.loop-word-preserved
 loop-word-preserved c =
-    let is = word_is is_special c.args.bytes.now _ c.loop-word.word-index c.loop-word.at _ c.as_chunks.ensures.front (omega arith) c.loop-word.invariant.place c.either_mask-mask.ensures in
+    let is = word_is is_special c.args.bytes.now _ c.loop-word.word-index c.loop-word.at _ c.as_chunks.ensures.front (omega arith) c.loop-word.invariant.place c.either_lanes-mask.ensures in
     record {
-      passed = word_passed is_special c.args.bytes.now _ c.loop-word.word-index _ _ c.as_chunks.ensures.front (omega arith) c.loop-word.invariant.place c.either_mask-mask.ensures _ c.loop-word.invariant.passed c.if-mask-ne0.false;
+      passed = word_passed is_special c.args.bytes.now _ c.loop-word.word-index _ _ c.as_chunks.ensures.front (omega arith) c.loop-word.invariant.place c.either_lanes-mask.ensures _ c.loop-word.invariant.passed c.if-mask-ne0.false;
       place = omega arith;
       written = word_copied c.loop-word.at _ 8 c.loop-word.output c.copy_from_slice.new.self c.args.bytes.now c.loop-word.invariant.written (omega arith) (c.copy_from_slice.ensures.after ∙ is) (omega arith) (omega arith);
     }
