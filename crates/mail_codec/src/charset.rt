@@ -42,6 +42,7 @@ use std::borrow::CowStr;
 ///
 /// assert_eq!(rt; decode_latin1(alloc, b"caf\xE9")?.as_str(), "café");
 /// ```
+#[tactic(auto, using(crate::proofs::lemmas::CharsetSingleByte::spelled_latin1))]
 pub fn decode_latin1(alloc: Global, bytes: &[u8]) -> Result<CowStr<'_>, AllocError>
     ensures read { IfOk result (λ t. cow_str_bytes t ≡ latin1_text bytes.now) }
     ensures borrowed { IfOk result (λ t. IsBorrowedStr t ↔ IsAscii bytes.now) }
@@ -66,6 +67,7 @@ pub fn decode_latin1(alloc: Global, bytes: &[u8]) -> Result<CowStr<'_>, AllocErr
 ///
 /// assert_eq!(rt; decode_ascii(alloc, b"caf\xE9")?.as_str(), "caf\u{FFFD}");
 /// ```
+#[tactic(auto, using(crate::proofs::lemmas::CharsetSingleByte::spelled_ascii))]
 pub fn decode_ascii(alloc: Global, bytes: &[u8]) -> Result<CowStr<'_>, AllocError>
     ensures read { IfOk result (λ t. cow_str_bytes t ≡ ascii_text bytes.now) }
     ensures borrowed { IfOk result (λ t. IsBorrowedStr t ↔ IsAscii bytes.now) }

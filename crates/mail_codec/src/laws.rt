@@ -54,6 +54,7 @@ pub fn quoted_printable_is_lines()
 {}
 
 /// In UTF-7, bytes that are direct, which are the ASCII bytes but the plus, are their own text.
+#[tactic(auto, using(crate::proofs::lemmas::Utf7::direct_stay))]
 pub fn direct_bytes_stay_in_utf_7()
     ensures { (bytes : List ℕ)
         → ((at : ℕ) → at < length bytes → is_direct (slice_index bytes at) ≡ true)

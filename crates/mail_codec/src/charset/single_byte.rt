@@ -61,6 +61,7 @@ pub(crate) static LATIN_1: HighHalf = [
 pub(crate) static ASCII: HighHalf = ['\u{FFFD}'; 128];
 
 /// Returns the text of the bytes in windows-1252.
+#[tactic(auto, using(crate::proofs::lemmas::CharsetSingleByte::spelled_windows_1252))]
 pub(crate) fn decode_windows_1252(alloc: Global, bytes: &[u8]) -> Result<String, AllocError>
     ensures { IfOk result
         (λ t. string_bytes t ≡ encode_utf8_all (map windows_1252_char bytes.now)) }

@@ -115,6 +115,7 @@ pub fn table_for_label(label: &[u8], tables: &[SingleByteTable<'_>]) -> Option<u
 }
 
 /// Returns the index of the first table that has the trimmed label.
+#[tactic(auto, using(crate::proofs::lemmas::Tables::has))]
 fn first_with(tables: &[SingleByteTable<'_>], label: &[u8]) -> Option<usize>
     ensures number { result ≡ position (λ table.
         is_among_labels (map (λ known. known.now) table.labels.now) label.now) tables.now }

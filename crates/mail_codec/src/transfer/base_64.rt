@@ -166,6 +166,7 @@ fn keep_from(letters: &mut Vec<u8>, at: usize)
 
 /// Appends the bytes of whole groups, of which the first has index `first`, or returns the index of
 /// the first invalid one. `full` and `decoded` are scratch space.
+#[tactic(auto, using(crate::proofs::lemmas::Base64Steps::groups_decoded))]
 fn decode_groups(
     bytes: &mut Vec<u8>,
     letters: &[u8],

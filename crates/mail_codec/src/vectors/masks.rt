@@ -34,6 +34,7 @@ pub(crate) fn either_lanes<const N: usize>(bytes: Simd<u8, N>, first: u8, second
 
 /// Returns the mask of the lanes that are `first` in one vector and `second` in the other.
 #[inline(always)]
+#[tactic(auto, using(crate::proofs::lemmas::Pairs::pair_mask))]
 pub(crate) fn pair_lanes(bytes: u8x64, next: u8x64, first: u8, second: u8) -> u64
     ensures { result ≡ lane_mask is_set (pair_flags first second bytes next) }
 {
@@ -67,6 +68,7 @@ fn whitespace_like(bytes: u8x16) -> u8x16
 
 /// Returns the first lane of a mask of sixteen, or 16 if the mask is empty.
 #[inline(always)]
+#[tactic(auto, using(crate::proofs::lemmas::Vectors::first_lane_none))]
 pub(crate) fn first_lane(mask: u64) -> usize
     ensures { (test : ℕ → Bool) (bytes : List ℕ) → length bytes ≡ 16
         → mask ≡ lane_mask test bytes → result ≡ first_place (begins test) bytes }
@@ -88,6 +90,7 @@ pub(crate) fn first_match(mask: u64) -> usize
 
 /// Returns the mask of the lanes after the first `count`.
 #[inline(always)]
+#[tactic(auto, using(crate::proofs::lemmas::Vectors::mask_shifted))]
 pub(crate) fn matches_after(mask: u64, count: usize) -> u64
     requires { count < 64 }
     ensures { (test : ℕ → Bool) (bytes : List ℕ)

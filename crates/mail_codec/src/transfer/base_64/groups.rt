@@ -198,6 +198,7 @@ fn next_four(text: &[u8], at: usize, absent: RunEnd) -> Option<([u8; 4], usize)>
 /// Returns an offset up to which all bytes from `at` onwards are absent: the one after a CR LF, or
 /// else that of the first byte that is not absent.
 #[inline(always)]
+#[tactic(auto, using(crate::proofs::lemmas::Base64Parts::line_end_passed))]
 fn after_line_end(text: &[u8], at: usize, absent: RunEnd) -> usize
     requires within { at ≤ length text.now }
     ensures after { at ≤ result }

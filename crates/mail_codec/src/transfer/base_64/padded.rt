@@ -68,6 +68,7 @@ pub(crate) fn push_one_group(bytes: &mut Vec<u8>, text: &[u8]) -> Result<bool, A
 }
 
 /// Replaces the content of `full` by the groups with their padding filled in.
+#[tactic(auto, using(crate::proofs::lemmas::Padded::fill_step, crate::proofs::lemmas::Padded::fill_end))]
 fn fill_up(full: &mut Vec<u8>, letters: &[u8]) -> Result<(), AllocError>
     requires whole { length letters.now % 4 ≡ 0 }
     ensures { OnOk result (full.new.items ≡ filled letters.now) }

@@ -174,13 +174,7 @@ fn put_sign(output: &mut [u8], text: &[u8], found: Specials, end: usize) -> Spec
 /// Decodes the escape at `found.next`, which encodes `byte`, and the escapes after it if there are
 /// several.
 #[inline(always)]
-fn put_escape_run(
-    output: &mut [u8],
-    text: &[u8],
-    found: Specials,
-    byte: u8,
-    end: usize,
-) -> Specials
+fn put_escape_run(output: &mut [u8], text: &[u8], found: Specials, byte: u8, end: usize) -> Specials
     requires within { (found.next < end) × (end + 64 ≤ length text.now) }
     requires block { IsInBlock text.now output.old found end }
     requires escape { first_escape (drop found.next text.now) ≡ Some byte }
@@ -259,6 +253,7 @@ fn put_line_end(output: &mut [u8], text: &[u8], read: Progress, special: usize) 
 /// Copies plain bytes up to the soft line break from `special` to `after`, which encodes
 /// nothing.
 #[inline(always)]
+#[tactic(auto, using(crate::proofs::lemmas::QuotedPrintableSpecials::after_soft))]
 fn put_soft_break(
     output: &mut [u8],
     text: &[u8],

@@ -11,9 +11,6 @@ pub rest-preserved-then-run-gt0 : goal.rest-preserved-then-run-gt0
 rest-preserved-then-run-gt0 c =
     rw (c.in_ok-push_str.ensures.bytes, c.from_utf8_unchecked.ensures, take_rest) (front_pushed c.args.high.now c.rest.rest.now _ _ _ _ c.ascii_blocks_length-run.result c.rest.invariant (sym (spelled_low _ _ c.ascii_blocks_length-run.ensures.ascii)) refl)
 
-pub from_utf8_unchecked-requires-else-run-gt0 : goal.from_utf8_unchecked-requires-else-run-gt0
-from_utf8_unchecked-requires-else-run-gt0 c = c.encode_block-length.ensures.utf8
-
 pub rest-preserved : goal.rest-preserved
 rest-preserved c =
     rw c.in_ok-push_str-2.ensures.bytes

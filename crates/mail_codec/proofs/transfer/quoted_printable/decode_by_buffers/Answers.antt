@@ -1,14 +1,8 @@
-use Rattle.std.proofs.Common.{◌++◌, take, drop, refl, ap, sym, ◌∙◌, arith}
+use Rattle.std.proofs.Common.{◌++◌, take, drop, ap, sym, ◌∙◌, arith}
 use Rattle.std.proofs.lemmas.List.{append_assoc, take_rest}
 use Rattle.mail_codec.specs.QuotedPrintable.{quoted_printable}
 use Rattle.mail_codec.proofs.lemmas.QuotedPrintableLines.{nothing_left}
 use Rattle.mail_codec.proofs.transfer.quoted_printable.decode_by_buffers.Goals as goal
-
-pub buffers-init : goal.buffers-init
-buffers-init c = record {
-  within = omega arith;
-  so_far = rw c.in_ok-bytes.ensures.items refl;
-}
 
 pub returns-then-next-at : goal.returns-then-next-at
 returns-then-next-at c =

@@ -4,9 +4,6 @@ use Rattle.mail_codec.specs.private.Vectors.{lane_mask}
 use Rattle.mail_codec.proofs.lemmas.QuotedPrintableSpecials.{in_block, matches_later}
 use Rattle.mail_codec.proofs.transfer.quoted_printable.blocks.put_escape_run.Goals as goal
 
-pub put_escape-read-requires-clause-plain : goal.put_escape-read-requires-clause-plain
-put_escape-read-requires-clause-plain c = c.requires.block.is_plain
-
 pub returns-then-text-next-ne61-clause-block : goal.returns-then-text-next-ne61-clause-block
 returns-then-text-next-ne61-clause-block c =
     let h = c.requires.block in

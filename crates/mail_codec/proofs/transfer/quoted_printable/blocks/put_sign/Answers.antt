@@ -16,12 +16,6 @@ returns-then-after-found-clause-block c =
       capacity = h.capacity;
     }
 
-pub put_soft_break-read-requires-clause-plain : goal.put_soft_break-read-requires-clause-plain
-put_soft_break-read-requires-clause-plain c = c.requires.block.is_plain
-
-pub put_soft_break-read-requires-clause-soft : goal.put_soft_break-read-requires-clause-soft
-put_soft_break-read-requires-clause-soft c = c.after_soft_break-after.ensures.soft c.if-after-found.false
-
 pub returns-clause-block : goal.returns-clause-block
 returns-clause-block c =
     let h = c.requires.block in

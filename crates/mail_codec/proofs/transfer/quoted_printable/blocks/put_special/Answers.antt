@@ -1,9 +1,6 @@
-use Rattle.std.proofs.Common.{refl, sym, arith}
+use Rattle.std.proofs.Common.{refl, arith}
 use Rattle.mail_codec.proofs.lemmas.QuotedPrintableSpecials.{in_block, matches_later}
 use Rattle.mail_codec.proofs.transfer.quoted_printable.blocks.put_special.Goals as goal
-
-pub put_line_end-read-requires-clause-plain : goal.put_line_end-read-requires-clause-plain
-put_line_end-read-requires-clause-plain c = c.requires.block.is_plain
 
 pub returns-then-text-found-eq10-clause-block : goal.returns-then-text-found-eq10-clause-block
 returns-then-text-found-eq10-clause-block c =
@@ -11,9 +8,3 @@ returns-then-text-found-eq10-clause-block c =
     let line = c.put_line_end-read.ensures in
     in_block h line.after.0 (omega arith) c.put_line_end-read.auto.output (omega (arith, line.fits, line.after.1)) line.reading
     (matches_later c.args.text.now c.args.found.next c.args.end 1 _ _ _ refl c.matches_after-rest.ensures h.left)
-
-pub escape_at-requires-clause-sign : goal.escape_at-requires-clause-sign
-escape_at-requires-clause-sign c = c.requires.special c.if-text-found-eq10.false
-
-pub put_sign-requires-clause-none : goal.put_sign-requires-clause-none
-put_sign-requires-clause-none c = sym c.in_default.ensures.read

@@ -1,4 +1,4 @@
-use Rattle.std.proofs.Common.{◌-◌, ◌∙◌, take, drop, arith}
+use Rattle.std.proofs.Common.{◌-◌, take, drop, arith}
 use Rattle.mail_codec.specs.private.QuotedPrintable.{is_special}
 use Rattle.mail_codec.proofs.lemmas.Vectors.{no_match}
 use Rattle.mail_codec.proofs.lemmas.QuotedPrintableSpecials.{at_special, plain-to_end}
@@ -18,12 +18,6 @@ pub put_special-block-requires-clause-special : goal.put_special-block-requires-
 put_special-block-requires-clause-special c =
     let found = at_special c.args.text.now c.specials.output c.specials.block c.args.end _ _ c.specials.invariant.block c.first_match-count.ensures.least c.matches_after-rest.ensures in
     found.sign
-
-pub specials-preserved : goal.specials-preserved
-specials-preserved c = record {
-  begun = c.put_special-block.ensures.from ∙ c.specials.invariant.begun;
-  block = c.put_special-block.ensures.block;
-}
 
 pub put_rest-requires-clause-plain : goal.put_rest-requires-clause-plain
 put_rest-requires-clause-plain c =
