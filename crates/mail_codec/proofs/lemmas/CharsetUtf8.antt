@@ -1,26 +1,20 @@
 -- A character written into a buffer, byte by byte.
-use Rattle.std.proofs.Common.{◌≡◌, ℕ, ◌+◌, ◌/◌, ◌%◌, ◌<◌, ◌≤◌, List, [], ◌∷◌, ◌++◌, take, set, length, refl, append_assoc, arith, ltb, true, false, length-set}
+use Rattle.std.proofs.Common.{◌≡◌, ℕ, ◌+◌, ◌/◌, ◌%◌, ◌<◌, ◌≤◌, List, [], ◌∷◌, ◌++◌, take, set, length, refl, append_assoc, arith, length-set}
 use Rattle.std.specs.Char.{encode_utf8}
-use Rattle.std.proofs.lemmas.Bool.Decides.{nat_tests}
+use Rattle.std.proofs.lemmas.Bool.{le-ltb, lt-ltb}
 use Rattle.std.proofs.lemmas.List.{take_more_set}
-
-no_less : (c n : ℕ) → n ≤ c → ltb c n ≡ false
-no_less c n h = grind (arith, nat_tests)
-
-less : (c n : ℕ) → c < n → ltb c n ≡ true
-less c n h = grind (arith, nat_tests)
 
 pub encode_two : (c : ℕ) → 128 ≤ c → c < 2048 → encode_utf8 c ≡ (192 + c / 64) ∷ (128 + c % 64) ∷ []
 unfolding encode_utf8
-encode_two c from to = rw (no_less c 128 from, less c 2048 to) refl
+encode_two c from to = rw (le-ltb c 128 from, lt-ltb c 2048 to) refl
 
 pub encode_three : (c : ℕ) → 2048 ≤ c → c < 65536 → encode_utf8 c ≡ (224 + c / 4096) ∷ (128 + c / 64 % 64) ∷ (128 + c % 64) ∷ []
 unfolding encode_utf8
-encode_three c from to = let more : 128 ≤ c = omega arith in rw (no_less c 128 more, no_less c 2048 from, less c 65536 to) refl
+encode_three c from to = let more : 128 ≤ c = omega arith in rw (le-ltb c 128 more, le-ltb c 2048 from, lt-ltb c 65536 to) refl
 
 pub encode_four : (c : ℕ) → 65536 ≤ c → encode_utf8 c ≡ (240 + c / 262144) ∷ (128 + c / 4096 % 64) ∷ (128 + c / 64 % 64) ∷ (128 + c % 64) ∷ []
 unfolding encode_utf8
-encode_four c from = let more : 128 ≤ c = omega arith in let most : 2048 ≤ c = omega arith in rw (no_less c 128 more, no_less c 2048 most, no_less c 65536 from) refl
+encode_four c from = let more : 128 ≤ c = omega arith in let most : 2048 ≤ c = omega arith in rw (le-ltb c 128 more, le-ltb c 2048 most, le-ltb c 65536 from) refl
 
 -- the front of a buffer after some bytes are written in a row
 pub stored_two : (xs : List ℕ) (n a b : ℕ) → n + 4 ≤ length xs → take (n + 2) (set (set xs n a) (n + 1) b) ≡ take n xs ++ a ∷ b ∷ []

@@ -5,6 +5,7 @@ use Rattle.std.proofs.lemmas.List.{get_or-map, get_or_append_left, length-take-l
 use Rattle.std.proofs.lemmas.List.Sums.{prefix_len_passes, prefix_len-le-length}
 use Rattle.std.proofs.lemmas.Nat.{and_le_r, or_shifted, or_lt}
 use Rattle.std.proofs.lemmas.Simd.{Each1-from_get_or, get_or_narrower, get_or-zip2, get_or-replicate, length-replicate, length-zip2, sum_dots, swz_l, SwzOk, tops_compared, zip2_of_maps, zip2_splat}
+use Rattle.std.proofs.Math.Bool.{not-not}
 use Rattle.std.proofs.Math.Seq.{take-add}
 use Rattle.std.specs.List.{prefix_len}
 use Rattle.std.specs.Option.{is_some}
@@ -33,13 +34,9 @@ others_mask n few v fs fits is =
     mask_of n few (λ a b. not (a == b)) fault_of 0 v fs fits.0 is
     ∙ ap mask_l (map_same (λ b. not (fault_of b == 0)) (λ b. not (is_letter b)) others_agree v fits.1)
 
-twice : (t : Bool) → not (not t) ≡ t
-twice true = refl
-twice false = refl
-
 -- how many letters precede the first other byte
 pub letters_first : (v : List ℕ) → first_place (begins (λ b. not (is_letter b))) v ≡ prefix_len is_letter v
-letters_first v = first_place-begins (λ b. not (is_letter b)) v ∙ (λ i. prefix_len (λ b. twice (is_letter b) i) v)
+letters_first v = first_place-begins (λ b. not (is_letter b)) v ∙ (λ i. prefix_len (λ b. not-not (is_letter b) i) v)
 
 -- the mask is 0 exactly where all are letters
 pub all_letters : (v : List ℕ) (mask : ℕ) → length v ≡ 64 → mask ≡ mask_l (map (λ b. not (is_letter b)) v) → (mask == 0) ≡ (prefix_len is_letter v == 64)
