@@ -1,5 +1,7 @@
 -- Days of the proleptic Gregorian calendar (ISO 8601), and the English names of its months.
-use Rattle.std.specs.Prelude.{ℕ, zero, suc, ◌+◌, ◌%◌, ◌-◌, Bool, not, ◌&&◌, ◌||◌, ◌==◌, List, [], ◌∷◌, take, sum, codes, if◌then◌else◌}
+use Rattle.std.specs.Prelude.{ℕ, zero, suc, ◌+◌, ◌%◌, ◌-◌, Bool, not, ◌&&◌, ◌||◌, ◌==◌, List, [], ◌∷◌, length, take, sum, codes, if◌then◌else◌}
+use Rattle.std.specs.List.{list_any}
+use Rattle.std.specs.Str.{bytes_eq}
 
 -- a leap year: every fourth year, except the centuries that 400 does not divide
 abbrev pub is_leap_year : ℕ → Bool
@@ -36,3 +38,7 @@ months =
     ∷ (codes "Jul", 6) ∷ (codes "July", 6) ∷ (codes "Aug", 7) ∷ (codes "August", 7)
     ∷ (codes "Sep", 8) ∷ (codes "September", 8) ∷ (codes "Oct", 9) ∷ (codes "October", 9)
     ∷ (codes "Nov", 10) ∷ (codes "November", 10) ∷ (codes "Dec", 11) ∷ (codes "December", 11) ∷ []
+
+-- the word is one of these names, of three letters and in the same case
+abbrev pub is_month_abbreviation : List ℕ → Bool
+is_month_abbreviation word = length word == 3 && list_any (λ row. bytes_eq word row.0) months

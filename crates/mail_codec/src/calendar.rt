@@ -1,9 +1,11 @@
 //! Days of the proleptic Gregorian calendar (ISO 8601), counted without a loop, and the English
 //! names of its months.
-ghost use Rattle.std.specs.Prelude.{◌≡◌, ◌≤◌, ◌<◌, ◌*◌, ◌^◌, take, sum, pos, IfSome};
+ghost use Rattle.std.specs.Prelude.{◌≡◌, ◌≤◌, ◌<◌, ◌*◌, ◌^◌, map, take, sum, pos, IfSome};
+ghost use Rattle.std.specs.List.{list_any};
+ghost use Rattle.std.specs.Str.{bytes_eq};
 ghost use Rattle.mail_codec.specs.Calendar.{day_number, days_of_years, is_leap_year, month_lengths};
-ghost use Rattle.mail_codec.specs.Calendar.{months};
-ghost use Rattle.mail_codec.specs.Names.{look_up};
+ghost use Rattle.mail_codec.specs.Calendar.{is_month_abbreviation, months};
+ghost use Rattle.mail_codec.specs.Names.{look_up, row_view};
 
 use crate::names::look_up;
 
@@ -134,4 +136,36 @@ pub fn month_named(word: &[u8]) -> Option<usize>
     ensures bounds { IfSome result (λ month. month < 12) }
 {
     look_up(&MONTHS, word)
+}
+
+/// Returns whether a word is the name of a month in three letters, the first of them in upper case
+/// (RFC 5322, section 3.3).
+///
+/// Takes no memory.
+///
+/// # Examples
+///
+/// ```rust
+/// use mail_codec::calendar::is_month_abbreviation;
+///
+/// assert!(rt; is_month_abbreviation(b"Feb"));
+/// assert!(rt; !is_month_abbreviation(b"feb"));
+/// assert!(rt; !is_month_abbreviation(b"February"));
+/// ```
+pub fn is_month_abbreviation(word: &[u8]) -> bool
+    ensures { result ≡ is_month_abbreviation word.now }
+{
+    word.len() == 3 && has_name(&MONTHS, word)
+}
+
+/// Whether a word is a name of a table, in the same case.
+fn has_name(table: &[(&str, usize)], word: &[u8]) -> bool
+    ensures { result ≡ list_any (λ row. bytes_eq word.now row.0) (map row_view table.now) }
+{
+    for (name, _) in table {
+        if word == name.as_bytes() {
+            return true;
+        }
+    }
+    false
 }
