@@ -5,12 +5,14 @@ from __future__ import annotations
 import email.message
 import email.policy
 import json
+import re
 from datetime import datetime, timedelta, timezone
 from typing import Any, Dict, Iterator, List, NamedTuple, Optional, Tuple, Union, cast
 
 from . import _library
 from ._library import Refused
 
+Bytes = Union[bytes, bytearray, memoryview]
 _EPOCH = datetime(1970, 1, 1, tzinfo=timezone.utc)
 _FORWARDING = ("message/rfc822", "message/global")
 
@@ -61,6 +63,42 @@ def _own_parts(value: Dict[str, Any]) -> List[Dict[str, Any]]:
     return parts
 
 
+# a line end that ends a header: no blank follows it
+_HEADER_END = re.compile(rb"\n(?![ \t])")
+
+
+def _raw_values(mail: bytes, start: int, end: int, count: int) -> List[bytes]:
+    """The raw values of the first headers of the part at these offsets, by the rules of docs/RULES.md ("Header lines")."""
+    found = []
+    for _ in range(count):
+        line_end = mail.find(b"\n", start, end)
+        colon = mail.find(b":", start, end if line_end < 0 else line_end)
+        if colon < 0:
+            found.append(b"")
+            start = end if line_end < 0 else line_end + 1
+            continue
+        header_end = _HEADER_END.search(mail, colon, end)
+        value_end, start = header_end.span() if header_end else (end, end)
+        found.append(mail[colon + 1 : value_end].lstrip(b" ").rstrip(b"\r\n"))
+    return found
+
+
+class _RawValues:
+    """The raw values of the headers of a part: all are read when the first is used."""
+
+    __slots__ = ("_place", "_values")
+
+    def __init__(self, mail: bytes, start: int, end: int, count: int) -> None:
+        self._place = (mail, start, end, count)
+        self._values: Optional[List[bytes]] = None
+
+    def __getitem__(self, index: int) -> bytes:
+        values = self._values
+        if values is None:
+            values = self._values = _raw_values(*self._place)
+        return values[index]
+
+
 class Header:
     """A header of a part: its `name`, its decoded `value`, and its `raw` value.
 
@@ -69,19 +107,18 @@ class Header:
     ('Subject', 'café at noon', b'=?utf-8?q?caf=C3=A9?=\\r\\n at noon')
     """
 
-    __slots__ = ("name", "value", "_part", "_number")
+    __slots__ = ("name", "value", "_raw_values", "_index")
 
-    def __init__(self, name: str, value: str, part: bytes, number: int) -> None:
+    def __init__(self, name: str, value: str, raw_values: Union[_RawValues, Tuple[bytes]], index: int = 0) -> None:
         self.name = name
         self.value = value
-        self._part = part
-        self._number = number
+        self._raw_values = raw_values
+        self._index = index
 
     @property
     def raw(self) -> bytes:
-        """The raw value, without decoding. The header block is read for it."""
-        found = _library.raw_header(self._part, self.name, self._number)
-        return b"" if found is None else found
+        """The raw value, without decoding. The first use reads those of all headers of the part, in linear time."""
+        return self._raw_values[self._index]
 
     def __eq__(self, other: object) -> bool:
         return isinstance(other, Header) and (self.name, self.value, self.raw) == (other.name, other.value, other.raw)
@@ -90,7 +127,7 @@ class Header:
         return hash((self.name, self.value))
 
     def __reduce__(self) -> Tuple[Any, ...]:
-        return Header, (self.name, self.value, self._part, self._number)
+        return Header, (self.name, self.value, (self.raw,))
 
     def __repr__(self) -> str:
         return f"Header({self.name!r}, {self.value!r})"
@@ -159,15 +196,9 @@ class Part:
     @property
     def headers(self) -> List[Header]:
         """The headers, in order."""
-        counts: Dict[str, int] = {}
-        raw = self.raw
-        found = []
-        for name, value in self._object["headers"]:
-            key = name.lower() if name.isascii() else name
-            number = counts.get(key, 0)
-            counts[key] = number + 1
-            found.append(Header(name, value, raw, number))
-        return found
+        found, start, end = self._object["headers"], self._object["start"], self._object["end"]
+        raw_values = _RawValues(self._mail.raw, start, end, len(found))
+        return [Header(name, value, raw_values, index) for index, (name, value) in enumerate(found)]
 
     @property
     def raw(self) -> bytes:
@@ -212,8 +243,20 @@ class Part:
         return f"<rocktray.Part {self.path!r} {self.content_type}>"
 
 
+def _as_bytes(raw: Any) -> bytes:
+    """The bytes of a buffer. Raises `TypeError` if it is none, and says how to get the bytes of a mail."""
+    try:
+        return memoryview(raw).tobytes()
+    except TypeError:
+        kind = type(raw).__name__
+    for name in ("read_bytes", "as_bytes", "read"):
+        if hasattr(raw, name):
+            raise TypeError(f"a mail is bytes, not {kind}: use its {name}(), or open_mailbox for a mailbox")
+    raise TypeError(f"a mail is bytes, not {kind}: read a file by pathlib.Path(..).read_bytes(), a mailbox by open_mailbox")
+
+
 class Mail:
-    """A mail. Its bytes are read when it is first used; `parse` reads them at once.
+    """A mail. Its bytes are read when it is first used; `parse` reads them at once. Raises `TypeError` for anything but bytes.
 
     >>> mail = parse(b"Subject: Hi\\nDate: Fri, 21 Nov 1997 09:55:06 -0600\\n\\nHello\\n")
     >>> mail.subject, mail.date.isoformat(), mail.text
@@ -228,8 +271,8 @@ class Mail:
     """The offsets at which it begins and ends in its mailbox, or `None` outside of one."""
     _read: Union[None, Dict[str, Any], Refused]
 
-    def __init__(self, raw: bytes, place: Optional[Tuple[int, int]] = None) -> None:
-        self.raw = raw
+    def __init__(self, raw: Bytes, place: Optional[Tuple[int, int]] = None) -> None:
+        self.raw = raw if isinstance(raw, bytes) else _as_bytes(raw)
         self.place = place
         self._read = None
 
@@ -438,8 +481,8 @@ def _part_of(mail: Mail, index: int) -> Part:
     return Part(mail, mail._object["parts"][index], index)
 
 
-def parse(raw: Union[bytes, bytearray, memoryview]) -> Mail:
-    """Reads a mail. Raises `Refused` if it is refused, and no other exception except `MemoryError`.
+def parse(raw: Bytes) -> Mail:
+    """Reads a mail. Raises `Refused` if it is refused, and `TypeError` if it is not bytes; otherwise only `MemoryError`.
 
     >>> parse(b"Subject: Hi\\n\\nHello").subject
     'Hi'
@@ -448,6 +491,6 @@ def parse(raw: Union[bytes, bytearray, memoryview]) -> Mail:
         ...
     rocktray.Refused: Header cannot start with a space; it is likely an overhanging line from a previous header
     """
-    mail = Mail(bytes(raw))
+    mail = Mail(raw)
     mail._object
     return mail

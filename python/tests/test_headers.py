@@ -1,0 +1,49 @@
+"""The raw values of headers, which the module cuts itself."""
+
+import pickle
+import time
+
+import rocktray
+from rocktray import _library
+
+
+def raw_values(part):
+    """The raw values of a part's headers, each by a call of the library."""
+    counts, found = {}, []
+    for header in part.headers:
+        key = header.name.lower() if header.name.isascii() else header.name
+        found.append(_library.raw_header(part.raw, header.name, counts.get(key, 0)))
+        counts[key] = counts.get(key, 0) + 1
+    return found
+
+
+ODD = [
+    b"A: b", b"A", b"", b"\n", b"A\n", b"A: b\n", b"A:\n", b"A:\r\n", b"A: \r\n b\r\n\r\n", b"A\n\tb: c\n", b"A\r\nB: \n \n\t\n\n x",
+    b"A:  b \r\r\n\r\n", b"A: b\n c\n\td\r\n e: f\nG: h\n \n", b":x\n:\n : y", b"A: b\n ", b"A: \n\n", b"A: b\rC: d\n", b"A: b\r",
+]  # fmt: skip
+
+
+def test_raw_values_are_those_of_the_library(hostile, samples):
+    made = 0
+    for raw in [*ODD, *samples.values(), *hostile]:
+        whole = b"Content-Type: multipart/mixed; boundary=b\n\n--b\n" + raw + b"\n--b\nA: b"
+        for mail in (rocktray.Mail(raw), rocktray.Mail(whole)):
+            if mail.error is None:
+                for part in mail.walk():
+                    found = [header.raw for header in part.headers]
+                    assert found == raw_values(part), raw
+                    made += len(found)
+    assert made > 10_000
+
+
+def test_raw_values_in_linear_time():
+    mail = rocktray.parse(b"X-A: b\r\n" * 20_000 + b"\r\nx")
+    before = time.process_time()
+    assert [header.raw for header in mail.headers] == [b"b"] * 20_000
+    assert mail.headers == rocktray.parse(mail.raw).headers
+    assert time.process_time() - before < 3
+
+
+def test_pickled_headers_are_small():
+    part = next(rocktray.parse(b"A: b\nC: d\n\n" + b"x" * 1_000_000).walk())
+    assert len(pickle.dumps(part.headers)) < 1000
