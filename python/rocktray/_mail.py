@@ -68,7 +68,7 @@ _HEADER_END = re.compile(rb"\n(?![ \t])")
 
 
 def _raw_values(mail: bytes, start: int, end: int, count: int) -> List[bytes]:
-    """The raw values of the first headers of the part at these offsets, by the rules of docs/RULES.md ("Header lines")."""
+    """The raw values of the first headers of the part at these offsets (docs/RULES.md, "Header lines")."""
     found = []
     for _ in range(count):
         line_end = mail.find(b"\n", start, end)
@@ -252,11 +252,14 @@ def _as_bytes(raw: Any) -> bytes:
     for name in ("read_bytes", "as_bytes", "read"):
         if hasattr(raw, name):
             raise TypeError(f"a mail is bytes, not {kind}: use its {name}(), or open_mailbox for a mailbox")
-    raise TypeError(f"a mail is bytes, not {kind}: read a file by pathlib.Path(..).read_bytes(), a mailbox by open_mailbox")
+    advice = "read a file by pathlib.Path(..).read_bytes(), a mailbox by open_mailbox"
+    raise TypeError(f"a mail is bytes, not {kind}: {advice}")
 
 
 class Mail:
-    """A mail. Its bytes are read when it is first used; `parse` reads them at once. Raises `TypeError` for anything but bytes.
+    """A mail. Its bytes are read when it is first used; `parse` reads them at once.
+
+    Raises `TypeError` for anything but bytes.
 
     >>> mail = parse(b"Subject: Hi\\nDate: Fri, 21 Nov 1997 09:55:06 -0600\\n\\nHello\\n")
     >>> mail.subject, mail.date.isoformat(), mail.text
@@ -482,7 +485,7 @@ def _part_of(mail: Mail, index: int) -> Part:
 
 
 def parse(raw: Bytes) -> Mail:
-    """Reads a mail. Raises `Refused` if it is refused, and `TypeError` if it is not bytes; otherwise only `MemoryError`.
+    """Reads a mail. Raises `Refused` if it is refused, and `TypeError` if it is not bytes; else only `MemoryError`.
 
     >>> parse(b"Subject: Hi\\n\\nHello").subject
     'Hi'

@@ -2,57 +2,222 @@
 
 from __future__ import annotations
 
-import ctypes
-import mmap
 import os
 import re
+import stat
+import threading
+from collections import deque
+from itertools import islice
 from types import TracebackType
-from typing import Any, Iterator, Optional, Type, Union
+from typing import Any, Deque, Iterator, List, NamedTuple, Optional, Protocol, Tuple, Type, Union
 
 from . import _library
 from ._mail import Mail
 
 FORMATS = ("mbox", "mboxrd", "mboxcl")
+# the least number of bytes that are read at once
+BLOCK = 1 << 19
+# the greatest number of mails that are found at once
+MOST = 1000
+# what may be between a header block and a body and between mails, whose separator counts up to 1,000 bytes, and one byte
+SEPARATOR = 4 + 2 + 1000 + 1
+# how compressed files begin, and what opens them as a file of bytes
+_COMPRESSED = (
+    (b"\x1f\x8b", "gzip", "gzip.open(path)"),
+    (b"\xfd7zXZ\x00", "xz", "lzma.open(path)"),
+    (b"BZh", "bzip2", "bz2.open(path)"),
+    (b"(\xb5/\xfd", "zstd", "compression.zstd.open(path), from Python 3.14"),
+    (b"PK\x03\x04", "zip", "zipfile.ZipFile(path).open(name)"),
+)
+_LONGEST_START = 6
+_HEADER = re.compile(rb"[!-9;-~]+[ \t]*:")
+_COUNT = re.compile(rb"content-length:\s*([0-9]{1,9})(?![0-9])")
 _QUOTED = re.compile(rb"^>(>*From )", re.MULTILINE)
 
 
-class Mailbox:
-    """The mails of a mailbox, as `open_mailbox` returns it: an iterator, and a context manager that closes the file."""
+class Readable(Protocol):
+    """A file object open for reading bytes."""
 
-    def __init__(self, path: Union[str, "os.PathLike[str]"], format: str = "mbox") -> None:
+    def read(self, size: int, /) -> bytes: ...
+
+
+class _File:
+    """The bytes of a regular file: as many as it had when it was opened. It has no position that a fork would share."""
+
+    def __init__(self, file: Any, size: int) -> None:
+        self._file = file
+        self._size = size
+
+    def read_on(self, left: bytes, start: int) -> Tuple[bytes, bool]:
+        """The bytes from `start` on: those that are left, and at least as many more if the file has them. Also whether
+        the file ends there.
+        """
+        count = min(max(BLOCK, 2 * len(left)), self._size - start)
+        # what is left is read again, which is faster than copying all; one call reads less than 2 GiB
+        kept = left if len(left) > 1 << 30 else b""
+        data = kept + os.pread(self._file.fileno(), count - len(kept), start + len(kept))
+        if len(data) <= len(left):
+            from mailbox import ExternalClashError  # here, since it imports much
+
+            name, size = self._file.name, os.fstat(self._file.fileno()).st_size
+            raise ExternalClashError(f"{name!r} was shortened while it was read: from {self._size} bytes to {size}")
+        return data, start + len(data) == self._size
+
+
+class _Stream:
+    """The bytes of a pipe or of a file object, from its position on."""
+
+    def __init__(self, file: Any) -> None:
+        self._read = getattr(file, "read1", file.read)
+
+    def read_on(self, left: bytes, start: int) -> Tuple[bytes, bool]:
+        """The same as `_File.read_on`."""
+        pieces, wanted = [left], max(_LONGEST_START, len(left))
+        while wanted > 0:
+            data = self._read(max(BLOCK, wanted))
+            if not isinstance(data, bytes):
+                kind = type(data).__name__
+                raise TypeError(f"read() returned {kind}, not bytes: open the file in binary mode ('rb')")
+            if not data:
+                break
+            pieces.append(data)
+            wanted -= len(data)
+        return b"".join(pieces), wanted > 0
+
+
+def _reader_of(file: Any) -> Union[_File, _Stream]:
+    """The reader of a file that was opened: some files of /proc and all pipes have no size."""
+    status = os.fstat(file.fileno())
+    return _File(file, status.st_size) if stat.S_ISREG(status.st_mode) and status.st_size > 0 else _Stream(file)
+
+
+class _Window(NamedTuple):
+    """What was read of a mailbox. A new one replaces it, so that an exception in between does no harm."""
+
+    start: int
+    """The offset of the bytes in the mailbox."""
+    data: bytes
+    at: int
+    """Where the next mail begins in the bytes."""
+    last: int
+    """The last offset at which a separator ends a mail that no further bytes change: its line and one more byte were
+    read. At the end of the mailbox it is the length of the bytes.
+    """
+
+
+class Mailbox:
+    """The mails of a mailbox, as `open_mailbox` returns it: an iterator, and a context manager that closes the file.
+
+    Several threads may iterate over it: each mail goes to one of them.
+    """
+
+    def __init__(self, path: Union[str, "os.PathLike[str]", Readable], format: str = "mbox") -> None:
         if format not in FORMATS:
             raise ValueError(f"{format!r} is none of {', '.join(FORMATS)}")
-        self._format = format
-        self._at = 0
-        self._view: Any = None
-        with open(path, "rb") as file:
-            self._length = os.fstat(file.fileno()).st_size
-            if self._length:
-                # private pages, so that ctypes may take their address; nothing writes to them
-                self._map = mmap.mmap(file.fileno(), 0, access=mmap.ACCESS_COPY)
-                self._view = (ctypes.c_char * 0).from_buffer(self._map)
+        self._is_counted = format == "mboxcl"
+        self._is_quoted = format == "mboxrd"
+        # reentrant, for the handler of a signal that closes the mailbox
+        self._lock = threading.RLock()
+        # mails that were found: the bytes with the mail, the offset of these, and where in them it begins and ends
+        self._found: Deque[Tuple[bytes, int, int, int]] = deque()
+        self._window: Optional[_Window] = _Window(0, b"", 0, -1)
+        self._file: Any = None
+        self._reader: Union[_File, _Stream]
+        if hasattr(path, "read"):
+            self._reader = _Stream(path)
+        else:
+            self._file = open(path, "rb", buffering=0)
+            self._reader = _reader_of(self._file)
+        try:
+            name = getattr(self._file or path, "name", None)
+            self._check(repr(name) if isinstance(name, (str, bytes)) else "the input")
+        except BaseException:
+            self.close()
+            raise
+
+    def _check(self, name: str) -> None:
+        """Reads up to the first separator. Raises `ValueError` if the input is no mailbox."""
+        data = self._read_on().data
+        for start, kind, opener in _COMPRESSED:
+            if data.startswith(start):
+                raise ValueError(f"{name} is compressed by {kind}: unpack it, or use open_mailbox({opener})")
+        while True:
+            window = self._open_window()
+            first = next(_library.mails_of(window.data, 0, self._is_counted), None)
+            if window.last == len(window.data) or (first and first[0] < len(window.data)):
+                break
+            self._read_on()
+        if first is None:
+            _check_front(name, window.data)
+
+    def _open_window(self) -> _Window:
+        """What was read. Raises `ValueError` if the mailbox is closed."""
+        if self._window is None:
+            raise ValueError("the mailbox is closed")
+        return self._window
+
+    def _read_on(self) -> _Window:
+        """Reads on: at least as many bytes as are left, so that all calls together take linear time."""
+        start, data, at, _ = self._open_window()
+        data, is_last = self._reader.read_on(data[at:], start + at)
+        window = _Window(start + at, data, 0, len(data) if is_last else data.rfind(b"\n", 0, -1))
+        self._open_window()  # the handler of a signal may have closed it
+        self._window = window
+        return window
+
+    def _find(self) -> bool:
+        """Finds some mails, unless another thread has found some. Returns whether there are any. Raises `ValueError` if
+        the mailbox is closed.
+        """
+        window = self._open_window()
+        while not self._found:
+            places = _settled(window, self._is_counted)
+            if places:
+                found = [(window.data, window.start, start, end) for start, end, _ in places]
+                window = window._replace(at=places[-1][2])
+                self._open_window()
+                self._window = window
+                self._found.extend(found)
+            elif window.last == len(window.data):
+                self._release(_Window(window.start + window.at, b"", 0, 0))
+                return False
+            else:
+                window = self._read_on()
+        return True
 
     def __iter__(self) -> Iterator[Mail]:
         return self
 
     def __next__(self) -> Mail:
-        if self._view is None:
-            raise StopIteration
-        address = ctypes.addressof(self._view) + self._at
-        found = _library.next_mail(address, self._length - self._at, self._format == "mboxcl")
-        if found is None:
-            self.close()
-            raise StopIteration
-        start, end = self._at + found[0], self._at + found[1]
-        self._at += found[2]
-        raw = self._map[start:end]
-        return Mail(_QUOTED.sub(rb"\1", raw) if self._format == "mboxrd" else raw, (start, end))
+        while True:
+            try:
+                data, offset, start, end = self._found.popleft()
+                break
+            except IndexError:
+                pass
+            with self._lock:
+                if not self._find():
+                    raise StopIteration
+        raw = data[start:end]
+        if self._is_quoted and b">From " in raw:
+            raw = _QUOTED.sub(rb"\1", raw)
+        return Mail(raw, (offset + start, offset + end))
+
+    def _release(self, window: Optional[_Window]) -> None:
+        """Closes the file that was opened for the mailbox, and leaves this window."""
+        self._window = window
+        if self._file is not None:
+            self._file.close()
 
     def close(self) -> None:
-        """Closes the file. No further mail is read."""
-        if self._view is not None:
-            self._view = None
-            self._map.close()
+        """Closes the file; one that was given stays open. To read on then raises `ValueError`, in every thread."""
+        with self._lock:
+            self._release(None)
+            self._found.clear()
+
+    def __del__(self) -> None:
+        if getattr(self, "_file", None) is not None:
+            self._file.close()
 
     def __enter__(self) -> "Mailbox":
         return self
@@ -63,11 +228,48 @@ class Mailbox:
         self.close()
 
 
-def open_mailbox(path: Union[str, "os.PathLike[str]"], format: str = "mbox") -> Mailbox:
+def _check_front(name: str, data: bytes) -> None:
+    """Raises `ValueError` if bytes without a separator are a single mail, or no text of a mailbox."""
+    if _HEADER.match(data):
+        raise ValueError(f"{name} is a single mail and no mailbox: use parse(pathlib.Path(..).read_bytes())")
+    if data.strip() and not data.startswith(b"From ") and b"\nFrom " not in data:
+        raise ValueError(f"{name} is no mailbox: it has no line that begins with 'From '")
+
+
+def _settled(window: _Window, is_counted: bool) -> List[Tuple[int, int, int]]:
+    """The offsets of the next mails that no further bytes change, but of at most `MOST`."""
+    data, found = window.data, []
+    needs_count = is_counted and window.last < len(data)
+    for mail in islice(_library.mails_of(data, window.at, is_counted), MOST):
+        if mail[2] > window.last or (needs_count and not _is_count_known(data, mail[0], mail[2])):
+            break
+        found.append(mail)
+    return found
+
+
+def _is_count_known(data: bytes, start: int, after: int) -> bool:
+    """Whether the bytes decide where a Content-Length ends the mail from `start` on, which has a separator after it.
+    The library decides it: here each number that may be the one has to be followed by enough bytes.
+    """
+    # the block ends there, or earlier if the lines of the mail end otherwise than that of its separator
+    end = data.find(b"\n\r\n" if data[start - 2] == 13 else b"\n\n", start - 1, after)
+    block = data[start : after if end < 0 else end].lower()
+    if b"content-length:" not in block:
+        return True
+    return start + len(block) + max(map(int, _COUNT.findall(block)), default=0) + SEPARATOR <= len(data)
+
+
+def open_mailbox(path: Union[str, "os.PathLike[str]", Readable], format: str = "mbox") -> Mailbox:
     """The mails of a mailbox, one after another, each read when it is first used.
 
-    `format` is 'mbox' (RFC 4155), 'mboxrd', or 'mboxcl' for a mailbox whose mails have a Content-Length. A mail that is
-    refused is there too: its `error` says why, and everything else about it raises `Refused`.
+    `path` may also be that of a pipe, or a file object open for reading bytes, such as `gzip.open(path)`. It is read in
+    blocks, so that only the largest mail has to fit into memory. `format` is 'mbox' (RFC 4155), 'mboxrd', or 'mboxcl'
+    for a mailbox whose mails have a Content-Length. A mail that is refused is there too: its `error` says why, and
+    everything else about it raises `Refused`.
+
+    Raises `ValueError` if the input is compressed, a single mail or no mailbox at all, and `OSError` if it cannot be
+    read. If another program shortens the file meanwhile, the mails up to there are returned, and then
+    `mailbox.ExternalClashError` is raised.
 
     >>> import os, tempfile
     >>> with tempfile.NamedTemporaryFile(delete=False) as file:

@@ -1,0 +1,358 @@
+"""Mailboxes: threads, files that are shortened, blocks, pipes and file objects, and inputs that are no mailboxes."""
+
+import bz2
+import gzip
+import io
+import lzma
+import os
+import random
+import subprocess
+import sys
+import threading
+import zipfile
+
+import pytest
+from conftest import TOP
+
+import rocktray
+from rocktray import _library, _mailbox
+
+LINE = b"From a Fri Jul  8 12:08:34 2011\n"
+
+
+def succeeds(script, *arguments):
+    """Runs a script in a process of its own, where a crash ends no other test."""
+    ended = subprocess.run([sys.executable, "-c", script, *map(str, arguments)], capture_output=True, text=True, check=False)
+    assert ended.returncode == 0, (ended.returncode, ended.stderr[-3000:])
+
+
+def numbered(count, size=2000):
+    """A mailbox of that many mails, each with its number for a subject."""
+    return b"".join(b"%sSubject: %d\n\n%s\n\n" % (LINE, number, b"x" * (size // (1 + number % 3))) for number in range(count))
+
+
+@pytest.fixture
+def box(tmp_path):
+    """The path of a mailbox of 2,000 mails, 2.7 MB."""
+    (tmp_path / "box").write_bytes(numbered(2000))
+    return tmp_path / "box"
+
+
+def test_threads_share_a_mailbox(box):
+    """Each mail goes to one of the threads."""
+    succeeds(
+        """
+import rocktray, sys, threading
+for _ in range(20):
+    box, found = rocktray.open_mailbox(sys.argv[1]), []
+    threads = [threading.Thread(target=lambda: found.extend(mail.header("subject") for mail in box)) for _ in range(4)]
+    for thread in threads: thread.start()
+    for thread in threads: thread.join()
+    assert sorted(map(int, found)) == list(range(2000)), len(found)
+""",
+        box,
+    )
+
+
+def test_closing_beside_a_thread(box):
+    """The thread that iterates gets a ValueError, unless it was at the end."""
+    succeeds(
+        """
+import rocktray, sys, threading, time
+ended = []
+def read(box):
+    try:
+        ended.append(sum(1 for mail in box))
+    except ValueError as error:
+        ended.append(str(error))
+for number in range(200):
+    box = rocktray.open_mailbox(sys.argv[1])
+    thread = threading.Thread(target=read, args=(box,))
+    thread.start()
+    time.sleep(number * 5e-5)
+    box.close()
+    thread.join()
+assert set(ended) <= {2000, "the mailbox is closed"} and "the mailbox is closed" in ended, set(ended)
+""",
+        box,
+    )
+
+
+def test_closed_mailbox(box):
+    with rocktray.open_mailbox(box) as mails:
+        assert next(mails).subject == "0"
+    for _ in range(2):
+        with pytest.raises(ValueError, match="the mailbox is closed"):
+            next(mails)
+    mails.close()
+    file = io.BytesIO(box.read_bytes())
+    rocktray.open_mailbox(file).close()
+    assert not file.closed
+
+
+def test_end_of_a_mailbox(box):
+    mails = rocktray.open_mailbox(box)
+    assert len(list(mails)) == 2000 and list(mails) == [] and mails._file.closed
+
+
+@pytest.mark.filterwarnings("error")
+def test_files_are_closed(box):
+    before = os.listdir("/proc/self/fd")
+    next(rocktray.open_mailbox(box))
+    with pytest.raises(ValueError):
+        rocktray.open_mailbox(TOP / "samples" / "attachment.eml")
+    assert os.listdir("/proc/self/fd") == before
+
+
+def test_shortened_mailbox(box):
+    """The mails up to the new end are returned, and then an error."""
+    succeeds(
+        """
+import mailbox, os, rocktray, sys
+for size in (0, 1, 1_000_000, 2_000_000):
+    data = open(sys.argv[1], "rb").read()
+    box, found = rocktray.open_mailbox(sys.argv[1]), []
+    found.append(next(box))
+    os.truncate(sys.argv[1], size)
+    for _ in range(2):
+        try:
+            found.extend(box)
+        except mailbox.ExternalClashError as error:
+            assert f"was shortened while it was read: from {len(data)} bytes to {size}" in str(error), error
+        else:
+            raise AssertionError("no error")
+    assert [mail.subject for mail in found] == [str(number) for number in range(len(found))]
+    assert all(data[slice(*mail.place)] == mail.raw for mail in found)
+    last = found[-1].place[1]
+    assert size - 5000 < last <= max(size, 1 << 19), (size, last)
+    open(sys.argv[1], "wb").write(data)
+""",
+        box,
+    )
+
+
+def test_growing_mailbox(box):
+    """Mails that come meanwhile are not read."""
+    mails = rocktray.open_mailbox(box)
+    with box.open("ab") as file:
+        file.write(numbered(10))
+    assert len(list(mails)) == 2000
+
+
+def test_memory_of_a_mailbox(tmp_path):
+    """A mailbox takes no memory but that of its largest mail."""
+    (tmp_path / "box").write_bytes(numbered(40_000))
+    succeeds(
+        """
+import re, rocktray, sys
+def peak():
+    return int(re.search("VmHWM:\\s*(\\d+) kB", open("/proc/self/status").read()).group(1)) * 1024
+next(rocktray.open_mailbox(sys.argv[1]))
+before = peak()
+assert sum(1 for mail in rocktray.open_mailbox(sys.argv[1])) == 40_000
+assert peak() - before < 4 << 20, peak() - before
+""",
+        tmp_path / "box",
+    )
+
+
+@pytest.mark.parametrize("format", _mailbox.FORMATS)
+def test_large_mail(format, tmp_path, monkeypatch):
+    """Reading goes on by twice as many bytes, so a mail of 16 MB is searched a few times."""
+    calls = []
+    next_mail = _library._next_mail
+    monkeypatch.setattr(_library, "_next_mail", lambda *arguments: calls.append(1) or next_mail(*arguments))
+    (tmp_path / "box").write_bytes(numbered(1) + numbered(1, 16 << 20) + numbered(1))
+    assert [len(mail.raw) for mail in rocktray.open_mailbox(tmp_path / "box", format)] == [2013, (16 << 20) + 13, 2013]
+    assert len(calls) < 25
+
+
+PIECES = (
+    [b"\n" + LINE] * 6
+    + [LINE, LINE[:-1] + b"\r\n", LINE[:-1], b"From the start I knew\n", b">From x\n", b"From b Fri Jul  8 12:08 2011 " + b"z" * 970 + b"\n"]
+    + [b"\n", b"\r\n", b"\n\n", b"\r", b" ", b"Subject: Hi\n", b"x" * 300 + b"\n", b"y"]
+    + [b"Content-Length: %d\n" % number for number in (0, 1, 35, 300, 1500, 10**9 - 1)]
+    + [b"content-length:\t 7 \r\n", b"X-Content-Length: 99\n", b"Content-Length: x\n"]
+)
+
+
+@pytest.mark.parametrize("format", _mailbox.FORMATS)
+@pytest.mark.parametrize("block", [1, 7, 100, 1500])
+def test_blocks(format, block, tmp_path, monkeypatch):
+    """Mailboxes read in small blocks have the mails that they have in one."""
+    chance = random.Random(f"{format} {block}")
+    found = 0
+    for _ in range(300):
+        data = LINE + b"".join(chance.choices(PIECES, k=chance.randrange(60)))
+        data = b"junk\n\n" + data if chance.random() < 0.2 else data
+        (tmp_path / "box").write_bytes(data)
+        whole = list(rocktray.open_mailbox(tmp_path / "box", format))
+        with monkeypatch.context() as patch:
+            patch.setattr(_mailbox, "BLOCK", block)
+            assert list(rocktray.open_mailbox(tmp_path / "box", format)) == whole
+            assert list(rocktray.open_mailbox(io.BytesIO(data), format)) == whole
+        found += len(whole)
+    assert found > 1000
+
+
+@pytest.mark.parametrize("chunk", [1, 1000, 100_000])
+def test_pipe(chunk, box):
+    """A pipe, by its path and as a file."""
+    data = box.read_bytes()[: max(5000, chunk * 2000)]
+    wanted = list(rocktray.open_mailbox(io.BytesIO(data)))
+    assert len(wanted) >= 2
+
+    def write(end):
+        with os.fdopen(end, "wb", buffering=0) as file:
+            for at in range(0, len(data), chunk):
+                file.write(data[at : at + chunk])
+
+    for opened in (lambda end: rocktray.open_mailbox(f"/dev/fd/{end}"), lambda end: rocktray.open_mailbox(os.fdopen(end, "rb"))):
+        end, other = os.pipe()
+        writer = threading.Thread(target=write, args=(other,))
+        writer.start()
+        assert list(opened(end)) == wanted
+        writer.join()
+
+
+def test_standard_input(box):
+    script = "import rocktray; assert sum(1 for mail in rocktray.open_mailbox('/dev/stdin')) == 2000"
+    with box.open("rb") as file:
+        subprocess.run([sys.executable, "-c", script], stdin=file, check=True)
+    subprocess.run([sys.executable, "-c", script], input=box.read_bytes(), check=True)
+
+
+def test_pipe_mails_come_at_once():
+    """A mail is returned as soon as what was written shows its end."""
+    end, other = os.pipe()
+    with os.fdopen(end, "rb") as file, os.fdopen(other, "wb", buffering=0) as writer:
+        writer.write(numbered(3))
+        mails = rocktray.open_mailbox(file)
+        assert [next(mails).subject, next(mails).subject] == ["0", "1"]
+
+
+class OnlyRead:
+    """A file object that has nothing but read."""
+
+    def __init__(self, data):
+        self._file = io.BytesIO(data)
+
+    def read(self, size):
+        return self._file.read(min(size, 10))
+
+
+def test_file_objects(box, tmp_path):
+    data = box.read_bytes()
+    wanted = list(rocktray.open_mailbox(box))
+    (tmp_path / "box.gz").write_bytes(gzip.compress(data))
+    (tmp_path / "box.xz").write_bytes(lzma.compress(data))
+    (tmp_path / "box.bz2").write_bytes(bz2.compress(data))
+    with zipfile.ZipFile(tmp_path / "box.zip", "w", zipfile.ZIP_DEFLATED) as file:
+        file.write(box, "box")
+    files = [box.open("rb"), box.open("rb", buffering=0), gzip.open(tmp_path / "box.gz"), lzma.open(tmp_path / "box.xz")]
+    files += [bz2.open(tmp_path / "box.bz2"), zipfile.ZipFile(tmp_path / "box.zip").open("box"), io.BytesIO(data), OnlyRead(data)]
+    for file in files:
+        assert list(rocktray.open_mailbox(file)) == wanted
+    for file in files[:-1]:
+        assert not file.closed
+        file.close()
+
+
+def test_position_of_a_file_object(box):
+    with box.open("rb") as file:
+        file.seek(2 * len(numbered(1)) - len(b"x" * 1000))
+        mails = list(rocktray.open_mailbox(file))
+    assert len(mails) == 1998 and mails[0].subject == "2"
+
+
+def test_text_file(box):
+    with box.open() as file, pytest.raises(TypeError, match="str, not bytes: open the file in binary mode"):
+        rocktray.open_mailbox(file)
+    end, other = os.pipe()
+    os.set_blocking(end, False)
+    with os.fdopen(end, "rb", buffering=0) as file, pytest.raises(TypeError, match="NoneType"):
+        rocktray.open_mailbox(file)
+    os.close(other)
+
+
+ZIPPED = io.BytesIO()
+with zipfile.ZipFile(ZIPPED, "w") as _file:
+    _file.writestr("box", numbered(3))
+
+
+@pytest.mark.parametrize(
+    "kind, data",
+    [
+        ("gzip", gzip.compress(numbered(3))),
+        ("xz", lzma.compress(numbered(3))),
+        ("bzip2", bz2.compress(numbered(3))),
+        ("zip", ZIPPED.getvalue()),
+        ("zstd", b"\x28\xb5\x2f\xfd\x24\x05\x29\x00\x00hallo"),
+    ],
+    ids=("gzip", "xz", "bzip2", "zip", "zstd"),
+)
+def test_compressed_mailbox(kind, data, tmp_path):
+    (tmp_path / "box").write_bytes(data)
+    with pytest.raises(ValueError, match=f"box' is compressed by {kind}: unpack it, or use open_mailbox"):
+        rocktray.open_mailbox(tmp_path / "box")
+    with pytest.raises(ValueError, match=f"compressed by {kind}"):
+        rocktray.open_mailbox(OnlyRead(data))
+
+
+def test_single_mail(samples, tmp_path):
+    for raw in samples.values():
+        (tmp_path / "mail.eml").write_bytes(raw)
+        with pytest.raises(ValueError, match=r"mail.eml' is a single mail and no mailbox: use parse.*read_bytes"):
+            rocktray.open_mailbox(tmp_path / "mail.eml")
+    with pytest.raises(ValueError, match="the input is a single mail"):
+        rocktray.open_mailbox(io.BytesIO(b"Subject: 1\n\nFrom the start I knew\n"))
+    with pytest.raises(ValueError, match="single mail"):
+        rocktray.open_mailbox(io.BytesIO(b"Subject: 1\n\n" + b"x\n" * 100_000))
+
+
+def test_no_mailbox():
+    for data in (b"\x89PNG\r\n\x1a\n", b"text\n", b"// <!-- <mdb:mork:z -->\n" * 10_000):
+        with pytest.raises(ValueError, match="the input is no mailbox: it has no line that begins with 'From '"):
+            rocktray.open_mailbox(io.BytesIO(data))
+    for data in (b"", b"\n\n", b" \r\n"):
+        assert list(rocktray.open_mailbox(io.BytesIO(data))) == []
+    for data in (b"junk\n\n", b"Subject: 1\n\n", b"junk\n" * 20_000 + b"\n"):
+        assert [mail.subject for mail in rocktray.open_mailbox(io.BytesIO(data + numbered(2)))] == ["0", "1"]
+
+
+def test_signal_handler_closes():
+    """A handler that closes the mailbox while a mail is read does not wait for it."""
+    succeeds(
+        """
+import os, rocktray, signal, sys
+end, other = os.pipe()
+os.write(other, b"From a Fri Jul  8 12:08:34 2011\\nSubject: 1\\n\\n")
+box = rocktray.open_mailbox(f"/dev/fd/{end}")
+def close(*_):
+    box.close()
+    os.close(other)
+signal.signal(signal.SIGALRM, close)
+signal.alarm(1)
+try:
+    next(box)
+except (ValueError, OSError):
+    sys.exit(0)
+sys.exit("no error")
+"""
+    )
+
+
+def test_forks_do_not_share_a_position(box):
+    succeeds(
+        """
+import os, rocktray, sys
+box = rocktray.open_mailbox(sys.argv[1])
+next(box)
+child = os.fork()
+count = sum(1 for mail in box)
+if child == 0:
+    os._exit(count != 1999)
+assert os.waitpid(child, 0)[1] == 0 and count == 1999
+""",
+        box,
+    )
