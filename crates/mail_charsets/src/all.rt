@@ -64,7 +64,7 @@ pub struct AllCharsets {
 impl AllCharsets {
     /// Returns the charsets of the standard.
     ///
-    /// Takes no memory.
+    /// Does not allocate.
     ///
     /// # Examples
     ///

@@ -64,7 +64,7 @@ impl Encoding {
     /// Returns the encoding that has the label, as `for_label` does, but `None` for the labels of the
     /// replacement encoding, whose texts cannot be read.
     ///
-    /// Takes no memory.
+    /// Does not allocate.
     ///
     /// # Examples
     ///
@@ -88,7 +88,7 @@ impl Encoding {
     /// Returns the text of the bytes in this encoding under the indexes, reading a byte order mark
     /// like any other bytes (the WHATWG Encoding Standard, sections 10 to 14).
     ///
-    /// Invalid bytes decode to U+FFFD. Takes memory for the text.
+    /// Invalid bytes decode to U+FFFD. Allocates the text.
     ///
     /// # Errors
     ///

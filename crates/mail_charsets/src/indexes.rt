@@ -28,7 +28,7 @@ pub struct Indexes<'t> {
 impl Indexes<'static> {
     /// Returns the indexes of the standard.
     ///
-    /// Takes no memory.
+    /// Does not allocate.
     ///
     /// # Examples
     ///

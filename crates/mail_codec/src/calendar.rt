@@ -42,7 +42,7 @@ static MONTHS: [(&str, usize); 23] = [
 /// Returns the number of days from 1 January 1970 to a day. Months are counted from 0, and a `day`
 /// past the end of its month lies in the next one.
 ///
-/// Takes no memory.
+/// Does not allocate.
 ///
 /// # Examples
 ///
@@ -66,7 +66,7 @@ pub fn day_number(year: u32, month: usize, day: u8) -> i64
 
 /// Returns whether a year is a leap year.
 ///
-/// Takes no memory.
+/// Does not allocate.
 ///
 /// # Examples
 ///
@@ -94,7 +94,7 @@ fn days_of_years(count: u64) -> u64
 
 /// Returns the number of days of a year before its month `month`, which is counted from 0.
 ///
-/// Takes no memory.
+/// Does not allocate.
 ///
 /// # Examples
 ///
@@ -120,7 +120,7 @@ pub fn days_of_months(year: u64, month: usize) -> u64
 /// an English name in full or its first three letters (RFC 5322, section 3.3); ASCII case is
 /// ignored.
 ///
-/// Takes no memory.
+/// Does not allocate.
 ///
 /// # Examples
 ///
@@ -141,7 +141,7 @@ pub fn month_named(word: &[u8]) -> Option<usize>
 /// Returns whether a word is the name of a month in three letters, the first of them in upper case
 /// (RFC 5322, section 3.3).
 ///
-/// Takes no memory.
+/// Does not allocate.
 ///
 /// # Examples
 ///

@@ -28,8 +28,8 @@ use std::borrow::CowStr;
 /// Returns the Latin-1 text of the bytes: one character for each byte, the one with the same
 /// number, from U+0000 to U+00FF (IANA's ISO-8859-1).
 ///
-/// If all bytes are ASCII, the text borrows them, and the call takes no memory and succeeds.
-/// Otherwise it takes memory for the text.
+/// If all bytes are ASCII, the text borrows them, and the call succeeds without allocating.
+/// Otherwise it allocates the text.
 ///
 /// # Errors
 ///
@@ -53,8 +53,8 @@ pub fn decode_latin1(alloc: Global, bytes: &[u8]) -> Result<CowStr<'_>, AllocErr
 
 /// Returns the ASCII text of the bytes, with U+FFFD for each byte at or above 0x80.
 ///
-/// If all bytes are ASCII, the text borrows them, and the call takes no memory and succeeds.
-/// Otherwise it takes memory for the text.
+/// If all bytes are ASCII, the text borrows them, and the call succeeds without allocating.
+/// Otherwise it allocates the text.
 ///
 /// # Errors
 ///

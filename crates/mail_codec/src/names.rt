@@ -6,7 +6,7 @@ ghost use Rattle.mail_codec.specs.Names.{look_up, row_view};
 /// Returns the value of the first row whose name is the word, ignoring ASCII case, or `None` if
 /// there is none.
 ///
-/// Takes no memory.
+/// Does not allocate.
 ///
 /// # Examples
 ///

@@ -13,7 +13,7 @@ use std::io::{Read, Write};
 /// Reads a mail to the end of `reader`, writes its text to `writer`, and flushes it.
 ///
 /// Nothing is written before the whole text is made, so `Mail` and `Input` leave the writer as it
-/// was. An interrupted read or write is tried again; a failed flush is not. Takes memory for the
+/// was. An interrupted read or write is tried again; a failed flush is not. Allocates the
 /// input, its headers and the text.
 ///
 /// # Errors

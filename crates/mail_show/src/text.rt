@@ -9,7 +9,7 @@ use mailparse::{MailHeader, MailParseError, ParsedMail};
 use std::alloc::{AllocError, Global};
 
 /// Returns the text of a message and its parts, each before its own parts: a line for each part, and
-/// one for each of its headers. Takes memory for the text.
+/// one for each of its headers. Allocates the text.
 ///
 /// # Errors
 ///

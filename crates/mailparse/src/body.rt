@@ -41,7 +41,7 @@ impl<'a> Body<'a> {
     /// `transfer_encoding` names (RFC 2045, section 6).
     ///
     /// The names are exactly `base64`, `quoted-printable`, `7bit`, `8bit` and `binary`, in lower
-    /// case; any other text, or `None`, means `7bit`. Takes no memory.
+    /// case; any other text, or `None`, means `7bit`. Does not allocate.
     /// `ParsedMail::get_body_encoded` returns the body of a message.
     ///
     /// # Examples
@@ -88,7 +88,7 @@ impl<'a> Body<'a> {
     /// Returns the bytes of the body as they appear in the message, not decoded (RFC 2045, section
     /// 6), whatever its transfer encoding.
     ///
-    /// Takes no memory.
+    /// Does not allocate.
     ///
     /// # Examples
     ///
@@ -113,7 +113,7 @@ impl<'a> Body<'a> {
     /// Returns the decoded bytes of the body: its transfer encoding is undone, and the charset is
     /// ignored (RFC 2045, section 6).
     ///
-    /// A body that is not encoded is borrowed and takes no memory. Any other takes memory for the
+    /// A body that is not encoded is borrowed without allocating. Any other allocates the
     /// decoded bytes.
     ///
     /// # Errors

@@ -33,7 +33,7 @@ impl ParsedContentType {
     /// Returns the type of a message without a `Content-Type`: `text/plain` in `us-ascii`, without
     /// parameters (RFC 2045, section 5.2).
     ///
-    /// Takes memory for the two texts.
+    /// Allocates the two texts.
     ///
     /// # Errors
     ///
@@ -92,7 +92,7 @@ pub fn parse_content_type(alloc: Global, text: &str) -> Result<ParsedContentType
 /// Reads the value of a `Content-Type` header as `parse_content_type` does, with extended
 /// parameters in any charset of `known` (RFC 2231, section 4).
 ///
-/// Takes memory for the texts and the parameters.
+/// Allocates the texts and the parameters.
 ///
 /// # Errors
 ///

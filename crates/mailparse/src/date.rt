@@ -18,7 +18,7 @@ use words::next_word;
 /// The words, separated by spaces and colons, are a day, a month, a year, an hour, a minute, a
 /// second and a zone, in this order. Text before the first number below 256 and after the zone is
 /// ignored. Words at the end may be missing: a text without a year gives 0. A year below 100 is one
-/// from 1970 to 2069, and a day past the end of its month lies in the next one. Takes no memory.
+/// from 1970 to 2069, and a day past the end of its month lies in the next one. Does not allocate.
 ///
 /// # Errors
 ///

@@ -41,7 +41,7 @@ impl Default for DispositionType {
 impl DispositionType {
     /// Returns an equal value.
     ///
-    /// Takes memory only for the text of an `Extension`.
+    /// Allocates only the text of an `Extension`.
     ///
     /// # Errors
     ///
@@ -85,7 +85,7 @@ impl ParsedContentDisposition {
     /// Returns the disposition of a message without a `Content-Disposition`: `Inline`, without
     /// parameters.
     ///
-    /// Takes no memory.
+    /// Does not allocate.
     ///
     /// # Examples
     ///
@@ -139,7 +139,7 @@ pub fn parse_content_disposition(
 /// Reads the value of a `Content-Disposition` header as `parse_content_disposition` does, with
 /// extended parameters in any charset of `known` (RFC 2231, section 4).
 ///
-/// Takes memory for the text and the parameters.
+/// Allocates the text and the parameters.
 ///
 /// # Errors
 ///

@@ -69,7 +69,7 @@ pub enum RefusalKind {
 impl MailParseError {
     /// Returns the kind of the refusal, or `None` if the call ran out of memory.
     ///
-    /// Takes no memory.
+    /// Does not allocate.
     ///
     /// # Examples
     ///
@@ -93,7 +93,7 @@ impl MailParseError {
 
     /// Returns the fault that the error wraps: that of the two decode errors, otherwise `None`.
     ///
-    /// Takes no memory.
+    /// Does not allocate.
     ///
     /// # Examples
     ///

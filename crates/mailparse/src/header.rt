@@ -40,7 +40,7 @@ impl<'a> MailHeader<'a> {
     /// Returns the key as text: one character for each byte, the one with the same number (RFC
     /// 5322, section 2.2; IANA's ISO-8859-1).
     ///
-    /// Takes memory for the text; `get_key_ref` borrows it if it can.
+    /// Allocates the text; `get_key_ref` borrows it if it can.
     ///
     /// # Errors
     ///
@@ -64,7 +64,7 @@ impl<'a> MailHeader<'a> {
     /// Returns the key as text, as `get_key` does, borrowed if and only if all its bytes are ASCII
     /// (RFC 5322, section 2.2).
     ///
-    /// When it borrows, it takes no memory and succeeds.
+    /// When it borrows, it succeeds without allocating.
     ///
     /// # Errors
     ///
@@ -92,7 +92,7 @@ impl<'a> MailHeader<'a> {
     /// and 6.2).
     ///
     /// Bytes that are not UTF-8 are read as Latin-1, one character for each byte; `get_value_utf8`
-    /// refuses them. Takes memory for the text.
+    /// refuses them. Allocates the text.
     ///
     /// Control characters, such as ESC and LF, stay in the text, including those from encoded
     /// words. On a terminal they may move the cursor, and in a log they may forge a line: escape
@@ -121,7 +121,7 @@ impl<'a> MailHeader<'a> {
     /// Returns the text of the value as `get_value` does, with encoded words in any charset that
     /// `known` knows (RFC 2047, section 2).
     ///
-    /// Takes memory for the text.
+    /// Allocates the text.
     ///
     /// Control characters stay in the text, as with `get_value`: escape them before showing the
     /// text on a terminal or writing it to a log.
@@ -180,7 +180,7 @@ impl<'a> MailHeader<'a> {
 
     /// Returns the value as text, as `get_value` does, but only if its bytes are UTF-8 (RFC 6532).
     ///
-    /// Takes memory for the text, and none if it refuses the bytes.
+    /// Allocates the text, and nothing if it refuses the bytes.
     ///
     /// # Errors
     ///
@@ -214,7 +214,7 @@ impl<'a> MailHeader<'a> {
     /// Returns the bytes of the key as they appear in the message, including any spaces before the
     /// colon (RFC 5322, section 2.2).
     ///
-    /// Takes no memory.
+    /// Does not allocate.
     ///
     /// # Examples
     ///
@@ -234,7 +234,7 @@ impl<'a> MailHeader<'a> {
     /// front and all CR and LF at its end, but with the line ends inside it (RFC 5322, section
     /// 2.2).
     ///
-    /// Takes no memory.
+    /// Does not allocate.
     ///
     /// # Examples
     ///
@@ -254,7 +254,7 @@ impl<'a> MailHeader<'a> {
 /// Returns the text of some bytes as the value of a header, as `get_value` reads it (RFC 5322,
 /// section 2.2.3; RFC 2047, sections 2, 4 and 6.2). The bytes may be a part of a value.
 ///
-/// Takes memory for the text. Control characters stay in it, as with `get_value`.
+/// Allocates the text. Control characters stay in it, as with `get_value`.
 ///
 /// # Errors
 ///
@@ -277,7 +277,7 @@ pub fn value_text(alloc: Global, value: &[u8]) -> Result<String, MailParseError>
 /// Returns the text of some bytes as the value of a header, as `get_value_in` reads it (RFC 2047,
 /// section 2).
 ///
-/// Takes memory for the text. Control characters stay in it, as with `get_value`.
+/// Allocates the text. Control characters stay in it, as with `get_value`.
 ///
 /// # Errors
 ///

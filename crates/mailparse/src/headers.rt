@@ -39,7 +39,7 @@ impl<'a> Headers<'a> {
     /// Returns the bytes of the header block, including the blank line that ends it (RFC 5322,
     /// section 2.1).
     ///
-    /// Takes no memory.
+    /// Does not allocate.
     ///
     /// # Examples
     ///

@@ -44,7 +44,7 @@ pub const MAX_LEVELS: u8 = 100;
 /// the same way. Any input, even an empty one, is a message, except in the first three cases under
 /// Errors.
 ///
-/// Takes memory for the lists of headers and parts and for the types; bodies and values are decoded
+/// Allocates the lists of headers and parts and for the types; bodies and values are decoded
 /// on demand. However the parts are nested, the number of headers, the number of body bytes, and
 /// three for each part add up to at most the number of bytes of the message.
 ///
@@ -60,7 +60,7 @@ pub const MAX_LEVELS: u8 = 100;
 ///   levels below the message (`parse_mail_limited` takes a lower limit);
 /// - `MailParseError::Memory` if it runs out of memory.
 ///
-/// A message that is refused before its first header takes no memory.
+/// A message that is refused before its first header does not allocate.
 ///
 /// # Examples
 ///
@@ -104,7 +104,7 @@ pub fn parse_mail(alloc: Global, raw: &[u8]) -> Result<ParsedMail<'_>, MailParse
 /// is read under one limit is read the same way under every greater one. The caller proves that
 /// `levels` is at most `MAX_LEVELS`.
 ///
-/// Takes memory as `parse_mail` does.
+/// Allocates as `parse_mail` does.
 ///
 /// # Errors
 ///
@@ -118,7 +118,7 @@ pub fn parse_mail(alloc: Global, raw: &[u8]) -> Result<ParsedMail<'_>, MailParse
 ///   `levels` levels below the message;
 /// - `MailParseError::Memory` if it runs out of memory.
 ///
-/// A message that is refused before its first header takes no memory.
+/// A message that is refused before its first header does not allocate.
 ///
 /// # Examples
 ///
@@ -148,7 +148,7 @@ pub fn parse_mail_limited(
 /// Reads a message as `parse_mail_in` does, but with parts at most `levels` levels below it, as
 /// `parse_mail_limited` does (RFC 2046, section 5.1).
 ///
-/// The caller proves that `levels` is at most `MAX_LEVELS`. Takes memory as `parse_mail` does.
+/// The caller proves that `levels` is at most `MAX_LEVELS`. Allocates as `parse_mail` does.
 ///
 /// # Errors
 ///
@@ -267,7 +267,7 @@ fn message_of<'a>(
 ///
 /// The result does not keep the charsets; pass them to each later call that ends in `_in`.
 ///
-/// Takes memory as `parse_mail` does.
+/// Allocates as `parse_mail` does.
 ///
 /// # Errors
 ///

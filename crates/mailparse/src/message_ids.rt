@@ -66,7 +66,7 @@ impl DerefMut for MessageIdList {
 impl MessageIdList {
     /// Returns an equal list.
     ///
-    /// Takes memory for the list and its ids.
+    /// Allocates the list and its ids.
     ///
     /// # Errors
     ///
@@ -112,7 +112,7 @@ impl fmt::Display for MessageIdList {
 ///
 /// Each id is the text between a `<` and the first `>` after it. It may be empty, and may contain
 /// whitespace and any other character except `>`. Only whitespace may surround the ids; a text of
-/// whitespace alone gives the empty list. Takes memory for the list and its ids, and none before
+/// whitespace alone gives the empty list. Allocates the list and its ids, and nothing before
 /// the first whole id.
 ///
 /// # Errors

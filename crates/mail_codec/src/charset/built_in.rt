@@ -47,7 +47,7 @@ impl Charset {
     /// Returns the charset whose byte order mark the bytes begin with, and the length of the mark,
     /// or `None` if they begin with no mark (the WHATWG Encoding Standard, section 6).
     ///
-    /// Takes no memory.
+    /// Does not allocate.
     ///
     /// # Examples
     ///
@@ -77,7 +77,7 @@ impl Charset {
     /// begin with (the WHATWG Encoding Standard, section 6).
     ///
     /// A byte order mark is removed, and overrides the charset. Invalid bytes decode to U+FFFD.
-    /// Takes memory for the text.
+    /// Allocates the text.
     ///
     /// # Errors
     ///
@@ -103,7 +103,7 @@ impl Charset {
     /// Returns the text of the bytes in this charset, reading a byte order mark like any other
     /// bytes (the WHATWG Encoding Standard, sections 8, 9.1 and 14).
     ///
-    /// Invalid bytes decode to U+FFFD. Takes memory for the text.
+    /// Invalid bytes decode to U+FFFD. Allocates the text.
     ///
     /// # Errors
     ///

@@ -13,7 +13,7 @@ const BLOCK: usize = 16;
 /// Returns whether the label is one of these labels, ignoring ASCII case (the WHATWG Encoding
 /// Standard, section 4.2).
 ///
-/// Neither the label nor the labels are trimmed. Takes no memory.
+/// Neither the label nor the labels are trimmed. Does not allocate.
 ///
 /// # Examples
 ///
@@ -38,7 +38,7 @@ fn is_same(label: &[u8], known: &[u8]) -> bool
 
 /// Returns the length of the leading blocks of 16 bytes that are all ASCII.
 ///
-/// Fewer than 16 further ASCII bytes may follow. Takes no memory.
+/// Fewer than 16 further ASCII bytes may follow. Does not allocate.
 ///
 /// # Examples
 ///

@@ -23,7 +23,7 @@ pub trait Decode: Copy {
     /// Returns the text of the bytes in this charset, reading a byte order mark like any other
     /// bytes.
     ///
-    /// Takes memory for the text.
+    /// Allocates the text.
     ///
     /// # Errors
     ///
@@ -43,7 +43,7 @@ pub trait Decode: Copy {
     /// Returns the text of the bytes in this charset, or in the one whose byte order mark they
     /// begin with (the WHATWG Encoding Standard, section 6).
     ///
-    /// A byte order mark is removed, and overrides the charset. Takes memory for the text.
+    /// A byte order mark is removed, and overrides the charset. Allocates the text.
     ///
     /// # Errors
     ///
@@ -69,7 +69,7 @@ pub trait Decode: Copy {
     /// Returns the text of a vector of bytes in this charset, as `decode_without_bom_handling`
     /// does.
     ///
-    /// Takes memory for the text, unless the charset can reuse that of the vector.
+    /// Allocates the text, unless the charset can reuse that of the vector.
     ///
     /// # Errors
     ///
@@ -110,7 +110,7 @@ pub trait KnownCharsets {
     /// Returns the charset that has the label, or `None` if none of these has it (the WHATWG
     /// Encoding Standard, section 4.2).
     ///
-    /// Takes no memory.
+    /// Does not allocate.
     ///
     /// # Examples
     ///

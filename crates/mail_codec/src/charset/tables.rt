@@ -26,7 +26,7 @@ impl<'t> SingleByteTable<'t> {
     /// Returns the text of the bytes under this table, or in the charset whose byte order mark they
     /// begin with (the WHATWG Encoding Standard, section 6).
     ///
-    /// A byte order mark is removed, and overrides the table. Takes memory for the text.
+    /// A byte order mark is removed, and overrides the table. Allocates the text.
     ///
     /// # Errors
     ///
@@ -50,7 +50,7 @@ impl<'t> SingleByteTable<'t> {
     /// Returns the text of the bytes under this table, reading a byte order mark like any other
     /// bytes (the WHATWG Encoding Standard, section 9.1).
     ///
-    /// Takes memory for the text.
+    /// Allocates the text.
     ///
     /// # Errors
     ///
@@ -89,7 +89,7 @@ impl<'t> SingleByteTable<'t> {
 /// this crate's own rule. Labels are matched as in the WHATWG Encoding Standard, section 4.2.
 ///
 /// ASCII whitespace around the label (space, tab, LF, FF, CR) and ASCII case are ignored; the
-/// labels of the tables are not trimmed. Takes no memory.
+/// labels of the tables are not trimmed. Does not allocate.
 ///
 /// # Examples
 ///

@@ -29,7 +29,7 @@ pub struct EncodedBody<'a> {
 impl<'a> EncodedBody<'a> {
     /// Returns the content type that the body was made with (RFC 2045, section 5).
     ///
-    /// Takes no memory.
+    /// Does not allocate.
     ///
     /// # Examples
     ///
@@ -52,7 +52,7 @@ impl<'a> EncodedBody<'a> {
     /// Returns the bytes of the body as they appear in the message, not decoded (RFC 2045, section
     /// 6).
     ///
-    /// Takes no memory.
+    /// Does not allocate.
     ///
     /// # Examples
     ///
@@ -111,7 +111,7 @@ impl<'a> EncodedBody<'a> {
     /// 6.7 and 6.8; RFC 2046, section 4.1.2).
     ///
     /// A byte order mark overrides that charset. If the label is unknown, each byte that is not
-    /// ASCII becomes U+FFFD. Takes memory for the bytes and for the text.
+    /// ASCII becomes U+FFFD. Allocates the bytes and the text.
     ///
     /// # Errors
     ///
@@ -142,7 +142,7 @@ impl<'a> EncodedBody<'a> {
     /// Returns the decoded text of the body as `get_decoded_as_string` does, in any charset of
     /// `known` (RFC 2045, sections 6.7 and 6.8; RFC 2046, section 4.1.2).
     ///
-    /// Takes memory for the bytes and for the text.
+    /// Allocates the bytes and the text.
     ///
     /// # Errors
     ///

@@ -20,7 +20,7 @@ pub struct TextBody<'a> {
 impl<'a> TextBody<'a> {
     /// Returns the content type that the body was made with (RFC 2045, section 5).
     ///
-    /// Takes no memory.
+    /// Does not allocate.
     ///
     /// # Examples
     ///
@@ -43,7 +43,7 @@ impl<'a> TextBody<'a> {
     /// Returns the bytes of the body as they appear in the message, not decoded (RFC 2045, section
     /// 6).
     ///
-    /// Takes no memory.
+    /// Does not allocate.
     ///
     /// # Examples
     ///
@@ -66,7 +66,7 @@ impl<'a> TextBody<'a> {
     /// Returns the text of the body in the charset of its content type (RFC 2046, section 4.1.2).
     ///
     /// A byte order mark overrides that charset. If the label is unknown, each byte that is not
-    /// ASCII becomes U+FFFD. Takes memory for the text.
+    /// ASCII becomes U+FFFD. Allocates the text.
     ///
     /// # Errors
     ///
@@ -94,7 +94,7 @@ impl<'a> TextBody<'a> {
     /// Returns the text of the body as `get_as_string` does, in any charset of `known` (RFC
     /// 2046, section 4.1.2).
     ///
-    /// Takes memory for the text.
+    /// Allocates the text.
     ///
     /// # Errors
     ///
@@ -135,7 +135,7 @@ pub struct BinaryBody<'a> {
 impl<'a> BinaryBody<'a> {
     /// Returns the content type that the body was made with (RFC 2045, section 5).
     ///
-    /// Takes no memory.
+    /// Does not allocate.
     ///
     /// # Examples
     ///
@@ -158,7 +158,7 @@ impl<'a> BinaryBody<'a> {
     /// Returns the bytes of the body as they appear in the message, not decoded (RFC 2045, section
     /// 6).
     ///
-    /// Takes no memory.
+    /// Does not allocate.
     ///
     /// # Examples
     ///
@@ -181,7 +181,7 @@ impl<'a> BinaryBody<'a> {
     /// Returns the text of the body in the charset of its content type (RFC 2046, section 4.1.2).
     ///
     /// A byte order mark overrides that charset. If the label is unknown, each byte that is not
-    /// ASCII becomes U+FFFD. Takes memory for the text.
+    /// ASCII becomes U+FFFD. Allocates the text.
     ///
     /// # Errors
     ///
@@ -209,7 +209,7 @@ impl<'a> BinaryBody<'a> {
     /// Returns the text of the body as `get_as_string` does, in any charset of `known` (RFC
     /// 2046, section 4.1.2).
     ///
-    /// Takes memory for the text.
+    /// Allocates the text.
     ///
     /// # Errors
     ///

@@ -15,7 +15,7 @@ use mail_codec::bytescan::{find_byte, find_either};
 /// up, including its line end (RFC 5322, sections 2.2 and 2.2.3).
 ///
 /// The key ends at the first colon; a line without a colon is a key alone. The value continues on
-/// each line that begins with a space or a tab. Takes no memory.
+/// each line that begins with a space or a tab. Does not allocate.
 ///
 /// # Errors
 ///

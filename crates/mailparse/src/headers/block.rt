@@ -21,7 +21,7 @@ const HEADER_BYTES: usize = 32;
 /// input, and returns them with the offset of the body, just after the blank line (RFC 5322,
 /// section 2.1).
 ///
-/// A blank line is LF or CR LF. Takes memory only for the list of headers.
+/// A blank line is LF or CR LF. Allocates only the list of headers.
 ///
 /// # Errors
 ///
@@ -33,7 +33,7 @@ const HEADER_BYTES: usize = 32;
 ///   character!`, for a CR without LF where a header or the blank line is expected;
 /// - `MailParseError::Memory` if it runs out of memory.
 ///
-/// A refusal before the first header takes no memory.
+/// A refusal before the first header does not allocate.
 ///
 /// # Examples
 ///

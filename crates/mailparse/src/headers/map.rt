@@ -26,7 +26,7 @@ pub trait MailHeaderMap {
 
     /// Returns the headers, in the order of the message (RFC 5322, section 2.2).
     ///
-    /// Takes no memory.
+    /// Does not allocate.
     ///
     /// # Examples
     ///
@@ -41,7 +41,7 @@ pub trait MailHeaderMap {
 
     /// Returns the first header with this name (RFC 5322, section 2.2), or `None` if there is none.
     ///
-    /// Takes no memory.
+    /// Does not allocate.
     ///
     /// # Examples
     ///
@@ -67,7 +67,7 @@ pub trait MailHeaderMap {
     /// Returns the value of the first header with this name (RFC 5322, section 2.2), as
     /// `MailHeader::get_value` reads it, or `None` if there is none.
     ///
-    /// Takes memory for the value, and none if there is no such header.
+    /// Allocates the value, and nothing if there is no such header.
     ///
     /// # Errors
     ///
@@ -94,7 +94,7 @@ pub trait MailHeaderMap {
     /// Returns the value of the first header with this name (RFC 5322, section 2.2), as
     /// `MailHeader::get_value_in` reads it, or `None` if there is none.
     ///
-    /// Takes memory for the value, and none if there is no such header.
+    /// Allocates the value, and nothing if there is no such header.
     ///
     /// # Errors
     ///
@@ -129,7 +129,7 @@ pub trait MailHeaderMap {
     /// Returns the values of all headers with this name (RFC 5322, section 2.2), as
     /// `MailHeader::get_value` reads them, in the order of the message.
     ///
-    /// Takes memory for the values and their list, and none if there is no such header.
+    /// Allocates the values and their list, and nothing if there is no such header.
     ///
     /// # Errors
     ///
@@ -155,7 +155,7 @@ pub trait MailHeaderMap {
     /// Returns the values of all headers with this name (RFC 5322, section 2.2), as
     /// `MailHeader::get_value_in` reads them, in the order of the message.
     ///
-    /// Takes memory for the values and their list, and none if there is no such header.
+    /// Allocates the values and their list, and nothing if there is no such header.
     ///
     /// # Errors
     ///
@@ -192,7 +192,7 @@ pub trait MailHeaderMap {
 
     /// Returns all headers with this name (RFC 5322, section 2.2), in the order of the message.
     ///
-    /// Takes memory for the list, and none if there is no such header.
+    /// Allocates the list, and nothing if there is no such header.
     ///
     /// # Errors
     ///

@@ -59,7 +59,7 @@ impl<'a> ParsedMail<'a> {
     /// Returns the range of the message's bytes in the mail that was parsed, counted from 0: for a
     /// part, that of the part (RFC 2046, section 5.1).
     ///
-    /// It is the range found by parsing, whatever `raw_bytes` is set to later. Takes no memory.
+    /// It is the range found by parsing, whatever `raw_bytes` is set to later. Does not allocate.
     ///
     /// # Examples
     ///
@@ -81,7 +81,7 @@ impl<'a> ParsedMail<'a> {
     /// Returns the range of the body's bytes in the mail that was parsed, counted from 0; for a
     /// message with parts, that of the preamble (RFC 2046, section 5.1).
     ///
-    /// The bytes there are those of `get_body_encoded`: nothing is decoded. Takes no memory.
+    /// The bytes there are those of `get_body_encoded`: nothing is decoded. Does not allocate.
     ///
     /// # Examples
     ///
@@ -103,7 +103,7 @@ impl<'a> ParsedMail<'a> {
     /// Returns the header block (RFC 5322, section 2.2): its bytes, and the headers that are
     /// currently in `headers`.
     ///
-    /// Takes no memory.
+    /// Does not allocate.
     ///
     /// # Examples
     ///
@@ -128,7 +128,7 @@ impl<'a> ParsedMail<'a> {
     /// header names (RFC 2045, section 6).
     ///
     /// The name is compared ignoring ASCII case. By the crate's own rule, any other text, or no
-    /// header, means `7bit`. Nothing is decoded yet. Takes memory for the name of the encoding.
+    /// header, means `7bit`. Nothing is decoded yet. Allocates the name of the encoding.
     ///
     /// # Errors
     ///
@@ -165,7 +165,7 @@ impl<'a> ParsedMail<'a> {
     /// charset of the current `ctype` (RFC 2045, section 6; RFC 2046, section 4.1.2).
     ///
     /// A byte order mark overrides that charset. If the label is unknown, each byte that is not
-    /// ASCII becomes U+FFFD. Takes memory for the bytes and for the text. For a message with parts,
+    /// ASCII becomes U+FFFD. Allocates the bytes and the text. For a message with parts,
     /// the body is the preamble.
     ///
     /// Control characters, including ESC and NUL, stay in the text. On a terminal they may move the
@@ -194,7 +194,7 @@ impl<'a> ParsedMail<'a> {
     /// Returns the body as text, as `get_body` does, in any charset of `known` (RFC 2045, section
     /// 6; RFC 2046, section 4.1.2).
     ///
-    /// Takes memory for the bytes and for the text.
+    /// Allocates the bytes and the text.
     ///
     /// Control characters stay in the text, as with `get_body`: escape them before showing the text
     /// on a terminal or writing it to a log.
@@ -232,7 +232,7 @@ impl<'a> ParsedMail<'a> {
     /// Returns the decoded bytes of the body: its transfer encoding is undone, and the charset is
     /// ignored (RFC 2045, section 6).
     ///
-    /// Takes memory for the bytes. For a message with parts, the body is the preamble.
+    /// Allocates the bytes. For a message with parts, the body is the preamble.
     ///
     /// # Errors
     ///
@@ -259,7 +259,7 @@ impl<'a> ParsedMail<'a> {
     /// header (RFC 2183, section 2) or, by the crate's own rule, `Inline` without parameters if it
     /// has none.
     ///
-    /// Takes memory for the text and the parameters.
+    /// Allocates the text and the parameters.
     ///
     /// # Errors
     ///
@@ -289,7 +289,7 @@ impl<'a> ParsedMail<'a> {
     /// words and extended parameters in any charset of `known` (RFC 2183, section 2; RFC 2047,
     /// section 2; RFC 2231, section 4).
     ///
-    /// Takes memory for the text and the parameters.
+    /// Allocates the text and the parameters.
     ///
     /// # Errors
     ///
@@ -326,7 +326,7 @@ impl<'a> ParsedMail<'a> {
     /// Returns an iterator over the message itself and then all its parts, each part before its own
     /// parts (RFC 2046, section 5.1).
     ///
-    /// Takes memory for the list.
+    /// Allocates the list.
     ///
     /// # Errors
     ///
@@ -360,7 +360,7 @@ impl<'a> ParsedMail<'a> {
 /// An iterator over a message and all its parts, each part before its own parts, as
 /// `ParsedMail::parts` returns it (RFC 2046, section 5.1).
 ///
-/// It contains the whole list; `next` takes no memory.
+/// It contains the whole list; `next` does not allocate.
 #[derive(Drop)]
 pub struct PartsIterator<'m, 'a> {
     parts: Vec<&'m ParsedMail<'a>>,
