@@ -1,7 +1,6 @@
 //! Extended parameters whose charset is not known.
 ghost use Rattle.std.specs.Prelude.{◌≡◌, IfOk, string_bytes};
 ghost use Rattle.mail_data.specs.Files.{left_over_text, text_of_octets, untagged};
-ghost use Rattle.percent_encoding.specs.Percent.{percent_decode};
 
 use mail_codec::charset::Charset;
 use percent_encoding::percent_decode;
@@ -12,7 +11,8 @@ use std::alloc::{AllocError, Global};
 pub(super) fn left_over_text(alloc: Global, value: &str) -> Result<String, AllocError>
     ensures { IfOk result (λ text. string_bytes text ≡ left_over_text value.now) }
 {
-    let bytes = octets_of(alloc, untagged(value))?;
+    let mut bytes = Vec::new(alloc);
+    percent_decode(untagged(value).as_bytes()).append_to(&mut bytes)?;
     text_of_octets(alloc, bytes.as_slice())
 }
 
@@ -29,15 +29,6 @@ fn untagged(value: &str) -> &str
         Some((_, text)) => text,
         None => value,
     }
-}
-
-/// Decodes percent pairs.
-fn octets_of(alloc: Global, encoded: &str) -> Result<Vec<u8>, AllocError>
-    ensures { IfOk result (λ bytes. bytes.items ≡ percent_decode encoded.now) }
-{
-    let mut bytes = Vec::new(alloc);
-    percent_decode(encoded.as_bytes()).append_to(&mut bytes)?;
-    Ok(bytes)
 }
 
 /// Returns the text of bytes in an unknown charset.
