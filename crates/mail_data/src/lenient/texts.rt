@@ -1,7 +1,6 @@
 //! Texts with a wrong label, and damaged texts.
 ghost use Rattle.std.specs.Prelude.{◌≡◌, is_some, Ok};
 ghost use Rattle.std.specs.Str.{is_utf8};
-ghost use Rattle.mailparse.specs.Body.{text_under_in};
 ghost use Rattle.mailparse.specs.Mail.{root};
 ghost use Rattle.mailparse.specs.Outcome.{AnswersOrMemory, GivesText};
 ghost use Rattle.mailparse.specs.Views.{content_type, tree_of};
@@ -11,8 +10,7 @@ ghost use Rattle.mail_data.specs.lenient.TextViews.{text_view};
 
 use super::content::lenient_content;
 use super::encoding::lenient_body;
-use mail_codec::charset::{Charset, KnownCharsets};
-use mailparse::body::Body;
+use mail_codec::charset::{Charset, Decode, KnownCharsets, decode_ascii};
 use mailparse::{MailParseError, ParsedContentType, ParsedMail};
 use std::alloc::Global;
 
@@ -89,7 +87,7 @@ pub fn body_text<K: KnownCharsets>(
 /// let text = lenient_text(alloc, b"caf\xC3\xA9", &ctype, &())?;
 /// assert_eq!(rt; text.as_str(), "café");
 /// ```
-#[tactic(auto, unfolding(crate::specs::lenient::Texts::lenient_text))]
+#[tactic(auto, unfolding(crate::specs::lenient::Texts::lenient_text, mailparse::specs::Body::text_under_in))]
 pub fn lenient_text<K: KnownCharsets>(
     alloc: Global,
     bytes: &[u8],
@@ -99,10 +97,14 @@ pub fn lenient_text<K: KnownCharsets>(
     ensures { GivesText result
         (lenient_text (K.known known.now) (content_type ctype.now).charset bytes.now) }
 {
-    if is_read_as_utf8(bytes, ctype.charset.as_str(), known) {
+    let label = ctype.charset.as_str();
+    if is_read_as_utf8(bytes, label, known) {
         return Ok(Charset::Utf8.decode(alloc, bytes)?);
     }
-    text_under(alloc, bytes, ctype, known)
+    match known.for_label(label.as_bytes()) {
+        Some(charset) => Ok(charset.decode(alloc, bytes)?),
+        None => Ok(decode_ascii(alloc, bytes)?.into_owned(alloc)?),
+    }
 }
 
 /// Returns the name of the charset in which `lenient_text` reads bytes of this type (RFC 2045,
@@ -183,22 +185,5 @@ fn charset_name(charset: Charset) -> &'static str
         Charset::Windows1252 => "windows-1252",
         Charset::Utf16Le => "utf-16le",
         Charset::Utf16Be => "utf-16be",
-    }
-}
-
-/// Returns the text of decoded bytes of this type, in the charset of its label.
-#[tactic(auto, unfolding(mailparse::specs::Body::kind_named))]
-fn text_under<K: KnownCharsets>(
-    alloc: Global,
-    bytes: &[u8],
-    ctype: &ParsedContentType,
-    known: &K,
-) -> Result<String, MailParseError>
-    ensures { GivesText result
-        (text_under_in (K.known known.now) (content_type ctype.now).charset bytes.now) }
-{
-    match Body::new(bytes, ctype, &None) {
-        Body::SevenBit(body) => body.get_as_string_in(alloc, known),
-        _ => unreachable!(),
     }
 }
