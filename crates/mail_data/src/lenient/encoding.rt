@@ -82,8 +82,8 @@ fn lenient_name(alloc: Global, value: Option<String>) -> Result<Option<String>, 
         return Ok(None);
     };
     text.make_ascii_lowercase();
-    let name = String::from_str(alloc, known_name(name_at(text.as_bytes())))?;
-    Ok(Some(name))
+    let name = known_name(name_at(text.as_bytes()));
+    Ok(Some(String::from_str(alloc, name)?))
 }
 
 /// Returns the exact name of the encoding with this name.
