@@ -1,4 +1,5 @@
--- The ids that place a mail in a thread: its own, and those of the mails that precede it (RFC 5322, section 3.6.4).
+-- The ids that place a mail in a thread: its own, and those of the mails that precede it (RFC 5322,
+-- section 3.6.4).
 use Rattle.std.specs.Prelude.{ℕ, true, false, not, List, [], ◌∷◌, ◌++◌, filter, Option, Some, None, codes}
 use Rattle.std.specs.Option.{option_map_or}
 use Rattle.std.specs.Str.{bytes_eq}
@@ -26,11 +27,15 @@ module _ (known : Charsets) where
 
   -- the id of a mail with these headers: the first in its `Message-ID`, with or without an `@`
   unfoldable pub id_among : List Header → Option (List ℕ)
-  id_among headers = option_map_or (λ text. first_id (found_ids false text)) (first_value_in known (codes "Message-ID") headers) None
+  id_among headers =
+      option_map_or (λ text. first_id (found_ids false text))
+      (first_value_in known (codes "Message-ID") headers) None
 
   abbrev pub message_id : Node → Option (List ℕ)
   message_id node = id_among node.headers
 
-  -- the mails that precede a mail: the ids in its `References`, then those in its `In-Reply-To`, each once
+  -- the mails that precede a mail: the ids in its `References`, then those in its `In-Reply-To`,
+  -- each once
   unfoldable pub parents : Node → List (List ℕ)
-  parents node = without_repeats (ids_of (codes "References") node ++ ids_of (codes "In-Reply-To") node)
+  parents node =
+      without_repeats (ids_of (codes "References") node ++ ids_of (codes "In-Reply-To") node)

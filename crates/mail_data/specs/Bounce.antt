@@ -1,5 +1,5 @@
--- The recipients of a delivery status notification (RFC 3464, sections 2.1 to 2.3): the fields on each of them in its part
--- `message/delivery-status`.
+-- The recipients of a delivery status notification (RFC 3464, sections 2.1 to 2.3): the fields on
+-- each of them in its part `message/delivery-status`.
 use Rattle.std.specs.Prelude.{ℕ, zero, suc, Bool, not, ◌==◌, ◌||◌, List, [], ◌∷◌, length, take, drop, map, filter, Option, Some, None, option_map, Result, Ok, Err, codes, if◌then◌else◌}
 use Rattle.std.specs.List.{list_any, after_first}
 use Rattle.std.specs.Option.{option_map_or}
@@ -20,15 +20,19 @@ use Rattle.mail_data.specs.LineEnds.{is_empty_line, after_empty_line, line_place
 abbrev pub has_type : List ℕ → Node → Bool
 has_type mimetype node = bytes_eq node.ctype.mimetype mimetype
 
--- a part has the status of a delivery; in a mail with addresses in UTF-8 its type is another one (RFC 6533, section 4)
+-- a part has the status of a delivery; in a mail with addresses in UTF-8 its type is another one
+-- (RFC 6533, section 4)
 abbrev pub has_status : Node → Bool
-has_status node = has_type (codes "message/delivery-status") node || has_type (codes "message/global-delivery-status") node
+has_status node =
+    has_type (codes "message/delivery-status") node
+    || has_type (codes "message/global-delivery-status") node
 
 -- a part is the mail that was returned, or its headers (RFC 3464, section 2; RFC 6533, section 3)
 abbrev pub has_original : Node → Bool
 has_original node =
     has_type (codes "message/rfc822") node
-    || (has_type (codes "text/rfc822-headers") node || (has_type (codes "message/global") node || has_type (codes "message/global-headers") node))
+    || (has_type (codes "text/rfc822-headers") node
+    || (has_type (codes "message/global") node || has_type (codes "message/global-headers") node))
 
 -- the first of some parts that passes a test
 abbrev pub first_part : (Node → Bool) → Forest → Option Tree
@@ -37,7 +41,8 @@ first_part test (part_and t ts) = if test (root t) then Some t else first_part t
 
 -- of a `multipart/report`, the first of its own parts that passes a test
 abbrev pub report_part : (Node → Bool) → Tree → Option Tree
-report_part test (tree node parts) = if has_type (codes "multipart/report") node then first_part test parts else None
+report_part test (tree node parts) =
+    if has_type (codes "multipart/report") node then first_part test parts else None
 
 -- the number of bytes before the first empty line
 unfoldable pub block_length : List ℕ → ℕ
@@ -54,9 +59,11 @@ after_block bytes = after_empty_line (drop (block_length bytes) bytes)
 -- the pieces between empty lines, at most `most` of them
 abbrev pub pieces_within : ℕ → List ℕ → List (List ℕ)
 pieces_within zero bytes = []
-pieces_within (suc most) bytes = if is_empty bytes then [] else block_at bytes ∷ pieces_within most (after_block bytes)
+pieces_within (suc most) bytes =
+    if is_empty bytes then [] else block_at bytes ∷ pieces_within most (after_block bytes)
 
--- the blocks of some bytes: the pieces between empty lines that are not empty; there are no more than bytes
+-- the blocks of some bytes: the pieces between empty lines that are not empty; there are no more
+-- than bytes
 unfoldable pub blocks : List ℕ → List (List ℕ)
 blocks bytes = filter (λ block. not (is_empty block)) (pieces_within (length bytes) bytes)
 
@@ -71,7 +78,8 @@ fields block = headers_or_none (read_headers block)
 
 -- the text after the first `;`, or the whole text if it contains no `;`
 unfoldable pub after_type : List ℕ → List ℕ
-after_type text = if list_any (λ b. b == semicolon) text then after_first (λ b. b == semicolon) text else text
+after_type text =
+    if list_any (λ b. b == semicolon) text then after_first (λ b. b == semicolon) text else text
 
 -- the text of a field without comments and without whitespace around it
 abbrev pub plain_text : List ℕ → List ℕ
@@ -119,4 +127,6 @@ module _ (known : Charsets) where
 
   -- the id of the mail that a report is about, in the headers that it returns
   unfoldable pub original_message_id : Tree → Option (List ℕ)
-  original_message_id t = option_map_or (λ part. id_among known (fields (root part).body)) (report_part has_original t) None
+  original_message_id t =
+      option_map_or (λ part. id_among known (fields (root part).body))
+      (report_part has_original t) None

@@ -1,4 +1,5 @@
--- Mailboxes whose mails have a field Content-Length with the length of their bodies: the mboxcl and mboxcl2 formats.
+-- Mailboxes whose mails have a field Content-Length with the length of their bodies: the mboxcl and
+-- mboxcl2 formats.
 use Rattle.std.specs.Prelude.{ℕ, ◌+◌, Bool, true, ◌&&◌, ◌||◌, nat_le, nat_lt, Option, Some, None, option_and_then, List, length, take, drop, codes, if◌then◌else◌}
 use Rattle.std.specs.Char.{is_ascii_digit, is_ascii_whitespace}
 use Rattle.std.specs.Int.{is_in_range}
@@ -31,13 +32,16 @@ block_length mail = block_place mail + empty_line (drop (block_place mail) mail)
 
 -- the number that 1 to 9 digits denote
 unfoldable pub number : List ℕ → Option ℕ
-number text = if is_in_range 1 9 (length text) && list_all is_ascii_digit text then Some (digits_value 10 text) else None
+number text =
+    if is_in_range 1 9 (length text) && list_all is_ascii_digit text
+    then Some (digits_value 10 text) else None
 
 -- the text after the colon on the line of the field, without the whitespace around it
 unfoldable pub field_text : List ℕ → List ℕ
 field_text field =
     trimmed_at_end is_ascii_whitespace
-    (trimmed_at_start is_ascii_whitespace (drop (length field_start) (take (line_length field) field)))
+    (trimmed_at_start is_ascii_whitespace
+    (drop (length field_start) (take (line_length field) field)))
 
 -- the number in the first field Content-Length of a header block
 unfoldable pub content_length : List ℕ → Option ℕ
@@ -64,12 +68,13 @@ counted_place mail count =
 -- the length of a mail by its Content-Length, or else that of a mail of any mailbox
 unfoldable pub counted_length : List ℕ → ℕ
 counted_length mail =
-    unwrap_or (option_and_then (counted_place mail) (content_length (take (block_place mail) mail))) (mail_length mail)
+    unwrap_or (option_and_then (counted_place mail) (content_length (take (block_place mail) mail)))
+    (mail_length mail)
 
 -- ---- what was read so far
 
--- the bytes decide if a counted mail may end here: after an empty line, if there is one, there are more bytes than a separator
--- has, or a line and at least one more byte
+-- the bytes decide if a counted mail may end here: after an empty line, if there is one, there are
+-- more bytes than a separator has, or a line and at least one more byte
 unfoldable pub is_known : List ℕ → Bool
 is_known bytes =
     let after = after_empty_line bytes in
@@ -80,7 +85,9 @@ unfoldable pub is_place_known : List ℕ → Option ℕ → Bool
 is_place_known mail None = true
 is_place_known mail (Some count) = is_known (drop (block_length mail + count) mail)
 
--- it is known where the Content-Length of a mail ends it: the empty line after the header block was read, and the place of the end
+-- it is known where the Content-Length of a mail ends it: the empty line after the header block was
+-- read, and the place of the end
 unfoldable pub is_count_known : List ℕ → Bool
 is_count_known mail =
-    nat_lt (block_place mail) (length mail) && is_place_known mail (content_length (take (block_place mail) mail))
+    nat_lt (block_place mail) (length mail)
+    && is_place_known mail (content_length (take (block_place mail) mail))

@@ -1,4 +1,5 @@
--- Names of files that are safe in any directory; the crate's own rule. A text is the list of its bytes in UTF-8.
+-- Names of files that are safe in any directory; the crate's own rule. A text is the list of its
+-- bytes in UTF-8.
 use Rattle.std.specs.Prelude.{◌≡◌, ◌≢◌, ℕ, suc, ◌≤◌, Bool, true, not, ◌||◌, ◌==◌, nat_lt, List, [], length, take, map, chars, encode_utf8_all, codes, if◌then◌else◌}
 use Rattle.std.specs.Char.{is_control}
 use Rattle.std.specs.List.{list_all}
@@ -14,7 +15,8 @@ is_unsafe c = c == slash || c == backslash || is_control c
 abbrev pub is_reserved : List ℕ → Bool
 is_reserved name = is_empty name || bytes_eq name (codes ".") || bytes_eq name (codes "..")
 
--- a name is safe: it names a file in the directory where it is used, has at most 255 bytes, and contains no unsafe character
+-- a name is safe: it names a file in the directory where it is used, has at most 255 bytes, and
+-- contains no unsafe character
 pub record IsSafeName (name : List ℕ) : Type 0 where
   pub some : name ≢ []
   pub not_here : name ≢ codes "."
@@ -26,7 +28,8 @@ pub record IsSafeName (name : List ℕ) : Type 0 where
 abbrev pub made_safe : ℕ → ℕ
 made_safe c = if is_unsafe c then underscore else c
 
--- the number of leading characters with at most 255 bytes: the least for which one more has more, or all of them
+-- the number of leading characters with at most 255 bytes: the least for which one more has more,
+-- or all of them
 abbrev pub front_length : List ℕ → ℕ
 front_length cs = least (λ n. nat_lt 255 (length (encode_utf8_all (take (suc n) cs)))) (length cs)
 

@@ -1,5 +1,6 @@
--- The files that a mail carries (RFC 2183, section 2.3; RFC 2046, section 5.2.1), and the paths of its parts (RFC 3501,
--- section 6.4.5). The reading of a name in an unknown charset (RFC 2231, section 4) is the crate's own rule.
+-- The files that a mail carries (RFC 2183, section 2.3; RFC 2046, section 5.2.1), and the paths of
+-- its parts (RFC 3501, section 6.4.5). The reading of a name in an unknown charset (RFC 2231,
+-- section 4) is the crate's own rule.
 use Rattle.std.specs.Prelude.{ℕ, suc, Bool, true, false, ◌&&◌, ◌||◌, List, [], ◌∷◌, ◌++◌, filter, Option, Some, None, is_some, option_map, codes, decimal, if◌then◌else◌}
 use Rattle.std.specs.List.{after_first, list_any}
 use Rattle.std.specs.Str.{is_utf8, trim}
@@ -23,9 +24,11 @@ abbrev pub filled : Option (List ℕ) → Option (List ℕ)
 filled None = None
 filled (Some text) = if is_empty (trim text) then None else Some text
 
--- an extended value without its charset and its language: the text after its second apostrophe, or the whole value if it has fewer than two
+-- an extended value without its charset and its language: the text after its second apostrophe, or
+-- the whole value if it has fewer than two
 unfoldable pub untagged : List ℕ → List ℕ
-untagged value = if list_any is_apostrophe (after_first is_apostrophe value) then text_in value else value
+untagged value =
+    if list_any is_apostrophe (after_first is_apostrophe value) then text_in value else value
 
 -- the text of bytes in an unknown charset: in UTF-8 if they are UTF-8, otherwise in windows-1252
 unfoldable pub text_of_octets : List ℕ → List ℕ
@@ -35,14 +38,18 @@ text_of_octets bytes = if is_utf8 bytes then bytes else text_of Windows1252 byte
 unfoldable pub left_over_text : List ℕ → List ℕ
 left_over_text value = text_of_octets (percent_decode (untagged value))
 
--- the name among parameters: the text of one key, otherwise the value that is left over at its extended key; whitespace counts as missing
+-- the name among parameters: the text of one key, otherwise the value that is left over at its
+-- extended key; whitespace counts as missing
 abbrev pub name_among : Texts → List ℕ → List ℕ → Option (List ℕ)
-name_among params key extended = first_text (filled (params key)) (filled (option_map left_over_text (params extended)))
+name_among params key extended =
+    first_text (filled (params key)) (filled (option_map left_over_text (params extended)))
 
--- the file name in a disposition and a type: the `filename` of the first, otherwise the `name` of the second
+-- the file name in a disposition and a type: the `filename` of the first, otherwise the `name` of
+-- the second
 abbrev pub name_in : Disposition → ContentType → Option (List ℕ)
 name_in disposition ctype =
-    first_text (name_among disposition.params (codes "filename") (codes "filename*")) (name_among ctype.params (codes "name") (codes "name*"))
+    first_text (name_among disposition.params (codes "filename") (codes "filename*"))
+    (name_among ctype.params (codes "name") (codes "name*"))
 
 -- the disposition is `attachment`
 abbrev pub is_attachment_disposition : Kind → Bool
@@ -54,11 +61,14 @@ abbrev pub is_leaf : Tree → Bool
 is_leaf (tree node no_parts) = true
 is_leaf (tree node (part_and t ts)) = false
 
--- a disposition and a type are those of a file: the disposition is `attachment`, or there is a file name
+-- a disposition and a type are those of a file: the disposition is `attachment`, or there is a file
+-- name
 abbrev pub describes_attachment : Disposition → ContentType → Bool
-describes_attachment disposition ctype = is_attachment_disposition disposition.kind || is_some (name_in disposition ctype)
+describes_attachment disposition ctype =
+    is_attachment_disposition disposition.kind || is_some (name_in disposition ctype)
 
--- the path of the part with this number in the message with this path: the numbers from the outermost, separated by dots
+-- the path of the part with this number in the message with this path: the numbers from the
+-- outermost, separated by dots
 unfoldable pub path_under : List ℕ → ℕ → List ℕ
 path_under [] number = decimal number
 path_under (c ∷ path) number = (c ∷ path) ++ (codes "." ++ decimal number)
@@ -71,7 +81,8 @@ abbrev mutual
   -- the same of some parts, the first of which has this number
   pub parts_with_paths : List ℕ → ℕ → Forest → List (List ℕ × Tree)
   parts_with_paths path number no_parts = []
-  parts_with_paths path number (part_and t ts) = with_paths (path_under path number) t ++ parts_with_paths path (suc number) ts
+  parts_with_paths path number (part_and t ts) =
+      with_paths (path_under path number) t ++ parts_with_paths path (suc number) ts
 
 -- the path of a whole message: that of its body if it has no parts
 abbrev pub whole_path : Tree → List ℕ

@@ -1,4 +1,5 @@
--- Texts whose paragraphs flow over lines: the format `flowed` of `text/plain` (RFC 3676, section 4).
+-- Texts whose paragraphs flow over lines: the format `flowed` of `text/plain` (RFC 3676, section
+-- 4).
 use Rattle.std.specs.Prelude.{ℕ, Bool, false, not, ◌==◌, ◌&&◌, ◌||◌, List, [], ◌∷◌, ◌++◌, length, drop, map, flat_map, replicate, codes, if◌then◌else◌}
 use Rattle.std.specs.List.{prefix_len}
 use Rattle.std.specs.Option.{option_map_or}
@@ -25,7 +26,8 @@ with_front b (piece ∷ pieces) = (b ∷ piece.0, piece.1) ∷ pieces
 -- a text cut after each LF
 abbrev pub pieces : List ℕ → List Piece
 pieces [] = []
-pieces (b ∷ rest) = if b == line_feed then ([], b ∷ []) ∷ pieces rest else with_front b (pieces rest)
+pieces (b ∷ rest) =
+    if b == line_feed then ([], b ∷ []) ∷ pieces rest else with_front b (pieces rest)
 
 -- a line: the number of its quote marks, its content, and its line end, if there is one
 pub record Line : Type 0 where
@@ -58,9 +60,14 @@ without_last (c ∷ d ∷ rest) = c ∷ without_last (d ∷ rest)
 abbrev pub without_space : List ℕ → List ℕ
 without_space text = if ends_in space text then without_last text else text
 
--- the line that consists of a text and this line end: its quote marks and a space after them do not belong to its content
+-- the line that consists of a text and this line end: its quote marks and a space after them do not
+-- belong to its content
 abbrev pub line_with : List ℕ → List ℕ → Line
-line_with text ending = record { depth = quote_depth text; content = unstuffed (drop (quote_depth text) text); ending = ending }
+line_with text ending = record {
+  depth = quote_depth text;
+  content = unstuffed (drop (quote_depth text) text);
+  ending = ending;
+}
 
 -- the same, where a CR before the LF belongs to the line end
 abbrev pub line_of : Piece → Line
@@ -78,7 +85,8 @@ is_separator line = bytes_eq line.content (codes "-- ")
 abbrev pub is_flowed : Line → Bool
 is_flowed line = ends_in space line.content && not (is_separator line)
 
--- a line continues in the next one: it is flowed, and the next one is as deep and does not separate a signature
+-- a line continues in the next one: it is flowed, and the next one is as deep and does not separate
+-- a signature
 abbrev pub continues : Line → Line → Bool
 continues line next = is_flowed line && line.depth == next.depth && not (is_separator next)
 
@@ -91,14 +99,16 @@ pub record Paragraph : Type 0 where
 abbrev pub with_line : Line → List Paragraph → List Paragraph
 with_line line [] = record { first = line; others = [] } ∷ []
 with_line line (p ∷ ps) =
-    if continues line p.first then record { first = line; others = p.first ∷ p.others } ∷ ps else record { first = line; others = [] } ∷ p ∷ ps
+    if continues line p.first then record { first = line; others = p.first ∷ p.others } ∷ ps
+    else record { first = line; others = [] } ∷ p ∷ ps
 
 -- the paragraphs that lines form
 abbrev pub paragraphs : List Line → List Paragraph
 paragraphs [] = []
 paragraphs (line ∷ lines) = with_line line (paragraphs lines)
 
--- the content of a line as its paragraph shows it: without the space at the end of a flowed line, if that is to be deleted
+-- the content of a line as its paragraph shows it: without the space at the end of a flowed line,
+-- if that is to be deleted
 abbrev pub shown : Bool → Line → List ℕ
 shown deletes line = if deletes && is_flowed line then without_space line.content else line.content
 
@@ -121,7 +131,8 @@ last_ending line (next ∷ lines) = last_ending next lines
 
 -- a paragraph as one line
 abbrev pub paragraph_text : Bool → Paragraph → List ℕ
-paragraph_text deletes p = marks p.first ++ (flat_map (shown deletes) (p.first ∷ p.others) ++ last_ending p.first p.others)
+paragraph_text deletes p =
+    marks p.first ++ (flat_map (shown deletes) (p.first ∷ p.others) ++ last_ending p.first p.others)
 
 -- a text with each paragraph as one line
 unfoldable pub unflowed : Bool → List ℕ → List ℕ
@@ -131,16 +142,22 @@ unflowed deletes text = flat_map (paragraph_text deletes) (paragraphs (map line_
 
 -- the value of a parameter of a type is this word, ignoring ASCII case
 abbrev pub is_parameter : List ℕ → List ℕ → ContentType → Bool
-is_parameter name word ctype = option_map_or (λ text. str_eq_ignore_ascii_case text word) (ctype.params name) false
+is_parameter name word ctype =
+    option_map_or (λ text. str_eq_ignore_ascii_case text word) (ctype.params name) false
 
 -- the paragraphs of a text of this type flow over lines
 abbrev pub has_flowed_text : ContentType → Bool
-has_flowed_text ctype = bytes_eq (text_type ctype.mimetype) (codes "text/plain") && is_parameter (codes "format") (codes "flowed") ctype
+has_flowed_text ctype =
+    bytes_eq (text_type ctype.mimetype) (codes "text/plain")
+    && is_parameter (codes "format") (codes "flowed") ctype
 
 -- a text of this type, with each paragraph as one line if they flow
 abbrev pub unflowed_of : ContentType → List ℕ → List ℕ
-unflowed_of ctype text = if has_flowed_text ctype then unflowed (is_parameter (codes "delsp") (codes "yes") ctype) text else text
+unflowed_of ctype text =
+    if has_flowed_text ctype then unflowed (is_parameter (codes "delsp") (codes "yes") ctype) text
+    else text
 
 -- the same of the text of a body, as it is read leniently
 unfoldable pub flowed_text : Charsets → Node → BodyText
-flowed_text known node = let read = body_text known node in record read { text = unflowed_of node.ctype read.text }
+flowed_text known node =
+    let read = body_text known node in record read { text = unflowed_of node.ctype read.text }

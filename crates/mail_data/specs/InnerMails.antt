@@ -1,5 +1,5 @@
--- The mails inside a mail and inside those, with the paths of the parts that contain them; the paths of their parts (RFC 3501,
--- section 6.4.5).
+-- The mails inside a mail and inside those, with the paths of the parts that contain them; the
+-- paths of their parts (RFC 3501, section 6.4.5).
 use Rattle.std.specs.Prelude.{ℕ, zero, suc, ◌+◌, ◌-◌, ◌^◌, Bool, true, false, ◌&&◌, ◌||◌, ◌==◌, min, nat_lt, List, [], ◌∷◌, length, filter, flat_map, Option, Some, None, codes, if◌then◌else◌}
 use Rattle.std.specs.Option.{option_map_or}
 use Rattle.std.specs.Result.{result_err, result_ok}
@@ -16,7 +16,8 @@ use Rattle.mail_data.specs.lenient.Encoding.{lenient_body_kind}
 
 -- ---- paths
 
--- the path of a mail inside the part with this path: that of the part, or if the mail has no parts, that of its body
+-- the path of a mail inside the part with this path: that of the part, or if the mail has no parts,
+-- that of its body
 unfoldable pub path_within : List ℕ → Tree → List ℕ
 path_within path t = if is_leaf t then path_under path 1 else path
 
@@ -30,9 +31,12 @@ dot_count path = length (filter (λ c. c == 46) path)
 
 -- ---- mails
 
--- a part forwards a mail: its type is `message/rfc822` (RFC 2046, section 5.2.1) or `message/global` (RFC 6532, section 3.7)
+-- a part forwards a mail: its type is `message/rfc822` (RFC 2046, section 5.2.1) or
+-- `message/global` (RFC 6532, section 3.7)
 abbrev pub forwards : Node → Bool
-forwards node = bytes_eq node.ctype.mimetype (codes "message/rfc822") || bytes_eq node.ctype.mimetype (codes "message/global")
+forwards node =
+    bytes_eq node.ctype.mimetype (codes "message/rfc822")
+    || bytes_eq node.ctype.mimetype (codes "message/global")
 
 -- a part contains a mail that is read: it forwards one, and its path has fewer than 100 numbers
 unfoldable pub holds_mail : Place → Bool
@@ -50,13 +54,16 @@ is_plain in_7bit = true
 is_plain in_8bit = true
 is_plain in_binary = true
 
--- the offset of the mail in a part, given that of the mail that contains the part: none if it is encoded or that one has none
+-- the offset of the mail in a part, given that of the mail that contains the part: none if it is
+-- encoded or that one has none
 unfoldable pub mail_start : Option ℕ → Place → Option ℕ
 mail_start None place = None
 mail_start (Some start) place =
-    if is_plain (lenient_body_kind (root place.part)) then Some (min (start + place.placement.body.start) (2 ^ 64 - 1)) else None
+    if is_plain (lenient_body_kind (root place.part))
+    then Some (min (start + place.placement.body.start) (2 ^ 64 - 1)) else None
 
--- a mail inside: the path of the part that contains it, its bytes, their offset in the whole mail, if they occur there, and its refusal
+-- a mail inside: the path of the part that contains it, its bytes, their offset in the whole mail,
+-- if they occur there, and its refusal
 pub record InnerMail : Type 0 where
   pub path : List ℕ
   pub bytes : List ℕ
@@ -78,12 +85,13 @@ module _ (known : Charsets) where
     refusal = result_err (mail_read place);
   }
 
-  -- the mails inside a mail, at most `most` mails deep, given the path of the part that contains that mail and its offset: those in its
-  -- parts, in order, and after each of them those inside it
+  -- the mails inside a mail, at most `most` mails deep, given the path of the part that contains
+  -- that mail and its offset: those in its parts, in order, and after each of them those inside it
   abbrev pub inner_mails : ℕ → List ℕ → Option ℕ → Tree → List Placement → List InnerMail
   inner_mails zero path start mail found = []
   inner_mails (suc most) path start mail found = flat_map (λ place.
       if holds_mail place
-      then held_mail start place ∷ option_map_or (λ inside. inner_mails most place.path (mail_start start place) inside (placements 0 inside))
+      then held_mail start place ∷ option_map_or
+      (λ inside. inner_mails most place.path (mail_start start place) inside (placements 0 inside))
       (result_ok (mail_read place)) []
       else []) (places_under path mail found)

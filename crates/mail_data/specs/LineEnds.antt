@@ -5,7 +5,9 @@ use Rattle.mail_codec.specs.Places.{begins, first_place, least, has_prefix}
 
 -- the length of the empty line at the front, LF or CR LF, or 0
 unfoldable pub empty_line : List ℕ → ℕ
-empty_line bytes = if has_prefix (line_feed ∷ []) bytes then 1 else (if has_prefix (carriage_return ∷ line_feed ∷ []) bytes then 2 else 0)
+empty_line bytes =
+    if has_prefix (line_feed ∷ []) bytes then 1
+    else (if has_prefix (carriage_return ∷ line_feed ∷ []) bytes then 2 else 0)
 
 -- an empty line is at the front
 abbrev pub is_empty_line : List ℕ → Bool
@@ -27,6 +29,7 @@ after_line bytes = drop (line_length bytes) bytes
 abbrev pub starts_line : List ℕ → ℕ → Bool
 starts_line bytes p = p == 0 || begins (λ b. b == line_feed) (drop (p - 1) bytes)
 
--- the place of the first line such that the bytes from there onwards pass the test, or the length if there is no such line
+-- the place of the first line such that the bytes from there onwards pass the test, or the length
+-- if there is no such line
 abbrev pub line_place : (List ℕ → Bool) → List ℕ → ℕ
 line_place test bytes = least (λ p. starts_line bytes p && test (drop p bytes)) (length bytes)

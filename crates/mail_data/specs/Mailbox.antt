@@ -1,5 +1,5 @@
--- Mailboxes: the mbox format (RFC 4155, appendix A), in which a line of `From `, an address and a time separates mails if it
--- is the first line or follows an empty line.
+-- Mailboxes: the mbox format (RFC 4155, appendix A), in which a line of `From `, an address and a
+-- time separates mails if it is the first line or follows an empty line.
 use Rattle.std.specs.Prelude.{◌≡◌, ◌⊎◌, ℕ, zero, suc, ◌+◌, Bool, ◌&&◌, ◌||◌, nat_lt, List, [], ◌∷◌, ◌++◌, length, take, drop, if◌then◌else◌}
 use Rattle.mail_codec.specs.Ascii.{carriage_return, line_feed}
 use Rattle.mail_codec.specs.Places.{is_empty}
@@ -12,11 +12,13 @@ ends_mail bytes =
     let after = after_empty_line bytes in
     is_empty_line bytes && (is_empty after || is_separator after)
 
--- the length of the mail at the front: up to the first line at which a mail ends, or to the end of the bytes
+-- the length of the mail at the front: up to the first line at which a mail ends, or to the end of
+-- the bytes
 unfoldable pub mail_length : List ℕ → ℕ
 mail_length bytes = line_place ends_mail bytes
 
--- a mail of a mailbox: the line before it, its bytes, and the empty line that ends it, if there is one
+-- a mail of a mailbox: the line before it, its bytes, and the empty line that ends it, if there is
+-- one
 pub record Entry : Type 0 where
   pub separator : List ℕ
   pub mail : List ℕ
@@ -74,7 +76,8 @@ entries_from bytes = entries_by mail_length bytes
 
 -- the number of bytes before the first separator, including the empty line before it
 unfoldable pub front_length : List ℕ → ℕ
-front_length bytes = if is_separator bytes then 0 else mail_length bytes + empty_line (after_mail bytes)
+front_length bytes =
+    if is_separator bytes then 0 else mail_length bytes + empty_line (after_mail bytes)
 
 -- the mails of a mailbox
 abbrev pub entries : List ℕ → List Entry
@@ -99,6 +102,7 @@ has_line bytes = nat_lt (line_length bytes) (length bytes)
 unfoldable pub is_before_text : List ℕ → Bool
 is_before_text bytes = is_separator bytes && has_line bytes
 
--- the bytes before the first separator are whole: that separator follows them, with its whole line and at least one more byte
+-- the bytes before the first separator are whole: that separator follows them, with its whole line
+-- and at least one more byte
 unfoldable pub has_front : List ℕ → Bool
 has_front bytes = is_before_text (drop (front_length bytes) bytes)

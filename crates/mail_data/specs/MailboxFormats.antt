@@ -28,7 +28,8 @@ is_length_known Plain mail = true
 is_length_known Quoted mail = true
 is_length_known Counted mail = is_count_known mail
 
--- the mail at the front and what follows it, if the next separator was read whole and nothing that follows changes them
+-- the mail at the front and what follows it, if the next separator was read whole and nothing that
+-- follows changes them
 unfoldable pub settled_in : Format → List ℕ → Option (Entry × List ℕ)
 settled_in format bytes =
     let next = next_by (length_in format) bytes in

@@ -35,4 +35,5 @@ part_start bytes count k = length bytes * k / count
 
 -- the mails of that part
 unfoldable pub part_mails : List ℕ → ℕ → ℕ → List Placed
-part_mails bytes count k = in_range (part_start bytes count k) (part_start bytes count (suc k)) (placed bytes)
+part_mails bytes count k =
+    in_range (part_start bytes count k) (part_start bytes count (suc k)) (placed bytes)

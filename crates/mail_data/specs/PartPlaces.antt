@@ -14,7 +14,8 @@ pub record Place : Type 0 where
 abbrev pub placed : List (List ℕ × Tree) → List Placement → List Place
 placed [] placements = []
 placed (m ∷ messages) [] = []
-placed (m ∷ messages) (placement ∷ placements) = record { path = m.0; part = m.1; placement = placement } ∷ placed messages placements
+placed (m ∷ messages) (placement ∷ placements) =
+    record { path = m.0; part = m.1; placement = placement } ∷ placed messages placements
 
 -- a whole mail and then its parts, each before its own parts, given their places in this order
 abbrev pub places : Tree → List Placement → List Place

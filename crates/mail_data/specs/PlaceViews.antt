@@ -19,4 +19,8 @@ placement_view place = record {
 
 -- a place
 abbrev pub place_view : Place → words.Place
-place_view place = record { path = string_bytes place.path; part = tree_of place.part.now; placement = placement_view place }
+place_view place = record {
+  path = string_bytes place.path;
+  part = tree_of place.part.now;
+  placement = placement_view place;
+}

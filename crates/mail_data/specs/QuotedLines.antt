@@ -1,4 +1,5 @@
--- Lines of a mail that are quoted with `>` in a mailbox, so that none looks like a separator: the mboxrd format.
+-- Lines of a mail that are quoted with `>` in a mailbox, so that none looks like a separator: the
+-- mboxrd format.
 use Rattle.std.specs.Prelude.{ℕ, Bool, true, false, ◌&&◌, ◌==◌, List, [], ◌∷◌, take, drop, if◌then◌else◌}
 use Rattle.std.specs.List.{prefix_len}
 use Rattle.mail_codec.specs.Ascii.{line_feed}
@@ -26,7 +27,8 @@ is_quoted (b ∷ rest) = b == greater_than && is_marked rest
 abbrev pub unquoted_from : Bool → List ℕ → List ℕ
 unquoted_from starts [] = []
 unquoted_from starts (b ∷ rest) =
-    if starts && is_quoted (b ∷ rest) then unquoted_from false rest else b ∷ unquoted_from (b == line_feed) rest
+    if starts && is_quoted (b ∷ rest) then unquoted_from false rest
+    else b ∷ unquoted_from (b == line_feed) rest
 
 -- a mail with one `>` removed from each quoted line
 abbrev pub unquoted : List ℕ → List ℕ
@@ -37,7 +39,8 @@ abbrev pub quoted_from : Bool → List ℕ → List ℕ
 quoted_from starts [] = []
 quoted_from starts (b ∷ rest) =
     if starts && is_marked (b ∷ rest)
-    then greater_than ∷ b ∷ quoted_from (b == line_feed) rest else b ∷ quoted_from (b == line_feed) rest
+    then greater_than ∷ b ∷ quoted_from (b == line_feed) rest
+    else b ∷ quoted_from (b == line_feed) rest
 
 -- a mail as a writer of the mboxrd format puts it into a mailbox
 abbrev pub quoted : List ℕ → List ℕ

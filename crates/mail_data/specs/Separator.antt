@@ -1,5 +1,5 @@
--- The lines that separate the mails of a mailbox: `From `, an address, and a time (RFC 4155, appendix A), also in the
--- forms that real mailboxes have.
+-- The lines that separate the mails of a mailbox: `From `, an address, and a time (RFC 4155,
+-- appendix A), also in the forms that real mailboxes have.
 use Rattle.std.specs.Prelude.{ℕ, Bool, false, ◌&&◌, ◌||◌, ◌==◌, List, [], ◌∷◌, take, drop, not, codes, if◌then◌else◌}
 use Rattle.std.specs.Char.{is_ascii_alphabetic, is_ascii_digit, is_ascii_whitespace}
 use Rattle.std.specs.Cmp.Lexicographic.{pointwise}
@@ -39,12 +39,13 @@ is_name names text = list_any (bytes_eq text) names
 
 abbrev pub weekdays : List (List ℕ)
 weekdays =
-    codes "Sun" ∷ codes "Mon" ∷ codes "Tue" ∷ codes "Wed" ∷ codes "Thu" ∷ codes "Fri" ∷ codes "Sat" ∷ []
+    codes "Sun" ∷ codes "Mon" ∷ codes "Tue" ∷ codes "Wed" ∷ codes "Thu" ∷ codes "Fri" ∷ codes "Sat"
+    ∷ []
 
 abbrev pub months : List (List ℕ)
 months =
-    codes "Jan" ∷ codes "Feb" ∷ codes "Mar" ∷ codes "Apr" ∷ codes "May" ∷ codes "Jun" ∷ codes "Jul" ∷ codes "Aug"
-    ∷ codes "Sep" ∷ codes "Oct" ∷ codes "Nov" ∷ codes "Dec" ∷ []
+    codes "Jan" ∷ codes "Feb" ∷ codes "Mar" ∷ codes "Apr" ∷ codes "May" ∷ codes "Jun"
+    ∷ codes "Jul" ∷ codes "Aug" ∷ codes "Sep" ∷ codes "Oct" ∷ codes "Nov" ∷ codes "Dec" ∷ []
 
 -- a day of a month: one digit or two
 unfoldable pub is_day : List ℕ → Bool
@@ -75,7 +76,8 @@ unfoldable pub is_month_at : List ℕ → Bool
 is_month_at text =
     let day = after_word text in
     let clock = after_word day in
-    is_name months (word text) && is_day (word day) && is_clock (word clock) && is_year_at (after_word clock)
+    is_name months (word text) && is_day (word day) && is_clock (word clock)
+    && is_year_at (after_word clock)
 
 -- a time is at the front as asctime writes it: a weekday, a month, a day, a time of day and a year
 unfoldable pub is_time_at : List ℕ → Bool

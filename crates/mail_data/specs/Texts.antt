@@ -16,23 +16,28 @@ text_type mimetype = if bytes_eq mimetype (codes "text") then codes "text/plain"
 
 -- Under the charsets that are known.
 module _ (known : Charsets) where
-  -- a part is no text: its disposition is `attachment`, or it is a file although a text may not have a name
+  -- a part is no text: its disposition is `attachment`, or it is a file although a text may not
+  -- have a name
   unfoldable pub is_no_text : Bool → Tree → Bool
   is_no_text true t = is_attachment_disposition (shown_as_in known (root t)).kind
   is_no_text false t = is_attachment known t
 
   -- a part is a text of this type
   unfoldable pub is_text_of_type : Bool → List ℕ → Tree → Bool
-  is_text_of_type may_have_name mimetype t = bytes_eq (text_type (root t).ctype.mimetype) mimetype && not (is_no_text may_have_name t)
+  is_text_of_type may_have_name mimetype t =
+      bytes_eq (text_type (root t).ctype.mimetype) mimetype && not (is_no_text may_have_name t)
 
-  -- the first text of this type in a mail; the mail itself comes first, and each part before its own parts
+  -- the first text of this type in a mail; the mail itself comes first, and each part before its
+  -- own parts
   unfoldable pub first_text_of_type : Bool → List ℕ → Tree → Option Tree
-  first_text_of_type may_have_name mimetype t = find (is_text_of_type may_have_name mimetype) (trees_within t)
+  first_text_of_type may_have_name mimetype t =
+      find (is_text_of_type may_have_name mimetype) (trees_within t)
 
   -- the first `text/plain`, otherwise the first `text/html`
   unfoldable pub first_text : Bool → Tree → Option Tree
   first_text may_have_name t =
-      first_tree (first_text_of_type may_have_name (codes "text/plain") t) (first_text_of_type may_have_name (codes "text/html") t)
+      first_tree (first_text_of_type may_have_name (codes "text/plain") t)
+      (first_text_of_type may_have_name (codes "text/html") t)
 
   -- the part that is to be read: the first text without a name, otherwise the first with one
   unfoldable pub text_part : Tree → Option Tree

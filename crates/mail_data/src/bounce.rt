@@ -97,9 +97,9 @@ pub fn recipients<K: KnownCharsets>(
 /// contain it (RFC 3464, section 2; RFC 6533, section 3).
 ///
 /// The mail has to be a `multipart/report`; the first of its own parts that is a `message/rfc822`,
-/// a `text/rfc822-headers`, a `message/global` or a `message/global-headers` is used. Its id is read
-/// as `archive::message_id` reads one, in the charsets `known`. Headers that `parse_headers` refuses
-/// have no id. A transfer encoding is not removed. Allocates the headers and the id.
+/// a `text/rfc822-headers`, a `message/global` or a `message/global-headers` is used. Its id is
+/// read as `archive::message_id` reads one, in the charsets `known`. Headers that `parse_headers`
+/// refuses have no id. A transfer encoding is not removed. Allocates the headers and the id.
 ///
 /// # Errors
 ///

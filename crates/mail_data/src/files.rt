@@ -260,8 +260,7 @@ pub fn describes_attachment(
     if is_attachment_disposition(&disposition.disposition) {
         return Ok(true);
     }
-    let name = named_file(alloc, disposition, ctype)?;
-    Ok(name.is_some())
+    Ok(named_file(alloc, disposition, ctype)?.is_some())
 }
 
 /// Returns whether a disposition is `attachment` (RFC 2183, section 2.2). Does not allocate.
@@ -370,8 +369,8 @@ fn push_own<'m, 'a, K: KnownCharsets>(
     Ok(())
 }
 
-/// Returns the path of the part with this number, counted from 1, given the path of the message that
-/// contains it (RFC 3501, section 6.4.5).
+/// Returns the path of the part with this number, counted from 1, given the path of the message
+/// that contains it (RFC 3501, section 6.4.5).
 #[tactic(auto, unfolding(crate::specs::Files::path_under))]
 pub(crate) fn path_under(alloc: Global, path: &str, number: usize) -> Result<String, AllocError>
     ensures { IfOk result (λ text. string_bytes text ≡ path_under path.now number) }

@@ -42,8 +42,8 @@ struct Line<'t> {
 /// `text/plain` with the parameter `format=flowed`, with each paragraph as one line, as `unflowed`
 /// makes it (RFC 3676, section 4).
 ///
-/// The parameter `delsp=yes` of the type deletes the spaces before the line ends within a paragraph.
-/// Allocates the bytes, the text and the name of the charset.
+/// The parameter `delsp=yes` of the type deletes the spaces before the line ends within a
+/// paragraph. Allocates the bytes, the text and the name of the charset.
 ///
 /// # Errors
 ///
@@ -120,8 +120,8 @@ fn is_parameter(ctype: &ParsedContentType, name: &str, word: &str) -> bool
 /// Joins the lines of each paragraph of a text whose paragraphs flow over lines (`format=flowed`;
 /// RFC 3676, section 4).
 ///
-/// A line that ends in a space continues in the next one, if that has as many quote marks and is not
-/// the line `-- ` before a signature. A space at the start of a line, after its quote marks, is
+/// A line that ends in a space continues in the next one, if that has as many quote marks and is
+/// not the line `-- ` before a signature. A space at the start of a line, after its quote marks, is
 /// removed. With `DelSp::Yes` the space at the end of a line that continues is removed too. A
 /// paragraph that is quoted keeps its quote marks at the front, with one space after them. The line
 /// end of its last line stays. Allocates the text.

@@ -37,15 +37,15 @@ pub struct InnerMail {
     pub error: Option<MailParseError>,
 }
 
-/// Returns the mails inside a mail: those that its parts forward, in order, each before those inside
-/// it. A part forwards a mail if its type is `message/rfc822` (RFC 2046, section 5.2.1) or
+/// Returns the mails inside a mail: those that its parts forward, in order, each before those
+/// inside it. A part forwards a mail if its type is `message/rfc822` (RFC 2046, section 5.2.1) or
 /// `message/global` (RFC 6532, section 3.7). A transfer encoding is removed as
 /// `lenient::lenient_content` does, and each mail is read as `parse_mail_in` reads it in the
 /// charsets `known`.
 ///
 /// A mail that is refused is in the list with its error, but none inside it is. A part whose path
-/// has `MAX_LEVELS` numbers or more is not searched, so the time grows with the bytes and the levels
-/// alone. Allocates the list, the paths and a copy of each mail.
+/// has `MAX_LEVELS` numbers or more is not searched, so the time grows with the bytes and the
+/// levels alone. Allocates the list, the paths and a copy of each mail.
 ///
 /// # Errors
 ///
@@ -246,8 +246,8 @@ fn is_plain(body: &Body<'_>) -> bool
 /// `places`, with their paths and their ranges in that mail (RFC 3501, section 6.4.5).
 ///
 /// The path of the mail itself is that of the part, since IMAP has one name for both. If the mail
-/// has no parts, it is that of its body: below `2` it is `2.1`. With an empty path the result is that
-/// of `places`. Allocates the list and the paths.
+/// has no parts, it is that of its body: below `2` it is `2.1`. With an empty path the result is
+/// that of `places`. Allocates the list and the paths.
 ///
 /// # Errors
 ///
@@ -259,7 +259,8 @@ fn is_plain(body: &Body<'_>) -> bool
 /// use mail_data::inner_mails::places_under;
 /// use mailparse::parse_mail;
 ///
-/// let mail = parse_mail(alloc, b"Content-Type: multipart/mixed; boundary=b\n\n--b\n\none\n--b--\n")?;
+/// let raw = b"Content-Type: multipart/mixed; boundary=b\n\n--b\n\none\n--b--\n";
+/// let mail = parse_mail(alloc, raw)?;
 /// let places = places_under(alloc, &mail, "2")?;
 /// assert_eq!(rt; places[0].path.as_str(), "2");
 /// assert_eq!(rt; places[1].path.as_str(), "2.1");

@@ -26,8 +26,8 @@ pub(crate) fn is_empty_line(bytes: &[u8]) -> bool
     empty_line(bytes) > 0
 }
 
-/// Returns the offset of the first line such that the bytes from there onwards pass the test, or the
-/// length if there is no such line.
+/// Returns the offset of the first line such that the bytes from there onwards pass the test, or
+/// the length if there is no such line.
 pub(crate) fn line_place<F: Fn(&[u8]) -> bool>(bytes: &[u8], passes: F) -> usize
     requires { F.IsAlwaysCallable passes }
     ensures value { (test : List ℕ → Bool) → ((text : _) (is : Bool) →

@@ -25,8 +25,8 @@ pub struct Place<'m, 'a> {
     pub body_range: Range<usize>,
 }
 
-/// Returns a mail and all its parts (RFC 2046, section 5.1), in the order in which they appear, each
-/// before its own parts, with their paths and their ranges in the mail that was parsed.
+/// Returns a mail and all its parts (RFC 2046, section 5.1), in the order in which they appear,
+/// each before its own parts, with their paths and their ranges in the mail that was parsed.
 ///
 /// The ranges are in bytes, counted from 0. Allocates the list and the paths.
 ///

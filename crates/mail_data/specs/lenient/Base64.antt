@@ -1,5 +1,6 @@
--- The front of a Base64 body that is cut off or damaged: the groups of four before the first invalid one (RFC 4648,
--- section 4; RFC 2045, section 6.8). That a last group may lack its padding is the crate's own rule.
+-- The front of a Base64 body that is cut off or damaged: the groups of four before the first
+-- invalid one (RFC 4648, section 4; RFC 2045, section 6.8). That a last group may lack its padding
+-- is the crate's own rule.
 use Rattle.std.specs.Prelude.{ℕ, suc, List, [], ◌∷◌, ◌++◌, Option, Some, None}
 use Rattle.mail_codec.specs.Base64.{group_bytes, padding}
 use Rattle.mail_codec.specs.Places.{without_ascii_whitespace}
@@ -22,7 +23,8 @@ abbrev pub group_then : ℕ → Option (List ℕ) → Front → Front
 group_then n (Some bytes) more = before bytes more
 group_then n None more = record { bytes = []; fault = Some n }
 
--- the front of a text without whitespace whose first group has index n; two or three letters at the end are a group whose padding is missing
+-- the front of a text without whitespace whose first group has index n; two or three letters at the
+-- end are a group whose padding is missing
 unfoldable pub front_from : ℕ → List ℕ → Front
 front_from n [] = all_read
 front_from n (p ∷ []) = group_then n None all_read

@@ -19,4 +19,5 @@ error_of (Base64 fault) = Base64DecodeError fault
 
 -- the bytes and the fault
 abbrev pub content_view : Content → words.Content
-content_view content = record { bytes = cow_slice_items content.bytes; fault = option_map fault_view content.fault }
+content_view content =
+    record { bytes = cow_slice_items content.bytes; fault = option_map fault_view content.fault }

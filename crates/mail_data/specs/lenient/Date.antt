@@ -1,5 +1,5 @@
--- Dates as written in mail: RFC 5322, section 3.3, and the obsolete forms of section 4.3. The readings that the standard leaves
--- open, and the faults, are the crate's own rule.
+-- Dates as written in mail: RFC 5322, section 3.3, and the obsolete forms of section 4.3. The
+-- readings that the standard leaves open, and the faults, are the crate's own rule.
 use Rattle.std.specs.Prelude.{ℕ, zero, suc, ◌+◌, ◌*◌, ◌%◌, ◌-◌, Bool, true, false, not, ◌&&◌, ◌||◌, ◌==◌, nat_lt, nat_le, List, [], ◌∷◌, length, take, drop, sum, ℤ, pos, ◌+ℤ◌, neg_ℤ, Option, Some, None, option_map, is_some, ok_or, unwrap_or, Result, Ok, Err, codes, slice_index_or, if◌then◌else◌}
 use Rattle.std.specs.Char.{is_ascii_alphabetic, is_ascii_digit, is_ascii_whitespace}
 use Rattle.std.specs.Int.{is_in_range}
@@ -32,15 +32,16 @@ abbrev pub ◌>>=◌ : {A B : Type 0} → Dated A → (A → Dated B) → Dated 
 abbrev pub ends_whitespace : ℕ → ℕ → Bool
 ends_whitespace depth b = depth == 0 && not (is_ascii_whitespace b || b == opening_parenthesis)
 
--- the bytes after whitespace and comments, given whether the first byte is quoted and the number of open comments; a backslash
--- quotes the byte after it
+-- the bytes after whitespace and comments, given whether the first byte is quoted and the number of
+-- open comments; a backslash quotes the byte after it
 abbrev pub after_whitespace : Bool → ℕ → List ℕ → List ℕ
 after_whitespace quoted depth [] = []
 after_whitespace quoted depth (b ∷ rest) =
     if not quoted && ends_whitespace depth b then b ∷ rest
     else after_whitespace (not quoted && b == backslash) (depth_after quoted depth b) rest
 
--- the bytes after the whitespace and the comments at the front; a comment that is not closed extends to the end
+-- the bytes after the whitespace and the comments at the front; a comment that is not closed
+-- extends to the end
 unfoldable pub after_comments : List ℕ → List ℕ
 after_comments bytes = after_whitespace false 0 bytes
 
@@ -69,13 +70,15 @@ small_number most bytes =
 
 -- Days, months and years.
 
--- the bytes after the name of a day of the week and a comma, each if it is there; the name may be any word
+-- the bytes after the name of a day of the week and a comma, each if it is there; the name may be
+-- any word
 unfoldable pub after_day_name : List ℕ → List ℕ
 after_day_name bytes =
     let rest = (run_at is_ascii_alphabetic bytes).1 in
     unwrap_or (after_mark comma rest) rest
 
--- the names of the months, with the number of each, counted from 0: the first three letters, the whole name, and `Sept`
+-- the names of the months, with the number of each, counted from 0: the first three letters, the
+-- whole name, and `Sept`
 abbrev pub month_names : List (List ℕ × ℕ)
 month_names = (codes "Sept", 8) ∷ months
 
@@ -86,8 +89,8 @@ month_at bytes =
       month ← ok_or (look_up month_names run.0) Month
       Ok (month, run.1)
 
--- the year that digits denote: two from 00 to 49 are counted from 2000, other two and three digits from 1900, and four to nine
--- denote the year itself, at least 1900
+-- the year that digits denote: two from 00 to 49 are counted from 2000, other two and three digits
+-- from 1900, and four to nine denote the year itself, at least 1900
 unfoldable pub year_of : List ℕ → Dated ℕ
 year_of digits =
     let n = digits_value 10 digits in
@@ -106,9 +109,11 @@ abbrev pub days_of_years : ℕ → ℕ
 days_of_years zero = 0
 days_of_years (suc n) = days_of_years n + year_length (1900 + n)
 
--- the days from 1 January 1900 to a day, given its year, its month counted from 0, and its number in the month
+-- the days from 1 January 1900 to a day, given its year, its month counted from 0, and its number
+-- in the month
 unfoldable pub day_number : ℕ → ℕ → ℕ → ℕ
-day_number year month day = days_of_years (year - 1900) + (sum (take month (month_lengths year)) + (day - 1))
+day_number year month day =
+    days_of_years (year - 1900) + (sum (take month (month_lengths year)) + (day - 1))
 
 -- the days of a month
 unfoldable pub month_length : ℕ → ℕ → ℕ
@@ -133,15 +138,19 @@ after_colon most bytes = do
 
 -- the second, or 0 if no colon follows the minute; 60 is a leap second
 unfoldable pub second_at : List ℕ → Dated (ℕ × List ℕ)
-second_at bytes = option_map_or (λ rest. ok_or (small_number 60 rest) Time) (after_mark colon bytes) (Ok (0, bytes))
+second_at bytes =
+    option_map_or (λ rest. ok_or (small_number 60 rest) Time) (after_mark colon bytes)
+    (Ok (0, bytes))
 
--- the hour of the day, given the hour that is written and the bytes after the time, and the bytes after `AM` or `PM`: before noon
--- 12 is 0, after noon 1 to 11 are 13 to 23, and any other hour stays as it is
+-- the hour of the day, given the hour that is written and the bytes after the time, and the bytes
+-- after `AM` or `PM`: before noon 12 is 0, after noon 1 to 11 are 13 to 23, and any other hour
+-- stays as it is
 unfoldable pub clock_hour : ℕ → List ℕ → ℕ × List ℕ
 clock_hour hour bytes =
     let run = run_at is_ascii_alphabetic bytes in
     if str_eq_ignore_ascii_case run.0 (codes "AM") then (if hour == 12 then 0 else hour, run.1) else
-    if str_eq_ignore_ascii_case run.0 (codes "PM") then (if is_in_range 1 11 hour then hour + 12 else hour, run.1) else
+    if str_eq_ignore_ascii_case run.0 (codes "PM")
+    then (if is_in_range 1 11 hour then hour + 12 else hour, run.1) else
     (hour, bytes)
 
 -- the seconds from the start of the day to a time
@@ -183,8 +192,9 @@ west_by minutes = pos (60 * minutes)
 abbrev pub east_by : ℕ → ℤ
 east_by minutes = neg_ℤ (pos (60 * minutes))
 
--- the known names of zones, with the seconds that each adds: those of the standard, those whose abbreviation means one offset in
--- the time zone database of IANA (RFC 6557), and the German names MEZ and MESZ
+-- the known names of zones, with the seconds that each adds: those of the standard, those whose
+-- abbreviation means one offset in the time zone database of IANA (RFC 6557), and the German names
+-- MEZ and MESZ
 abbrev pub zone_names : List (List ℕ × ℤ)
 zone_names =
     (codes "UTC", pos 0) ∷ (codes "UT", pos 0) ∷ (codes "GMT", pos 0) ∷ (codes "Z", pos 0)
@@ -192,11 +202,12 @@ zone_names =
     ∷ (codes "CST", west_by 360) ∷ (codes "MDT", west_by 360) ∷ (codes "MST", west_by 420)
     ∷ (codes "PDT", west_by 420) ∷ (codes "PST", west_by 480) ∷ (codes "NST", west_by 210)
     ∷ (codes "NDT", west_by 150) ∷ (codes "AST", west_by 240) ∷ (codes "ADT", west_by 180)
-    ∷ (codes "AKST", west_by 540) ∷ (codes "AKDT", west_by 480) ∷ (codes "HST", west_by 600) ∷ (codes "WET", pos 0)
-    ∷ (codes "WEST", east_by 60) ∷ (codes "BST", east_by 60) ∷ (codes "CET", east_by 60) ∷ (codes "CEST", east_by 120)
-    ∷ (codes "MET", east_by 60) ∷ (codes "MEST", east_by 120) ∷ (codes "MEZ", east_by 60)
-    ∷ (codes "MESZ", east_by 120) ∷ (codes "EET", east_by 120) ∷ (codes "EEST", east_by 180)
-    ∷ (codes "MSK", east_by 180) ∷ (codes "MSD", east_by 240) ∷ (codes "WAT", east_by 60) ∷ (codes "CAT", east_by 120)
+    ∷ (codes "AKST", west_by 540) ∷ (codes "AKDT", west_by 480) ∷ (codes "HST", west_by 600)
+    ∷ (codes "WET", pos 0) ∷ (codes "WEST", east_by 60) ∷ (codes "BST", east_by 60)
+    ∷ (codes "CET", east_by 60) ∷ (codes "CEST", east_by 120) ∷ (codes "MET", east_by 60)
+    ∷ (codes "MEST", east_by 120) ∷ (codes "MEZ", east_by 60) ∷ (codes "MESZ", east_by 120)
+    ∷ (codes "EET", east_by 120) ∷ (codes "EEST", east_by 180) ∷ (codes "MSK", east_by 180)
+    ∷ (codes "MSD", east_by 240) ∷ (codes "WAT", east_by 60) ∷ (codes "CAT", east_by 120)
     ∷ (codes "SAST", east_by 120) ∷ (codes "EAT", east_by 180) ∷ (codes "PKT", east_by 300)
     ∷ (codes "WIB", east_by 420) ∷ (codes "HKT", east_by 480) ∷ (codes "AWST", east_by 480)
     ∷ (codes "JST", east_by 540) ∷ (codes "KST", east_by 540) ∷ (codes "ACST", east_by 570)
@@ -207,7 +218,8 @@ zone_names =
 abbrev pub Zoned : Type 0
 Zoned = ℤ × Bool
 
--- the digits after a sign, if there is one: after `+` a zone is in the east, after `-` in the west; a name after them is ignored
+-- the digits after a sign, if there is one: after `+` a zone is in the east, after `-` in the west;
+-- a name after them is ignored
 unfoldable pub signed_at : List ℕ → Option (Dated (ℤ × List ℕ))
 signed_at bytes =
     option_map_or (λ rest. Some (offset_at rest >>= east)) (after_mark plus_sign bytes)
@@ -216,7 +228,8 @@ signed_at bytes =
 -- a name that digits may follow
 abbrev pub is_universal : List ℕ → Bool
 is_universal name =
-    str_eq_ignore_ascii_case name (codes "GMT") || str_eq_ignore_ascii_case name (codes "UTC") || str_eq_ignore_ascii_case name (codes "UT")
+    str_eq_ignore_ascii_case name (codes "GMT") || str_eq_ignore_ascii_case name (codes "UTC")
+    || str_eq_ignore_ascii_case name (codes "UT")
 
 -- the zone with a name, and the bytes after it: UTC if the name is not known or missing
 unfoldable pub named_zone : List ℕ → List ℕ → Dated (Zoned × List ℕ)
@@ -233,7 +246,8 @@ unfoldable pub zone_at : List ℕ → Dated (Zoned × List ℕ)
 zone_at bytes =
     let run = run_at is_ascii_alphabetic bytes in
     if is_empty run.0 || is_universal run.0
-    then option_map_or (λ offset. offset >>= zone_of_digits) (signed_at run.1) (named_zone run.0 run.1)
+    then option_map_or (λ offset. offset >>= zone_of_digits) (signed_at run.1)
+    (named_zone run.0 run.1)
     else named_zone run.0 run.1
 
 -- The date.

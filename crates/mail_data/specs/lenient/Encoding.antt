@@ -1,5 +1,5 @@
--- The transfer encoding of a body with more text beside its name: whitespace, a comment or a parameter (RFC 2045, section
--- 6.1; RFC 5322, section 3.2.2).
+-- The transfer encoding of a body with more text beside its name: whitespace, a comment or a
+-- parameter (RFC 2045, section 6.1; RFC 5322, section 3.2.2).
 use Rattle.std.specs.Prelude.{ℕ, Bool, not, ◌||◌, ◌==◌, List, take, Option, option_map, codes}
 use Rattle.std.specs.Char.{is_ascii_whitespace}
 use Rattle.std.specs.List.{prefix_len}

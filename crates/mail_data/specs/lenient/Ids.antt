@@ -1,5 +1,5 @@
--- Message ids in any text (RFC 5322, section 3.6.4): each text in angle brackets that has an `@`; the id that a mail gives itself
--- may have none.
+-- Message ids in any text (RFC 5322, section 3.6.4): each text in angle brackets that has an `@`;
+-- the id that a mail gives itself may have none.
 use Rattle.std.specs.Prelude.{ℕ, Bool, true, false, not, ◌&&◌, ◌==◌, List, [], ◌∷◌, drop, flat_map, if◌then◌else◌}
 use Rattle.std.specs.List.{slice_split, list_any, before_first}
 use Rattle.mail_codec.specs.Ascii.{less_than}
@@ -31,4 +31,5 @@ id_at needs_at text =
 
 -- the ids in a text: of each piece from a `<` up to the next `<`
 unfoldable pub found_ids : Bool → List ℕ → List (List ℕ)
-found_ids needs_at text = flat_map (λ piece. id_at needs_at piece) (drop 1 (slice_split is_opening text))
+found_ids needs_at text =
+    flat_map (λ piece. id_at needs_at piece) (drop 1 (slice_split is_opening text))

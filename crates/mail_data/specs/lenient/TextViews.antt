@@ -5,4 +5,8 @@ use Rattle.mail_data.specs.declared.lenient.texts.BodyText.{BodyText}
 
 -- the text, its charset, and whether it is damaged
 abbrev pub text_view : BodyText → read.BodyText
-text_view body = record { text = string_bytes body.text; charset = string_bytes body.charset; is_damaged = body.is_damaged }
+text_view body = record {
+  text = string_bytes body.text;
+  charset = string_bytes body.charset;
+  is_damaged = body.is_damaged;
+}

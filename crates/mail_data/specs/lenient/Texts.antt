@@ -23,20 +23,25 @@ is_default label = str_eq_ignore_ascii_case label default_charset
 
 -- Under the charsets that are known.
 module _ (known : Charsets) where
-  -- bytes are read as UTF-8 in spite of their label: it is missing, `us-ascii` or unknown, and they are UTF-8
+  -- bytes are read as UTF-8 in spite of their label: it is missing, `us-ascii` or unknown, and they
+  -- are UTF-8
   unfoldable pub is_read_as_utf8 : List ℕ → List ℕ → Bool
   is_read_as_utf8 label bytes = (is_default label || not (is_some (known label))) && is_utf8 bytes
 
   -- the text of bytes under a label
   unfoldable pub lenient_text : List ℕ → List ℕ → List ℕ
-  lenient_text label bytes = if is_read_as_utf8 label bytes then marked_text_of Utf8 bytes else text_under_in known label bytes
+  lenient_text label bytes =
+      if is_read_as_utf8 label bytes then marked_text_of Utf8 bytes
+      else text_under_in known label bytes
 
-  -- the name of the charset in which they are read: of a byte order mark, or the label; under an unknown label only ASCII is read
+  -- the name of the charset in which they are read: of a byte order mark, or the label; under an
+  -- unknown label only ASCII is read
   unfoldable pub charset_used : List ℕ → List ℕ → List ℕ
   charset_used label bytes =
       if is_read_as_utf8 label bytes then codes "utf-8" else
       if not (is_some (known label)) then default_charset else
-      option_map_or (λ mark. charset_name mark.0) (mark_at_start bytes) (if is_default label then codes "windows-1252" else label)
+      option_map_or (λ mark. charset_name mark.0) (mark_at_start bytes)
+      (if is_default label then codes "windows-1252" else label)
 
 -- the text of a body, the charset in which it is read, and whether it is damaged
 pub record BodyText : Type 0 where

@@ -7,8 +7,8 @@ use std::alloc::{AllocError, Global};
 /// The greatest length of a safe name in bytes.
 const MOST_BYTES: usize = 255;
 
-/// Returns the name of a file made safe: on a POSIX system it names a file in the directory where it
-/// is used, and no other. Names that Windows reserves, such as `NUL` and `C:x`, stay.
+/// Returns the name of a file made safe: on a POSIX system it names a file in the directory where
+/// it is used, and no other. Names that Windows reserves, such as `NUL` and `C:x`, stay.
 ///
 /// Each `/`, `\` and control character, including NUL, becomes `_`. The name is cut between
 /// characters to at most 255 bytes. If the result is empty, `.` or `..`, it becomes `_`. A name

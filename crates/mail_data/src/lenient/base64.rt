@@ -80,8 +80,8 @@ fn front_before(alloc: Global, letters: &[u8], group: usize) -> Result<Base64Fro
 }
 
 /// Appends the bytes of the text after the whole groups and returns true, if it consists of two or
-/// three letters; otherwise returns false. The group there, which has this index, is invalid without
-/// its padding.
+/// three letters; otherwise returns false. The group there, which has this index, is invalid
+/// without its padding.
 fn push_last(
     alloc: Global,
     bytes: &mut Vec<u8>,

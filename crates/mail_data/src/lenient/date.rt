@@ -18,18 +18,18 @@ use zones::zone_at;
 /// of RFC 5322, section 3.3, or the obsolete ones of section 4.3.
 ///
 /// The parts of a date are a day of the week and a comma, which may be missing and are not compared
-/// with the date; a day of one digit or two, which must exist in the month; the name of a month, its
-/// first three letters or `Sept`, ignoring case; a year; a time of day, whose seconds may be missing;
-/// and a zone. A year of two digits is from 1950 to 2049, one of three is counted from 1900, and one
-/// of four to nine must be at least 1900. The second may be 60. A zone is a sign and four digits, the
-/// last two below 60, or a name. The names of the standard and the common ones of the time zone
-/// database, such as `EST`, `CEST` and `JST`, have their offset; every other name, including a single
-/// letter, means UTC, and so does a missing zone. Digits may follow `GMT` and `UTC`, and a name may
-/// follow digits. `AM` or `PM` may follow the time. ASCII whitespace and comments, which may be
-/// nested, are allowed between the parts and at both ends.
+/// with the date; a day of one digit or two, which must exist in the month; the name of a month,
+/// its first three letters or `Sept`, ignoring case; a year; a time of day, whose seconds may be
+/// missing; and a zone. A year of two digits is from 1950 to 2049, one of three is counted from
+/// 1900, and one of four to nine must be at least 1900. The second may be 60. A zone is a sign and
+/// four digits, the last two below 60, or a name. The names of the standard and the common ones of
+/// the time zone database, such as `EST`, `CEST` and `JST`, have their offset; every other name,
+/// including a single letter, means UTC, and so does a missing zone. Digits may follow `GMT` and
+/// `UTC`, and a name may follow digits. `AM` or `PM` may follow the time. ASCII whitespace and
+/// comments, which may be nested, are allowed between the parts and at both ends.
 ///
-/// Unlike `mailparse::dateparse`, this reads `20:57 +0200`, without seconds, as it is meant. Does not
-/// allocate.
+/// Unlike `mailparse::dateparse`, this reads `20:57 +0200`, without seconds, as it is meant. Does
+/// not allocate.
 ///
 /// # Errors
 ///

@@ -20,9 +20,9 @@ pub enum IdRule {
 /// rule, without the brackets (following RFC 5322, section 3.6.4).
 ///
 /// Other text is skipped, so of a broken list the intact ids are returned. An id goes from a `<` up
-/// to the first `>` and contains no `<`: of several in a row, the last one opens it. If `msgidparse`
-/// reads the text, the ids with an `@` are those of its list, each from its last `<` onwards, that
-/// have one. Allocates the list and the ids.
+/// to the first `>` and contains no `<`: of several in a row, the last one opens it. If
+/// `msgidparse` reads the text, the ids with an `@` are those of its list, each from its last `<`
+/// onwards, that have one. Allocates the list and the ids.
 ///
 /// # Errors
 ///

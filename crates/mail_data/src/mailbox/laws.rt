@@ -20,8 +20,8 @@ pub fn mailboxes_join()
         entries (first ++ second) ≡ entries first ++ entries second }
 {}
 
-/// Says that a mailbox may be read in equal parts, each with the mails whose separator begins in it:
-/// together they are all mails in order, each with its place.
+/// Says that a mailbox may be read in equal parts, each with the mails whose separator begins in
+/// it: together they are all mails in order, each with its place.
 pub fn mailbox_parts_join()
     ensures { (bytes : List ℕ) (count : ℕ) → 0 < count →
         flat_map (λ mails. mails) (values_below count (part_mails bytes count)) ≡ placed bytes }

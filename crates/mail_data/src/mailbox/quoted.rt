@@ -9,8 +9,8 @@ use std::alloc::{AllocError, Global};
 /// Removes one `>` from each line of a mail that begins with `>`s and then `From ` (the mboxrd
 /// format).
 ///
-/// A writer of that format puts one `>` before each such line, and before each line that begins with
-/// `From `, so the result is the original mail. Allocates the result.
+/// A writer of that format puts one `>` before each such line, and before each line that begins
+/// with `From `, so the result is the original mail. Allocates the result.
 ///
 /// # Errors
 ///

@@ -14,7 +14,8 @@ static MONTHS: [&str; 12] = [
     "Jan", "Feb", "Mar", "Apr", "May", "Jun", "Jul", "Aug", "Sep", "Oct", "Nov", "Dec",
 ];
 
-/// Returns whether a separator is at the front: a line that begins with `From ` and contains a time.
+/// Returns whether a separator is at the front: a line that begins with `From ` and contains a
+/// time.
 #[tactic(auto, unfolding(crate::specs::Separator::is_separator))]
 pub(super) fn is_separator(bytes: &[u8]) -> bool
     ensures { result ≡ is_separator bytes.now }

@@ -28,7 +28,7 @@ pub content-front : (kind : BodyKind) (raw front : List ℕ) (refusal : Refusal)
 unfolding lenient_content front_with
 content-front kind raw front refusal e is = ap (read_or_front raw) e ∙ ap (front_with refusal) (sym is)
 
--- the refusal that an error for a fault tells of
+-- the refusal that an error for a fault reports
 pub fault-refused : (error : MailParseError) (fault : Base64Fault) (given : Reads (List ℕ)) → error ≡ Base64DecodeError fault
     → IsRefusalOrMemory error given → given ≡ Err (base64_fault fault.group)
 fault-refused error fault given is h = subst (λ (e : MailParseError). IsRefusalOrMemory e given) is h
