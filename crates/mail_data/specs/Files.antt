@@ -102,10 +102,6 @@ module _ (known : Charsets) where
   abbrev pub files_among : List (List ℕ × Tree) → List (List ℕ × Tree)
   files_among messages = filter (λ p. is_attachment p.1) messages
 
-  -- the files of a message with this path
-  abbrev pub attachments_under : List ℕ → Tree → List (List ℕ × Tree)
-  attachments_under path t = files_among (with_paths path t)
-
   -- the files of a whole message, with their paths
   abbrev pub attachments : Tree → List (List ℕ × Tree)
-  attachments t = attachments_under (whole_path t) t
+  attachments t = files_among (with_paths (whole_path t) t)

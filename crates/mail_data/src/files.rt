@@ -6,8 +6,7 @@ ghost use Rattle.mailparse.specs.Outcome.{AnswersOrMemory, IsMemory};
 ghost use Rattle.mailparse.specs.Pairs.{text_at};
 ghost use Rattle.mailparse.specs.Views as views;
 ghost use Rattle.mailparse.specs.Views.{content_type, kind, tree_of};
-ghost use Rattle.mail_data.specs.Files.{attachments, attachments_under, describes_attachment};
-ghost use Rattle.mail_data.specs.Files.{file_name, files_among, filled};
+ghost use Rattle.mail_data.specs.Files.{attachments, describes_attachment, file_name, filled};
 ghost use Rattle.mail_data.specs.Files.{is_attachment_disposition};
 ghost use Rattle.mail_data.specs.Files.{is_attachment, is_leaf, name_among, name_in, path_under};
 ghost use Rattle.mail_data.specs.Files.{whole_path};
@@ -16,6 +15,7 @@ ghost use Rattle.mail_data.specs.FileViews.{attachment_view};
 mod left_over;
 mod names;
 
+use crate::places::push_places;
 use left_over::left_over_text;
 use mail_codec::charset::KnownCharsets;
 use mailparse::{
@@ -312,8 +312,17 @@ pub fn attachments<'m, 'a, K: KnownCharsets>(
     ensures { AnswersOrMemory (λ files. map attachment_view files.items) result
         (Ok (attachments (K.known known.now) (tree_of mail.now))) }
 {
+    let mut found = Vec::new(alloc);
+    push_places(alloc, mail, whole_path(mail), &mut found)?;
     let mut files = Vec::new(alloc);
-    push_attachments(alloc, mail, whole_path(mail), known, &mut files)?;
+    for place in found {
+        if is_attachment(alloc, place.part, known)? {
+            files.push(Attachment {
+                path: place.path,
+                part: place.part,
+            })?;
+        }
+    }
     Ok(files)
 }
 
@@ -323,50 +332,6 @@ pub(crate) fn whole_path(mail: &ParsedMail<'_>) -> &'static str
     ensures { result.now ≡ whole_path (tree_of mail.now) }
 {
     if is_leaf(mail) { "1" } else { "" }
-}
-
-/// Appends the files of a part with this path.
-fn push_attachments<'m, 'a, K: KnownCharsets>(
-    alloc: Global,
-    mail: &'m ParsedMail<'a>,
-    path: &str,
-    known: &K,
-    files: &mut Vec<Attachment<'m, 'a>>,
-) -> Result<(), MailParseError>
-    ensures written { OnOk result (map attachment_view files.new.items
-        ≡ map attachment_view files.old.items
-        ++ attachments_under (K.known known.now) path.now (tree_of mail.now)) }
-    ensures only_memory { IfErr result IsMemory }
-{
-    push_own(alloc, mail, path, known, files)?;
-    let mut number = 0;
-    for part in &mail.subparts {
-        number += 1;
-        let path = path_under(alloc, path, number)?;
-        push_attachments(alloc, part, path.as_str(), known, files)?;
-    }
-    Ok(())
-}
-
-/// Appends a part with this path, if it is a file.
-fn push_own<'m, 'a, K: KnownCharsets>(
-    alloc: Global,
-    part: &'m ParsedMail<'a>,
-    path: &str,
-    known: &K,
-    files: &mut Vec<Attachment<'m, 'a>>,
-) -> Result<(), MailParseError>
-    ensures written { OnOk result (map attachment_view files.new.items
-        ≡ map attachment_view files.old.items
-        ++ files_among (K.known known.now) ((path.now, tree_of part.now) ∷ [])) }
-    ensures only_memory { IfErr result IsMemory }
-{
-    if !is_attachment(alloc, part, known)? {
-        return Ok(());
-    }
-    let path = String::from_str(alloc, path)?;
-    files.push(Attachment { path, part })?;
-    Ok(())
 }
 
 /// Returns the path of the part with this number, counted from 1, given the path of the message

@@ -16,14 +16,7 @@ front_before-requires-clause-fault c =
 pub returns-in-Ok-clause-read : goal.returns-in-Ok-clause-read
 returns-in-Ok-clause-read c = sym (base64_front-ok c.args.body.now c.in-Ok.bytes.items (sym c.in_ok-bytes.ensures ∙ ap items_or_fault c.in-Ok.is))
 
-pub returns-in-Ok-clause-same : goal.returns-in-Ok-clause-same
-returns-in-Ok-clause-same c = λ bytes h. returns-in-Ok-clause-read c ∙ base64_front-ok c.args.body.now bytes h
-
 pub returns-in_ok-letters-in-Err-clause-read : goal.returns-in_ok-letters-in-Err-clause-read
 returns-in_ok-letters-in-Err-clause-read c =
     IfOk-weaker c.front_before.result _ _
     (λ front read. read ∙ letters-front c.args.body.now c.as_slice.result.now (c.as_slice.ensures.value ∙ c.in_ok-letters-in-Err.ensures)) c.front_before.ensures
-
-pub returns-in_ok-letters-in-Err-clause-same : goal.returns-in_ok-letters-in-Err-clause-same
-returns-in_ok-letters-in-Err-clause-same c = λ bytes h.
-    IfOk-weaker c.front_before.result _ _ (λ front read. read ∙ base64_front-ok c.args.body.now bytes h) (returns-in_ok-letters-in-Err-clause-read c)
