@@ -18,4 +18,3 @@ pub mod CountedMails
 pub mod CountedFound
 pub mod MailboxFormats
 pub mod QuotedLines
-pub mod Texts

@@ -1,14 +1,13 @@
 -- Lemmas on delivery status notifications.
-use Rattle.std.proofs.Common.{◌≡◌, ℕ, zero, suc, ◌<◌, ◌≤◌, Bool, true, false, not, List, [], ◌∷◌, ◌++◌, length, map, drop, Bor, Option, refl, sym, ap, ◌∙◌, arith, append_assoc, length-drop, inl, inr}
-use Rattle.std.specs.Prelude.{codes, nat_lt, nat_eq, filter}
+use Rattle.std.proofs.Common.{◌≡◌, ℕ, zero, suc, ◌<◌, ◌≤◌, Bool, true, false, not, List, [], ◌∷◌, ◌++◌, length, map, drop, Bor, refl, sym, ap, ◌∙◌, arith, append_assoc, length-drop, inl, inr}
+use Rattle.std.specs.Prelude.{nat_lt, nat_eq, filter}
 use Rattle.std.proofs.lemmas.Bool.{cond-false, cases_Bool, le-ltb, ltb-true}
 use Rattle.std.proofs.lemmas.List.{append-nil, drop_all}
 use Rattle.std.specs.List.{position_or_len}
 use Rattle.mailparse.proofs.lemmas.EncodedWord.{any_from_place}
-use Rattle.mailparse.specs.Header.{Header}
 use Rattle.mail_codec.specs.Charset.{Charsets}
 use Rattle.mail_codec.specs.Places.{is_empty}
-use Rattle.mail_data.specs.Bounce.{Delivery, after_block, after_type, block_at, block_length, blocks, deliveries, delivery_in, fields, address_text, field, pieces_within, plain_text, typed_text}
+use Rattle.mail_data.specs.Bounce.{Delivery, after_block, after_type, block_at, block_length, blocks, deliveries, delivery_in, fields, pieces_within}
 use Rattle.mail_data.specs.LineEnds.{empty_line, is_empty_line}
 use Rattle.mail_data.proofs.lemmas.LineEnds.{line_place-passes, no-bytes, some-bytes}
 
@@ -92,12 +91,6 @@ unfolding blocks
 blocks-end rest found all r is none before = sym (append-nil found) ∙ ap (λ (b : List ℕ). found ++ blocks b) (sym (no-bytes rest r is none)) ∙ before
 
 -- ---- the fields on a recipient
-
-pub delivery-is : (known : Charsets) (headers : List Header) (final original action status code : Option (List ℕ)) → final ≡ field address_text known (codes "Final-Recipient") headers
-    → original ≡ field address_text known (codes "Original-Recipient") headers → action ≡ field plain_text known (codes "Action") headers → status ≡ field plain_text known (codes "Status") headers
-    → code ≡ field typed_text known (codes "Diagnostic-Code") headers
-    → ◌≡◌ {A = Delivery} (record { final_recipient = final; original_recipient = original; action = action; status = status; diagnostic_code = code }) (delivery_in known headers)
-delivery-is known headers final original action status code a b c d e = rw (a, b, c, d, e) refl
 
 -- ---- the recipients
 

@@ -1,10 +1,9 @@
 -- Lemmas on the texts of names of files.
-use Rattle.std.proofs.Common.{◌≡◌, ℕ, ◌+◌, ◌<◌, false, List, [], length, refl, sym, ap, ◌∙◌, arith}
+use Rattle.std.proofs.Common.{◌≡◌, ℕ, false, List, length, refl, sym, ap, ◌∙◌, arith}
 use Rattle.std.specs.Prelude.{nat_eq}
 use Rattle.std.specs.List.{after_first, list_any, position_or_len}
 use Rattle.std.specs.Str.{IsUtf8, is_utf8}
-use Rattle.std.proofs.lemmas.Bool.{cond-false, cond-true, false_from_ne_true, le-ltb, lt-ltb}
-use Rattle.std.proofs.lemmas.List.{drop_all}
+use Rattle.std.proofs.lemmas.Bool.{cond-false, false_from_ne_true, le-ltb}
 use Rattle.std.proofs.lemmas.Str.{IsUtf8-from_is_utf8, is_utf8-from_IsUtf8}
 use Rattle.mail_codec.specs.Charset.{text_of}
 use Rattle.mail_codec.specs.declared.charset.built_in.Charset.TheVariants.{Windows1252}
@@ -17,20 +16,6 @@ pub untagged-one : (value rest : List ℕ) → position_or_len (λ b. nat_eq b 3
 unfolding untagged
 untagged-one value rest none after =
     sym (cond-false _ _ _ (ap (list_any (λ b. nat_eq b 39)) (sym after) ∙ any_from_place (λ b. nat_eq b 39) rest ∙ le-ltb _ _ (omega arith)))
-
--- nor has one without apostrophes
-pub untagged-none : (value : List ℕ) → position_or_len (λ b. nat_eq b 39) value ≡ length value → value ≡ untagged value
-unfolding untagged
-untagged-none value none =
-    let nothing : after_first (λ b. nat_eq b 39) value ≡ [] = drop_all (position_or_len (λ b. nat_eq b 39) value + 1) value (omega arith) in
-    sym (cond-false _ _ _ (ap (list_any (λ b. nat_eq b 39)) nothing))
-
-pub untagged-two : (value rest text : List ℕ) → rest ≡ after_first (λ b. nat_eq b 39) value → position_or_len (λ b. nat_eq b 39) rest < length rest
-    → text ≡ after_first (λ b. nat_eq b 39) rest → text ≡ untagged value
-unfolding untagged
-untagged-two value rest text first low second =
-    second ∙ ap (after_first (λ b. nat_eq b 39)) first
-    ∙ sym (cond-true _ _ _ (ap (list_any (λ b. nat_eq b 39)) (sym first) ∙ any_from_place (λ b. nat_eq b 39) rest ∙ lt-ltb _ _ low))
 
 pub octets-utf8 : (bytes : List ℕ) → IsUtf8 bytes → bytes ≡ text_of_octets bytes
 unfolding text_of_octets
