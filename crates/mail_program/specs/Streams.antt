@@ -13,14 +13,17 @@ IsReadFault (Mail e) = ⊥
 IsReadFault (Input e) = Unit {0}
 IsReadFault (Output e) = ⊥
 
--- what reading to the end gives: all that the reader had left; a fault is that memory ran out, or one of the input
+-- what reading to the end gives: all that the reader had left; a fault is that memory ran out, or
+-- one of the input
 abbrev pub IsRead : (left_before left : Option (List ℕ)) → Result (Vec ℕ) Fault → Type 0
 IsRead left_before left (Ok input) = IsAtEnd left × IfSome left_before (λ all. input.items ≡ all)
 IsRead left_before left (Err fault) = IsReadFault fault
 
--- reading took bytes off the reader and appended them to those that were read before, and the reader may be at its end;
--- a fault is that memory ran out, or one of the input
-abbrev pub ReadsOn : (left_before left : Option (List ℕ)) → (before after : List ℕ) → Result Bool Fault → Type 0
+-- reading took bytes off the reader and appended them to those that were read before, and the
+-- reader may be at its end; a fault is that memory ran out, or one of the input
+abbrev pub ReadsOn : (left_before left : Option (List ℕ)) → (before after : List ℕ)
+    → Result Bool Fault → Type 0
 ReadsOn left_before left before after (Ok has_ended) =
-    (more : List ℕ) × Consumes left_before left more × (after ≡ before ++ more) × (has_ended ≡ true → IsAtEnd left)
+    (more : List ℕ) × Consumes left_before left more × (after ≡ before ++ more)
+    × (has_ended ≡ true → IsAtEnd left)
 ReadsOn left_before left before after (Err fault) = IsReadFault fault

@@ -9,8 +9,8 @@ use std::io;
 ///
 /// # Errors
 ///
-/// `ErrorKind::InvalidData` for an argument that is not UTF-8, and `ErrorKind::OutOfMemory` if it runs
-/// out of memory.
+/// `ErrorKind::InvalidData` for an argument that is not UTF-8, and `ErrorKind::OutOfMemory` if it
+/// runs out of memory.
 ///
 /// # Examples
 ///

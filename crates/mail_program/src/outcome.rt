@@ -41,8 +41,8 @@ impl Outcome {
         }
     }
 
-    /// Returns the exit status for this outcome: 0 if all went well, 3 if mails were refused, and 1 if
-    /// something failed.
+    /// Returns the exit status for this outcome: 0 if all went well, 3 if mails were refused, and 1
+    /// if something failed.
     ///
     /// Takes no memory.
     ///
@@ -65,9 +65,9 @@ impl Outcome {
     }
 }
 
-/// Returns the exit status of a program that ended with this status or fault. For a fault it is 1, and
-/// the fault is reported on standard error, after the name of the program, unless the output is a
-/// broken pipe.
+/// Returns the exit status of a program that ended with this status or fault. For a fault it is 1,
+/// and the fault is reported on standard error, after the name of the program, unless the output is
+/// a broken pipe.
 ///
 /// Takes no memory.
 ///

@@ -17,8 +17,8 @@ const READ_SIZE: usize = 64 * 1024;
 ///
 /// # Errors
 ///
-/// `Fault::Input` if a read fails, and `Fault::Mail` with `MailParseError::Memory` if it runs out of
-/// memory.
+/// `Fault::Input` if a read fails, and `Fault::Mail` with `MailParseError::Memory` if it runs out
+/// of memory.
 ///
 /// # Examples
 ///
@@ -38,15 +38,15 @@ pub fn read_input<R: Read>(alloc: Global, reader: &mut R) -> Result<Vec<u8>, Fau
     Ok(input)
 }
 
-/// Appends what it reads to `input`, until that has more than `most` bytes or the reader is at its end.
-/// Returns whether the reader is at its end. An interrupted read is tried again.
+/// Appends what it reads to `input`, until that has more than `most` bytes or the reader is at its
+/// end. Returns whether the reader is at its end. An interrupted read is tried again.
 ///
 /// Takes memory for the bytes.
 ///
 /// # Errors
 ///
-/// `Fault::Input` if a read fails, and `Fault::Mail` with `MailParseError::Memory` if it runs out of
-/// memory.
+/// `Fault::Input` if a read fails, and `Fault::Mail` with `MailParseError::Memory` if it runs out
+/// of memory.
 ///
 /// # Examples
 ///
