@@ -7,6 +7,7 @@ use crate::indexer::{IndexEntry, index_entry};
 use crate::threads::{ThreadPlace, thread_place};
 use mail_charsets::AllCharsets;
 use mail_data::bounce::Recipient;
+use mail_data::lenient::ContentFault;
 use mailparse::{KnownCharsets, MailParseError, ParsedMail, parse_mail_in};
 use std::alloc::{AllocError, Global};
 
@@ -28,8 +29,8 @@ fn lines_of(alloc: Global, mail: &[u8]) -> Result<String, MailParseError> {
     Ok(lines)
 }
 
-/// Writes the lines of a mail: its index, its files, the recipients that were not reached, its parents,
-/// and an empty line.
+/// Writes the lines of a mail: its index, its files, the recipients that were not reached, its
+/// parents, and an empty line.
 fn push_lines<K: KnownCharsets>(
     alloc: Global,
     lines: &mut String,
@@ -43,7 +44,7 @@ fn push_lines<K: KnownCharsets>(
     Ok(lines.push('\n')?)
 }
 
-fn push_files(lines: &mut String, files: &[StoredFile]) -> Result<(), AllocError> {
+fn push_files(lines: &mut String, files: &[StoredFile<'_>]) -> Result<(), AllocError> {
     for file in files {
         push_file(lines, file)?;
     }
@@ -90,8 +91,8 @@ fn push_text(lines: &mut String, name: &str, text: &Option<String>) -> Result<()
 }
 
 /// Writes the line of a file.
-fn push_file(lines: &mut String, file: &StoredFile) -> Result<(), AllocError> {
-    let size = file.content.bytes.len();
+fn push_file(lines: &mut String, file: &StoredFile<'_>) -> Result<(), AllocError> {
+    let size = file.content.bytes.as_slice().len();
     write!(
         lines,
         "file {}: {:?}, {size} bytes",
@@ -99,7 +100,9 @@ fn push_file(lines: &mut String, file: &StoredFile) -> Result<(), AllocError> {
         file.name.as_str()
     )?;
     match file.content.fault {
-        Some(group) => write!(lines, ", and no Base64 from group {group} onwards\n"),
+        Some(ContentFault::Base64(fault)) => {
+            write!(lines, ", and a fault in Base64 group {}\n", fault.group)
+        }
         None => lines.push('\n'),
     }
 }
