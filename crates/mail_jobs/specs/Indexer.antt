@@ -13,7 +13,8 @@ use Rattle.mail_data.specs.Texts.{text_part}
 
 -- the address of a mailbox, in canonical form
 abbrev pub address_of : Single → Option (List ℕ)
-address_of s = option_map (λ parts. value_text (address_bytes parts.local_part parts.domain)) s.mailbox
+address_of s =
+    option_map (λ parts. value_text (address_bytes parts.local_part parts.domain)) s.mailbox
 
 -- the address of the sender of a mail, if it names one
 abbrev pub sender : Node → Option (List ℕ)

@@ -10,8 +10,8 @@ use mail_data::bounce::{Recipient, recipients};
 use mailparse::{KnownCharsets, MailParseError, ParsedMail};
 use std::alloc::Global;
 
-/// Returns the recipients whose action is `failed`, in any case and with nothing after it, in order;
-/// none if the mail is no report.
+/// Returns the recipients whose action is `failed`, in any case and with nothing after it, in
+/// order; none if the mail is no report.
 pub fn failed_recipients<K: KnownCharsets>(
     alloc: Global,
     mail: &ParsedMail<'_>,

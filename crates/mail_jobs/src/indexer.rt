@@ -16,7 +16,8 @@ use mailparse::{KnownCharsets, MailHeaderMap, MailParseError, ParsedMail};
 use std::alloc::Global;
 
 /// The entry of a mail in an index. A field that the mail does not have is `None`. A date that is
-/// refused is kept as its error, so that no mail is lost for it. The text says whether it is damaged.
+/// refused is kept as its error, so that no mail is lost for it. The text says whether it is
+/// damaged.
 #[derive(Drop)]
 pub struct IndexEntry {
     pub subject: Option<String>,
@@ -97,6 +98,5 @@ fn text_of<K: KnownCharsets>(
     let Some(part) = text_part(alloc, mail, known)? else {
         return Ok(None);
     };
-    let text = body_text(alloc, part, known)?;
-    Ok(Some(text))
+    Ok(Some(body_text(alloc, part, known)?))
 }

@@ -1,5 +1,5 @@
-//! Four jobs on a mailbox, as callers of the library: the index of each mail, its files, the recipients
-//! that it reports as not reached, and its place in a thread.
+//! Four jobs on a mailbox, as callers of the library: the index of each mail, its files, the
+//! recipients that it reports as not reached, and its place in a thread.
 //!
 //! It reads a mailbox from standard input and writes a few lines for each mail. For a mail that is
 //! refused it writes a line with the error, and reads the next one.
