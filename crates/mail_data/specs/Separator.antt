@@ -6,6 +6,7 @@ use Rattle.std.specs.Cmp.Lexicographic.{pointwise}
 use Rattle.std.specs.List.{list_all, list_any, prefix_len}
 use Rattle.std.specs.Str.{bytes_eq}
 use Rattle.mail_codec.specs.Ascii.{digit_0, space}
+use Rattle.mail_codec.specs.Calendar.{is_month_abbreviation}
 use Rattle.mail_codec.specs.Places.{has_prefix, trimmed_at_start}
 use Rattle.mail_data.specs.LineEnds.{line_length}
 
@@ -42,11 +43,6 @@ weekdays =
     codes "Sun" ∷ codes "Mon" ∷ codes "Tue" ∷ codes "Wed" ∷ codes "Thu" ∷ codes "Fri" ∷ codes "Sat"
     ∷ []
 
-abbrev pub months : List (List ℕ)
-months =
-    codes "Jan" ∷ codes "Feb" ∷ codes "Mar" ∷ codes "Apr" ∷ codes "May" ∷ codes "Jun"
-    ∷ codes "Jul" ∷ codes "Aug" ∷ codes "Sep" ∷ codes "Oct" ∷ codes "Nov" ∷ codes "Dec" ∷ []
-
 -- a day of a month: one digit or two
 unfoldable pub is_day : List ℕ → Bool
 is_day text = fits (codes "0") text || fits (codes "00") text
@@ -76,7 +72,7 @@ unfoldable pub is_month_at : List ℕ → Bool
 is_month_at text =
     let day = after_word text in
     let clock = after_word day in
-    is_name months (word text) && is_day (word day) && is_clock (word clock)
+    is_month_abbreviation (word text) && is_day (word day) && is_clock (word clock)
     && is_year_at (after_word clock)
 
 -- a time is at the front as asctime writes it: a weekday, a month, a day, a time of day and a year

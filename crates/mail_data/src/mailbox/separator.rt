@@ -7,12 +7,9 @@ ghost use Rattle.mail_data.specs.Separator.{word, word_length};
 
 use crate::line_ends::line_length;
 use mail_codec::bytescan::find_byte;
+use mail_codec::calendar::is_month_abbreviation;
 
 static WEEKDAYS: [&str; 7] = ["Sun", "Mon", "Tue", "Wed", "Thu", "Fri", "Sat"];
-
-static MONTHS: [&str; 12] = [
-    "Jan", "Feb", "Mar", "Apr", "May", "Jun", "Jul", "Aug", "Sep", "Oct", "Nov", "Dec",
-];
 
 /// Returns whether a separator is at the front: a line that begins with `From ` and contains a
 /// time.
@@ -52,7 +49,7 @@ fn is_month_at(text: &[u8]) -> bool
 {
     let day = after_word(text);
     let clock = after_word(day);
-    is_name(&MONTHS, word(text))
+    is_month_abbreviation(word(text))
         && is_day(word(day))
         && is_clock(word(clock))
         && is_year_at(after_word(clock))
