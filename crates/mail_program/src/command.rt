@@ -5,7 +5,7 @@ use std::io;
 
 /// Returns the arguments of the program, without its name.
 ///
-/// Takes memory for the list and for each argument.
+/// Allocates the list and for each argument.
 ///
 /// # Errors
 ///
@@ -59,7 +59,7 @@ pub enum Expected {
 impl<'a> Argument<'a> {
     /// Returns the argument that a text is.
     ///
-    /// Takes no memory.
+    /// Does not allocate.
     ///
     /// # Examples
     ///

@@ -7,7 +7,7 @@ use std::alloc::{AllocError, Global};
 
 /// Returns the SHA-256 of bytes (FIPS 180-4) as 64 hexadecimal digits, with lower case letters.
 ///
-/// Takes memory for the text.
+/// Allocates the text.
 ///
 /// # Errors
 ///

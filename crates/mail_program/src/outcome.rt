@@ -21,7 +21,7 @@ pub enum Outcome {
 impl Outcome {
     /// Returns the outcome of two parts of a run together: the worse of them.
     ///
-    /// Takes no memory.
+    /// Does not allocate.
     ///
     /// # Examples
     ///
@@ -44,7 +44,7 @@ impl Outcome {
     /// Returns the exit status for this outcome: 0 if all went well, 3 if mails were refused, and 1
     /// if something failed.
     ///
-    /// Takes no memory.
+    /// Does not allocate.
     ///
     /// # Examples
     ///
@@ -69,7 +69,7 @@ impl Outcome {
 /// and the fault is reported on standard error, after the name of the program, unless the output is
 /// a broken pipe.
 ///
-/// Takes no memory.
+/// Does not allocate.
 ///
 /// # Examples
 ///

@@ -13,7 +13,7 @@ const READ_SIZE: usize = 64 * 1024;
 
 /// Returns all that the reader has left. An interrupted read is tried again.
 ///
-/// Takes memory for the bytes.
+/// Allocates the bytes.
 ///
 /// # Errors
 ///
@@ -41,7 +41,7 @@ pub fn read_input<R: Read>(alloc: Global, reader: &mut R) -> Result<Vec<u8>, Fau
 /// Appends what it reads to `input`, until that has more than `most` bytes or the reader is at its
 /// end. Returns whether the reader is at its end. An interrupted read is tried again.
 ///
-/// Takes memory for the bytes.
+/// Allocates the bytes.
 ///
 /// # Errors
 ///
