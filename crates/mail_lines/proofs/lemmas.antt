@@ -1,9 +1,10 @@
 pub mod JsonText
 pub mod Escapes
 pub mod Texts
-pub mod Plain
-pub mod Values
 pub mod Written
+pub mod Plain
+pub mod Objects
+pub mod Values
 pub mod Fields
 pub mod Part
 pub mod Inside

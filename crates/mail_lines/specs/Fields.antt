@@ -1,10 +1,12 @@
--- Values of headers, under the charsets that are known; the program's own form.
+-- Values of headers, under the charsets that are known, and faults of dates; the program's own form.
 use Rattle.std.specs.Prelude.{ℕ, Bool, List, [], Option, option_map, codes}
 use Rattle.std.specs.Option.{option_map_or}
 use Rattle.mail_codec.specs.Charset.{Charsets}
 use Rattle.mailparse.specs.Disposition.{Disposition, Kind, inline, attachment, form_data, extension}
 use Rattle.mailparse.specs.Mail.{Node}
 use Rattle.mailparse.specs.Map.{first_value_in, first_with_key}
+use Rattle.mail_data.specs.declared.lenient.date.error.DateError.{DateError}
+use Rattle.mail_data.specs.declared.lenient.date.error.DateError.TheVariants.{Day, Month, Year, Time, Zone, TrailingText}
 use Rattle.mail_data.specs.lenient.Ids.{found_ids}
 
 -- the name of a disposition
@@ -17,6 +19,15 @@ kind_text (extension name) = name
 -- the name of a part's disposition, or none if the part has no such header
 abbrev pub disposition_name : Disposition → Node → Option (List ℕ)
 disposition_name disposition node = option_map (λ header. kind_text disposition.kind) (first_with_key (codes "Content-Disposition") node.headers)
+
+-- what is missing or wrong in a date
+abbrev pub date_fault_text : DateError → List ℕ
+date_fault_text Day = codes "no day of the month"
+date_fault_text Month = codes "no month"
+date_fault_text Year = codes "no year"
+date_fault_text Time = codes "no time of day"
+date_fault_text Zone = codes "no zone"
+date_fault_text TrailingText = codes "text after the zone"
 
 -- Under the charsets that are known.
 module _ (known : Charsets) where

@@ -3,6 +3,7 @@ use Rattle.std.specs.Prelude.{◌≡◌, ℕ, Bool, true, false, ◌&&◌, List,
 use Rattle.std.specs.Char.{is_ascii_whitespace}
 use Rattle.std.specs.Io.KnownBytes.{Appends, Consumes, IsAtEnd}
 use Rattle.std.specs.List.{list_all}
+use Rattle.json.specs.Json.{Json}
 use Rattle.mail_lines.specs.Options.{Options}
 use Rattle.mailparse.specs.Mail.{Tree, read_mail_in}
 use Rattle.mailparse.specs.Refusal.{Reads}
@@ -14,9 +15,10 @@ use Rattle.mail_data.specs.Separator.{is_separator}
 use Rattle.mail_data.specs.declared.mailbox.formats.Format.{Format}
 use Rattle.mail_data.specs.declared.mailbox.formats.Format.TheVariants.{Plain}
 use Rattle.mail_lines.specs.JsonText.{refusal_text}
-use Rattle.mail_lines.specs.Mail.{IsMailText}
-use Rattle.mail_lines.specs.Origin.{Origin, error_line}
+use Rattle.mail_lines.specs.Origin.{Origin}
 use Rattle.mail_lines.specs.Part.{saturating_add}
+use Rattle.mail_lines.specs.Printed.{line_of}
+use Rattle.mail_lines.specs.Values.{IsMailValue, error_value}
 use Rattle.mail_lines.specs.Written.{IsEnd, IsFault, is_clean}
 use Rattle.mail_lines.specs.declared.options.InputKind.{InputKind}
 use Rattle.mail_lines.specs.declared.options.InputKind.TheVariants.{Either, Mail, Mailbox}
@@ -31,7 +33,7 @@ abbrev pub IsFront : Option (List ℕ) → List ℕ → Lines
 IsFront file front is_all_whitespace text =
     let origin : Origin = record { file = file; number = None; start = 0; end = length front } in
     (is_all_whitespace ≡ list_all is_ascii_whitespace front)
-    × (text ≡ (if is_all_whitespace then [] else error_line origin (codes "The mailbox does not begin with a separator")))
+    × (text ≡ (if is_all_whitespace then [] else line_of (error_value origin (codes "The mailbox does not begin with a separator"))))
 
 -- the error for the text before the first mail of a mailbox, and then these lines
 abbrev pub AreAfterFront : Option (List ℕ) → List ℕ → Lines → Lines
@@ -70,8 +72,8 @@ format_of (Mailbox format) = format
 module _ (options : Options) where
   -- the line of a mail with this origin, or of its refusal
   abbrev pub IsLineOf : Origin → Reads Tree → Lines
-  IsLineOf origin (Ok mail) is_clean text = (is_clean ≡ true) × (object : List ℕ) × IsMailText options origin mail object × (text ≡ object ++ codes "\n")
-  IsLineOf origin (Err refusal) is_clean text = (is_clean ≡ false) × (text ≡ error_line origin (refusal_text refusal))
+  IsLineOf origin (Ok mail) is_clean text = (is_clean ≡ true) × (value : Json) × IsMailValue options origin mail value × (text ≡ line_of value)
+  IsLineOf origin (Err refusal) is_clean text = (is_clean ≡ false) × (text ≡ line_of (error_value origin (refusal_text refusal)))
 
   -- the line of the bytes of a mail with this origin
   abbrev pub IsLine : Origin → List ℕ → Lines

@@ -1,5 +1,5 @@
--- JSON text of strings, numbers, lists and refusals (RFC 8259, sections 5 to 7), as this program writes it.
-use Rattle.std.specs.Prelude.{ℕ, suc, ◌^◌, ◌-◌, min, ℤ, pos, negsuc, Bool, true, false, ◌&&◌, ◌||◌, ◌==◌, nat_lt, List, [], ◌∷◌, ◌++◌, flat_map, Option, Some, None, codes, chars, decimal, if◌then◌else◌}
+-- JSON text of strings and numbers (RFC 8259, sections 6 and 7), and refusals, as this program writes them.
+use Rattle.std.specs.Prelude.{ℕ, suc, ◌^◌, ◌-◌, min, ℤ, pos, negsuc, Bool, false, ◌&&◌, ◌||◌, ◌==◌, nat_lt, List, [], ◌++◌, flat_map, codes, chars, decimal, if◌then◌else◌}
 use Rattle.std.specs.Char.{encode_utf8}
 use Rattle.std.specs.Fmt.{digits, padded_integral, format_spec}
 use Rattle.std.specs.Str.{is_utf8}
@@ -42,36 +42,8 @@ unfoldable pub seconds_text : ℤ → List ℕ
 seconds_text (pos n) = decimal (min n (2 ^ 63 - 1))
 seconds_text (negsuc n) = codes "-" ++ decimal (min (suc n) (2 ^ 63))
 
--- a string, or `null` if there is none
-abbrev pub text_or_null : Option (List ℕ) → List ℕ
-text_or_null (Some text) = json_text text
-text_or_null None = codes "null"
-
--- a number, or `null` if there is none
-abbrev pub number_or_null : Option ℕ → List ℕ
-number_or_null (Some number) = number_text number
-number_or_null None = codes "null"
-
 -- why something is refused
 unfoldable pub refusal_text : Refusal → List ℕ
 refusal_text (generic text) = text
 refusal_text (encoding text) = codes "Encoding error: " ++ text
 refusal_text (base64_fault group) = codes "Base64 decode error: group " ++ decimal group ++ codes " is no Base64 group"
-
--- the texts of items, each after a comma
-abbrev pub after_commas : {A : Type 0} → (A → List ℕ) → List A → List ℕ
-after_commas text xs = flat_map (λ x. codes "," ++ text x) xs
-
--- the texts of items, separated by commas
-abbrev pub joined : {A : Type 0} → (A → List ℕ) → List A → List ℕ
-joined text [] = []
-joined text (x ∷ xs) = text x ++ after_commas text xs
-
--- a list of strings
-abbrev pub json_texts : List (List ℕ) → List ℕ
-json_texts texts = codes "[" ++ joined json_text texts ++ codes "]"
-
--- the comma before an item or a member that is not the first
-abbrev pub comma : Bool → List ℕ
-comma true = []
-comma false = codes ","

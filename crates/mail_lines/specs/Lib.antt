@@ -1,4 +1,5 @@
 pub mod JsonText
+pub mod Printed
 pub mod Written
 pub mod Options
 pub mod Fields
@@ -7,7 +8,6 @@ pub mod Origin
 pub mod Body
 pub mod Part
 pub mod Inside
-pub mod Mail
 pub mod JsonLines
 pub mod Selection
 pub mod Stream

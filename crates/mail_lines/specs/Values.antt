@@ -1,12 +1,10 @@
 -- The JSON values of the lines, in the form that the kit's parser of JSON returns; the program's own form.
-use Rattle.std.specs.Prelude.{◌≡◌, ℕ, ℤ, Bool, true, false, not, ◌&&◌, ◌==◌, List, [], ◌∷◌, ◌++◌, length, map, Option, Some, None, option_map, Ok, Err, codes}
+use Rattle.std.specs.Prelude.{◌≡◌, ℕ, Bool, true, false, not, ◌&&◌, ◌==◌, List, [], ◌∷◌, ◌++◌, length, map, Option, Some, None, option_map, Ok, Err, codes}
 use Rattle.std.specs.List.{flat_map, list_all, AllByRecursion}
-use Rattle.json.specs.Json.{Json, null, boolean, number, string, array, object, Members, no_members, member, document}
+use Rattle.json.specs.Json.{Json, null, boolean, number, string, document}
 use Rattle.json.specs.Strict.{HasUniqueKeys}
-use Rattle.json.specs.Value.{items_of}
 use Rattle.mail_codec.specs.Charset.{Charsets}
 use Rattle.mail_codec.specs.Latin1.{latin1_text}
-use Rattle.mailparse.specs.Body.{BodyKind}
 use Rattle.mailparse.specs.ContentType.{ContentType}
 use Rattle.mailparse.specs.Disposition.{Disposition}
 use Rattle.mailparse.specs.Header.{Header, key_text}
@@ -26,14 +24,14 @@ use Rattle.mail_address.specs.Headers.{addresses_of}
 use Rattle.mail_address.specs.Mailbox.{Parts}
 use Rattle.mail_lines.specs.Addresses.{canonical, name_of, unless_empty}
 use Rattle.mail_lines.specs.Body.{encoding_text}
-use Rattle.mail_lines.specs.Fields.{disposition_name, value_of, ids_of}
+use Rattle.mail_lines.specs.Fields.{date_fault_text, disposition_name, value_of, ids_of}
 use Rattle.mail_data.specs.InnerMails.{InnerMail}
 use Rattle.mail_lines.specs.Inside.{mails_inside, parts_inside}
-use Rattle.mail_lines.specs.Mail.{date_fault_text}
 use Rattle.mail_lines.specs.Origin.{Origin}
 use Rattle.mail_lines.specs.Part.{Lists, hash_of, is_attachment, is_read, place_in, text_shown}
 use Rattle.mail_lines.specs.Options.{Options}
-use Rattle.mail_lines.specs.JsonText.{number_text, refusal_text, seconds_text}
+use Rattle.mail_lines.specs.JsonText.{refusal_text}
+use Rattle.mail_lines.specs.Printed.{Member, list_of, number_or_null, number_value, object_of, one, seconds_value, string_or_null, strings}
 
 -- a byte that does not end a line
 abbrev pub is_within_line : ℕ → Bool
@@ -51,48 +49,17 @@ abbrev pub AreJsonLines : List ℕ → Type 0
 AreJsonLines text =
     (lines : List (List ℕ)) × AllByRecursion (λ line. (value : Json) × IsJsonLine value line) lines × (text ≡ flat_map (λ line. line ++ codes "\n") lines)
 
--- a member of an object: its name and its value
-abbrev pub Member : Type 0
-Member = List ℕ × Json
-
-abbrev pub members_of : List Member → Members
-members_of [] = no_members
-members_of (m ∷ ms) = member m.0 m.1 (members_of ms)
-
--- an object, a list, and a list of strings
-abbrev pub object_of : List Member → Json
-object_of ms = object (members_of ms)
-
-abbrev pub list_of : List Json → Json
-list_of js = array (items_of js)
-
-abbrev pub strings : List (List ℕ) → Json
-strings texts = list_of (map (λ text. string text) texts)
-
--- one member
-abbrev pub one : List ℕ → Json → List Member
-one name value = (name, value) ∷ []
-
-abbrev pub string_or_null : Option (List ℕ) → Json
-string_or_null (Some text) = string text
-string_or_null None = null
-
-abbrev pub number_value : ℕ → Json
-number_value n = number (number_text n)
-
-abbrev pub number_or_null_value : Option ℕ → Json
-number_or_null_value (Some n) = number_value n
-number_or_null_value None = null
-
--- the members of the number of this schema and of a file
+-- the members of the number of this schema and of a file's name
 abbrev pub file_members : Option (List ℕ) → List Member
 file_members file = one (codes "schema") (number_value 4) ++ one (codes "file") (string_or_null file)
 
+-- the members of the offsets at which a mail begins and ends
+abbrev pub bounds_members : ℕ → ℕ → List Member
+bounds_members start end = one (codes "start") (number_value start) ++ one (codes "end") (number_value end)
+
 -- the first members of the line of a mail
 abbrev pub origin_members : Origin → List Member
-origin_members origin =
-    file_members origin.file ++ one (codes "number") (number_or_null_value origin.number)
-    ++ (one (codes "start") (number_value origin.start) ++ one (codes "end") (number_value origin.end))
+origin_members origin = file_members origin.file ++ one (codes "number") (number_or_null origin.number) ++ bounds_members origin.start origin.end
 
 -- the object of an error
 abbrev pub error_value : Origin → List ℕ → Json
@@ -107,7 +74,7 @@ unread_value file text =
 abbrev pub parameter_member : List ℕ × List ℕ → Member
 parameter_member pair = (pair.0, string pair.1)
 
--- the members of a type with these parameters
+-- the members of a type
 abbrev pub type_members : List ℕ → List ℕ → List (List ℕ × List ℕ) → List Member
 type_members mimetype charset pairs =
     one (codes "type") (string mimetype) ++ one (codes "charset") (string charset) ++ one (codes "params") (object_of (map parameter_member pairs))
@@ -118,12 +85,10 @@ disposition_members disposition node is_attachment =
     one (codes "disposition") (string_or_null (disposition_name disposition node))
     ++ one (codes "file_name") (string_or_null (name_in disposition node.ctype)) ++ one (codes "attachment") (boolean is_attachment)
 
--- the members of an encoding, of the offsets of a part, and of the size of its body
-abbrev pub place_members : BodyKind → Option ℕ → Option ℕ → ℕ → List Member
-place_members kind start end size =
-    one (codes "encoding") (string (encoding_text kind)) ++ one (codes "start") (number_or_null_value start)
-    ++ one (codes "end") (number_or_null_value end)
-    ++ one (codes "size") (number_value size)
+-- the members of the offsets of a part, and of the size of its body
+abbrev pub place_members : Option ℕ → Option ℕ → ℕ → List Member
+place_members start end size =
+    one (codes "start") (number_or_null start) ++ one (codes "end") (number_or_null end) ++ one (codes "size") (number_value size)
 
 -- the member of the size of a decoded body, or of the reason why it is refused
 abbrev pub size_members : Option Refusal → ℕ → List Member
@@ -133,16 +98,8 @@ size_members (Some refusal) size = one (codes "decoded_size") null ++ one (codes
 -- the object of a mail inside
 abbrev pub inner_value : ℕ → InnerMail → Json
 inner_value start inner =
-    object_of (one (codes "path") (string inner.path) ++ one (codes "start") (number_or_null_value (place_in inner.start start))
+    object_of (one (codes "path") (string inner.path) ++ one (codes "start") (number_or_null (place_in inner.start start))
     ++ one (codes "error") (string_or_null (option_map refusal_text inner.refusal)))
-
--- the member of the mails inside
-abbrev pub forwarded_members : ℕ → List InnerMail → List Member
-forwarded_members start mails = one (codes "forwarded") (list_of (map (inner_value start) mails))
-
--- the member of a hash
-abbrev pub sha256_members : Option (List ℕ) → List Member
-sha256_members hash = one (codes "sha256") (string_or_null hash)
 
 -- the member that says that a body is damaged
 abbrev pub damaged_members : Bool → List Member
@@ -154,10 +111,6 @@ abbrev pub text_members : Bool → List ℕ → List ℕ → Bool → List Membe
 text_members false text charset is_damaged = one (codes "text") null
 text_members true text charset is_damaged =
     one (codes "text") (string text) ++ one (codes "text_charset") (string charset) ++ damaged_members is_damaged
-
--- the seconds of a date
-abbrev pub seconds_value : ℤ → Json
-seconds_value seconds = number (seconds_text seconds)
 
 -- the member that says that the zone of a date is not known
 abbrev pub zone_members : Bool → List Member
@@ -174,16 +127,16 @@ date_members (Some (Err fault)) = one (codes "date") null ++ one (codes "date_er
 abbrev pub unknown_value : List ℕ → Json
 unknown_value text = object_of (one (codes "unknown") (string (latin1_text text)))
 
--- the member of a raw value
-abbrev pub raw_member : List ℕ → List ℕ → Node → List Member
-raw_member name key node = one name (string_or_null (option_map (λ header. latin1_text header.value) (first_with_key key node.headers)))
+-- the raw value of the first header with a name: each byte is the character of its number
+abbrev pub raw_value : List ℕ → Node → Json
+raw_value key node = string_or_null (option_map (λ header. latin1_text header.value) (first_with_key key node.headers))
 
--- the members of the raw values of addresses
-abbrev pub raw_members : Node → List Member
-raw_members node =
-    raw_member (codes "from") (codes "From") node ++ raw_member (codes "to") (codes "To") node ++ raw_member (codes "cc") (codes "Cc") node
-    ++ raw_member (codes "bcc") (codes "Bcc") node ++ raw_member (codes "reply_to") (codes "Reply-To") node
-    ++ raw_member (codes "sender") (codes "Sender") node
+-- the raw values of addresses
+abbrev pub raw_values : Node → Json
+raw_values node =
+    object_of (one (codes "from") (raw_value (codes "From") node) ++ one (codes "to") (raw_value (codes "To") node)
+    ++ one (codes "cc") (raw_value (codes "Cc") node) ++ one (codes "bcc") (raw_value (codes "Bcc") node)
+    ++ one (codes "reply_to") (raw_value (codes "Reply-To") node) ++ one (codes "sender") (raw_value (codes "Sender") node))
 
 -- each value is that of the item at its position
 abbrev pub AreValues : {A : Type 0} → (A → Json → Type 0) → List A → List Json → Type 0
@@ -202,26 +155,12 @@ module _ (known : Charsets) where
       let read = text_read known ctype.charset content in
       text_members shows (text_shown joins ctype read.text) read.charset read.is_damaged
 
-  -- the members of a part of a mail that begins at this offset, whose type has these parameters: those before its
-  -- sizes, and those after them
-  abbrev pub front_members : Option ℕ → Place → List (List ℕ × List ℕ) → List Member
-  front_members start place pairs =
-      let node = root place.part in
-      let disposition = shown_as_in known node in
-      one (codes "path") (string place.path) ++ type_members node.ctype.mimetype node.ctype.charset pairs
-      ++ disposition_members disposition node (is_attachment place.part disposition)
-      ++ place_members (lenient_body_kind node) (place_in start place.placement.whole.start) (place_in start place.placement.whole.end)
-      (length node.body)
+  -- the value of the first header with a name; the ids in it
+  abbrev pub value_or_null : List ℕ → Node → Json
+  value_or_null key node = string_or_null (value_of known key node)
 
-  abbrev pub headers_member : Place → List Member
-  headers_member place = one (codes "headers") (list_of (map header_value (root place.part).headers))
-
-  -- the member of the value of the first header with a name; of the ids in it
-  abbrev pub value_member : List ℕ → List ℕ → Node → List Member
-  value_member name key node = one name (string_or_null (value_of known key node))
-
-  abbrev pub ids_member : List ℕ → Bool → List ℕ → Node → List Member
-  ids_member name needs_at key node = one name (strings (ids_of known needs_at key node))
+  abbrev pub id_list : Bool → List ℕ → Node → Json
+  id_list needs_at key node = strings (ids_of known needs_at key node)
 
   -- the object of a mailbox; of an element without members; of a group; of an element of a list
   abbrev pub mailbox_value : Parts → Json
@@ -243,47 +182,55 @@ module _ (known : Charsets) where
   element_value (single s) = single_value s
   element_value (group g) = group_value g.display_name g.members
 
-  -- the member of the addresses in all headers with a name
-  abbrev pub addresses_member : List ℕ → List ℕ → Node → List Member
-  addresses_member name key node = one name (list_of (map element_value (addresses_of key node.headers)))
+  -- the addresses in all headers with a name
+  abbrev pub address_list : List ℕ → Node → Json
+  address_list key node = list_of (map element_value (addresses_of key node.headers))
 
   -- the members of the authors and recipients of a mail
   abbrev pub addresses_members : Node → List Member
   addresses_members node =
-      addresses_member (codes "from") (codes "From") node ++ addresses_member (codes "to") (codes "To") node
-      ++ addresses_member (codes "cc") (codes "Cc") node ++ addresses_member (codes "bcc") (codes "Bcc") node
-      ++ addresses_member (codes "reply_to") (codes "Reply-To") node ++ addresses_member (codes "sender") (codes "Sender") node
+      one (codes "from") (address_list (codes "From") node) ++ one (codes "to") (address_list (codes "To") node)
+      ++ one (codes "cc") (address_list (codes "Cc") node) ++ one (codes "bcc") (address_list (codes "Bcc") node)
+      ++ one (codes "reply_to") (address_list (codes "Reply-To") node) ++ one (codes "sender") (address_list (codes "Sender") node)
 
   -- the members that are values of headers; that are ids of headers
   abbrev pub values_members : Node → List Member
-  values_members node = value_member (codes "subject") (codes "Subject") node ++ addresses_members node
+  values_members node = one (codes "subject") (value_or_null (codes "Subject") node) ++ addresses_members node
 
   abbrev pub ids_members : Node → List Member
   ids_members node =
-      ids_member (codes "message_id") false (codes "Message-ID") node ++ ids_member (codes "in_reply_to") true (codes "In-Reply-To") node
-      ++ ids_member (codes "references") true (codes "References") node
+      one (codes "message_id") (id_list false (codes "Message-ID") node) ++ one (codes "in_reply_to") (id_list true (codes "In-Reply-To") node)
+      ++ one (codes "references") (id_list true (codes "References") node)
 
   -- the members of a mail with this origin and these mails inside, whose parts have these values
   abbrev pub mail_members : Origin → Node → List InnerMail → List Json → List Member
   mail_members origin node inside parts =
-      origin_members origin ++ values_members node ++ one (codes "raw") (object_of (raw_members node))
+      origin_members origin ++ values_members node ++ one (codes "raw") (raw_values node)
       ++ date_members (option_map zoned_date_of (value_of known (codes "Date") node)) ++ ids_members node ++ one (codes "parts") (list_of parts)
-      ++ forwarded_members origin.start inside
+      ++ one (codes "forwarded") (list_of (map (inner_value origin.start) inside))
 
 -- Under these options.
 module _ (options : Options) where
-  abbrev pub content_members : Place → List Member
-  content_members place =
+  -- the members of a part of a mail that begins at this offset, whose type has these parameters: those before its size
+  -- when it is decoded, and all of them
+  abbrev pub front_members : Option ℕ → Place → List (List ℕ × List ℕ) → List Member
+  front_members start place pairs =
       let node = root place.part in
-      let content = message_content node in
       let disposition = shown_as_in options.known node in
-      sha256_members (hash_of (options.hashes && is_attachment place.part disposition) content.bytes) ++ headers_member options.known place
-      ++ body_members options.known options.joins_flowed (is_read place.part disposition) node.ctype content
+      one (codes "path") (string place.path) ++ type_members node.ctype.mimetype node.ctype.charset pairs
+      ++ disposition_members disposition node (is_attachment place.part disposition)
+      ++ one (codes "encoding") (string (encoding_text (lenient_body_kind node)))
+      ++ place_members (place_in start place.placement.whole.start) (place_in start place.placement.whole.end) (length node.body)
 
   abbrev pub part_members : Option ℕ → Place → List (List ℕ × List ℕ) → List Member
   part_members start place pairs =
-      let content = message_content (root place.part) in
-      front_members options.known start place pairs ++ size_members content.fault (length content.bytes) ++ content_members place
+      let node = root place.part in
+      let content = message_content node in
+      let disposition = shown_as_in options.known node in
+      front_members start place pairs ++ size_members content.fault (length content.bytes)
+      ++ one (codes "sha256") (string_or_null (hash_of (options.hashes && is_attachment place.part disposition) content.bytes))
+      ++ one (codes "headers") (list_of (map (header_value options.known) node.headers))
+      ++ body_members options.known options.joins_flowed (is_read place.part disposition) node.ctype content
 
   -- a value is the object of a part of a mail that begins at this offset
   abbrev pub IsPartValue : Option ℕ → Place → Json → Type 0

@@ -29,7 +29,7 @@ abbrev pub Writes : {T : Type 0} → Option (List ℕ) → Option (List ℕ) →
 Writes old new (Ok done) text = Appends old new text
 Writes old new (Err fault) text = IsEnd fault
 
--- the same of a text that is one of these
-abbrev pub WritesOne : {T : Type 0} → Option (List ℕ) → Option (List ℕ) → Result T Fault → (List ℕ → Type 0) → Type 0
-WritesOne old new (Ok done) Is = (text : List ℕ) × Is text × Appends old new text
-WritesOne old new (Err fault) Is = IsEnd fault
+-- the same of the text of one of these things
+abbrev pub WritesOne : {T A : Type 0} → Option (List ℕ) → Option (List ℕ) → Result T Fault → (A → List ℕ) → (A → Type 0) → Type 0
+WritesOne {A = A} old new (Ok done) text Is = (x : A) × Is x × Appends old new (text x)
+WritesOne {A = A} old new (Err fault) text Is = IsEnd fault

@@ -1,16 +1,19 @@
 //! The members of the authors and recipients of a mail.
-ghost use Rattle.std.specs.Prelude.{◌≡◌, map, string_bytes};
+ghost use Rattle.std.specs.Prelude.{◌≡◌, ◌++◌, map, string_bytes};
 ghost use Rattle.mailparse.specs.Mail.{root};
 ghost use Rattle.mailparse.specs.Map.{text_found};
 ghost use Rattle.mailparse.specs.Views.{tree_of};
 ghost use Rattle.mail_address.specs.AddressViews.{element_view, group_view, mailbox_view};
 ghost use Rattle.mail_address.specs.AddressViews.{member_view};
-ghost use Rattle.mail_lines.specs.Addresses.{address_list_text, addresses_text, element_text};
-ghost use Rattle.mail_lines.specs.Addresses.{group_text, single_text, unknown_text, unless_empty};
-ghost use Rattle.mail_lines.specs.JsonText.{joined};
+ghost use Rattle.mail_lines.specs.Addresses.{unless_empty};
+ghost use Rattle.mail_lines.specs.Printed.{list_of, members_after, text_of};
+ghost use Rattle.mail_lines.specs.Values.{address_list, addresses_members, element_value};
+ghost use Rattle.mail_lines.specs.Values.{group_value, single_value, unknown_value};
 ghost use Rattle.mail_lines.specs.Written.{Writes};
 
-use crate::json_text::{write_comma, write_optional, write_owned, write_text, write_word};
+use crate::json_text::{
+    Position, write_comma, write_optional, write_owned, write_text, write_word,
+};
 use mail_address::{Address, Group, Mailbox, Member, Unknown, addresses_of};
 use mail_codec::charset::decode_latin1;
 use mail_program::Fault;
@@ -26,7 +29,7 @@ pub(crate) fn write_addresses<W: Write, K: KnownCharsets>(
     known: &K,
 ) -> Result<(), Fault>
     ensures { Writes (W.contents out.old) (W.contents out.new) result
-        (addresses_text (K.known known.now) (root (tree_of mail.now))) }
+        (members_after (addresses_members (K.known known.now) (root (tree_of mail.now)))) }
 {
     write_address_list(alloc, out, ",\"from\":", mail, "From", known)?;
     write_address_list(alloc, out, ",\"to\":", mail, "To", known)?;
@@ -45,17 +48,15 @@ fn write_address_list<W: Write, K: KnownCharsets>(
     key: &str,
     known: &K,
 ) -> Result<(), Fault>
-    ensures { Writes (W.contents out.old) (W.contents out.new) result (address_list_text
-        (K.known known.now) before.now key.now (root (tree_of mail.now))) }
+    ensures { Writes (W.contents out.old) (W.contents out.new) result (before.now
+        ++ text_of (address_list (K.known known.now) key.now (root (tree_of mail.now)))) }
 {
     let list = addresses_of(alloc, &mail.headers, key)?;
     write_word(out, before)?;
-    write_word(out, "[")?;
-    write_elements(alloc, out, list.as_slice(), known)?;
-    write_word(out, "]")
+    write_elements(alloc, out, list.as_slice(), known)
 }
 
-/// Writes the elements of a list, separated by commas.
+/// Writes a list of addresses.
 fn write_elements<W: Write, K: KnownCharsets>(
     alloc: Global,
     out: &mut W,
@@ -63,15 +64,17 @@ fn write_elements<W: Write, K: KnownCharsets>(
     known: &K,
 ) -> Result<(), Fault>
     ensures { Writes (W.contents out.old) (W.contents out.new) result
-        (joined (element_text (K.known known.now)) (map element_view elements.now)) }
+        (text_of (list_of
+        (map (element_value (K.known known.now)) (map element_view elements.now)))) }
 {
-    let mut is_first = true;
+    write_word(out, "[")?;
+    let mut position = Position::First;
     for element in elements {
-        write_comma(out, is_first)?;
+        write_comma(out, position)?;
         write_element(alloc, out, element, known)?;
-        is_first = false;
+        position = Position::Later;
     }
-    Ok(())
+    write_word(out, "]")
 }
 
 /// Writes an element of a list.
@@ -82,7 +85,7 @@ fn write_element<W: Write, K: KnownCharsets>(
     known: &K,
 ) -> Result<(), Fault>
     ensures { Writes (W.contents out.old) (W.contents out.new) result
-        (element_text (K.known known.now) (element_view element.now)) }
+        (text_of (element_value (K.known known.now) (element_view element.now))) }
 {
     match element {
         Address::Mailbox(mailbox) => write_mailbox(alloc, out, mailbox, known),
@@ -98,18 +101,18 @@ fn write_group<W: Write, K: KnownCharsets>(
     group: &Group<'_>,
     known: &K,
 ) -> Result<(), Fault>
-    ensures { Writes (W.contents out.old) (W.contents out.new) result (group_text
-        (K.known known.now) group.now.display_name.now (group_view group.now).members) }
+    ensures { Writes (W.contents out.old) (W.contents out.new) result (text_of (group_value
+        (K.known known.now) group.now.display_name.now (group_view group.now).members)) }
 {
     let name = group.get_display_name(alloc, known)?;
     write_word(out, "{\"group\":")?;
     write_owned(alloc, out, name)?;
-    write_word(out, ",\"members\":[")?;
+    write_word(out, ",\"members\":")?;
     write_members(alloc, out, group.members.as_slice(), known)?;
-    write_word(out, "]}")
+    write_word(out, "}")
 }
 
-/// Writes the members of a group, separated by commas.
+/// Writes the list of the members of a group.
 fn write_members<W: Write, K: KnownCharsets>(
     alloc: Global,
     out: &mut W,
@@ -117,15 +120,16 @@ fn write_members<W: Write, K: KnownCharsets>(
     known: &K,
 ) -> Result<(), Fault>
     ensures { Writes (W.contents out.old) (W.contents out.new) result
-        (joined (single_text (K.known known.now)) (map member_view members.now)) }
+        (text_of (list_of (map (single_value (K.known known.now)) (map member_view members.now)))) }
 {
-    let mut is_first = true;
+    write_word(out, "[")?;
+    let mut position = Position::First;
     for member in members {
-        write_comma(out, is_first)?;
+        write_comma(out, position)?;
         write_member(alloc, out, member, known)?;
-        is_first = false;
+        position = Position::Later;
     }
-    Ok(())
+    write_word(out, "]")
 }
 
 /// Writes a member of a group.
@@ -136,7 +140,7 @@ fn write_member<W: Write, K: KnownCharsets>(
     known: &K,
 ) -> Result<(), Fault>
     ensures { Writes (W.contents out.old) (W.contents out.new) result
-        (single_text (K.known known.now) (member_view member.now)) }
+        (text_of (single_value (K.known known.now) (member_view member.now))) }
 {
     match member {
         Member::Mailbox(mailbox) => write_mailbox(alloc, out, mailbox, known),
@@ -152,7 +156,7 @@ fn write_mailbox<W: Write, K: KnownCharsets>(
     known: &K,
 ) -> Result<(), Fault>
     ensures { Writes (W.contents out.old) (W.contents out.new) result
-        (single_text (K.known known.now) (mailbox_view mailbox.now)) }
+        (text_of (single_value (K.known known.now) (mailbox_view mailbox.now))) }
 {
     let name = mailbox.get_display_name(alloc, known)?;
     let address = mailbox.get_address(alloc)?;
@@ -173,7 +177,7 @@ fn unless_empty(text: String) -> Option<String>
 /// Writes text that is not an address, as it is in the mail.
 fn write_unknown<W: Write>(alloc: Global, out: &mut W, unknown: &Unknown<'_>) -> Result<(), Fault>
     ensures { Writes (W.contents out.old) (W.contents out.new) result
-        (unknown_text unknown.now.text.now) }
+        (text_of (unknown_value unknown.now.text.now)) }
 {
     let text = decode_latin1(alloc, unknown.text)?;
     write_word(out, "{\"unknown\":")?;

@@ -2,14 +2,16 @@
 ghost use Rattle.std.specs.Prelude.{map, option_and_then, option_map, IfOk};
 ghost use Rattle.mailparse.specs.Outcome.{IsMemory, refusal_of};
 ghost use Rattle.mail_data.specs.InnerMailViews.{inner_view};
-ghost use Rattle.mail_lines.specs.Inside.{AreInside, forwarded_text, inner_text, parts_inside};
-ghost use Rattle.mail_lines.specs.JsonText.{refusal_text, text_or_null};
+ghost use Rattle.mail_lines.specs.Inside.{parts_inside};
+ghost use Rattle.mail_lines.specs.JsonText.{refusal_text};
 ghost use Rattle.mail_lines.specs.Options.{options_of};
-ghost use Rattle.mail_lines.specs.Part.{AreAfterCommas, IsPartText, place_in};
+ghost use Rattle.mail_lines.specs.Part.{place_in};
+ghost use Rattle.mail_lines.specs.Printed.{after_commas, list_of, string_or_null, text_of};
+ghost use Rattle.mail_lines.specs.Values.{AreInsideValues, AreValues, IsPartValue, inner_value};
 ghost use Rattle.mail_lines.specs.Written.{Writes, WritesOne};
 
 use crate::json_text::{
-    refusal_of, write_comma, write_number_or_null, write_optional, write_text, write_word,
+    Position, refusal_of, write_comma, write_number_or_null, write_optional, write_text, write_word,
 };
 use crate::options::LineOptions;
 use crate::part::{place_in, write_found};
@@ -30,7 +32,8 @@ pub(crate) fn write_inside<W: Write, K: KnownCharsets>(
     known: &K,
 ) -> Result<(), Fault>
     ensures { WritesOne (W.contents out.old) (W.contents out.new) result
-        (AreInside (options_of (K.known known.now) options) start (map inner_view mails.now)) }
+        (after_commas text_of) (AreInsideValues
+        (options_of (K.known known.now) options) start (map inner_view mails.now)) }
 {
     for mail in mails {
         write_inner_parts(alloc, out, mail, start, options, known)?;
@@ -48,15 +51,23 @@ fn write_inner_parts<W: Write, K: KnownCharsets>(
     known: &K,
 ) -> Result<(), Fault>
     ensures { WritesOne (W.contents out.old) (W.contents out.new) result
-        (AreAfterCommas
-        (IsPartText (options_of (K.known known.now) options) (place_in inner.now.start start))
+        (after_commas text_of) (AreValues
+        (IsPartValue (options_of (K.known known.now) options) (place_in inner.now.start start))
         (parts_inside (K.known known.now) (inner_view inner.now))) }
 {
     match parse_mail_in(alloc, inner.bytes.as_slice(), known) {
         Ok(mail) => {
             let start = place_in(inner.start, start);
             let found = places_under(alloc, &mail, inner.path.as_str())?;
-            write_found(alloc, out, found.as_slice(), false, start, options, known)
+            write_found(
+                alloc,
+                out,
+                found.as_slice(),
+                Position::Later,
+                start,
+                options,
+                known,
+            )
         }
         Err(error) => {
             refused(&error)?;
@@ -75,7 +86,7 @@ fn refused(error: &MailParseError) -> Result<(), AllocError>
     }
 }
 
-/// Writes the member of the mails inside a mail that begins at this offset of the input.
+/// Writes the list of the mails inside a mail that begins at this offset of the input.
 pub(crate) fn write_forwarded<W: Write>(
     alloc: Global,
     out: &mut W,
@@ -83,14 +94,14 @@ pub(crate) fn write_forwarded<W: Write>(
     start: usize,
 ) -> Result<(), Fault>
     ensures { Writes (W.contents out.old) (W.contents out.new) result
-        (forwarded_text start (map inner_view mails.now)) }
+        (text_of (list_of (map (inner_value start) (map inner_view mails.now)))) }
 {
-    write_word(out, ",\"forwarded\":[")?;
-    let mut is_first = true;
+    write_word(out, "[")?;
+    let mut position = Position::First;
     for mail in mails {
-        write_comma(out, is_first)?;
+        write_comma(out, position)?;
         write_inner(alloc, out, mail, start)?;
-        is_first = false;
+        position = Position::Later;
     }
     write_word(out, "]")
 }
@@ -103,7 +114,7 @@ fn write_inner<W: Write>(
     start: usize,
 ) -> Result<(), Fault>
     ensures { Writes (W.contents out.old) (W.contents out.new) result
-        (inner_text start (inner_view inner.now)) }
+        (text_of (inner_value start (inner_view inner.now))) }
 {
     write_word(out, "{\"path\":")?;
     write_text(alloc, out, inner.path.as_str())?;
@@ -121,7 +132,8 @@ fn write_refusal<W: Write>(
     error: &Option<MailParseError>,
 ) -> Result<(), Fault>
     ensures { Writes (W.contents out.old) (W.contents out.new) result
-        (text_or_null (option_map refusal_text (option_and_then refusal_of error.now))) }
+        (text_of (string_or_null
+        (option_map refusal_text (option_and_then refusal_of error.now)))) }
 {
     let text = match error {
         Some(error) => refusal_of(alloc, error)?,

@@ -1,8 +1,10 @@
-//! JSON text of strings, numbers and refusals (RFC 8259, sections 4 to 7).
+//! JSON text of strings, numbers and refusals (RFC 8259, sections 5 to 7).
 ghost use Rattle.std.specs.Prelude.{◌≡◌, ◌++◌, false, map, option_map, string_bytes, IfOk, OnOk};
-ghost use Rattle.mail_lines.specs.JsonText.{character_text, comma, escaped, is_hidden, json_text};
-ghost use Rattle.mail_lines.specs.JsonText.{json_texts, number_or_null, number_text, refusal_text};
-ghost use Rattle.mail_lines.specs.JsonText.{text_or_null, utf8_text};
+ghost use Rattle.json.specs.Json.{string};
+ghost use Rattle.mail_lines.specs.JsonText.{character_text, escaped, is_hidden, refusal_text};
+ghost use Rattle.mail_lines.specs.JsonText.{utf8_text};
+ghost use Rattle.mail_lines.specs.Printed.{comma, number_or_null, number_value};
+ghost use Rattle.mail_lines.specs.Printed.{string_or_null, strings, text_of};
 ghost use Rattle.mail_lines.specs.Written.{Writes};
 ghost use Rattle.mailparse.specs.Map.{text_found};
 ghost use Rattle.mailparse.specs.Outcome.{IsMemory, refusal_of};
@@ -13,9 +15,19 @@ use serde_json::Value;
 use std::alloc::{AllocError, Global};
 use std::io::Write;
 
+/// The position of an item in a list.
+#[derive(Clone, Copy)]
+pub(crate) enum Position {
+    /// It is the first item.
+    First,
+    /// Another item comes before it.
+    Later,
+}
+
 /// Writes a string.
 pub(crate) fn write_text<W: Write>(alloc: Global, out: &mut W, text: &str) -> Result<(), Fault>
-    ensures { Writes (W.contents out.old) (W.contents out.new) result (json_text text.now) }
+    ensures { Writes (W.contents out.old) (W.contents out.new) result
+        (text_of (string text.now)) }
 {
     write_owned(alloc, out, String::from_str(alloc, text)?)
 }
@@ -23,7 +35,7 @@ pub(crate) fn write_text<W: Write>(alloc: Global, out: &mut W, text: &str) -> Re
 /// Writes a string, which is not copied first.
 pub(crate) fn write_owned<W: Write>(alloc: Global, out: &mut W, text: String) -> Result<(), Fault>
     ensures { Writes (W.contents out.old) (W.contents out.new) result
-        (json_text (string_bytes text)) }
+        (text_of (string (string_bytes text))) }
 {
     write_quoted(alloc, out, text)
 }
@@ -43,13 +55,14 @@ fn write_quoted<W: Write>(alloc: Global, out: &mut W, text: String) -> Result<()
 }
 
 /// Writes a string, or `null` for `None`.
+#[tactic(auto, unfolding(crate::specs::Printed::text_of))]
 pub(crate) fn write_optional<W: Write>(
     alloc: Global,
     out: &mut W,
     text: Option<String>,
 ) -> Result<(), Fault>
     ensures { Writes (W.contents out.old) (W.contents out.new) result
-        (text_or_null (text_found text)) }
+        (text_of (string_or_null (text_found text))) }
 {
     match text {
         Some(text) => write_owned(alloc, out, text),
@@ -58,13 +71,14 @@ pub(crate) fn write_optional<W: Write>(
 }
 
 /// Writes a name as a string, or `null` for `None`.
+#[tactic(auto, unfolding(crate::specs::Printed::text_of))]
 pub(crate) fn write_name<W: Write>(
     alloc: Global,
     out: &mut W,
     name: Option<&str>,
 ) -> Result<(), Fault>
     ensures { Writes (W.contents out.old) (W.contents out.new) result
-        (text_or_null (option_map (λ text. text.now) name.entry)) }
+        (text_of (string_or_null (option_map (λ text. text.now) name.entry))) }
 {
     match name {
         Some(name) => write_text(alloc, out, name),
@@ -79,26 +93,26 @@ pub(crate) fn write_texts<W: Write>(
     texts: &[String],
 ) -> Result<(), Fault>
     ensures { Writes (W.contents out.old) (W.contents out.new) result
-        (json_texts (map (λ t. string_bytes t) texts.now)) }
+        (text_of (strings (map (λ t. string_bytes t) texts.now))) }
 {
     write_word(out, "[")?;
-    let mut is_first = true;
+    let mut position = Position::First;
     for text in texts {
-        write_comma(out, is_first)?;
+        write_comma(out, position)?;
         write_text(alloc, out, text.as_str())?;
-        is_first = false;
+        position = Position::Later;
     }
     write_word(out, "]")
 }
 
-/// Writes the comma before an item or a member that is not the first.
-pub(crate) fn write_comma<W: Write>(out: &mut W, is_first: bool) -> Result<(), Fault>
-    ensures { Writes (W.contents out.old) (W.contents out.new) result (comma is_first) }
+/// Writes the comma before an item, unless it is the first.
+pub(crate) fn write_comma<W: Write>(out: &mut W, position: Position) -> Result<(), Fault>
+    ensures { Writes (W.contents out.old) (W.contents out.new) result (comma position) }
 {
-    if is_first {
-        return Ok(());
+    match position {
+        Position::First => Ok(()),
+        Position::Later => write_word(out, ","),
     }
-    write_word(out, ",")
 }
 
 /// Writes text as it is.
@@ -110,11 +124,13 @@ pub(crate) fn write_word<W: Write>(out: &mut W, word: &str) -> Result<(), Fault>
 }
 
 /// Writes a number, or `null` for `None`.
+#[tactic(auto, unfolding(crate::specs::Printed::text_of))]
 pub(crate) fn write_number_or_null<W: Write>(
     out: &mut W,
     number: Option<usize>,
 ) -> Result<(), Fault>
-    ensures { Writes (W.contents out.old) (W.contents out.new) result (number_or_null number) }
+    ensures { Writes (W.contents out.old) (W.contents out.new) result
+        (text_of (number_or_null number)) }
 {
     match number {
         Some(number) => write_number(out, number),
@@ -124,7 +140,8 @@ pub(crate) fn write_number_or_null<W: Write>(
 
 /// Writes a number.
 pub(crate) fn write_number<W: Write>(out: &mut W, number: usize) -> Result<(), Fault>
-    ensures { Writes (W.contents out.old) (W.contents out.new) result (number_text number) }
+    ensures { Writes (W.contents out.old) (W.contents out.new) result
+        (text_of (number_value number)) }
 {
     write!(out, "{number}")?;
     Ok(())

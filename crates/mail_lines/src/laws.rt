@@ -1,5 +1,5 @@
 //! Laws: each line is JSON, and the lines of all parts of an input are those of the whole.
-ghost use Rattle.std.specs.Prelude.{◌++◌, ◌-◌, ◌<◌, ◌≡◌, ◌≤◌, Bool, List, Option, codes, drop, length};
+ghost use Rattle.std.specs.Prelude.{◌++◌, ◌<◌, ◌≡◌, ◌≤◌, Bool, List, Option, codes, drop, length};
 ghost use Rattle.std.specs.Prelude.{true, ℕ};
 ghost use Rattle.std.specs.List.{flat_map, list_all};
 ghost use Rattle.json.specs.Json.{Json};
@@ -9,7 +9,8 @@ ghost use Rattle.mailparse.specs.Mail.{Tree};
 ghost use Rattle.mailparse.specs.Refusal.{Reads};
 ghost use Rattle.mail_lines.specs.JsonLines.{AreMailboxLines, IsLineOf, format_of};
 ghost use Rattle.mail_lines.specs.Options.{Options};
-ghost use Rattle.mail_lines.specs.Origin.{Origin, unread_line};
+ghost use Rattle.mail_lines.specs.Origin.{Origin};
+ghost use Rattle.mail_lines.specs.Printed.{line_of};
 ghost use Rattle.mail_lines.specs.Range.{ArePartLines, AreRangeLines, AreRangeLinesAt};
 ghost use Rattle.mail_lines.specs.Range.{AreUnnumberedLines, has_parts, reading_start};
 ghost use Rattle.mail_lines.specs.declared.options.InputKind.{InputKind};
@@ -32,7 +33,7 @@ pub fn lines_are_json()
         ArePartLines options kind file bytes count number is_clean text → AreJsonLines text }
     ensures unread { (file : Option (List ℕ)) (text : List ℕ) → (object : List ℕ)
         × IsJsonLine (unread_value file text) object
-        × (unread_line file text ≡ object ++ codes "\n") }
+        × (line_of (unread_value file text) ≡ object ++ codes "\n") }
 {}
 
 /// The lines of equal parts of an input, one after another, are those of the whole without the numbers

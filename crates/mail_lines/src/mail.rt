@@ -5,13 +5,13 @@ ghost use Rattle.mailparse.specs.Placement.{placements};
 ghost use Rattle.mailparse.specs.Views.{placements_of, tree_of};
 ghost use Rattle.mail_data.specs.lenient.Date.{zoned_date_of};
 ghost use Rattle.mail_data.specs.lenient.IdViews.{needs_at};
-ghost use Rattle.mail_lines.specs.Fields.{value_of};
-ghost use Rattle.mail_lines.specs.Mail.{IsMailText, date_fault_text, date_text, id_list_text};
-ghost use Rattle.mail_lines.specs.Mail.{ids_text, raw_text, raw_value_text, value_text, values_text};
-ghost use Rattle.mail_lines.specs.Mail.{zone_text};
+ghost use Rattle.mail_lines.specs.Fields.{date_fault_text, value_of};
 ghost use Rattle.mail_lines.specs.Origin.{origin_of};
 ghost use Rattle.mail_lines.specs.Options.{options_of};
-ghost use Rattle.mail_lines.specs.JsonText.{seconds_text};
+ghost use Rattle.mail_lines.specs.Printed.{members_after, one, seconds_value, text_of};
+ghost use Rattle.mail_lines.specs.Values.{IsMailValue, date_members, id_list, ids_members};
+ghost use Rattle.mail_lines.specs.Values.{raw_value, raw_values, value_or_null, values_members};
+ghost use Rattle.mail_lines.specs.Values.{zone_members};
 ghost use Rattle.mail_lines.specs.Written.{Writes, WritesOne};
 
 use crate::addresses::write_addresses;
@@ -57,20 +57,23 @@ pub fn write_mail<W: Write, K: KnownCharsets>(
     known: &K,
 ) -> Result<(), Fault>
     requires placed { placements_of mail.now ≡ placements 0 (tree_of mail.now) }
-    ensures { WritesOne (W.contents out.old) (W.contents out.new) result
-        (IsMailText (options_of (K.known known.now) options) (origin_of origin.now)
+    ensures { WritesOne (W.contents out.old) (W.contents out.new) result text_of
+        (IsMailValue (options_of (K.known known.now) options) (origin_of origin.now)
         (tree_of mail.now)) }
 {
     write_origin(alloc, out, origin)?;
     write_values(alloc, out, mail, known)?;
+    write_word(out, ",\"raw\":")?;
     write_raw(alloc, out, mail)?;
     write_date(alloc, out, mail, known)?;
     write_ids(alloc, out, mail, known)?;
     let inside = inner_mails(alloc, mail, known)?;
-    write_word(out, ",\"parts\":[")?;
+    write_word(out, ",\"parts\":")?;
+    write_word(out, "[")?;
     write_parts(alloc, out, mail, origin.start, options, known)?;
     write_inside(alloc, out, inside.as_slice(), origin.start, options, known)?;
     write_word(out, "]")?;
+    write_word(out, ",\"forwarded\":")?;
     write_forwarded(alloc, out, inside.as_slice(), origin.start)?;
     write_word(out, "}")
 }
@@ -83,7 +86,7 @@ fn write_values<W: Write, K: KnownCharsets>(
     known: &K,
 ) -> Result<(), Fault>
     ensures { Writes (W.contents out.old) (W.contents out.new) result
-        (values_text (K.known known.now) (root (tree_of mail.now))) }
+        (members_after (values_members (K.known known.now) (root (tree_of mail.now)))) }
 {
     write_value(alloc, out, ",\"subject\":", mail, "Subject", known)?;
     write_addresses(alloc, out, mail, known)
@@ -98,20 +101,20 @@ fn write_value<W: Write, K: KnownCharsets>(
     key: &str,
     known: &K,
 ) -> Result<(), Fault>
-    ensures { Writes (W.contents out.old) (W.contents out.new) result
-        (value_text (K.known known.now) before.now key.now (root (tree_of mail.now))) }
+    ensures { Writes (W.contents out.old) (W.contents out.new) result (before.now
+        ++ text_of (value_or_null (K.known known.now) key.now (root (tree_of mail.now)))) }
 {
     let value = value_of(alloc, mail, key, known)?;
     write_word(out, before)?;
     write_optional(alloc, out, value)
 }
 
-/// Writes the member of the raw values of addresses.
+/// Writes the object of the raw values of addresses.
 fn write_raw<W: Write>(alloc: Global, out: &mut W, mail: &ParsedMail<'_>) -> Result<(), Fault>
     ensures { Writes (W.contents out.old) (W.contents out.new) result
-        (raw_text (root (tree_of mail.now))) }
+        (text_of (raw_values (root (tree_of mail.now)))) }
 {
-    write_raw_value(alloc, out, ",\"raw\":{\"from\":", mail, "From")?;
+    write_raw_value(alloc, out, "{\"from\":", mail, "From")?;
     write_raw_value(alloc, out, ",\"to\":", mail, "To")?;
     write_raw_value(alloc, out, ",\"cc\":", mail, "Cc")?;
     write_raw_value(alloc, out, ",\"bcc\":", mail, "Bcc")?;
@@ -122,6 +125,7 @@ fn write_raw<W: Write>(alloc: Global, out: &mut W, mail: &ParsedMail<'_>) -> Res
 
 /// Writes the raw value of the first header with this name, after the text `before`: each byte is the
 /// character of its number.
+#[tactic(auto, unfolding(crate::specs::Printed::text_of))]
 fn write_raw_value<W: Write>(
     alloc: Global,
     out: &mut W,
@@ -130,7 +134,7 @@ fn write_raw_value<W: Write>(
     key: &str,
 ) -> Result<(), Fault>
     ensures { Writes (W.contents out.old) (W.contents out.new) result
-        (raw_value_text before.now key.now (root (tree_of mail.now))) }
+        (before.now ++ text_of (raw_value key.now (root (tree_of mail.now)))) }
 {
     write_word(out, before)?;
     match mail.headers.get_first_header(key) {
@@ -150,7 +154,7 @@ fn write_ids<W: Write, K: KnownCharsets>(
     known: &K,
 ) -> Result<(), Fault>
     ensures { Writes (W.contents out.old) (W.contents out.new) result
-        (ids_text (K.known known.now) (root (tree_of mail.now))) }
+        (members_after (ids_members (K.known known.now) (root (tree_of mail.now)))) }
 {
     write_id_list(
         alloc,
@@ -191,8 +195,8 @@ fn write_id_list<W: Write, K: KnownCharsets>(
     rule: IdRule,
     known: &K,
 ) -> Result<(), Fault>
-    ensures { Writes (W.contents out.old) (W.contents out.new) result (id_list_text
-        (K.known known.now) before.now (needs_at rule) key.now (root (tree_of mail.now))) }
+    ensures { Writes (W.contents out.old) (W.contents out.new) result (before.now ++ text_of
+        (id_list (K.known known.now) (needs_at rule) key.now (root (tree_of mail.now)))) }
 {
     let ids = ids_of(alloc, mail, key, rule, known)?;
     write_word(out, before)?;
@@ -207,8 +211,9 @@ fn write_date<W: Write, K: KnownCharsets>(
     mail: &ParsedMail<'_>,
     known: &K,
 ) -> Result<(), Fault>
-    ensures { Writes (W.contents out.old) (W.contents out.new) result (date_text (option_map
-        zoned_date_of (value_of (K.known known.now) (codes "Date") (root (tree_of mail.now))))) }
+    ensures { Writes (W.contents out.old) (W.contents out.new) result (members_after
+        (date_members (option_map zoned_date_of
+        (value_of (K.known known.now) (codes "Date") (root (tree_of mail.now)))))) }
 {
     let Some(date) = value_of(alloc, mail, "Date", known)? else {
         return write_word(out, ",\"date\":null");
@@ -219,7 +224,8 @@ fn write_date<W: Write, K: KnownCharsets>(
             write_word(out, zone_text(is_zone_known))
         }
         Err(error) => {
-            write_word(out, ",\"date\":null,\"date_error\":")?;
+            write_word(out, ",\"date\":null")?;
+            write_word(out, ",\"date_error\":")?;
             write_text(alloc, out, date_fault(error))
         }
     }
@@ -227,7 +233,7 @@ fn write_date<W: Write, K: KnownCharsets>(
 
 /// Returns the member for an unknown zone of a date, or nothing if it is known.
 fn zone_text(is_known: bool) -> &'static str
-    ensures { result.now ≡ zone_text is_known }
+    ensures { result.now ≡ members_after (zone_members is_known) }
 {
     if is_known {
         ""
@@ -239,7 +245,7 @@ fn zone_text(is_known: bool) -> &'static str
 /// Writes a date by its seconds.
 fn write_seconds<W: Write>(out: &mut W, seconds: i64) -> Result<(), Fault>
     ensures { Writes (W.contents out.old) (W.contents out.new) result
-        (codes ",\"date\":" ++ seconds_text seconds) }
+        (members_after (one (codes "date") (seconds_value seconds))) }
 {
     write!(out, ",\"date\":{seconds}")?;
     Ok(())

@@ -1,10 +1,12 @@
 //! The origin of a line: the file, the mail and its offsets.
 ghost use Rattle.std.specs.Prelude.{option_map};
-ghost use Rattle.mail_lines.specs.Origin.{bounds_text, error_line, origin_of, origin_text};
-ghost use Rattle.mail_lines.specs.Origin.{unread_line};
+ghost use Rattle.mail_lines.specs.Origin.{origin_of};
+ghost use Rattle.mail_lines.specs.Printed.{begun, line_of, members_after};
+ghost use Rattle.mail_lines.specs.Values.{bounds_members, error_value, file_members};
+ghost use Rattle.mail_lines.specs.Values.{origin_members, unread_value};
 ghost use Rattle.mail_lines.specs.Written.{Writes};
 
-use crate::json_text::{write_name, write_number_or_null, write_text, write_word};
+use crate::json_text::{write_name, write_number, write_number_or_null, write_text, write_word};
 use mail_program::Fault;
 use std::alloc::Global;
 use std::io::Write;
@@ -29,21 +31,34 @@ pub(crate) fn write_origin<W: Write>(
     origin: &Origin<'_>,
 ) -> Result<(), Fault>
     ensures { Writes (W.contents out.old) (W.contents out.new) result
-        (origin_text (origin_of origin.now)) }
+        (begun (origin_members (origin_of origin.now))) }
 {
-    write_word(out, "{\"schema\":4,\"file\":")?;
-    write_name(alloc, out, origin.file)?;
+    write_file(alloc, out, origin.file)?;
     write_word(out, ",\"number\":")?;
     write_number_or_null(out, origin.number)?;
     write_bounds(out, origin.start, origin.end)
 }
 
+/// Writes the first members of a line: the number of the schema and the name of the file.
+fn write_file<W: Write>(alloc: Global, out: &mut W, file: Option<&str>) -> Result<(), Fault>
+    ensures { Writes (W.contents out.old) (W.contents out.new) result
+        (begun (file_members (option_map (λ name. name.now) file.entry))) }
+{
+    write_word(out, "{\"schema\":")?;
+    write_number(out, 4)?;
+    write_word(out, ",\"file\":")?;
+    write_name(alloc, out, file)
+}
+
 /// Writes the members of the offsets at which a mail begins and ends.
 fn write_bounds<W: Write>(out: &mut W, start: usize, end: usize) -> Result<(), Fault>
-    ensures { Writes (W.contents out.old) (W.contents out.new) result (bounds_text start end) }
+    ensures { Writes (W.contents out.old) (W.contents out.new) result
+        (members_after (bounds_members start end)) }
 {
-    write!(out, ",\"start\":{start},\"end\":{end}")?;
-    Ok(())
+    write_word(out, ",\"start\":")?;
+    write_number(out, start)?;
+    write_word(out, ",\"end\":")?;
+    write_number(out, end)
 }
 
 /// Writes the line of an error.
@@ -54,7 +69,7 @@ pub(crate) fn write_error<W: Write>(
     error: &str,
 ) -> Result<(), Fault>
     ensures { Writes (W.contents out.old) (W.contents out.new) result
-        (error_line (origin_of origin.now) error.now) }
+        (line_of (error_value (origin_of origin.now) error.now)) }
 {
     write_origin(alloc, out, origin)?;
     write_word(out, ",\"error\":")?;
@@ -87,14 +102,13 @@ pub fn write_unread<W: Write>(
     error: &str,
 ) -> Result<(), Fault>
     ensures { Writes (W.contents out.old) (W.contents out.new) result
-        (unread_line (option_map (λ name. name.now) file.entry) error.now) }
+        (line_of (unread_value (option_map (λ name. name.now) file.entry) error.now)) }
 {
-    write_word(out, "{\"schema\":4,\"file\":")?;
-    write_name(alloc, out, file)?;
-    write_word(
-        out,
-        ",\"number\":null,\"start\":null,\"end\":null,\"error\":",
-    )?;
+    write_file(alloc, out, file)?;
+    write_word(out, ",\"number\":null")?;
+    write_word(out, ",\"start\":null")?;
+    write_word(out, ",\"end\":null")?;
+    write_word(out, ",\"error\":")?;
     write_text(alloc, out, error)?;
     write_word(out, "}\n")
 }

@@ -1,5 +1,7 @@
 //! The objects of the parts.
-ghost use Rattle.std.specs.Prelude.{◌&&◌, ◌≡◌, length, IfOk, Some, map, true, false};
+ghost use Rattle.std.specs.Prelude.{◌&&◌, ◌≡◌, length, IfOk, Some, [], map, true, false};
+ghost use Rattle.mailparse.specs.Map.{text_found};
+ghost use Rattle.json.specs.Json.{boolean};
 ghost use Rattle.mailparse.specs.Mail.{root};
 ghost use Rattle.mailparse.specs.Views as views;
 ghost use Rattle.mailparse.specs.Views.{content_type, placements_of, tree_of};
@@ -7,19 +9,20 @@ ghost use Rattle.mail_data.specs.PartPlaces.{places};
 ghost use Rattle.mail_data.specs.lenient.Content.{message_content};
 ghost use Rattle.mail_data.specs.lenient.ContentViews.{content_view};
 ghost use Rattle.mail_data.specs.PlaceViews.{place_view};
-ghost use Rattle.mail_lines.specs.Part.{AreItems, AreJoined, IsPartText, IsTypeText, body_text};
-ghost use Rattle.mail_lines.specs.Part.{damaged_text, hash_of, place_in, sha256_text};
+ghost use Rattle.mail_lines.specs.Part.{Lists, hash_of, is_attachment, is_read, place_in};
 ghost use Rattle.mail_lines.specs.Options.{options_of};
-ghost use Rattle.mail_program.specs.Hash.{hash_text};
-ghost use Rattle.mail_lines.specs.Part.{disposition_text, flag_text, header_text, headers_text};
-ghost use Rattle.mail_lines.specs.Part.{is_attachment, is_read, parameter_text, place_text, size_text};
+ghost use Rattle.mail_lines.specs.Printed.{comma, list_of, listed, member_text, members_after};
+ghost use Rattle.mail_lines.specs.Printed.{text_of};
+ghost use Rattle.mail_lines.specs.Values.{AreValues, IsPartValue, body_members, damaged_members};
+ghost use Rattle.mail_lines.specs.Values.{disposition_members, header_value, parameter_member};
+ghost use Rattle.mail_lines.specs.Values.{place_members, size_members, type_members};
 ghost use Rattle.mail_lines.specs.Written.{Writes, WritesOne};
 
 use crate::body::encoding_name;
 use crate::fields::disposition_name;
 use crate::json_text::{
-    refusal_of, write_comma, write_name, write_number, write_number_or_null, write_optional,
-    write_owned, write_text, write_word,
+    Position, refusal_of, write_comma, write_name, write_number, write_number_or_null,
+    write_optional, write_owned, write_text, write_word,
 };
 use crate::options::LineOptions;
 use mail_data::files::{describes_attachment, is_attachment_disposition, is_leaf, named_file};
@@ -45,8 +48,8 @@ pub(crate) fn write_parts<W: Write, K: KnownCharsets>(
     options: LineOptions,
     known: &K,
 ) -> Result<(), Fault>
-    ensures { WritesOne (W.contents out.old) (W.contents out.new) result
-        (AreJoined (IsPartText (options_of (K.known known.now) options) (Some start))
+    ensures { WritesOne (W.contents out.old) (W.contents out.new) result (listed text_of [])
+        (AreValues (IsPartValue (options_of (K.known known.now) options) (Some start))
         (places (tree_of mail.now) (placements_of mail.now))) }
 {
     let found = places(alloc, mail)?;
@@ -54,33 +57,33 @@ pub(crate) fn write_parts<W: Write, K: KnownCharsets>(
         alloc,
         out,
         found.as_slice(),
-        true,
+        Position::First,
         Some(start),
         options,
         known,
     )
 }
 
-/// Writes the objects of parts of a mail that begins at this offset of the input, each after a comma,
-/// except the first one if it is the first of all.
+/// Writes the objects of parts of a mail that begins at this offset of the input, the first one of
+/// which comes at this position of the list of all objects.
 pub(crate) fn write_found<W: Write, K: KnownCharsets>(
     alloc: Global,
     out: &mut W,
     found: &[Place<'_, '_>],
-    begins: bool,
+    first: Position,
     start: Option<usize>,
     options: LineOptions,
     known: &K,
 ) -> Result<(), Fault>
     ensures { WritesOne (W.contents out.old) (W.contents out.new) result
-        (AreItems (IsPartText (options_of (K.known known.now) options) start) begins
-        (map place_view found.now)) }
+        (listed text_of (comma first)) (AreValues
+        (IsPartValue (options_of (K.known known.now) options) start) (map place_view found.now)) }
 {
-    let mut is_first = begins;
+    let mut position = first;
     for place in found {
-        write_comma(out, is_first)?;
+        write_comma(out, position)?;
         write_part(alloc, out, place, start, options, known)?;
-        is_first = false;
+        position = Position::Later;
     }
     Ok(())
 }
@@ -95,8 +98,8 @@ pub(crate) fn write_part<W: Write, K: KnownCharsets>(
     options: LineOptions,
     known: &K,
 ) -> Result<(), Fault>
-    ensures { WritesOne (W.contents out.old) (W.contents out.new) result
-        (IsPartText (options_of (K.known known.now) options) mail_start (place_view place.now)) }
+    ensures { WritesOne (W.contents out.old) (W.contents out.new) result text_of
+        (IsPartValue (options_of (K.known known.now) options) mail_start (place_view place.now)) }
 {
     let part = place.part;
     write_word(out, "{\"path\":")?;
@@ -106,13 +109,19 @@ pub(crate) fn write_part<W: Write, K: KnownCharsets>(
     let attached = is_attachment(alloc, part, &disposition)?;
     write_disposition(alloc, out, part, &disposition, attached)?;
     let body = lenient_body(alloc, part)?;
+    write_word(out, ",\"encoding\":\"")?;
+    write_word(out, encoding_name(&body))?;
+    write_word(out, "\"")?;
     let start = place_in(mail_start, place.byte_range.start);
     let end = place_in(mail_start, place.byte_range.end);
-    write_place(out, encoding_name(&body), start, end, body.get_raw().len())?;
+    write_place(out, start, end, body.get_raw().len())?;
     let content = lenient_content(alloc, &body)?;
     write_decoded_size(alloc, out, &content)?;
     let hashed = is_hashed(options.hashes, attached);
-    write_hash(alloc, out, content.bytes.as_slice(), hashed)?;
+    let hash = hash_of(alloc, content.bytes.as_slice(), hashed)?;
+    write_word(out, ",\"sha256\":")?;
+    write_optional(alloc, out, hash)?;
+    write_word(out, ",\"headers\":")?;
     write_headers(alloc, out, part.headers.as_slice(), known)?;
     let shown = is_read(part, &disposition);
     write_part_text(alloc, out, &content, part, shown, options, known)?;
@@ -143,20 +152,17 @@ fn is_read(part: &ParsedMail<'_>, disposition: &ParsedContentDisposition) -> boo
         && text_type(part.ctype.mimetype.as_str()).starts_with("text/")
 }
 
-/// Writes the name of an encoding, the offsets of a part, and the size of its body.
+/// Writes the offsets of a part, and the size of its body.
 fn write_place<W: Write>(
     out: &mut W,
-    encoding: &str,
     start: Option<usize>,
     end: Option<usize>,
     size: usize,
 ) -> Result<(), Fault>
     ensures { Writes (W.contents out.old) (W.contents out.new) result
-        (place_text encoding.now start end size) }
+        (members_after (place_members start end size)) }
 {
-    write_word(out, ",\"encoding\":\"")?;
-    write_word(out, encoding)?;
-    write_word(out, "\",\"start\":")?;
+    write_word(out, ",\"start\":")?;
     write_number_or_null(out, start)?;
     write_word(out, ",\"end\":")?;
     write_number_or_null(out, end)?;
@@ -166,19 +172,22 @@ fn write_place<W: Write>(
 
 /// Writes the type, its charset and its parameters.
 fn write_type<W: Write>(alloc: Global, out: &mut W, ctype: &ParsedContentType) -> Result<(), Fault>
-    ensures { WritesOne (W.contents out.old) (W.contents out.new) result
-        (IsTypeText (content_type ctype.now)) }
+    ensures { let ctype = content_type ctype.now in
+        WritesOne (W.contents out.old) (W.contents out.new) result
+        (λ pairs. members_after (type_members ctype.mimetype ctype.charset pairs))
+        (Lists ctype.params) }
 {
     write_word(out, ",\"type\":")?;
     write_text(alloc, out, ctype.mimetype.as_str())?;
     write_word(out, ",\"charset\":")?;
     write_text(alloc, out, ctype.charset.as_str())?;
-    write_word(out, ",\"params\":{")?;
-    let mut is_first = true;
+    write_word(out, ",\"params\":")?;
+    write_word(out, "{")?;
+    let mut position = Position::First;
     for (name, value) in &ctype.params {
-        write_comma(out, is_first)?;
+        write_comma(out, position)?;
         write_parameter(alloc, out, name.as_str(), value.as_str())?;
-        is_first = false;
+        position = Position::Later;
     }
     write_word(out, "}")
 }
@@ -191,7 +200,7 @@ fn write_parameter<W: Write>(
     value: &str,
 ) -> Result<(), Fault>
     ensures { Writes (W.contents out.old) (W.contents out.new) result
-        (parameter_text (name.now, value.now)) }
+        (member_text (parameter_member (name.now, value.now))) }
 {
     write_text(alloc, out, name)?;
     write_word(out, ":")?;
@@ -222,8 +231,9 @@ fn write_disposition<W: Write>(
     disposition: &ParsedContentDisposition,
     is_attachment: bool,
 ) -> Result<(), Fault>
-    ensures { Writes (W.contents out.old) (W.contents out.new) result (disposition_text
-        (views.disposition disposition.now) (root (tree_of part.now)) is_attachment) }
+    ensures { Writes (W.contents out.old) (W.contents out.new) result
+        (members_after (disposition_members (views.disposition disposition.now)
+        (root (tree_of part.now)) is_attachment)) }
 {
     write_word(out, ",\"disposition\":")?;
     write_name(alloc, out, disposition_name(part, disposition))?;
@@ -235,8 +245,9 @@ fn write_disposition<W: Write>(
 }
 
 /// Returns `true` or `false`.
+#[tactic(auto, unfolding(crate::specs::Printed::text_of))]
 fn flag_text(flag: bool) -> &'static str
-    ensures { result.now ≡ flag_text flag }
+    ensures { result.now ≡ text_of (boolean flag) }
 {
     if flag { "true" } else { "false" }
 }
@@ -249,46 +260,30 @@ fn write_decoded_size<W: Write>(
 ) -> Result<(), Fault>
     ensures { let content = content_view content.now in
         Writes (W.contents out.old) (W.contents out.new) result
-        (size_text content.fault (length content.bytes)) }
+        (members_after (size_members content.fault (length content.bytes))) }
 {
     match content.fault {
         None => {
-            let size = content.bytes.len();
-            write!(out, ",\"decoded_size\":{size}")?;
-            Ok(())
+            write_word(out, ",\"decoded_size\":")?;
+            write_number(out, content.bytes.len())
         }
         Some(fault) => {
             let text = refusal_of(alloc, &MailParseError::from(fault))?;
-            write_word(out, ",\"decoded_size\":null,\"error\":")?;
+            write_word(out, ",\"decoded_size\":null")?;
+            write_word(out, ",\"error\":")?;
             write_optional(alloc, out, text)
         }
     }
 }
 
-/// Writes the hash of bytes, or `null` if it is not wanted.
-fn write_hash<W: Write>(
-    alloc: Global,
-    out: &mut W,
-    bytes: &[u8],
-    is_wanted: bool,
-) -> Result<(), Fault>
-    ensures { Writes (W.contents out.old) (W.contents out.new) result
-        (sha256_text (hash_of is_wanted bytes.now)) }
+/// Returns the hash of bytes, or `None` if it is not wanted.
+fn hash_of(alloc: Global, bytes: &[u8], is_wanted: bool) -> Result<Option<String>, AllocError>
+    ensures { IfOk result (λ hash. text_found hash ≡ hash_of is_wanted bytes.now) }
 {
     if !is_wanted {
-        return write_word(out, ",\"sha256\":null");
+        return Ok(None);
     }
-    write_sha256(alloc, out, bytes)
-}
-
-/// Writes the member of the hash of bytes.
-fn write_sha256<W: Write>(alloc: Global, out: &mut W, bytes: &[u8]) -> Result<(), Fault>
-    ensures { Writes (W.contents out.old) (W.contents out.new) result
-        (sha256_text (Some (hash_text bytes.now))) }
-{
-    let text = sha256_text(alloc, bytes)?;
-    write_word(out, ",\"sha256\":")?;
-    write_owned(alloc, out, text)
+    Ok(Some(sha256_text(alloc, bytes)?))
 }
 
 /// Writes the members of the text of a part, or `null` if it is not shown.
@@ -303,8 +298,9 @@ fn write_part_text<W: Write, K: KnownCharsets>(
 ) -> Result<(), Fault>
     ensures { let node = root (tree_of part.now) in
         content_view content.now ≡ message_content node →
-        Writes (W.contents out.old) (W.contents out.new) result (body_text
-        (K.known known.now) options.joins_flowed is_read node.ctype (message_content node)) }
+        Writes (W.contents out.old) (W.contents out.new) result (members_after
+        (body_members (K.known known.now) options.joins_flowed is_read node.ctype
+        (message_content node))) }
 {
     if options.joins_flowed {
         return write_flowed(alloc, out, part, is_read, known);
@@ -320,9 +316,9 @@ fn write_flowed<W: Write, K: KnownCharsets>(
     is_read: bool,
     known: &K,
 ) -> Result<(), Fault>
-    ensures { Writes (W.contents out.old) (W.contents out.new) result
-        (body_text (K.known known.now) true is_read (root (tree_of part.now)).ctype
-        (message_content (root (tree_of part.now)))) }
+    ensures { Writes (W.contents out.old) (W.contents out.new) result (members_after
+        (body_members (K.known known.now) true is_read (root (tree_of part.now)).ctype
+        (message_content (root (tree_of part.now))))) }
 {
     if !is_read {
         return write_word(out, ",\"text\":null");
@@ -345,8 +341,9 @@ fn write_body_text<W: Write, K: KnownCharsets>(
     is_read: bool,
     known: &K,
 ) -> Result<(), Fault>
-    ensures { Writes (W.contents out.old) (W.contents out.new) result (body_text
-        (K.known known.now) false is_read (content_type ctype.now) (content_view content.now)) }
+    ensures { Writes (W.contents out.old) (W.contents out.new) result (members_after
+        (body_members (K.known known.now) false is_read (content_type ctype.now)
+        (content_view content.now))) }
 {
     if !is_read {
         return write_word(out, ",\"text\":null");
@@ -362,7 +359,7 @@ fn write_body_text<W: Write, K: KnownCharsets>(
 
 /// Returns the member for a damaged body, or nothing if it is not damaged.
 fn damaged_text(is_damaged: bool) -> &'static str
-    ensures { result.now ≡ damaged_text is_damaged }
+    ensures { result.now ≡ members_after (damaged_members is_damaged) }
 {
     if is_damaged { ",\"damaged\":true" } else { "" }
 }
@@ -375,14 +372,14 @@ fn write_headers<W: Write, K: KnownCharsets>(
     known: &K,
 ) -> Result<(), Fault>
     ensures { Writes (W.contents out.old) (W.contents out.new) result
-        (headers_text (K.known known.now) headers.now) }
+        (text_of (list_of (map (header_value (K.known known.now)) headers.now))) }
 {
-    write_word(out, ",\"headers\":[")?;
-    let mut is_first = true;
+    write_word(out, "[")?;
+    let mut position = Position::First;
     for header in headers {
-        write_comma(out, is_first)?;
+        write_comma(out, position)?;
         write_header(alloc, out, header, known)?;
-        is_first = false;
+        position = Position::Later;
     }
     write_word(out, "]")
 }
@@ -395,11 +392,13 @@ fn write_header<W: Write, K: KnownCharsets>(
     known: &K,
 ) -> Result<(), Fault>
     ensures { Writes (W.contents out.old) (W.contents out.new) result
-        (header_text (K.known known.now) header.now) }
+        (text_of (header_value (K.known known.now) header.now)) }
 {
+    let key = header.get_key(alloc)?;
+    let value = header.get_value_in(alloc, known)?;
     write_word(out, "[")?;
-    write_owned(alloc, out, header.get_key(alloc)?)?;
+    write_owned(alloc, out, key)?;
     write_word(out, ",")?;
-    write_owned(alloc, out, header.get_value_in(alloc, known)?)?;
+    write_owned(alloc, out, value)?;
     write_word(out, "]")
 }

@@ -1,12 +1,13 @@
 //! Delivery reports as JSON.
-ghost use Rattle.std.specs.Prelude.{◌≡◌, codes, option_map};
+ghost use Rattle.std.specs.Prelude.{◌++◌, option_map};
 ghost use Rattle.mailparse.specs.Views.{tree_of};
 ghost use Rattle.mail_data.specs.Bounce.{recipients};
 ghost use Rattle.mail_data.specs.BounceViews.{delivery};
-ghost use Rattle.mail_lines.specs.Reports.{deliveries_text, delivery_text, field_text};
+ghost use Rattle.mail_lines.specs.Printed.{string_or_null, text_of};
+ghost use Rattle.mail_lines.specs.Reports.{deliveries_text, delivery_value};
 ghost use Rattle.mail_lines.specs.Written.{Writes};
 
-use crate::json_text::{write_comma, write_name, write_word};
+use crate::json_text::{Position, write_comma, write_name, write_word};
 use mail_data::bounce::{Recipient, recipients};
 use mail_program::Fault;
 use mailparse::{KnownCharsets, ParsedMail};
@@ -50,19 +51,20 @@ pub fn write_recipients<W: Write, K: KnownCharsets>(
 {
     let found = recipients(alloc, mail, known)?;
     write_word(out, "[")?;
-    let mut is_first = true;
+    let mut position = Position::First;
     for recipient in &found {
-        write_comma(out, is_first)?;
+        write_comma(out, position)?;
         write_recipient(alloc, out, recipient)?;
-        is_first = false;
+        position = Position::Later;
     }
-    write_word(out, "]\n")
+    write_word(out, "]")?;
+    write_word(out, "\n")
 }
 
 /// Writes the object of a recipient.
 fn write_recipient<W: Write>(alloc: Global, out: &mut W, recipient: &Recipient) -> Result<(), Fault>
     ensures { Writes (W.contents out.old) (W.contents out.new) result
-        (delivery_text (delivery recipient.now)) }
+        (text_of (delivery_value (delivery recipient.now))) }
 {
     let r = recipient;
     write_field(
@@ -88,16 +90,16 @@ fn write_recipient<W: Write>(alloc: Global, out: &mut W, recipient: &Recipient) 
     write_word(out, "}")
 }
 
-/// Writes the text before the value of a member, and then its string, or `null` if there is none.
+/// Writes the text `before`, and then the string, or `null` if there is none.
 fn write_field<W: Write>(
     alloc: Global,
     out: &mut W,
-    lead: &str,
+    before: &str,
     text: Option<&str>,
 ) -> Result<(), Fault>
     ensures { Writes (W.contents out.old) (W.contents out.new) result
-        (field_text lead.now (option_map (λ text. text.now) text.entry)) }
+        (before.now ++ text_of (string_or_null (option_map (λ text. text.now) text.entry))) }
 {
-    write_word(out, lead)?;
+    write_word(out, before)?;
     write_name(alloc, out, text)
 }

@@ -1,8 +1,8 @@
--- Lemmas on JSON text, and on items with commas.
-use Rattle.std.proofs.Common.{◌≡◌, ℕ, suc, ◌+◌, ◌<◌, ◌≤◌, Bool, true, false, List, [], ◌∷◌, ◌++◌, length, drop, get_or, min, ℤ, pos, negsuc, Option, String, Global, FitsSigned, w64, decimal, arith, string_bytes, map, sym, ap, subst, ◌∙◌, append_assoc, add-one, drop-cons}
+-- Lemmas on JSON text, and on lists.
+use Rattle.std.proofs.Common.{◌≡◌, ℕ, suc, ◌+◌, ◌<◌, true, false, List, [], ◌∷◌, ◌++◌, length, drop, get_or, min, ℤ, pos, negsuc, Option, String, Global, FitsSigned, w64, decimal, arith, string_bytes, refl, sym, ap, subst, ◌∙◌, append_assoc, add-one, drop-cons}
 use Rattle.std.proofs.KnownBytes.{Appends-trans}
 use Rattle.std.proofs.lemmas.Bool.{cond-true, cond-false}
-use Rattle.std.proofs.lemmas.List.{append-nil, drop_all}
+use Rattle.std.proofs.lemmas.List.{append-nil}
 use Rattle.std.proofs.lemmas.Str.{chars-nil, chars_past_char, is_utf8-from_IsUtf8, IsUtf8-string_bytes}
 use Rattle.std.specs.Prelude.{◌^◌, ◌-◌, option_map, codes}
 use Rattle.std.specs.Char.{encode_utf8}
@@ -11,7 +11,8 @@ use Rattle.std.specs.Io.KnownBytes.{Appends}
 use Rattle.std.specs.List.{flat_map}
 use Rattle.std.specs.Str.{chars, is_utf8, IsUtf8}
 use Rattle.json.specs.Print.{quoted}
-use Rattle.mail_lines.specs.JsonText.{is_hidden, hexadecimal, character_text, escaped, json_text, utf8_text, number_text, seconds_text, comma, after_commas, joined}
+use Rattle.mail_lines.specs.JsonText.{is_hidden, hexadecimal, character_text, escaped, json_text, utf8_text, number_text, seconds_text}
+use Rattle.mail_lines.specs.Printed.{after_commas, listed}
 
 -- a character that is kept, and one that is escaped
 pub character_plain : (c : ℕ) → is_hidden c ≡ false → character_text c ≡ encode_utf8 c
@@ -67,52 +68,30 @@ unfolding seconds_text
 seconds_text-fits (pos n) h = let e : n ≡ min n (2 ^ 63 - 1) = omega (arith, h.sfits) in ap decimal e
 seconds_text-fits (negsuc n) h = let e : suc n ≡ min (suc n) (2 ^ 63) = omega (arith, h.sfits) in ap (λ k. 45 ∷ decimal k) e
 
--- ---- items with commas
+-- ---- lists
 
 -- the first of the items that are left
 pub drop_next : {A : Type 0} (xs : List A) (i : ℕ) (x : A) → i < length xs → x ≡ get_or xs i x → drop i xs ≡ x ∷ drop (i + 1) xs
 drop_next xs i x h e = drop-cons xs i x h ∙ ap (λ y. y ∷ drop (suc i) xs) (sym e) ∙ ap (λ n. x ∷ drop n xs) (sym (add-one i))
 
--- the texts of the items that are left, if none was written yet and if some were
-abbrev pub left_text : {A : Type 0} → (A → List ℕ) → Bool → List A → List ℕ
-left_text text true xs = joined text xs
-left_text text false xs = after_commas text xs
+-- the texts of the items that are left, the first one after `before`, complete what was written
+abbrev pub Wrote : {A : Type 0} → (A → List ℕ) → Option (List ℕ) → Option (List ℕ) → List ℕ → (left all : List A) → Type 0
+Wrote text old new before left all = (done : List ℕ) × Appends old new done × (done ++ listed text before left ≡ listed text [] all)
 
--- the texts of the items that are left complete what was written
-abbrev pub Wrote : {A : Type 0} → (A → List ℕ) → Option (List ℕ) → Option (List ℕ) → Bool → (left all : List A) → Type 0
-Wrote text old new first left all = (done : List ℕ) × Appends old new done × (done ++ left_text text first left ≡ joined text all)
+pub listed-comma : {A : Type 0} (text : A → List ℕ) (xs : List A) → listed text (codes ",") xs ≡ after_commas text xs
+listed-comma text [] = refl
+listed-comma text (x ∷ xs) = refl
 
-pub wrote_more : {A : Type 0} (text : A → List ℕ) (old a b c : Option (List ℕ)) (first : Bool) (x : A) (left rest all : List A) → left ≡ x ∷ rest
-    → Wrote text old a first left all → Appends a b (comma first) → Appends b c (text x) → Wrote text old c false rest all
-wrote_more text old a b c true x left rest all e here p q =
-    let wrote = Appends-trans old a c here.0 (text x) here.1 (Appends-trans a b c [] (text x) p q) in
-    (here.0 ++ text x, wrote, append_assoc here.0 (text x) (after_commas text rest) ∙ ap (λ xs. here.0 ++ joined text xs) (sym e) ∙ here.2)
-wrote_more text old a b c false x left rest all e here p q =
-    let wrote = Appends-trans old a c here.0 (codes "," ++ text x) here.1 (Appends-trans a b c (codes ",") (text x) p q) in (
-      here.0 ++ (codes "," ++ text x),
-      wrote,
-      append_assoc here.0 (codes "," ++ text x) (after_commas text rest) ∙ ap (λ xs. here.0 ++ after_commas text xs) (sym e) ∙ here.2,
-    )
+pub wrote_more : {A : Type 0} (text : A → List ℕ) (old a b c : Option (List ℕ)) (before : List ℕ) (x : A) (left rest all : List A) → left ≡ x ∷ rest
+    → Wrote text old a before left all → Appends a b before → Appends b c (text x) → Wrote text old c (codes ",") rest all
+wrote_more text old a b c before x left rest all e here p q =
+    let item = before ++ text x in
+    let same : (here.0 ++ item) ++ listed text (codes ",") rest ≡ listed text [] all =
+    append_assoc here.0 item (listed text (codes ",") rest) ∙ ap (λ t. here.0 ++ t) (append_assoc before (text x) (listed text (codes ",") rest))
+    ∙ ap (λ t. here.0 ++ (before ++ (text x ++ t))) (listed-comma text rest) ∙ ap (λ xs. here.0 ++ listed text before xs) (sym e) ∙ here.2 in
+    (here.0 ++ item, Appends-trans old a c here.0 item here.1 (Appends-trans a b c before (text x) p q), same)
 
--- the same of the views of elements of a list
-pub wrote_item : {X A : Type 0} (view : X → A) (text : A → List ℕ) (old a b c : Option (List ℕ)) (first : Bool) (xs : List X) (i : ℕ) (x : X) (all : List A)
-    → i < length xs → x ≡ get_or xs i x → Wrote text old a first (map view (drop i xs)) all → Appends a b (comma first) → Appends b c (text (view x))
-    → Wrote text old c false (map view (drop (i + 1) xs)) all
-wrote_item view text old a b c first xs i x all h e here p q =
-    wrote_more text old a b c first (view x) (map view (drop i xs)) (map view (drop (i + 1) xs)) all (ap (map view) (drop_next xs i x h e)) here p q
-
--- nothing is left
-ended : {A : Type 0} (text : A → List ℕ) (old new : Option (List ℕ)) (all : List A) (done left : List ℕ) → left ≡ []
-    → Appends old new done → done ++ left ≡ joined text all → Appends old new (joined text all)
-ended text old new all done left none wrote e =
-    let same : done ≡ joined text all = sym (append-nil done) ∙ ap (λ t. done ++ t) (sym none) ∙ e in
-    subst (Appends old new) same wrote
-
-pub wrote_all : {A : Type 0} (text : A → List ℕ) (old new : Option (List ℕ)) (first : Bool) (left all : List A) → left ≡ []
-    → Wrote text old new first left all → Appends old new (joined text all)
-wrote_all text old new true left all e here = ended text old new all here.0 (joined text left) (ap (λ xs. joined text xs) e) here.1 here.2
-wrote_all text old new false left all e here = ended text old new all here.0 (after_commas text left) (ap (λ xs. after_commas text xs) e) here.1 here.2
-
-pub wrote_items : {X A : Type 0} (view : X → A) (text : A → List ℕ) (old new : Option (List ℕ)) (first : Bool) (xs : List X) (i : ℕ) (all : List A) → length xs ≤ i
-    → Wrote text old new first (map view (drop i xs)) all → Appends old new (joined text all)
-wrote_items view text old new first xs i all h here = wrote_all text old new first (map view (drop i xs)) all (ap (map view) (drop_all i xs h)) here
+pub wrote_all : {A : Type 0} (text : A → List ℕ) (old new : Option (List ℕ)) (before : List ℕ) (left all : List A) → left ≡ []
+    → Wrote text old new before left all → Appends old new (listed text [] all)
+wrote_all text old new before left all none here =
+    subst (Appends old new) (sym (append-nil here.0) ∙ ap (λ xs. here.0 ++ listed text before xs) (sym none) ∙ here.2) here.1

@@ -1,4 +1,4 @@
--- Lemmas on the texts of parts, and on the parameters of a type.
+-- Lemmas on the objects of parts, and on the parameters of a type.
 use Rattle.std.proofs.Common.{◌≡◌, ℕ, Bool, true, false, List, [], ◌∷◌, ◌++◌, map, Option, Some, Result, option_map, cond, String, refl, sym, ap, subst, ◌∙◌, append_assoc}
 use Rattle.std.proofs.lemmas.List.{append-nil}
 use Rattle.std.proofs.lemmas.Map.Text.{is_eq-slice_cmp}
@@ -12,6 +12,7 @@ use Rattle.std.specs.Map.{keys_of, lookup}
 use Rattle.std.specs.Ordering.{is_eq, nat_cmp}
 use Rattle.std.specs.Str.{bytes_eq}
 use Rattle.std.specs.String.{string_bytes, string_cmp}
+use Rattle.mailparse.specs.Body.{BodyKind, in_base64, in_quoted_printable, in_7bit, in_8bit, in_binary}
 use Rattle.mailparse.specs.Mail.{Node, Tree, root}
 use Rattle.mailparse.specs.Pairs.{text_at}
 use Rattle.mailparse.specs.Views.{content_type, tree_of, tree_step}
@@ -23,53 +24,55 @@ use Rattle.mailparse.specs.ContentType.{ContentType}
 use Rattle.mail_data.specs.Flowed.{flowed_text}
 use Rattle.mail_data.specs.lenient.Content.{Content, message_content}
 use Rattle.mail_data.specs.lenient.Texts.{BodyText, text_read}
-use Rattle.mail_lines.specs.Part.{Lists, AreAfterCommas, AreItems, body_text, hash_of, read_text, sha256_text}
-use Rattle.mail_program.specs.Hash.{hash_text}
-use Rattle.mail_lines.specs.JsonText.{comma}
+use Rattle.mail_lines.specs.Body.{encoding_text}
+use Rattle.mail_lines.specs.Options.{Options}
+use Rattle.mail_lines.specs.Part.{Lists}
+use Rattle.mail_lines.specs.Printed.{Member, listed, members_after, one, text_of}
+use Rattle.mail_lines.specs.Values.{AreValues, IsPartValue, body_members, text_members}
 use Rattle.mail_lines.specs.Written.{WritesOne}
 use Rattle.mail_data.specs.PartPlaces.{Place}
 use Rattle.mail_program.specs.declared.fault.Fault.{Fault}
+use Rattle.json.specs.Json.{Json, string}
+use Rattle.mail_lines.proofs.lemmas.JsonText.{listed-comma}
+use Rattle.mail_lines.proofs.lemmas.Objects.{named, null_named}
+use Rattle.mail_lines.proofs.lemmas.Plain.{json_text-plain}
 
--- ---- the objects, separated by commas
+-- ---- the objects
 
--- a text that any text of the items that are left completes
-abbrev pub Completes : (Left All : List ℕ → Type 0) → List ℕ → Type 0
-Completes Left All done = (rest : List ℕ) → Left rest → All (done ++ rest)
-
-pub completes_more : (Left Rest All : List ℕ → Type 0) (done text : List ℕ) → ((rest : List ℕ) → Rest rest → Left (text ++ rest))
-    → Completes Left All done → Completes Rest All (done ++ text)
-completes_more Left Rest All done text step here rest h = subst All (sym (append_assoc done text rest)) (here (text ++ rest) (step rest h))
-
-pub completes_end : (Left All : List ℕ → Type 0) (done : List ℕ) → Left [] → Completes Left All done → All done
-completes_end Left All done none here = subst All (append-nil done) (here [] none)
+-- what was written is completed by the texts of any values of the items that are left
+abbrev pub Completes : (Left : List Json → Type 0) → (List Json → List ℕ) → (All : List Json → Type 0) → (List Json → List ℕ) → List ℕ → Type 0
+Completes Left text All text_all done = (rest : List Json) → Left rest → (all : List Json) × All all × (done ++ text rest ≡ text_all all)
 
 -- one item more
-item_first : {A : Type 0} (Is : A → List ℕ → Type 0) (is_first : Bool) (x : A) (rest : List A) (text others : List ℕ) → Is x text
-    → AreAfterCommas Is rest others → AreItems Is is_first (x ∷ rest) ((comma is_first ++ text) ++ others)
-item_first Is true x rest text others is h = (text, others, is, h, refl)
-item_first Is false x rest text others is h = (text, others, is, h, append_assoc (codes ",") text others)
-
-pub items_more : {A : Type 0} (Is : A → List ℕ → Type 0) (All : List ℕ → Type 0) (is_first : Bool) (x : A) (left rest : List A) (done text : List ℕ)
-    → left ≡ x ∷ rest → Completes (AreItems Is is_first left) All done → Is x text → Completes (AreAfterCommas Is rest) All (done ++ (comma is_first ++ text))
-items_more {A = A} Is All is_first x left rest done text e here is =
-    completes_more (AreItems Is is_first left) (AreAfterCommas Is rest) All done (comma is_first ++ text)
-    (λ others h. subst (λ (xs : List A). AreItems Is is_first xs ((comma is_first ++ text) ++ others)) (sym e) (item_first Is is_first x rest text others is h)) here
+pub items_more : {A : Type 0} (Is : A → Json → Type 0) (All : List Json → Type 0) (text_all : List Json → List ℕ) (before : List ℕ) (x : A) (left rest : List A) (done : List ℕ) (value : Json)
+    → left ≡ x ∷ rest → Completes (AreValues Is left) (listed text_of before) All text_all done → Is x value
+    → Completes (AreValues Is rest) (listed text_of (codes ",")) All text_all (done ++ (before ++ text_of value))
+items_more {A = A} Is All text_all before x left rest done value e here is = λ others h.
+    let all = here (value ∷ others) (subst (λ (xs : List A). AreValues Is xs (value ∷ others)) (sym e) (value, others, is, h, refl)) in (
+      all.0,
+      all.1,
+      append_assoc done (before ++ text_of value) (listed text_of (codes ",") others)
+          ∙ ap (λ t. done ++ t) (append_assoc before (text_of value) (listed text_of (codes ",") others)
+          ∙ ap (λ t. before ++ (text_of value ++ t)) (listed-comma text_of others)) ∙ all.2,
+    )
 
 -- no item is left
-no_items : {A : Type 0} (Is : A → List ℕ → Type 0) (is_first : Bool) → AreItems Is is_first [] []
-no_items Is true = refl
-no_items Is false = refl
-
-pub items_end : {A : Type 0} (Is : A → List ℕ → Type 0) (All : List ℕ → Type 0) (is_first : Bool) (left : List A) (done : List ℕ) → left ≡ []
-    → Completes (AreItems Is is_first left) All done → All done
-items_end {A = A} Is All is_first left done e here =
-    completes_end (AreItems Is is_first left) All done (subst (λ (xs : List A). AreItems Is is_first xs []) (sym e) (no_items Is is_first)) here
+pub items_end : {A : Type 0} (Is : A → Json → Type 0) (All : List Json → Type 0) (text_all : List Json → List ℕ) (before : List ℕ) (left : List A) (done : List ℕ) → left ≡ []
+    → Completes (AreValues Is left) (listed text_of before) All text_all done → (all : List Json) × All all × (done ≡ text_all all)
+items_end {A = A} Is All text_all before left done e here =
+    let all = here [] (subst (λ (xs : List A). AreValues Is xs []) (sym e) refl) in
+    (all.0, all.1, sym (append-nil done) ∙ all.2)
 
 -- the same parts at the same offset by other names
-pub found_as : {T : Type 0} (Are : Option ℕ → List Place → List ℕ → Type 0) (s t : Option ℕ) (xs ys : List Place) (old new : Option (List ℕ)) (r : Result T Fault) → s ≡ t
-    → xs ≡ ys → WritesOne old new r (Are s xs) → WritesOne old new r (Are t ys)
-found_as Are s t xs ys old new r e f h =
-    subst (λ (z : Option ℕ). WritesOne old new r (Are z ys)) e (subst (λ (zs : List Place). WritesOne old new r (Are s zs)) f h)
+pub found_as : {T : Type 0} (options : Options) (text : List Json → List ℕ) (s t : Option ℕ) (xs ys : List Place) (old new : Option (List ℕ)) (r : Result T Fault) → s ≡ t
+    → xs ≡ ys → WritesOne old new r text (AreValues (IsPartValue options s) xs) → WritesOne old new r text (AreValues (IsPartValue options t) ys)
+found_as options text s t xs ys old new r e f h =
+    subst (λ (z : Option ℕ). WritesOne old new r text (AreValues (IsPartValue options z) ys)) e
+    (subst (λ (zs : List Place). WritesOne old new r text (AreValues (IsPartValue options s) zs)) f h)
+
+-- the members of a text that was read
+abbrev pub read_members : BodyText → List Member
+read_members read = text_members true read.text read.charset read.is_damaged
 
 -- ---- a message and its parts
 
@@ -117,24 +120,28 @@ lists-entries m h = record { ordered = sorted-pairs m.entries h; same = λ name.
 -- ---- the text of a body
 
 pub text-hidden : (known : Charsets) (joins shows : Bool) (ctype : ContentType) (content : Content) → shows ≡ false
-    → codes ",\"text\":null" ≡ body_text known joins shows ctype content
-text-hidden known joins shows ctype content e = rw e refl
+    → codes ",\"text\":null" ≡ members_after (body_members known joins shows ctype content)
+text-hidden known joins shows ctype content e = rw e (null_named (codes "text") refl)
 
 -- the text of a body that is read as it is
 pub text-shown : (known : Charsets) (shows : Bool) (ctype : ContentType) (content : Content) → shows ≡ true
-    → read_text (text_read known ctype.charset content) ≡ body_text known false shows ctype content
+    → read_members (text_read known ctype.charset content) ≡ body_members known false shows ctype content
 text-shown known shows ctype content e = rw e refl
 
 -- the text of one whose paragraphs flow
 pub text-flowed : (known : Charsets) (shows : Bool) (node : Node) (read : BodyText) → shows ≡ true → read ≡ flowed_text known node
-    → read_text read ≡ body_text known true shows node.ctype (message_content node)
+    → read_members read ≡ body_members known true shows node.ctype (message_content node)
 unfolding flowed_text
-text-flowed known shows node read e is = ap read_text is ∙ rw e refl
+text-flowed known shows node read e is = ap read_members is ∙ rw e refl
 
--- ---- the hash of bytes
+-- the member of an encoding
+encoding_quoted : (kind : BodyKind) → 34 ∷ (encoding_text kind ++ (34 ∷ [])) ≡ text_of (string (encoding_text kind))
+unfolding text_of
+encoding_quoted in_base64 = sym (json_text-plain (codes "base64") refl)
+encoding_quoted in_quoted_printable = sym (json_text-plain (codes "quoted-printable") refl)
+encoding_quoted in_7bit = sym (json_text-plain (codes "7bit") refl)
+encoding_quoted in_8bit = sym (json_text-plain (codes "8bit") refl)
+encoding_quoted in_binary = sym (json_text-plain (codes "binary") refl)
 
-pub hash-hidden : (wanted : Bool) (bytes : List ℕ) → wanted ≡ false → codes ",\"sha256\":null" ≡ sha256_text (hash_of wanted bytes)
-hash-hidden wanted bytes e = rw e refl
-
-pub hash-shown : (wanted : Bool) (bytes : List ℕ) → wanted ≡ true → sha256_text (Some (hash_text bytes)) ≡ sha256_text (hash_of wanted bytes)
-hash-shown wanted bytes e = rw e refl
+pub encoding_named : (kind : BodyKind) → (codes ",\"encoding\":\"" ++ encoding_text kind) ++ codes "\"" ≡ members_after (one (codes "encoding") (string (encoding_text kind)))
+encoding_named kind = ap (λ t. codes ",\"encoding\":" ++ t) (encoding_quoted kind) ∙ named (codes "encoding") (string (encoding_text kind)) refl

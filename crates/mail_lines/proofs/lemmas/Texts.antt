@@ -1,4 +1,4 @@
--- The text of a value as it is written, and that the kit's parser reads it as the value.
+-- The kit's parser reads the text of a value as the value.
 use Rattle.std.proofs.Common.{◌≡◌, ℕ, ◌≤◌, Bool, true, false, cond, List, [], ◌∷◌, ◌++◌, Some, option_and_then, refl, sym, ap, ap₂, ◌∙◌, append_assoc, append-nil}
 use Rattle.std.proofs.lemmas.Bool.{and_from}
 use Rattle.std.proofs.lemmas.List.Folds.{list_all-append}
@@ -13,35 +13,9 @@ use Rattle.json.specs.Token.{Token}
 use Rattle.json.specs.Tree.{json_tokens, items_tokens, members_tokens, depth, HasNumbers, ItemsHaveNumbers, MembersHaveNumbers}
 use Rattle.json.specs.Word.{ends_word, word}
 use Rattle.mail_lines.specs.JsonText.{json_text}
+use Rattle.mail_lines.specs.Printed.{comma_if, items_text, members_text, text_of}
 use Rattle.mail_lines.specs.Values.{is_within_line}
 use Rattle.mail_lines.proofs.lemmas.Escapes.{lex-json_text, one_line-json_text}
-
--- a comma, if a member or an item comes before
-abbrev pub comma_if : Bool → List ℕ → List ℕ
-comma_if true text = 44 ∷ text
-comma_if false text = text
-
-abbrev pub flag : Bool → List ℕ
-flag true = 116 ∷ 114 ∷ 117 ∷ 101 ∷ []
-flag false = 102 ∷ 97 ∷ 108 ∷ 115 ∷ 101 ∷ []
-
--- the text of a value; of items and of members with their closing bracket
-abbrev mutual
-  pub text_of : Json → List ℕ
-  text_of null = 110 ∷ 117 ∷ 108 ∷ 108 ∷ []
-  text_of (boolean b) = flag b
-  text_of (number s) = s
-  text_of (string s) = json_text s
-  text_of (array js) = 91 ∷ items_text false js
-  text_of (object ms) = 123 ∷ members_text false ms
-
-  pub items_text : Bool → Items → List ℕ
-  items_text later no_items = 93 ∷ []
-  items_text later (item j js) = comma_if later (text_of j ++ items_text true js)
-
-  pub members_text : Bool → Members → List ℕ
-  members_text later no_members = 125 ∷ []
-  members_text later (member k j ms) = comma_if later (json_text k ++ (58 ∷ (text_of j ++ members_text true ms)))
 
 -- ---- how the lexer reads it
 
@@ -68,10 +42,12 @@ abbrev mutual
 
 -- a comma or a closing bracket follows a value
 items_end : (js : Items) (r : List ℕ) → ends_word (items_text true js ++ r) ≡ true
+unfolding items_text
 items_end no_items r = refl
 items_end (item j js) r = refl
 
 members_end : (ms : Members) (r : List ℕ) → ends_word (members_text true ms ++ r) ≡ true
+unfolding members_text
 members_end no_members r = refl
 members_end (member k j ms) r = refl
 
@@ -94,7 +70,7 @@ key_first k rest r ls e =
     ∙ ap (λ l. token (Token.string k) ∷ colon ∷ l) e
 
 mutual
-  unfolding lex word
+  unfolding lex word text_of items_text members_text
 
   lex-value : (j : Json) (r : List ℕ) → HasNumbers j → ends_word r ≡ true → lex between (text_of j ++ r) ≡ value_lexemes j ++ lex between r
   lex-value null r h ended = ap₂ (λ b l. token (cond b Token.null Token.bad) ∷ l) ended (in_word-ended r ended)
@@ -249,6 +225,8 @@ line_comma true text p = p
 line_comma false text p = p
 
 mutual
+  unfolding text_of items_text members_text
+
   pub one_line-text_of : (j : Json) → LineNumbers j → list_all is_within_line (text_of j) ≡ true
   one_line-text_of null h = refl
   one_line-text_of (boolean true) h = refl

@@ -1,18 +1,21 @@
 use Rattle.std.proofs.Common.{◌≡◌, ◌++◌, Some, List, [], map, refl, sym, ap, subst, ◌∙◌}
 use Rattle.std.proofs.KnownBytes.{Appends-trans}
+use Rattle.std.specs.Prelude.{codes}
 use Rattle.mail_lines.specs.Options.{options_of}
 use Rattle.mailparse.specs.Mail.{root}
 use Rattle.mailparse.specs.Views.{tree_of}
 use Rattle.mail_data.specs.InnerMails.{InnerMail, inner_mails}
 use Rattle.mail_data.specs.InnerMailViews.{inner_view}
-use Rattle.mail_lines.specs.Inside.{AreInside, forwarded_text, mails_inside}
-use Rattle.mail_lines.specs.Mail.{mail_text, IsMailText}
+use Rattle.mail_lines.specs.Inside.{mails_inside}
 use Rattle.mail_lines.specs.Origin.{origin_of}
 use Rattle.mailparse.specs.Placement.{Placement}
 use Rattle.mail_data.specs.PartPlaces.{places}
-use Rattle.mail_lines.specs.Part.{AreJoined, IsPartText}
-use Rattle.mail_lines.proofs.lemmas.Written.{appends_as, writes_one, writes_then}
+use Rattle.mail_lines.specs.Printed.{list_of, object_of, text_of}
+use Rattle.mail_lines.specs.Values.{AreInsideValues, AreValues, IsMailValue, IsPartValue, inner_value, mail_members}
 use Rattle.mail_lines.proofs.lemmas.Fields.{ok_same}
+use Rattle.mail_lines.proofs.lemmas.Mail.{parts_first}
+use Rattle.mail_lines.proofs.lemmas.Objects.{list_appended, member_appended, object_appended, object_written, value_as}
+use Rattle.mail_lines.proofs.lemmas.Written.{appends_as, writes_one}
 use Rattle.mail_lines.proofs.mail.write_mail.Goals as goal
 
 pub returns : goal.returns
@@ -27,19 +30,22 @@ returns g c =
     let again : map inner_view c.as_slice-2.result.now ≡ mails_inside options.known mail = ap (map inner_view) c.as_slice-2.ensures.value ∙ found in
     let parts = c.in_ok-write_parts.ensures in
     let others = c.in_ok-write_inside.ensures in
-    let forwarded = appends_as _ _ _ _ (ap (forwarded_text origin.start) again) c.in_ok-write_forwarded.ensures in
-    let values = Appends-trans _ _ _ _ _ c.in_ok-write_origin.ensures c.in_ok-write_values.ensures in
-    let raw = Appends-trans _ _ _ _ _ values c.in_ok-write_raw.ensures in
-    let date = Appends-trans _ _ _ _ _ raw c.in_ok-write_date.ensures in
-    let ids = Appends-trans _ _ _ _ _ date c.in_ok-write_ids.ensures in
-    let front = Appends-trans _ _ _ _ _ ids c.in_ok-write_word.ensures in
-    let all = Appends-trans _ _ _ parts.0 others.0 parts.2 others.2 in
-    let listed = Appends-trans _ _ _ _ _ (Appends-trans _ _ _ _ (parts.0 ++ others.0) front all) c.in_ok-write_word-2.ensures in
-    let written = writes_then _ _ _ _ _ _ (Appends-trans _ _ _ _ _ listed forwarded) c.write_word-3.ensures in
-    writes_one (IsMailText options origin mail) _ _ _ (mail_text options.known origin (root mail) (mails_inside options.known mail) (parts.0 ++ others.0)) (
+    let values = parts.0 ++ others.0 in
+    let are = subst (λ (found : List Placement). AreValues (IsPartValue options (Some origin.start)) (places mail found) parts.0) c.requires.placed parts.1 in
+    let all = appends_as _ _ _ _ (parts_first options (Some origin.start) mail parts.0 others.0 are) (Appends-trans _ _ _ _ _ parts.2 others.2) in
+    let list = list_appended _ _ _ _ values c.in_ok-write_word-3.ensures all c.in_ok-write_word-4.ensures in
+    let forwarded = value_as (λ (ms : List InnerMail). list_of (map (inner_value origin.start) ms)) _ _ _ _ again c.in_ok-write_forwarded.ensures in
+    let one = object_appended _ _ _ _ _ _ c.in_ok-write_origin.ensures c.in_ok-write_values.ensures in
+    let two = object_appended _ _ _ _ _ _ one (member_appended (codes "raw") _ _ _ _ refl c.in_ok-write_word.ensures c.in_ok-write_raw.ensures) in
+    let three = object_appended _ _ _ _ _ _ two c.in_ok-write_date.ensures in
+    let four = object_appended _ _ _ _ _ _ three c.in_ok-write_ids.ensures in
+    let five = object_appended _ _ _ _ _ _ four (member_appended (codes "parts") _ _ _ _ refl c.in_ok-write_word-2.ensures list) in
+    let six = object_appended _ _ _ _ _ _ five (member_appended (codes "forwarded") _ _ _ _ refl c.in_ok-write_word-5.ensures forwarded) in
+    let members = mail_members options.known origin (root mail) (mails_inside options.known mail) values in
+    writes_one text_of (IsMailValue options origin mail) _ _ c.write_word-6.result (object_of members) (
       parts.0,
       others.0,
-      subst (λ (found : List Placement). AreJoined (IsPartText options (Some origin.start)) (places mail found) parts.0) c.requires.placed parts.1,
-      subst (λ (ms : List InnerMail). AreInside options origin.start ms others.0) mails others.1,
+      are,
+      subst (λ (ms : List InnerMail). AreInsideValues options origin.start ms others.0) mails others.1,
       refl,
-    ) written
+    ) (object_written _ _ _ c.write_word-6.result members six c.write_word-6.ensures)

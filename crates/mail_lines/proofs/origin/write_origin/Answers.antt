@@ -1,11 +1,9 @@
-use Rattle.std.proofs.KnownBytes.{Appends-trans}
-use Rattle.mail_lines.proofs.lemmas.Written.{writes_then}
+use Rattle.std.proofs.Common.{refl}
+use Rattle.std.specs.Prelude.{codes}
+use Rattle.mail_lines.proofs.lemmas.Objects.{member_appended, object_appended, object_more}
 use Rattle.mail_lines.proofs.origin.write_origin.Goals as goal
 
 pub returns : goal.returns
 returns g c =
-    let two = Appends-trans _ _ _ _ _ c.in_ok-write_word.ensures c.in_ok-write_name.ensures in
-    let three = Appends-trans _ _ _ _ _ two c.in_ok-write_word-2.ensures in
-    let four = Appends-trans _ _ _ _ _ three c.in_ok-write_number_or_null.ensures in
-    let written = writes_then _ _ _ _ _ _ four c.write_bounds.ensures in
-    written
+    let number = member_appended (codes "number") _ _ _ _ refl c.in_ok-write_word.ensures c.in_ok-write_number_or_null.ensures in
+    object_more _ _ _ c.write_bounds.result _ _ _ (object_appended _ _ _ _ _ _ c.in_ok-write_file.ensures number) c.write_bounds.ensures

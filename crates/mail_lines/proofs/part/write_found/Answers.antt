@@ -1,16 +1,17 @@
-use Rattle.std.proofs.Common.{◌+◌, ◌++◌, drop, [], map, ap, arith}
+use Rattle.std.proofs.Common.{◌+◌, ◌++◌, drop, [], map, refl, ap, arith}
 use Rattle.std.proofs.KnownBytes.{Appends-nil, Appends-trans}
 use Rattle.std.proofs.lemmas.List.{drop_all}
 use Rattle.mail_lines.specs.Options.{options_of}
 use Rattle.mail_data.specs.PlaceViews.{place_view}
-use Rattle.mail_lines.specs.Part.{AreItems, IsPartText}
-use Rattle.mail_lines.specs.JsonText.{comma}
+use Rattle.mail_lines.specs.Printed.{comma, listed, text_of}
+use Rattle.mail_lines.specs.Values.{AreValues, IsPartValue}
 use Rattle.mail_lines.proofs.lemmas.Part.{items_end, items_more}
 use Rattle.mail_lines.proofs.lemmas.JsonText.{drop_next}
+use Rattle.mail_lines.proofs.lemmas.Written.{appends_as}
 use Rattle.mail_lines.proofs.part.write_found.Goals as goal
 
 pub loop-place-init : goal.loop-place-init
-loop-place-init g c = ([], Appends-nil _, λ rest h. h)
+loop-place-init g c = ([], Appends-nil _, λ rest h. (rest, h, refl))
 
 pub loop-place-preserved : goal.loop-place-preserved
 loop-place-preserved g c =
@@ -18,18 +19,19 @@ loop-place-preserved g c =
     let items = c.args.found.now in
     let left = drop_next items c.loop-place.place-index c.place-item.result (omega arith) c.place-item.is in
     let part = c.in_ok-write_part.ensures in
-    let first = c.loop-place.is_first in
-    let Is = IsPartText (options_of (g.K.KnownCharsets.known c.args.known.now) c.args.options) c.args.start in (
-      here.0 ++ (comma first ++ part.0),
-      Appends-trans _ _ _ here.0 (comma first ++ part.0) here.1 (Appends-trans _ _ _ (comma first) part.0 c.in_ok-write_comma.ensures part.2),
-      items_more Is (AreItems Is c.args.begins (map place_view items)) first (place_view c.place-item.result) _ (map place_view (drop (c.loop-place.place-index + 1) items))
-          here.0 part.0 (ap (map place_view) left) here.2 part.1,
+    let text = comma c.loop-place.position ++ text_of part.0 in
+    let Is = IsPartValue (options_of (g.K.KnownCharsets.known c.args.known.now) c.args.options) c.args.start in (
+      here.0 ++ text,
+      Appends-trans _ _ _ here.0 text here.1 (Appends-trans _ _ _ (comma c.loop-place.position) (text_of part.0) c.in_ok-write_comma.ensures part.2),
+      items_more Is (AreValues Is (map place_view items)) (listed text_of (comma c.args.first)) (comma c.loop-place.position) (place_view c.place-item.result) _
+          (map place_view (drop (c.loop-place.place-index + 1) items)) here.0 part.0 (ap (map place_view) left) here.2 part.1,
     )
 
 pub returns : goal.returns
 returns g c =
     let here = c.loop-place.invariant in
     let items = c.args.found.now in
-    let none = drop_all c.loop-place.place-index items (omega arith) in
-    let Is = IsPartText (options_of (g.K.KnownCharsets.known c.args.known.now) c.args.options) c.args.start in
-    (here.0, items_end Is (AreItems Is c.args.begins (map place_view items)) c.loop-place.is_first _ here.0 (ap (map place_view) none) here.2, here.1)
+    let none = ap (map place_view) (drop_all c.loop-place.place-index items (omega arith)) in
+    let Is = IsPartValue (options_of (g.K.KnownCharsets.known c.args.known.now) c.args.options) c.args.start in
+    let all = items_end Is (AreValues Is (map place_view items)) (listed text_of (comma c.args.first)) (comma c.loop-place.position) _ here.0 none here.2 in
+    (all.0, all.1, appends_as _ _ here.0 (listed text_of (comma c.args.first) all.0) all.2 here.1)

@@ -1,11 +1,12 @@
 -- What was written after the brace is completed by the parameters that are left.
 use Rattle.std.proofs.Common.{map}
-use Rattle.mail_lines.specs.Part.{parameter_text}
+use Rattle.mail_lines.specs.Printed.{comma, member_text}
+use Rattle.mail_lines.specs.Values.{parameter_member}
 use Rattle.mail_lines.proofs.lemmas.JsonText.{Wrote}
 use Rattle.mail_lines.proofs.lemmas.Part.{pair_of}
 use Rattle.mail_lines.proofs.part.write_type.Given as goal
 
 abbrev pub invariant-loop-name : goal.invariant-loop-name
 invariant-loop-name g l =
-    Wrote parameter_text (g.W.Write.contents l.initial.out) (g.W.Write.contents l.out) l.is_first
-    (map pair_of l.name-iterator) (map pair_of l.ctype.params.entries)
+    Wrote member_text (g.W.Write.contents l.initial.out) (g.W.Write.contents l.out) (comma l.position)
+    (map parameter_member (map pair_of l.name-iterator)) (map parameter_member (map pair_of l.ctype.params.entries))
