@@ -27,44 +27,64 @@ mod transfer;
 mod under;
 mod values;
 
-use crate::notation::{Answer, Row};
-use std::alloc::Global;
+use crate::notation::{Answer, Decision, Row};
 
-/// Makes the call that a row names, and writes its result. Each topic makes its own calls, and
-/// returns whether it has this one.
-pub fn make(alloc: Global, row: &Row, answer: &mut Answer) -> bool {
-    make_of_the_port(alloc, row, answer) || make_above_the_port(alloc, row, answer)
+/// Makes the call that a row names, and writes its result. Returns whether there is such a call.
+pub fn make(row: &Row, answer: &mut Answer) -> bool {
+    match make_any(row, answer) {
+        Ok(is_made) => is_made,
+        Err(error) => {
+            answer.refusal(error);
+            true
+        }
+    }
 }
 
-/// The same for the calls of the codecs, of the port and of `mail_charsets`.
-fn make_of_the_port(alloc: Global, row: &Row, answer: &mut Answer) -> bool {
-    values::make(alloc, row, answer)
-        || parameters::make(alloc, row, answer)
-        || bodies::make(alloc, row, answer)
-        || headers::make(alloc, row, answer)
-        || lookups::make(alloc, row, answer)
-        || parts::make(alloc, row, answer)
-        || levels::make(alloc, row, answer)
-        || kinds::make(alloc, row, answer)
-        || errors::make(alloc, row, answer)
-        || searches::make(alloc, row, answer)
-        || charsets::make(alloc, row, answer)
-        || encodings::make(alloc, row, answer)
-        || transfer::make(alloc, row, answer)
-        || tables::make(alloc, row, answer)
-        || under::make(alloc, row, answer)
-        || sweeps::make(alloc, row, answer)
+/// The same, except that the caller writes a refusal. Each topic makes its own calls, and returns
+/// whether it has this one.
+fn make_any(row: &Row, answer: &mut Answer) -> Decision {
+    Ok(make_of_codecs(row, answer)? || make_of_the_port(row, answer)? || make_above(row, answer)?)
 }
 
-/// The same for the calls of the other crates.
-fn make_above_the_port(alloc: Global, row: &Row, answer: &mut Answer) -> bool {
-    encoded_values::make(alloc, row, answer)
-        || outlines::make(alloc, row, answer)
-        || files::make(alloc, row, answer)
-        || mailboxes::make(alloc, row, answer)
-        || reports::make(alloc, row, answer)
-        || lenient::make(alloc, row, answer)
-        || texts::make(alloc, row, answer)
-        || addresses::make(alloc, row, answer)
-        || debug::make(alloc, row, answer)
+/// The same for the calls of the codecs and of `mail_charsets`.
+fn make_of_codecs(row: &Row, answer: &mut Answer) -> Decision {
+    Ok(
+        searches::make(row, answer)?
+            || charsets::make(row, answer)?
+            || encodings::make(row, answer)?
+            || transfer::make(row, answer)?
+            || tables::make(row, answer)?
+            || under::make(row, answer)?
+            || sweeps::make(row, answer)?,
+    )
+}
+
+/// The same for the calls of the port.
+fn make_of_the_port(row: &Row, answer: &mut Answer) -> Decision {
+    Ok(
+        values::make(row, answer)?
+            || parameters::make(row, answer)?
+            || bodies::make(row, answer)?
+            || headers::make(row, answer)?
+            || lookups::make(row, answer)?
+            || parts::make(row, answer)?
+            || levels::make(row, answer)?
+            || kinds::make(row, answer)?
+            || errors::make(row, answer)?,
+    )
+}
+
+/// The same for the calls of the crates above the port.
+fn make_above(row: &Row, answer: &mut Answer) -> Decision {
+    Ok(
+        encoded_values::make(row, answer)?
+            || outlines::make(row, answer)?
+            || files::make(row, answer)?
+            || mailboxes::make(row, answer)?
+            || reports::make(row, answer)?
+            || lenient::make(row, answer)?
+            || texts::make(row, answer)?
+            || addresses::make(row, answer)?
+            || debug::make(row, answer)?,
+    )
 }

@@ -5,7 +5,7 @@ use mailparse::MailParseError;
 use std::alloc::{AllocError, Global};
 use std::borrow::CowStr;
 use std::cell::Cell;
-use std::fmt::Debug;
+use std::fmt::{Debug, Display};
 use std::str::from_utf8;
 
 /// A row that does not follow the notation, or whose inputs are not those of its call.
@@ -18,6 +18,12 @@ const NOT_A_ROW: &str = "not a row of the suite";
 /// buffer of this size, so `tests/refuse.c`, which has the same constant, recognizes the start of a
 /// row by it.
 const ANSWER_SIZE: usize = 48_611;
+
+/// The end of a call whose answer is written, or why there is none.
+pub type Outcome = Result<(), MailParseError>;
+
+/// Whether something is so, or why that cannot be said.
+pub type Decision = Result<bool, MailParseError>;
 
 /// An input, or an item of an answer.
 #[derive(Drop)]
@@ -43,6 +49,7 @@ pub struct Row {
     is_debug: bool,
     /// Whether a call asked for an input that is missing or of another kind.
     is_malformed: Cell<bool>,
+    pub alloc: Global,
 }
 
 /// The part of a row that is being read.
@@ -69,21 +76,17 @@ impl Row {
             is_free: false,
             is_debug,
             is_malformed: Cell::new(false),
+            alloc,
         };
-        row.take_items(alloc, rest)?;
+        row.take_items(rest)?;
         Ok(row)
     }
 
     /// Reads the inputs, the answer and the marks.
-    fn take_items(&mut self, alloc: Global, text: &str) -> Result<(), MailParseError> {
-        let mut items = Items::new(alloc);
-        items.take_all(alloc, self, text)?;
-        self.want(items.list.as_slice())
-    }
-
-    /// Makes these items the expected answer.
-    fn want(&mut self, items: &[Item]) -> Result<(), MailParseError> {
-        for item in items {
+    fn take_items(&mut self, text: &str) -> Outcome {
+        let mut items = Items::new(self.alloc);
+        items.take_all(self, text)?;
+        for item in &items.list {
             self.wanted.item(item);
         }
         self.wanted.outcome()
@@ -94,24 +97,13 @@ impl Row {
     /// This call and the next ones return an empty value if the row has no such input; `fits` reports
     /// that afterwards, once for all inputs.
     pub fn bytes(&self, at: usize) -> &[u8] {
-        match self.inputs.get(at) {
-            Some(item) => item.bytes.as_slice(),
-            None => {
-                self.reject();
-                b""
-            }
-        }
+        let input = self.inputs.get(at).map(|item| item.bytes.as_slice());
+        self.given(input, b"")
     }
 
     /// Returns the text of an input.
     pub fn text(&self, at: usize) -> &str {
-        match from_utf8(self.bytes(at)) {
-            Ok(text) => text,
-            Err(_) => {
-                self.reject();
-                ""
-            }
-        }
+        self.given(from_utf8(self.bytes(at)).ok(), "")
     }
 
     /// Returns the text of an input, or `None` for the word `none`.
@@ -124,22 +116,21 @@ impl Row {
 
     /// Returns the number of an input.
     pub fn number(&self, at: usize) -> usize {
-        match self.text(at).parse::<usize>() {
-            Ok(number) => number,
-            Err(_) => {
-                self.reject();
-                0
-            }
-        }
+        self.given(self.text(at).parse::<usize>().ok(), 0)
     }
 
     /// Returns the number of levels of an input.
     pub fn levels(&self, at: usize) -> u8 {
-        match u8::try_from(self.number(at)) {
-            Ok(levels) => levels,
-            Err(_) => {
+        self.given(u8::try_from(self.number(at)).ok(), 0)
+    }
+
+    /// Returns what an input says, or an empty value if it says nothing.
+    fn given<T: Drop>(&self, found: Option<T>, empty: T) -> T {
+        match found {
+            Some(value) => value,
+            None => {
                 self.reject();
-                0
+                empty
             }
         }
     }
@@ -177,6 +168,7 @@ struct Items {
     last: Vec<u8>,
     /// Whether the last word is a `+`.
     is_joined: bool,
+    alloc: Global,
 }
 
 impl Items {
@@ -186,17 +178,18 @@ impl Items {
             list: Vec::new(alloc),
             last: Vec::new(alloc),
             is_joined: false,
+            alloc,
         }
     }
 
     /// Takes the inputs, the answer and the marks.
-    fn take_all(&mut self, alloc: Global, row: &mut Row, text: &str) -> Result<(), MailParseError> {
+    fn take_all(&mut self, row: &mut Row, text: &str) -> Outcome {
         let mut rest = text.trim_start();
         for _turn in 0..text.len() {
             if rest.is_empty() {
                 break;
             }
-            rest = self.take(alloc, row, rest)?.trim_start();
+            rest = self.take(row, rest)?.trim_start();
         }
         if self.part == Part::Inputs {
             Err(FORM)
@@ -206,77 +199,67 @@ impl Items {
     }
 
     /// Takes the text or word at the front of a text, and returns the rest.
-    fn take<'t>(
-        &mut self,
-        alloc: Global,
-        row: &mut Row,
-        text: &'t str,
-    ) -> Result<&'t str, MailParseError> {
+    fn take<'t>(&mut self, row: &mut Row, text: &'t str) -> Result<&'t str, MailParseError> {
         let quote = text.chars().next().unwrap_or(' ');
         if quote == '"' || quote == '\'' {
             let Some((raw, rest)) = text.get(1..).unwrap_or("").split_once(quote) else {
                 return Err(FORM);
             };
-            self.take_text(alloc, raw)?;
+            self.take_text(raw)?;
             return Ok(rest);
         }
         let (word, rest) = text.split_once(' ').unwrap_or((text, ""));
-        self.take_word(alloc, row, word)?;
+        self.take_word(row, word)?;
         Ok(rest)
     }
 
     /// Takes a quoted text, which a `+` appends to the one before.
-    fn take_text(&mut self, alloc: Global, raw: &str) -> Result<(), MailParseError> {
+    fn take_text(&mut self, raw: &str) -> Outcome {
         self.last.clear();
         push_decoded(&mut self.last, raw)?;
         if !self.is_joined {
-            self.add(true, Vec::new(alloc))?;
+            self.add(true, Vec::new(self.alloc))?;
         }
         self.is_joined = false;
         self.append(1)
     }
 
     /// Adds an item.
-    fn add(&mut self, is_text: bool, bytes: Vec<u8>) -> Result<(), MailParseError> {
+    fn add(&mut self, is_text: bool, bytes: Vec<u8>) -> Outcome {
         Ok(self.list.push(Item { is_text, bytes })?)
     }
 
     /// Takes a word, which may be a sign of the notation.
-    fn take_word(
-        &mut self,
-        alloc: Global,
-        row: &mut Row,
-        word: &str,
-    ) -> Result<(), MailParseError> {
+    fn take_word(&mut self, row: &mut Row, word: &str) -> Outcome {
         match word {
             "=>" => {
                 self.part = Part::Answer;
                 self.is_joined = false;
-                row.inputs = std::mem::replace(&mut self.list, Vec::new(alloc));
+                row.inputs = std::mem::replace(&mut self.list, Vec::new(self.alloc));
             }
             "!" => self.part = Part::Marks,
             "no_memory" => row.is_free = true,
             "+" => self.is_joined = true,
             _ if self.part == Part::Marks => {}
-            _ => return self.take_item(alloc, word),
+            _ => return self.take_item(word),
         }
         Ok(())
     }
 
     /// Takes a word that is an item, or a `*COUNT` that repeats the last quoted text.
-    fn take_item(&mut self, alloc: Global, word: &str) -> Result<(), MailParseError> {
+    fn take_item(&mut self, word: &str) -> Outcome {
         if let Some(count) = word.strip_prefix('*') {
             let Ok(count) = count.parse::<usize>() else {
                 return Err(FORM);
             };
             return self.append(count.saturating_sub(1));
         }
-        let bytes = word.as_bytes().to_vec(alloc)?;
+        let bytes = word.as_bytes().to_vec(self.alloc)?;
         self.add(false, bytes)
     }
 
     /// Appends the last quoted text to the last item `times` times.
-    fn append(&mut self, times: usize) -> Result<(), MailParseError> {
+    fn append(&mut self, times: usize) -> Outcome {
         let Some(item) = self.list.last_mut() else {
             return Err(FORM);
         };
@@ -288,7 +271,7 @@ impl Items {
 }
 
 /// Appends the bytes that a quoted text denotes.
-fn push_decoded(bytes: &mut Vec<u8>, raw: &str) -> Result<(), MailParseError> {
+fn push_decoded(bytes: &mut Vec<u8>, raw: &str) -> Outcome {
     // The first piece is plain, and so is one after an escaped backslash.
     let mut is_plain = true;
     for piece in raw.split('\\') {
@@ -306,7 +289,7 @@ fn push_decoded(bytes: &mut Vec<u8>, raw: &str) -> Result<(), MailParseError> {
 }
 
 /// Appends the bytes of an escape and of the text after it.
-fn push_escape(bytes: &mut Vec<u8>, piece: &str) -> Result<(), MailParseError> {
+fn push_escape(bytes: &mut Vec<u8>, piece: &str) -> Outcome {
     let Some((letter, rest)) = piece.split_at_checked(1) else {
         return Err(FORM);
     };
@@ -323,13 +306,13 @@ fn push_escape(bytes: &mut Vec<u8>, piece: &str) -> Result<(), MailParseError> {
 }
 
 /// Appends a byte and the text after it.
-fn push_both(bytes: &mut Vec<u8>, byte: u8, rest: &str) -> Result<(), MailParseError> {
+fn push_both(bytes: &mut Vec<u8>, byte: u8, rest: &str) -> Outcome {
     bytes.push(byte)?;
     Ok(bytes.extend_from_slice(rest.as_bytes())?)
 }
 
 /// Appends the byte of two hexadecimal digits, and the text after them.
-fn push_byte(bytes: &mut Vec<u8>, text: &str) -> Result<(), MailParseError> {
+fn push_byte(bytes: &mut Vec<u8>, text: &str) -> Outcome {
     let Some((digits, rest)) = text.split_at_checked(2) else {
         return Err(FORM);
     };
@@ -340,7 +323,7 @@ fn push_byte(bytes: &mut Vec<u8>, text: &str) -> Result<(), MailParseError> {
 }
 
 /// Appends the UTF-8 of the character whose number is in braces, and the text after them.
-fn push_char(bytes: &mut Vec<u8>, text: &str) -> Result<(), MailParseError> {
+fn push_char(bytes: &mut Vec<u8>, text: &str) -> Outcome {
     let Some((digits, rest)) = text.split_once('}') else {
         return Err(FORM);
     };
@@ -369,14 +352,14 @@ pub struct Answer {
     has_run_out: bool,
     /// Whether the row is not one of the suite.
     is_malformed: bool,
-    alloc: Global,
+    pub alloc: Global,
 }
 
 impl Answer {
     /// Returns an answer without items, which shows errors as a row asks for.
-    pub fn new(alloc: Global, row: &Row) -> Result<Answer, AllocError> {
-        let mut answer = Answer::empty(alloc);
-        answer.written = Vec::with_capacity(alloc, ANSWER_SIZE)?;
+    pub fn new(row: &Row) -> Result<Answer, AllocError> {
+        let mut answer = Answer::empty(row.alloc);
+        answer.written = Vec::with_capacity(row.alloc, ANSWER_SIZE)?;
         answer.is_debug = row.is_debug;
         Ok(answer)
     }
@@ -394,7 +377,7 @@ impl Answer {
 
     /// Returns whether the answer is complete: the error is that memory ran out, or that the row is
     /// malformed.
-    pub fn outcome(&self) -> Result<(), MailParseError> {
+    pub fn outcome(&self) -> Outcome {
         if self.has_run_out {
             Err(MailParseError::Memory(AllocError))
         } else if self.is_malformed {
@@ -402,17 +385,6 @@ impl Answer {
         } else {
             Ok(())
         }
-    }
-
-    /// Returns the answer, if it is complete.
-    pub fn whole(self) -> Result<Answer, MailParseError> {
-        self.outcome()?;
-        Ok(self)
-    }
-
-    /// Records that the row is not one of the suite.
-    pub fn reject(&mut self) {
-        self.is_malformed = true;
     }
 
     /// Returns the answer as it is written.
@@ -445,11 +417,16 @@ impl Answer {
     /// Appends an item of a row.
     fn item(&mut self, item: &Item) {
         if item.is_text {
-            self.bytes(item.bytes.as_slice());
+            self.put(item.bytes.as_slice());
         } else {
             self.push(item.bytes.as_slice());
             self.push(b" ");
         }
+    }
+
+    /// Appends a value.
+    pub fn put<T: Show>(&mut self, value: T) {
+        value.show(self);
     }
 
     /// Appends a word.
@@ -458,61 +435,10 @@ impl Answer {
         self.push(b" ");
     }
 
-    /// Appends bytes, or a text as its UTF-8.
-    pub fn bytes(&mut self, bytes: &[u8]) {
-        self.digits(bytes.len() as u64);
-        self.push(b":\"");
-        self.push(bytes);
-        self.push(b"\" ");
-    }
-
-    /// Appends a text.
-    pub fn text(&mut self, text: &str) {
-        self.bytes(text.as_bytes());
-    }
-
-    /// Appends texts.
-    pub fn texts(&mut self, texts: &[String]) {
-        for text in texts {
-            self.text(text.as_str());
-        }
-    }
-
-    /// Appends a text, or the word `none`.
-    pub fn optional_text(&mut self, text: Option<&str>) {
-        match text {
-            Some(text) => self.text(text),
-            None => self.word("none"),
-        }
-    }
-
-    /// Appends a number.
-    pub fn number(&mut self, number: usize) {
-        self.digits(number as u64);
-        self.push(b" ");
-    }
-
     /// Appends a number with a minus sign.
     pub fn negative(&mut self, number: usize) {
         self.push(b"-");
-        self.number(number);
-    }
-
-    /// Appends a number, or the word `none`.
-    pub fn optional_number(&mut self, number: Option<usize>) {
-        match number {
-            Some(number) => self.number(number),
-            None => self.word("none"),
-        }
-    }
-
-    /// Appends a number that may be negative.
-    pub fn signed(&mut self, number: i64) {
-        if number < 0 {
-            self.push(b"-");
-        }
-        self.digits(number.unsigned_abs());
-        self.push(b" ");
+        self.put(number);
     }
 
     /// Appends a number in decimal.
@@ -531,91 +457,6 @@ impl Answer {
         self.push(digits.get(front..).unwrap_or(&digits));
     }
 
-    /// Appends `true` or `false`.
-    pub fn truth(&mut self, is_true: bool) {
-        self.word(if is_true { "true" } else { "false" });
-    }
-
-    /// Appends an allocated text, unless memory ran out.
-    pub fn made(&mut self, text: Result<String, AllocError>) {
-        match text {
-            Ok(text) => self.text(text.as_str()),
-            Err(_) => self.has_run_out = true,
-        }
-    }
-
-    /// Appends allocated bytes, unless memory ran out.
-    pub fn made_bytes(&mut self, bytes: Result<Vec<u8>, AllocError>) {
-        match bytes {
-            Ok(bytes) => self.bytes(bytes.as_slice()),
-            Err(_) => self.has_run_out = true,
-        }
-    }
-
-    /// Appends a text, after whether it is borrowed.
-    pub fn cow(&mut self, text: &CowStr<'_>) {
-        self.word(match text {
-            CowStr::Borrowed(_) => "borrowed",
-            CowStr::Owned(_) => "owned",
-        });
-        self.text(text.as_str());
-    }
-
-    /// Appends a text, after whether it is borrowed, unless memory ran out.
-    pub fn made_cow(&mut self, text: Result<CowStr<'_>, AllocError>) {
-        match text {
-            Ok(text) => self.cow(&text),
-            Err(_) => self.has_run_out = true,
-        }
-    }
-
-    /// Appends the text that a call returned, or its refusal.
-    pub fn text_or_refusal(&mut self, outcome: Result<String, MailParseError>) {
-        match outcome {
-            Ok(text) => self.text(text.as_str()),
-            Err(error) => self.refusal(error),
-        }
-    }
-
-    /// Appends the bytes that a call returned, or its refusal.
-    pub fn bytes_or_refusal(&mut self, outcome: Result<Vec<u8>, MailParseError>) {
-        match outcome {
-            Ok(bytes) => self.bytes(bytes.as_slice()),
-            Err(error) => self.refusal(error),
-        }
-    }
-
-    /// Appends the texts that a call returned, or its refusal.
-    pub fn texts_or_refusal(&mut self, outcome: Result<Vec<String>, MailParseError>) {
-        match outcome {
-            Ok(texts) => self.texts(texts.as_slice()),
-            Err(error) => self.refusal(error),
-        }
-    }
-
-    /// Appends the text that a call returned, the word `none`, or its refusal.
-    pub fn optional_or_refusal(&mut self, outcome: Result<Option<String>, MailParseError>) {
-        match outcome {
-            Ok(text) => self.optional_text(text.as_deref()),
-            Err(error) => self.refusal(error),
-        }
-    }
-
-    /// Appends the number that a call returned, or its refusal.
-    pub fn number_or_refusal(&mut self, outcome: Result<usize, MailParseError>) {
-        match outcome {
-            Ok(number) => self.number(number),
-            Err(error) => self.refusal(error),
-        }
-    }
-
-    /// Appends the refusal of a call, if it refused.
-    pub fn end(&mut self, outcome: Result<(), MailParseError>) {
-        if let Err(error) = outcome {
-            self.refusal(error);
-        }
-    }
-
     /// Appends `error` and the text of a refusal, or what `debug_error` does if the row asks for that.
     /// Running out of memory is not a refusal, and neither is `FORM`.
     pub fn refusal(&mut self, error: MailParseError) {
@@ -626,9 +467,14 @@ impl Answer {
             MailParseError::Generic(text) => self.error(text),
             _ => {
                 self.word("error");
-                self.made(format!(in self.alloc; "{error}"));
+                self.display(&error);
             }
         }
+    }
+
+    /// Appends the Display text of a value.
+    pub fn display<T: Display>(&mut self, value: &T) {
+        self.made(format!(in self.alloc; "{value}"));
     }
 
     /// Appends the Debug text of a value.
@@ -636,19 +482,19 @@ impl Answer {
         self.made(format!(in self.alloc; "{value:?}"));
     }
 
-    /// Appends the Debug text of the value that a call returned, or its refusal.
-    pub fn debug_or_refusal<T: Debug + Drop>(&mut self, outcome: Result<T, MailParseError>) {
-        match outcome {
-            Ok(value) => self.debug(&value),
-            Err(error) => self.refusal(error),
+    /// Appends an allocated text, unless memory ran out.
+    fn made(&mut self, text: Result<String, AllocError>) {
+        match text {
+            Ok(text) => self.put(text.as_str()),
+            Err(_) => self.has_run_out = true,
         }
     }
 
-    /// Appends the Debug text of a value that is allocated, unless memory ran out.
-    pub fn debug_made<T: Debug + Drop>(&mut self, outcome: Result<T, AllocError>) {
+    /// Appends the Debug text of the value that a call returned, or its refusal.
+    pub fn debug_of<T: Debug + Drop, E: Into<MailParseError>>(&mut self, outcome: Result<T, E>) {
         match outcome {
             Ok(value) => self.debug(&value),
-            Err(_) => self.has_run_out = true,
+            Err(error) => self.refusal(error.into()),
         }
     }
 
@@ -671,6 +517,114 @@ impl Answer {
     /// Appends `error` and a text.
     pub fn error(&mut self, text: &str) {
         self.word("error");
-        self.text(text);
+        self.put(text);
+    }
+}
+
+/// A value that an answer shows, as one item or several.
+pub trait Show {
+    /// Appends the value to an answer.
+    fn show(self, answer: &mut Answer);
+}
+
+impl Show for () {
+    fn show(self, _answer: &mut Answer) {}
+}
+
+impl Show for bool {
+    fn show(self, answer: &mut Answer) {
+        answer.word(if self { "true" } else { "false" });
+    }
+}
+
+impl Show for usize {
+    fn show(self, answer: &mut Answer) {
+        answer.digits(self as u64);
+        answer.push(b" ");
+    }
+}
+
+impl Show for i64 {
+    fn show(self, answer: &mut Answer) {
+        if self < 0 {
+            answer.push(b"-");
+        }
+        answer.digits(self.unsigned_abs());
+        answer.push(b" ");
+    }
+}
+
+impl Show for &[u8] {
+    fn show(self, answer: &mut Answer) {
+        answer.digits(self.len() as u64);
+        answer.push(b":\"");
+        answer.push(self);
+        answer.push(b"\" ");
+    }
+}
+
+/// A text is its UTF-8.
+impl Show for &str {
+    fn show(self, answer: &mut Answer) {
+        answer.put(self.as_bytes());
+    }
+}
+
+impl Show for Vec<u8> {
+    fn show(self, answer: &mut Answer) {
+        answer.put(self.as_slice());
+    }
+}
+
+impl Show for String {
+    fn show(self, answer: &mut Answer) {
+        answer.put(self.as_str());
+    }
+}
+
+impl Show for Vec<String> {
+    fn show(self, answer: &mut Answer) {
+        for text in &self {
+            answer.put(text.as_str());
+        }
+    }
+}
+
+impl<A: Show, B: Show> Show for (A, B) {
+    fn show(self, answer: &mut Answer) {
+        let (first, second) = self;
+        first.show(answer);
+        second.show(answer);
+    }
+}
+
+/// A text that may be borrowed comes after whether it is.
+impl Show for CowStr<'_> {
+    fn show(self, answer: &mut Answer) {
+        answer.word(match &self {
+            CowStr::Borrowed(_) => "borrowed",
+            CowStr::Owned(_) => "owned",
+        });
+        answer.put(self.as_str());
+    }
+}
+
+/// A value, or the word `none`.
+impl<T: Show> Show for Option<T> {
+    fn show(self, answer: &mut Answer) {
+        match self {
+            Some(value) => value.show(answer),
+            None => answer.word("none"),
+        }
+    }
+}
+
+/// The value that a call returned, or its refusal.
+impl<T: Show, E: Into<MailParseError>> Show for Result<T, E> {
+    fn show(self, answer: &mut Answer) {
+        match self {
+            Ok(value) => value.show(answer),
+            Err(error) => answer.refusal(error.into()),
+        }
     }
 }

@@ -1,7 +1,7 @@
 //! A replay of the rows of a file.
 
 use crate::calls;
-use crate::notation::{Answer, Row};
+use crate::notation::{Answer, FORM, Row};
 use mailparse::MailParseError;
 use std::alloc::{AllocError, Global};
 
@@ -63,7 +63,7 @@ impl Tally {
         }
         self.number = self.number.saturating_add(1);
         match Row::read(alloc, text) {
-            Ok(row) => self.make_call(alloc, &row, times),
+            Ok(row) => self.make_call(&row, times),
             Err(MailParseError::Memory(e)) => Err(e),
             Err(fault) => {
                 let what = format!(in alloc; "{fault}: {text}")?;
@@ -74,27 +74,27 @@ impl Tally {
 
     /// Makes the call of a row, and again at most `times` times if memory runs out. A call that must
     /// not allocate is made once.
-    fn make_call(&mut self, alloc: Global, row: &Row, times: u32) -> Result<(), AllocError> {
+    fn make_call(&mut self, row: &Row, times: u32) -> Result<(), AllocError> {
         for _turn in 0..times {
-            if self.has_returned(alloc, row)? {
+            if self.has_returned(row)? {
                 return Ok(());
             }
             if row.is_free {
                 return self.fail(row.name.as_str(), "takes memory");
             }
         }
-        self.judge(alloc, row, returned(alloc, row))
+        self.judge(row, returned(row))
     }
 
     /// Makes the call of a row, and counts the row unless memory ran out.
-    fn has_returned(&mut self, alloc: Global, row: &Row) -> Result<bool, AllocError> {
-        match returned(alloc, row) {
+    fn has_returned(&mut self, row: &Row) -> Result<bool, AllocError> {
+        match returned(row) {
             Err(MailParseError::Memory(_e)) => {
                 self.refused = self.refused.saturating_add(1);
                 Ok(false)
             }
             outcome => {
-                self.judge(alloc, row, outcome)?;
+                self.judge(row, outcome)?;
                 Ok(true)
             }
         }
@@ -103,29 +103,28 @@ impl Tally {
     /// Counts a row whose call returned.
     fn judge(
         &mut self,
-        alloc: Global,
         row: &Row,
-        outcome: Result<Answer, MailParseError>,
+        found: Result<Answer, MailParseError>,
     ) -> Result<(), AllocError> {
-        match outcome {
-            Ok(answer) => self.compare(alloc, row, answer.as_bytes()),
+        match found {
+            Ok(answer) => self.compare(row, answer.as_bytes()),
             Err(MailParseError::Memory(e)) => Err(e),
             Err(fault) => {
-                let what = format!(in alloc; "{fault}")?;
+                let what = format!(in row.alloc; "{fault}")?;
                 self.fail(row.name.as_str(), what.as_str())
             }
         }
     }
 
     /// Counts a row whose call returned this result.
-    fn compare(&mut self, alloc: Global, row: &Row, found: &[u8]) -> Result<(), AllocError> {
+    fn compare(&mut self, row: &Row, found: &[u8]) -> Result<(), AllocError> {
         let wanted = row.wanted.as_bytes();
         if found == wanted {
             self.passed = self.passed.saturating_add(1);
             return Ok(());
         }
         let (wanted, found) = (wanted.escape_ascii(), found.escape_ascii());
-        let what = format!(in alloc; "wants {wanted}\n    finds {found}")?;
+        let what = format!(in row.alloc; "wants {wanted}\n    finds {found}")?;
         self.fail(row.name.as_str(), what.as_str())
     }
 
@@ -142,10 +141,11 @@ impl Tally {
 
 /// Returns the result of a row's call, unless memory runs out or there is no such call with such
 /// inputs.
-fn returned(alloc: Global, row: &Row) -> Result<Answer, MailParseError> {
-    let mut answer = Answer::new(alloc, row)?;
-    if !calls::make(alloc, row, &mut answer) || !row.fits() {
-        answer.reject();
+fn returned(row: &Row) -> Result<Answer, MailParseError> {
+    let mut answer = Answer::new(row)?;
+    if !calls::make(row, &mut answer) || !row.fits() {
+        answer.refusal(FORM);
     }
-    answer.whole()
+    answer.outcome()?;
+    Ok(answer)
 }

@@ -4,22 +4,19 @@
 //!   the charset. BODY is the kind of the body, its raw bytes, its decoded bytes and their text;
 //!   each of the last two may be a refusal.
 
-use crate::notation::{Answer, Row};
+use crate::notation::{Answer, Decision, Row, Show};
 use mailparse::body::Body;
 use mailparse::{MailParseError, ParsedContentType};
 use std::alloc::Global;
 use std::collections::BTreeMap;
 
-/// Makes the call of a row, if it is this one.
-pub fn make(alloc: Global, row: &Row, answer: &mut Answer) -> bool {
-    if row.call.as_str() != "body" {
-        return false;
+/// Makes the call of a row, if it is one of these.
+pub fn make(row: &Row, answer: &mut Answer) -> Decision {
+    match row.call.as_str() {
+        "body" => answer.put(Label::of(row, 0)?.body(row.bytes(2))),
+        _ => return Ok(false),
     }
-    match Label::of(alloc, row, 0) {
-        Ok(label) => push_body(alloc, answer, &label.body(row.bytes(2))),
-        Err(error) => answer.refusal(error),
-    }
-    true
+    Ok(true)
 }
 
 /// The transfer encoding and the type of a body.
@@ -31,15 +28,15 @@ pub struct Label {
 
 impl Label {
     /// Returns the encoding and the charset in two inputs from `at` onwards.
-    pub fn of(alloc: Global, row: &Row, at: usize) -> Result<Label, MailParseError> {
+    pub fn of(row: &Row, at: usize) -> Result<Label, MailParseError> {
         let encoding = match row.optional_text(at) {
-            Some(text) => Some(String::from_str(alloc, text)?),
+            Some(text) => Some(String::from_str(row.alloc, text)?),
             None => None,
         };
         let ctype = ParsedContentType {
-            mimetype: String::from_str(alloc, "text/plain")?,
-            charset: String::from_str(alloc, row.text(at.saturating_add(1)))?,
-            params: BTreeMap::new(alloc),
+            mimetype: String::from_str(row.alloc, "text/plain")?,
+            charset: String::from_str(row.alloc, row.text(at.saturating_add(1)))?,
+            params: BTreeMap::new(row.alloc),
         };
         Ok(Label { encoding, ctype })
     }
@@ -50,15 +47,17 @@ impl Label {
     }
 }
 
-/// Writes a body.
-pub fn push_body(alloc: Global, answer: &mut Answer, body: &Body<'_>) {
-    push_raw(answer, body);
-    answer.bytes_or_refusal(decoded(alloc, body));
-    answer.text_or_refusal(match body {
-        Body::Base64(body) | Body::QuotedPrintable(body) => body.get_decoded_as_string(alloc),
-        Body::SevenBit(body) | Body::EightBit(body) => body.get_as_string(alloc),
-        Body::Binary(body) => body.get_as_string(alloc),
-    });
+impl Show for Body<'_> {
+    fn show(self, answer: &mut Answer) {
+        let alloc = answer.alloc;
+        push_raw(answer, &self);
+        answer.put(decoded(alloc, &self));
+        answer.put(match &self {
+            Body::Base64(body) | Body::QuotedPrintable(body) => body.get_decoded_as_string(alloc),
+            Body::SevenBit(body) | Body::EightBit(body) => body.get_as_string(alloc),
+            Body::Binary(body) => body.get_as_string(alloc),
+        });
+    }
 }
 
 fn decoded(alloc: Global, body: &Body<'_>) -> Result<Vec<u8>, MailParseError> {
@@ -74,5 +73,5 @@ pub fn push_raw(answer: &mut Answer, body: &Body<'_>) {
         Body::EightBit(_) => "8bit",
         Body::Binary(_) => "binary",
     });
-    answer.bytes(body.get_raw());
+    answer.put(body.get_raw());
 }

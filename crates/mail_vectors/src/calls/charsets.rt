@@ -10,21 +10,21 @@
 //! decode_ascii BYTES => borrowed | owned TEXT
 //! ```
 
-use crate::notation::{Answer, Row};
+use crate::notation::{Answer, Decision, Row};
 use mail_codec::charset::{Charset, decode_ascii, decode_latin1};
-use std::alloc::{AllocError, Global};
+use std::alloc::AllocError;
 
 /// Makes the call of a row, if it is one of these.
-pub fn make(alloc: Global, row: &Row, answer: &mut Answer) -> bool {
+pub fn make(row: &Row, answer: &mut Answer) -> Decision {
     match row.call.as_str() {
         "charset_for_label" => find_charsets(row, answer),
-        "decode" | "decode_without_bom_handling" => decode(alloc, row, answer),
-        "utf_16" => decode_units(alloc, row, answer),
-        "decode_latin1" => answer.made_cow(decode_latin1(alloc, row.bytes(0))),
-        "decode_ascii" => answer.made_cow(decode_ascii(alloc, row.bytes(0))),
-        _ => return false,
+        "decode" | "decode_without_bom_handling" => decode(row, answer),
+        "utf_16" => decode_units(row, answer),
+        "decode_latin1" => answer.put(decode_latin1(row.alloc, row.bytes(0))),
+        "decode_ascii" => answer.put(decode_ascii(row.alloc, row.bytes(0))),
+        _ => return Ok(false),
     }
-    true
+    Ok(true)
 }
 
 /// Writes the charset of each label.
@@ -41,38 +41,38 @@ fn find_charsets(row: &Row, answer: &mut Answer) {
 }
 
 /// Writes the text of bytes under a label.
-fn decode(alloc: Global, row: &Row, answer: &mut Answer) {
+fn decode(row: &Row, answer: &mut Answer) {
     let Some(charset) = Charset::for_label(row.bytes(0)) else {
         return answer.word("none");
     };
-    answer.made(match row.call.as_str() {
-        "decode" => charset.decode(alloc, row.bytes(1)),
-        _ => charset.decode_without_bom_handling(alloc, row.bytes(1)),
+    answer.put(match row.call.as_str() {
+        "decode" => charset.decode(row.alloc, row.bytes(1)),
+        _ => charset.decode_without_bom_handling(row.alloc, row.bytes(1)),
     });
 }
 
 /// Writes the texts of units in both orders of bytes.
-fn decode_units(alloc: Global, row: &Row, answer: &mut Answer) {
-    let (big, little) = (row.bytes(0), row.bytes(1));
-    answer.made(Charset::Utf16Be.decode(alloc, big));
+fn decode_units(row: &Row, answer: &mut Answer) {
+    let (big, little) = (Charset::Utf16Be, Charset::Utf16Le);
+    answer.put(big.decode(row.alloc, row.bytes(0)));
     let end = answer.len();
-    push_other(answer, end, Charset::Utf16Le.decode(alloc, little));
+    push_other(answer, end, little.decode(row.alloc, row.bytes(1)));
     push_other(
         answer,
         end,
-        Charset::Utf16Be.decode_without_bom_handling(alloc, big),
+        big.decode_without_bom_handling(row.alloc, row.bytes(0)),
     );
     push_other(
         answer,
         end,
-        Charset::Utf16Le.decode_without_bom_handling(alloc, little),
+        little.decode_without_bom_handling(row.alloc, row.bytes(1)),
     );
 }
 
 /// Appends a text unless it equals the first one, which ends at `end`.
 fn push_other(answer: &mut Answer, end: usize, text: Result<String, AllocError>) {
     let start = answer.len();
-    answer.made(text);
+    answer.put(text);
     if answer.repeats(0, end, start) {
         answer.cut(start);
     }

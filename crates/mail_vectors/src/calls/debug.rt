@@ -17,7 +17,7 @@
 
 use crate::calls::addresses::new_mailboxes;
 use crate::calls::outlines::outline_of;
-use crate::notation::{Answer, Row};
+use crate::notation::{Answer, Decision, Outcome, Row};
 use mail_address::{NewAddress, NewGroup, WriteError, read_addresses};
 use mail_charsets::Encoding;
 use mail_codec::charset::{Charset, SingleByteTable, Utf7};
@@ -32,9 +32,9 @@ use mailparse::{MailParseError, ParsedMail, parse_mail};
 use std::alloc::Global;
 
 /// Makes the call of a row, if it is this one.
-pub fn make(alloc: Global, row: &Row, answer: &mut Answer) -> bool {
+pub fn make(row: &Row, answer: &mut Answer) -> Decision {
     if row.call.as_str() != "debug" {
-        return false;
+        return Ok(false);
     }
     match row.text(0) {
         "charset" => answer.debug(&Charset::for_label(row.bytes(1))),
@@ -42,16 +42,19 @@ pub fn make(alloc: Global, row: &Row, answer: &mut Answer) -> bool {
         "utf_7" => answer.debug(&Utf7),
         "table" => show_table(answer),
         "date" => answer.debug(&date_of(row.text(1))),
-        "base64_front" => answer.debug_made(base64_front(alloc, row.bytes(1))),
+        "base64_front" => answer.debug_of(base64_front(row.alloc, row.bytes(1))),
         "mailbox" => answer.debug(&read_mailbox(row.bytes(1), Format::Counted)),
         "entry" => answer.debug(&read_mailbox(row.bytes(1), Format::Plain).next()),
-        "outline" => answer.debug_or_refusal(outline_of(alloc, row, 1)),
-        "addresses" => answer.debug_made(read_addresses(alloc, row.bytes(1))),
-        "new_group" => show_group(alloc, row, answer),
+        "outline" => answer.debug_of(outline_of(row, 1)),
+        "addresses" => answer.debug_of(read_addresses(row.alloc, row.bytes(1))),
+        "new_group" => show_group(row, answer)?,
         "write_error" => answer.debug(&WriteError::Address),
-        _ => return read_mail(alloc, row, answer),
+        _ => {
+            let mail = parse_mail(row.alloc, row.bytes(1))?;
+            return Ok(show_of(answer, row.text(0), &mail));
+        }
     }
-    true
+    Ok(true)
 }
 
 /// Writes a table.
@@ -63,33 +66,25 @@ fn show_table(answer: &mut Answer) {
 }
 
 /// Writes a group with the mailboxes of the inputs.
-fn show_group(alloc: Global, row: &Row, answer: &mut Answer) {
-    match new_mailboxes(alloc, row, 2) {
-        Ok(members) => answer.debug(&NewAddress::Group(NewGroup {
-            display_name: row.text(1),
-            members: members.as_slice(),
-        })),
-        Err(error) => answer.refusal(MailParseError::from(error)),
-    }
+fn show_group(row: &Row, answer: &mut Answer) -> Outcome {
+    let members = new_mailboxes(row, 2)?;
+    answer.debug(&NewAddress::Group(NewGroup {
+        display_name: row.text(1),
+        members: members.as_slice(),
+    }));
+    Ok(())
 }
 
 /// Writes what is read from a mail, if the row is on such a value.
-fn read_mail(alloc: Global, row: &Row, answer: &mut Answer) -> bool {
-    match parse_mail(alloc, row.bytes(1)) {
-        Ok(mail) => return show_of(alloc, row.text(0), answer, &mail),
-        Err(error) => answer.refusal(error),
-    }
-    true
-}
-
-fn show_of(alloc: Global, kind: &str, answer: &mut Answer, mail: &ParsedMail<'_>) -> bool {
+fn show_of(answer: &mut Answer, kind: &str, mail: &ParsedMail<'_>) -> bool {
+    let alloc = answer.alloc;
     match kind {
-        "body" => answer.debug_or_refusal(mail.get_body_encoded(alloc)),
-        "body_text" => answer.debug_or_refusal(body_text(alloc, mail, &())),
-        "content" => answer.debug_or_refusal(content_of(alloc, mail)),
-        "recipients" => answer.debug_or_refusal(recipients(alloc, mail, &())),
-        "inner_mails" => answer.debug_or_refusal(inner_mails(alloc, mail, &())),
-        "places" => answer.debug_made(places(alloc, mail)),
+        "body" => answer.debug_of(mail.get_body_encoded(alloc)),
+        "body_text" => answer.debug_of(body_text(alloc, mail, &())),
+        "content" => answer.debug_of(content_of(alloc, mail)),
+        "recipients" => answer.debug_of(recipients(alloc, mail, &())),
+        "inner_mails" => answer.debug_of(inner_mails(alloc, mail, &())),
+        "places" => answer.debug_of(places(alloc, mail)),
         _ => return false,
     }
     true

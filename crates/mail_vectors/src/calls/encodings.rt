@@ -7,20 +7,19 @@
 //! decode_with_utf_7 LABEL BYTES.. => TEXT..         under all charsets of the standard, and UTF-7
 //! ```
 
-use crate::notation::{Answer, Row};
+use crate::notation::{Answer, Decision, Row};
 use mail_charsets::{AllCharsets, Encoding, Indexes};
 use mail_codec::charset::{Decode, KnownCharsets, Utf7};
-use std::alloc::Global;
 
 /// Makes the call of a row, if it is one of these.
-pub fn make(alloc: Global, row: &Row, answer: &mut Answer) -> bool {
+pub fn make(row: &Row, answer: &mut Answer) -> Decision {
     match row.call.as_str() {
         "encoding_for_label" => find_encodings(row, answer),
-        "decode_encoding" => decode(alloc, row, answer),
-        "decode_with_utf_7" => decode_with_utf_7(alloc, row, answer),
-        _ => return false,
+        "decode_encoding" => decode(row, answer),
+        "decode_with_utf_7" => decode_with_utf_7(row, answer),
+        _ => return Ok(false),
     }
-    true
+    Ok(true)
 }
 
 /// Writes the encoding of each label.
@@ -47,22 +46,22 @@ fn name(encoding: Option<Encoding>) -> &'static str {
 }
 
 /// Writes the texts of bytes under a label.
-fn decode(alloc: Global, row: &Row, answer: &mut Answer) {
+fn decode(row: &Row, answer: &mut Answer) {
     let Some(encoding) = Encoding::for_label(row.bytes(0)) else {
         return answer.word("none");
     };
     let indexes = Indexes::standard();
     for at in 1..row.count() {
-        answer.made(encoding.decode_under(alloc, row.bytes(at), &indexes));
+        answer.put(encoding.decode_under(row.alloc, row.bytes(at), &indexes));
     }
 }
 
 /// Writes the texts of bytes under a label that may be one of UTF-7.
-fn decode_with_utf_7(alloc: Global, row: &Row, answer: &mut Answer) {
+fn decode_with_utf_7(row: &Row, answer: &mut Answer) {
     let Some(charset) = (AllCharsets::standard(), Utf7).for_label(row.bytes(0)) else {
         return answer.word("none");
     };
     for at in 1..row.count() {
-        answer.made(charset.decode(alloc, row.bytes(at)));
+        answer.put(charset.decode(row.alloc, row.bytes(at)));
     }
 }

@@ -7,55 +7,55 @@
 //! - `from KIND => DEBUG`: the error that another one is converted to.
 //! - `fault KIND => DISPLAY DEBUG`: the texts of a fault by itself.
 
-use crate::notation::{Answer, FORM, Row};
+use crate::notation::{Answer, Decision, FORM, Outcome, Row};
 use mailparse::{Base64Fault, MailParseError, QuotedPrintableFault};
-use std::alloc::{AllocError, Global};
+use std::alloc::AllocError;
 use std::borrow::CowStr;
 
 /// Makes the call of a row, if it is one of these.
-pub fn make(alloc: Global, row: &Row, answer: &mut Answer) -> bool {
-    let outcome = match row.call.as_str() {
-        "error" => push_error(alloc, row, answer),
-        "from" => push_made(alloc, row, answer),
-        "fault" => push_fault(alloc, row, answer),
-        _ => return false,
-    };
-    answer.end(outcome);
-    true
+pub fn make(row: &Row, answer: &mut Answer) -> Decision {
+    match row.call.as_str() {
+        "error" => push_error(answer, &error_of(row)?),
+        "from" => answer.debug(&converted(row)?),
+        "fault" => push_fault(row, answer)?,
+        _ => return Ok(false),
+    }
+    Ok(true)
 }
 
-fn push_error(alloc: Global, row: &Row, answer: &mut Answer) -> Result<(), MailParseError> {
-    let error = match row.text(0) {
+/// Returns the error that a row names.
+fn error_of(row: &Row) -> Result<MailParseError, MailParseError> {
+    Ok(match row.text(0) {
         "generic" => MailParseError::Generic("a \"text\""),
         "encoding" => MailParseError::EncodingError(CowStr::Borrowed("x")),
-        "owned_encoding" => MailParseError::EncodingError(owned(alloc)?),
+        "owned_encoding" => MailParseError::EncodingError(owned(row)?),
         "memory" => MailParseError::Memory(AllocError),
         "quoted-printable" => MailParseError::QuotedPrintableDecodeError(QuotedPrintableFault),
         "base64" => MailParseError::Base64DecodeError(fault_of(row)),
         _ => return Err(FORM),
-    };
-    answer.made(format!(in alloc; "{error}"));
-    answer.debug_error(&error);
-    Ok(())
+    })
 }
 
-/// Writes the error that the one of a row is converted to.
-fn push_made(alloc: Global, row: &Row, answer: &mut Answer) -> Result<(), MailParseError> {
-    let error = match row.text(0) {
+/// Returns the error that the one of a row is converted to.
+fn converted(row: &Row) -> Result<MailParseError, MailParseError> {
+    Ok(match row.text(0) {
         "encoding" => MailParseError::from(CowStr::Borrowed("x")),
-        "owned_encoding" => MailParseError::from(owned(alloc)?),
+        "owned_encoding" => MailParseError::from(owned(row)?),
         "memory" => MailParseError::from(AllocError),
         "quoted-printable" => MailParseError::from(QuotedPrintableFault),
         "base64" => MailParseError::from(fault_of(row)),
         _ => return Err(FORM),
-    };
-    answer.debug(&error);
-    Ok(())
+    })
+}
+
+fn push_error(answer: &mut Answer, error: &MailParseError) {
+    answer.display(error);
+    answer.debug_error(error);
 }
 
 /// Returns an owned text.
-fn owned(alloc: Global) -> Result<CowStr<'static>, AllocError> {
-    Ok(CowStr::Owned(String::from_str(alloc, "x")?))
+fn owned(row: &Row) -> Result<CowStr<'static>, AllocError> {
+    Ok(CowStr::Owned(String::from_str(row.alloc, "x")?))
 }
 
 /// Returns the fault in Base64 at the group that a row names.
@@ -65,15 +65,14 @@ fn fault_of(row: &Row) -> Base64Fault {
     }
 }
 
-fn push_fault(alloc: Global, row: &Row, answer: &mut Answer) -> Result<(), MailParseError> {
+fn push_fault(row: &Row, answer: &mut Answer) -> Outcome {
     match row.text(0) {
         "base64" => {
-            let fault = fault_of(row);
-            answer.made(format!(in alloc; "{fault}"));
-            answer.debug(&fault);
+            answer.display(&fault_of(row));
+            answer.debug(&fault_of(row));
         }
         "quoted-printable" => {
-            answer.made(format!(in alloc; "{QuotedPrintableFault}"));
+            answer.display(&QuotedPrintableFault);
             answer.debug(&QuotedPrintableFault);
         }
         _ => return Err(FORM),

@@ -9,41 +9,40 @@
 //! - `strict_value RAW => TEXT`: `get_value_utf8`, where a refusal is the text in the error.
 //! - `debug_header RAW => TEXT`.
 
-use crate::notation::{Answer, Row};
+use crate::notation::{Answer, Decision, Outcome, Row, Show};
 use mailparse::{MailHeader, MailParseError, parse_header, parse_headers};
-use std::alloc::Global;
-use std::borrow::CowStr;
 
 /// Makes the call of a row, if it is one of these.
-pub fn make(alloc: Global, row: &Row, answer: &mut Answer) -> bool {
-    let outcome = match row.call.as_str() {
-        "parse_header" => push_front(row, answer),
-        "parse_headers" | "different_headers" => push_block(alloc, row, answer),
+pub fn make(row: &Row, answer: &mut Answer) -> Decision {
+    match row.call.as_str() {
+        "parse_header" => push_front(row, answer)?,
+        "parse_headers" | "different_headers" => push_block(row, answer)?,
         "get_key" | "get_key_ref" | "header" | "strict_value" | "debug_header" => {
-            push_texts(alloc, row, answer)
+            push_text(answer, row.call.as_str(), &parse_header(row.bytes(0))?.0);
         }
-        _ => return false,
-    };
-    answer.end(outcome);
-    true
+        _ => return Ok(false),
+    }
+    Ok(true)
 }
 
-fn push_front(row: &Row, answer: &mut Answer) -> Result<(), MailParseError> {
+fn push_front(row: &Row, answer: &mut Answer) -> Outcome {
     let (header, length) = parse_header(row.bytes(0))?;
-    push_field(answer, &header);
-    answer.number(length);
+    answer.put(&header);
+    answer.put(length);
     Ok(())
 }
 
-/// Writes KEY and VALUE, the bytes of a header.
-pub fn push_field(answer: &mut Answer, header: &MailHeader<'_>) {
-    answer.bytes(header.get_key_raw());
-    answer.bytes(header.get_value_raw());
+/// A header is KEY and VALUE, its bytes.
+impl Show for &MailHeader<'_> {
+    fn show(self, answer: &mut Answer) {
+        answer.put(self.get_key_raw());
+        answer.put(self.get_value_raw());
+    }
 }
 
-fn push_block(alloc: Global, row: &Row, answer: &mut Answer) -> Result<(), MailParseError> {
-    let (headers, end) = parse_headers(alloc, row.bytes(0))?;
-    answer.number(end);
+fn push_block(row: &Row, answer: &mut Answer) -> Outcome {
+    let (headers, end) = parse_headers(row.alloc, row.bytes(0))?;
+    answer.put(end);
     match row.call.as_str() {
         "parse_headers" => push_fields(answer, headers.as_slice()),
         _ => push_different(answer, headers.as_slice()),
@@ -54,13 +53,13 @@ fn push_block(alloc: Global, row: &Row, answer: &mut Answer) -> Result<(), MailP
 /// Writes KEY and VALUE of each header.
 fn push_fields(answer: &mut Answer, headers: &[MailHeader<'_>]) {
     for header in headers {
-        push_field(answer, header);
+        answer.put(header);
     }
 }
 
 /// Writes how many headers there are, and each that differs from the one before it.
 fn push_different(answer: &mut Answer, headers: &[MailHeader<'_>]) {
-    answer.number(headers.len());
+    answer.put(headers.len());
     push_fields(answer, headers.get(..1).unwrap_or(&[]));
     for pair in headers.windows(2) {
         push_second(answer, pair);
@@ -73,43 +72,31 @@ fn push_second(answer: &mut Answer, pair: &[MailHeader<'_>]) {
         let is_same = before.get_key_raw() == header.get_key_raw()
             && before.get_value_raw() == header.get_value_raw();
         if !is_same {
-            push_field(answer, header);
+            answer.put(header);
         }
     }
-}
-
-fn push_texts(alloc: Global, row: &Row, answer: &mut Answer) -> Result<(), MailParseError> {
-    let (header, _) = parse_header(row.bytes(0))?;
-    push_text(alloc, row.call.as_str(), answer, &header);
-    Ok(())
 }
 
 /// Writes the result of a call on a header.
-fn push_text(alloc: Global, call: &str, answer: &mut Answer, header: &MailHeader<'_>) {
+fn push_text(answer: &mut Answer, call: &str, header: &MailHeader<'_>) {
+    let alloc = answer.alloc;
     match call {
-        "get_key" => answer.text_or_refusal(header.get_key(alloc)),
-        "get_key_ref" => push_key(answer, header.get_key_ref(alloc)),
+        "get_key" => answer.put(header.get_key(alloc)),
+        "get_key_ref" => answer.put(header.get_key_ref(alloc)),
         "strict_value" => push_strict(answer, header.get_value_utf8(alloc)),
         "debug_header" => answer.debug(header),
         _ => {
-            answer.text_or_refusal(header.get_key(alloc));
-            answer.text_or_refusal(header.get_value(alloc));
-            answer.text_or_refusal(header.get_value_utf8(alloc));
+            answer.put(header.get_key(alloc));
+            answer.put(header.get_value(alloc));
+            answer.put(header.get_value_utf8(alloc));
         }
-    }
-}
-
-fn push_key(answer: &mut Answer, key: Result<CowStr<'_>, MailParseError>) {
-    match key {
-        Ok(key) => answer.cow(&key),
-        Err(error) => answer.refusal(error),
     }
 }
 
 /// Writes a text, or the text in the refusal.
 fn push_strict(answer: &mut Answer, outcome: Result<String, MailParseError>) {
     match outcome {
-        Ok(text) => answer.text(text.as_str()),
+        Ok(text) => answer.put(text),
         Err(MailParseError::EncodingError(text)) => answer.error(text.as_str()),
         Err(error) => answer.refusal(error),
     }

@@ -15,85 +15,62 @@
 //! - `equal_ids ID ID => true`, or `false`: whether two lists of one id are equal.
 
 use crate::calls::bodies::Label;
-use crate::calls::parameters::push_disposition;
-use crate::notation::{Answer, Row};
+use crate::notation::{Answer, Decision, Outcome, Row};
 use mailparse::body::Body;
 use mailparse::{
     DispositionType, MailParseError, MessageIdList, ParsedContentDisposition, ParsedContentType,
     parse_content_disposition, parse_content_type,
 };
-use std::alloc::Global;
 
 /// Makes the call of a row, if it is one of these.
-pub fn make(alloc: Global, row: &Row, answer: &mut Answer) -> bool {
-    let outcome = match row.call.as_str() {
-        "debug_content_type" => show_type(alloc, row, answer),
-        "default_content_type" => show_default_type(alloc, answer),
-        "debug_content_disposition" | "debug_default_disposition" => {
-            show_disposition(alloc, row, answer)
+pub fn make(row: &Row, answer: &mut Answer) -> Decision {
+    match row.call.as_str() {
+        "debug_content_type" => answer.debug_of(parse_content_type(row.alloc, row.text(0))),
+        "default_content_type" => show_default_type(row, answer)?,
+        "debug_content_disposition" => {
+            answer.debug_of(parse_content_disposition(row.alloc, row.text(0)));
         }
-        "default_disposition" => push_default(alloc, answer),
-        "get_content_type" => push_type(alloc, row, answer),
-        "equal_dispositions" => push_equal(alloc, row, answer),
-        "show_ids" => show_ids(alloc, row, answer),
-        "copy_ids" => copy_ids(alloc, row, answer),
-        "equal_ids" => compare_ids(alloc, row, answer),
-        _ => return false,
-    };
-    answer.end(outcome);
-    true
+        "debug_default_disposition" => {
+            answer.debug(&ParsedContentDisposition::default(row.alloc));
+        }
+        "default_disposition" => push_default(row, answer),
+        "get_content_type" => push_type(answer, type_of(&Label::of(row, 0)?.body(row.bytes(2)))),
+        "equal_dispositions" => push_equal(row, answer)?,
+        "show_ids" => show_ids(answer, &list_of(row, 0, row.count())?),
+        "copy_ids" => copy_ids(row, answer)?,
+        "equal_ids" => answer.put(list_of(row, 0, 1)? == list_of(row, 1, 2)?),
+        _ => return Ok(false),
+    }
+    Ok(true)
 }
 
-fn show_type(alloc: Global, row: &Row, answer: &mut Answer) -> Result<(), MailParseError> {
-    answer.debug(&parse_content_type(alloc, row.text(0))?);
-    Ok(())
-}
-
-fn show_default_type(alloc: Global, answer: &mut Answer) -> Result<(), MailParseError> {
-    let found = ParsedContentType::default(alloc)?;
-    answer.text(found.mimetype.as_str());
-    answer.text(found.charset.as_str());
-    answer.number(found.params.len());
+fn show_default_type(row: &Row, answer: &mut Answer) -> Outcome {
+    let found = ParsedContentType::default(row.alloc)?;
+    push_type(answer, &found);
+    answer.put(found.params.len());
     answer.debug(&found);
     Ok(())
 }
 
-fn show_disposition(alloc: Global, row: &Row, answer: &mut Answer) -> Result<(), MailParseError> {
-    let found = match row.call.as_str() {
-        "debug_content_disposition" => parse_content_disposition(alloc, row.text(0))?,
-        _ => ParsedContentDisposition::default(alloc),
-    };
-    answer.debug(&found);
-    Ok(())
+/// Writes MIMETYPE and CHARSET.
+pub fn push_type(answer: &mut Answer, ctype: &ParsedContentType) {
+    answer.put(ctype.mimetype.as_str());
+    answer.put(ctype.charset.as_str());
 }
 
-fn push_default(alloc: Global, answer: &mut Answer) -> Result<(), MailParseError> {
-    let found = ParsedContentDisposition::default(alloc);
-    push_disposition(answer, &found);
-    push_equal_copy(alloc, answer, &found, &found);
-    answer.truth(found.disposition == DispositionType::default());
-    Ok(())
+fn push_default(row: &Row, answer: &mut Answer) {
+    let found = ParsedContentDisposition::default(row.alloc);
+    answer.put(&found);
+    push_equal_copy(answer, &found.disposition, &found.disposition);
+    answer.put(found.disposition == DispositionType::default());
 }
 
 /// Writes whether a copy of a kind is equal to another kind.
-fn push_equal_copy(
-    alloc: Global,
-    answer: &mut Answer,
-    first: &ParsedContentDisposition,
-    second: &ParsedContentDisposition,
-) {
-    match first.disposition.clone(alloc) {
-        Ok(copy) => answer.truth(copy == second.disposition),
+fn push_equal_copy(answer: &mut Answer, first: &DispositionType, second: &DispositionType) {
+    match first.clone(answer.alloc) {
+        Ok(copy) => answer.put(copy == *second),
         Err(error) => answer.refusal(error),
     }
-}
-
-fn push_type(alloc: Global, row: &Row, answer: &mut Answer) -> Result<(), MailParseError> {
-    let label = Label::of(alloc, row, 0)?;
-    let found = type_of(&label.body(row.bytes(2)));
-    answer.text(found.mimetype.as_str());
-    answer.text(found.charset.as_str());
-    Ok(())
 }
 
 /// Returns the type that a body was made with.
@@ -105,55 +82,36 @@ fn type_of<'a>(body: &Body<'a>) -> &'a ParsedContentType {
     }
 }
 
-fn push_equal(alloc: Global, row: &Row, answer: &mut Answer) -> Result<(), MailParseError> {
-    let first = parse_content_disposition(alloc, row.text(0))?;
-    let second = parse_content_disposition(alloc, row.text(1))?;
-    answer.truth(first.disposition == second.disposition);
-    push_equal_copy(alloc, answer, &first, &second);
+fn push_equal(row: &Row, answer: &mut Answer) -> Outcome {
+    let first = parse_content_disposition(row.alloc, row.text(0))?;
+    let second = parse_content_disposition(row.alloc, row.text(1))?;
+    answer.put(first.disposition == second.disposition);
+    push_equal_copy(answer, &first.disposition, &second.disposition);
     Ok(())
 }
 
 /// Returns the list of the ids in the inputs `from..to`.
-fn list_of(
-    alloc: Global,
-    row: &Row,
-    from: usize,
-    to: usize,
-) -> Result<MessageIdList, MailParseError> {
-    let mut list = MessageIdList(Vec::new(alloc));
+fn list_of(row: &Row, from: usize, to: usize) -> Result<MessageIdList, MailParseError> {
+    let mut list = MessageIdList(Vec::new(row.alloc));
     for at in from..to {
-        list.push(String::from_str(alloc, row.text(at))?)?;
+        list.push(String::from_str(row.alloc, row.text(at))?)?;
     }
     Ok(list)
 }
 
-fn show_ids(alloc: Global, row: &Row, answer: &mut Answer) -> Result<(), MailParseError> {
-    let list = list_of(alloc, row, 0, row.count())?;
-    answer.made(format!(in alloc; "{list}"));
-    answer.debug(&list);
-    Ok(())
+fn show_ids(answer: &mut Answer, list: &MessageIdList) {
+    answer.display(list);
+    answer.debug(list);
 }
 
-fn copy_ids(alloc: Global, row: &Row, answer: &mut Answer) -> Result<(), MailParseError> {
-    let mut list = list_of(alloc, row, 0, row.count())?;
-    match list.clone(alloc) {
-        Ok(copy) => compare_copy(answer, &mut list, &copy),
-        Err(error) => answer.refusal(error),
-    }
-    Ok(())
-}
-
-fn compare_copy(answer: &mut Answer, list: &mut MessageIdList, copy: &MessageIdList) {
-    answer.truth(*copy == *list);
-    answer.optional_text(list.pop().as_deref());
-    answer.truth(*copy == *list);
-    answer.texts(list.0.as_slice());
+fn copy_ids(row: &Row, answer: &mut Answer) -> Outcome {
+    let mut list = list_of(row, 0, row.count())?;
+    let copy = list.clone(row.alloc)?;
+    answer.put(copy == list);
+    answer.put(list.pop());
+    answer.put(copy == list);
+    answer.put(list.0);
     answer.word("copy");
-    answer.texts(copy.0.as_slice());
-}
-
-fn compare_ids(alloc: Global, row: &Row, answer: &mut Answer) -> Result<(), MailParseError> {
-    let first = list_of(alloc, row, 0, 1)?;
-    answer.truth(first == list_of(alloc, row, 1, 2)?);
+    answer.put(copy.0);
     Ok(())
 }

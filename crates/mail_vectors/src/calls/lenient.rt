@@ -1,127 +1,89 @@
-//! The calls that read leniently.
+//! The calls that read leniently. `find_ids TEXT => ID..` returns the ids with an `@`, and
+//! `find_any_ids TEXT => ID..` all.
 
 use crate::calls::bodies::push_raw;
 use crate::calls::files::part_at;
 use crate::calls::tables::all_tables;
-use crate::notation::{Answer, Row};
+use crate::notation::{Answer, Decision, Outcome, Row, Show};
 use mail_data::lenient::{
     ContentFault, DateError, IdRule, base64_front, body_text, date_of, find_ids, lenient_body,
     lenient_content, zoned_date_of,
 };
 use mailparse::body::Body;
-use mailparse::{MailParseError, parse_mail};
-use std::alloc::Global;
+use mailparse::parse_mail;
 
 /// Makes the call of a row, if it is one of these.
-pub fn make(alloc: Global, row: &Row, answer: &mut Answer) -> bool {
-    let outcome = match row.call.as_str() {
-        "base64_front" => read_front(alloc, row, answer),
-        "lenient_body" => read_body(alloc, row, answer),
-        "body_text" => read_text(alloc, row, answer),
-        "lenient_content" => read_content(alloc, row, answer),
-        "find_ids" => list_ids(alloc, row, answer, IdRule::WithAt),
-        "find_any_ids" => list_ids(alloc, row, answer, IdRule::Any),
-        "date_of" => read_date(alloc, row, answer),
-        "zoned_date_of" => read_zoned_date(alloc, row, answer),
-        _ => return false,
-    };
-    answer.end(outcome);
-    true
+pub fn make(row: &Row, answer: &mut Answer) -> Decision {
+    match row.call.as_str() {
+        "base64_front" => read_front(row, answer)?,
+        "lenient_body" => read_body(row, answer)?,
+        "body_text" => read_text(row, answer)?,
+        "lenient_content" => read_content(row, answer)?,
+        "find_ids" => answer.put(find_ids(row.alloc, row.text(0), IdRule::WithAt)),
+        "find_any_ids" => answer.put(find_ids(row.alloc, row.text(0), IdRule::Any)),
+        "date_of" => write_date(answer, date_of(row.text(0))),
+        "zoned_date_of" => write_date(answer, zoned_date_of(row.text(0))),
+        _ => return Ok(false),
+    }
+    Ok(true)
 }
 
 /// `base64_front BODY => BYTES GROUP`, GROUP the index of the first invalid group or `none`.
-fn read_front(alloc: Global, row: &Row, answer: &mut Answer) -> Result<(), MailParseError> {
-    let front = base64_front(alloc, row.bytes(0))?;
-    answer.bytes(front.bytes.as_slice());
-    answer.optional_number(front.fault);
+fn read_front(row: &Row, answer: &mut Answer) -> Outcome {
+    let front = base64_front(row.alloc, row.bytes(0))?;
+    answer.put(front.bytes.as_slice());
+    answer.put(front.fault);
     Ok(())
 }
 
 /// `lenient_body MAIL PART => KIND RAW`, and the decoded bytes where the kind is `base64` or
 /// `quoted-printable`. The whole mail is part 0.
-fn read_body(alloc: Global, row: &Row, answer: &mut Answer) -> Result<(), MailParseError> {
-    let mail = parse_mail(alloc, row.bytes(0))?;
-    match part_at(alloc, &mail, row.number(1)) {
-        Ok(part) => write_body(alloc, answer, lenient_body(alloc, part)),
-        Err(error) => answer.refusal(error),
-    }
+fn read_body(row: &Row, answer: &mut Answer) -> Outcome {
+    let mail = parse_mail(row.alloc, row.bytes(0))?;
+    let part = part_at(row.alloc, &mail, row.number(1))?;
+    write_body(answer, &lenient_body(row.alloc, part)?);
     Ok(())
 }
 
-fn write_body(alloc: Global, answer: &mut Answer, body: Result<Body<'_>, MailParseError>) {
-    match body {
-        Ok(body) => {
-            push_raw(answer, &body);
-            if let Body::Base64(body) | Body::QuotedPrintable(body) = &body {
-                answer.bytes_or_refusal(body.get_decoded(alloc));
-            }
-        }
-        Err(error) => answer.refusal(error),
+fn write_body(answer: &mut Answer, body: &Body<'_>) {
+    push_raw(answer, body);
+    if let Body::Base64(body) | Body::QuotedPrintable(body) = body {
+        answer.put(body.get_decoded(answer.alloc));
     }
 }
 
 /// `body_text MAIL => TEXT CHARSET DAMAGED` of the whole mail, under all tables.
-fn read_text(alloc: Global, row: &Row, answer: &mut Answer) -> Result<(), MailParseError> {
-    let mail = parse_mail(alloc, row.bytes(0))?;
-    match body_text(alloc, &mail, &all_tables()) {
-        Ok(read) => {
-            answer.text(read.text.as_str());
-            answer.text(read.charset.as_str());
-            answer.truth(read.is_damaged);
-        }
-        Err(error) => answer.refusal(error),
-    }
+fn read_text(row: &Row, answer: &mut Answer) -> Outcome {
+    let mail = parse_mail(row.alloc, row.bytes(0))?;
+    let read = body_text(row.alloc, &mail, &all_tables())?;
+    answer.put(read.text.as_str());
+    answer.put(read.charset.as_str());
+    answer.put(read.is_damaged);
     Ok(())
 }
 
 /// `lenient_content MAIL => BYTES GROUP` of the whole mail, GROUP the index of the group that is
 /// refused or `none`.
-fn read_content(alloc: Global, row: &Row, answer: &mut Answer) -> Result<(), MailParseError> {
-    let mail = parse_mail(alloc, row.bytes(0))?;
-    let body = lenient_body(alloc, &mail)?;
-    let content = lenient_content(alloc, &body)?;
-    answer.bytes(content.bytes.as_slice());
+fn read_content(row: &Row, answer: &mut Answer) -> Outcome {
+    let mail = parse_mail(row.alloc, row.bytes(0))?;
+    let body = lenient_body(row.alloc, &mail)?;
+    let content = lenient_content(row.alloc, &body)?;
+    answer.put(content.bytes.as_slice());
     match content.fault {
-        Some(ContentFault::Base64(fault)) => answer.number(fault.group),
+        Some(ContentFault::Base64(fault)) => answer.put(fault.group),
         None => answer.word("none"),
     }
     Ok(())
 }
 
-/// `find_ids TEXT => ID..` of the ids with an `@`, and `find_any_ids TEXT => ID..`
-fn list_ids(
-    alloc: Global,
-    row: &Row,
-    answer: &mut Answer,
-    rule: IdRule,
-) -> Result<(), MailParseError> {
-    answer.texts(find_ids(alloc, row.text(0), rule)?.as_slice());
-    Ok(())
-}
-
-/// `date_of TEXT => SECONDS`
-fn read_date(alloc: Global, row: &Row, answer: &mut Answer) -> Result<(), MailParseError> {
-    match date_of(row.text(0)) {
-        Ok(seconds) => answer.signed(seconds),
-        Err(fault) => write_fault(alloc, fault, answer),
-    }
-    Ok(())
-}
-
-/// `zoned_date_of TEXT => SECONDS KNOWN`, KNOWN whether the zone is known.
-fn read_zoned_date(alloc: Global, row: &Row, answer: &mut Answer) -> Result<(), MailParseError> {
-    match zoned_date_of(row.text(0)) {
-        Ok((seconds, is_known)) => {
-            answer.signed(seconds);
-            answer.truth(is_known);
+/// `date_of TEXT => SECONDS`, and `zoned_date_of TEXT => SECONDS KNOWN`, KNOWN whether the zone is
+/// known; or why the date is refused.
+fn write_date<T: Show>(answer: &mut Answer, date: Result<T, DateError>) {
+    match date {
+        Ok(date) => answer.put(date),
+        Err(fault) => {
+            answer.word("error");
+            answer.display(&fault);
         }
-        Err(fault) => write_fault(alloc, fault, answer),
     }
-    Ok(())
-}
-
-/// Writes why a date is refused.
-fn write_fault(alloc: Global, fault: DateError, answer: &mut Answer) {
-    answer.word("error");
-    answer.made(format!(in alloc; "{fault}"));
 }

@@ -10,22 +10,22 @@
 //!   length precedes the count, with the refusal, or with the word `more`.
 
 use crate::calls::parts::{Held, count_below};
-use crate::notation::{Answer, FORM, Row};
+use crate::notation::{Answer, Decision, FORM, Outcome, Row};
 use mailparse::{MAX_LEVELS, MailParseError, ParsedMail, parse_mail, parse_mail_limited};
 use std::alloc::Global;
 
 /// Makes the call of a row, if it is one of these.
-pub fn make(alloc: Global, row: &Row, answer: &mut Answer) -> bool {
+pub fn make(row: &Row, answer: &mut Answer) -> Decision {
     match row.call.as_str() {
-        "max_levels" => answer.number(usize::from(MAX_LEVELS)),
+        "max_levels" => answer.put(usize::from(MAX_LEVELS)),
         "parse_mail_limited" => {
-            answer.number_or_refusal(count_under(alloc, row.bytes(1), row.levels(0)));
+            answer.put(count_under(row.alloc, row.bytes(1), row.levels(0)));
         }
-        "levels" => push_levels(alloc, answer, row.bytes(0)),
-        "truncated" => push_truncated(alloc, answer, row.bytes(0)),
-        _ => return false,
+        "levels" => push_levels(row, answer)?,
+        "truncated" => push_truncated(answer, row.bytes(0)),
+        _ => return Ok(false),
     }
-    true
+    Ok(true)
 }
 
 /// Returns how many parts a mail has, with parts of parts, under a limit.
@@ -43,15 +43,12 @@ fn count_of(alloc: Global, raw: &[u8]) -> Result<usize, MailParseError> {
     count_below(alloc, &mail)
 }
 
-fn push_levels(alloc: Global, answer: &mut Answer, raw: &[u8]) {
-    match least_levels(alloc, raw) {
-        Ok(levels) => {
-            answer.number(usize::from(levels));
-            answer.number_or_refusal(count_under(alloc, raw, levels));
-            answer.number_or_refusal(count_of(alloc, raw));
-        }
-        Err(error) => answer.refusal(error),
-    }
+fn push_levels(row: &Row, answer: &mut Answer) -> Outcome {
+    let levels = least_levels(row.alloc, row.bytes(0))?;
+    answer.put(usize::from(levels));
+    answer.put(count_under(row.alloc, row.bytes(0), levels));
+    answer.put(count_of(row.alloc, row.bytes(0)));
+    Ok(())
 }
 
 /// Returns the least limit on levels under which a mail is not refused for its depth, or the
@@ -66,7 +63,7 @@ pub fn least_levels(alloc: Global, raw: &[u8]) -> Result<u8, MailParseError> {
 }
 
 /// Returns whether a mail is refused for its depth.
-fn is_too_deep(found: Result<usize, MailParseError>) -> Result<bool, MailParseError> {
+fn is_too_deep(found: Result<usize, MailParseError>) -> Decision {
     match found {
         Err(MailParseError::Generic(text)) => Ok(text == "Recursion limit reached"),
         Err(MailParseError::Memory(e)) => Err(MailParseError::Memory(e)),
@@ -74,27 +71,27 @@ fn is_too_deep(found: Result<usize, MailParseError>) -> Result<bool, MailParseEr
     }
 }
 
-fn push_truncated(alloc: Global, answer: &mut Answer, raw: &[u8]) {
+fn push_truncated(answer: &mut Answer, raw: &[u8]) {
     let mut count = 0usize;
     for length in 0..=raw.len() {
-        if is_read(alloc, answer, raw.get(..length).unwrap_or(raw)) {
+        if is_read(answer, raw.get(..length).unwrap_or(raw)) {
             count = count.saturating_add(1);
         }
     }
-    answer.number(count);
+    answer.put(count);
 }
 
 /// Returns whether the front of a mail is read and contains no more than its bytes; otherwise writes
 /// why not.
-fn is_read(alloc: Global, answer: &mut Answer, front: &[u8]) -> bool {
-    match outcome(alloc, front) {
+fn is_read(answer: &mut Answer, front: &[u8]) -> bool {
+    match outcome(answer.alloc, front) {
         Ok(true) => return true,
         Ok(false) => {
-            answer.number(front.len());
+            answer.put(front.len());
             answer.word("more");
         }
         Err(error) => {
-            answer.number(front.len());
+            answer.put(front.len());
             answer.refusal(error);
         }
     }
@@ -102,28 +99,23 @@ fn is_read(alloc: Global, answer: &mut Answer, front: &[u8]) -> bool {
 }
 
 /// Returns whether the front of a mail contains no more than its bytes.
-fn outcome(alloc: Global, front: &[u8]) -> Result<bool, MailParseError> {
+fn outcome(alloc: Global, front: &[u8]) -> Decision {
     let mail = parse_mail(alloc, front)?;
     Ok(bytes_held(alloc, &mail)? <= front.len())
 }
 
-/// Returns how many bytes a mail with such contents must have at least.
+/// Returns how many bytes a mail with such contents must have at least. Each body is decoded; one that
+/// is not the Base64 that it claims to be is not an error.
 fn bytes_held(alloc: Global, mail: &ParsedMail<'_>) -> Result<usize, MailParseError> {
-    read_bodies(alloc, mail)?;
+    for part in mail.parts(alloc)? {
+        read_body(alloc, part)?;
+    }
     let held = Held::of(alloc, mail)?;
     let bytes = held.headers.saturating_add(held.bytes);
     Ok(bytes.saturating_add(held.parts.saturating_mul(3)))
 }
 
-/// Decodes each body. One that is not the Base64 that it claims to be is not an error.
-fn read_bodies(alloc: Global, mail: &ParsedMail<'_>) -> Result<(), MailParseError> {
-    for part in mail.parts(alloc)? {
-        read_body(alloc, part)?;
-    }
-    Ok(())
-}
-
-fn read_body(alloc: Global, part: &ParsedMail<'_>) -> Result<(), MailParseError> {
+fn read_body(alloc: Global, part: &ParsedMail<'_>) -> Outcome {
     match part.get_body_raw(alloc) {
         Ok(_) | Err(MailParseError::Base64DecodeError(_)) => Ok(()),
         Err(error) => Err(error),

@@ -8,79 +8,55 @@
 //! `names_of_each BYTES NAMES`: for each key of `k` and a byte, the characters of NAMES that make it
 //! match a name of `K` and the character.
 
-use crate::notation::{Answer, Row};
-use mailparse::{MailHeader, MailHeaderMap, MailParseError, ParsedMail, parse_headers, parse_mail};
+use crate::notation::{Answer, Decision, Outcome, Row};
+use mailparse::{MailHeader, MailHeaderMap, MailParseError, parse_headers, parse_mail};
 use std::alloc::{AllocError, Global};
 
 /// Makes the call of a row, if it is one of these.
-pub fn make(alloc: Global, row: &Row, answer: &mut Answer) -> bool {
-    let outcome = match row.call.as_str() {
+pub fn make(row: &Row, answer: &mut Answer) -> Decision {
+    match row.call.as_str() {
         "get_first_header"
         | "get_all_headers"
         | "get_first_value"
         | "get_all_values"
-        | "count_headers" => look_up(alloc, row, answer),
-        "names_of_each" => push_names_of_each(alloc, row, answer),
-        _ => return false,
-    };
-    answer.end(outcome);
-    true
+        | "count_headers" => look_up(row, answer)?,
+        "names_of_each" => push_names_of_each(row, answer)?,
+        _ => return Ok(false),
+    }
+    Ok(true)
 }
 
-fn look_up(alloc: Global, row: &Row, answer: &mut Answer) -> Result<(), MailParseError> {
-    let mail = parse_mail(alloc, row.bytes(0))?;
-    push_both(alloc, row, answer, &mail);
-    Ok(())
-}
-
-fn push_both(alloc: Global, row: &Row, answer: &mut Answer, mail: &ParsedMail<'_>) {
+fn look_up(row: &Row, answer: &mut Answer) -> Outcome {
+    let mail = parse_mail(row.alloc, row.bytes(0))?;
     answer.word("list");
-    push_found(alloc, row, answer, &mail.headers);
+    push_found(row, answer, &mail.headers)?;
     answer.word("block");
-    push_found(alloc, row, answer, &mail.get_headers());
+    push_found(row, answer, &mail.get_headers())
 }
 
 /// Writes the result of a look-up.
-fn push_found<M: MailHeaderMap>(alloc: Global, row: &Row, answer: &mut Answer, map: &M) {
-    let (call, name) = (row.call.as_str(), row.text(1));
-    match call {
-        "get_first_header" => push_header(answer, map.get_first_header(name)),
-        "get_first_value" => answer.optional_or_refusal(map.get_first_value(alloc, name)),
-        "get_all_values" => answer.texts_or_refusal(map.get_all_values(alloc, name)),
-        _ => push_headers(answer, call, map.get_all_headers(alloc, name)),
+fn push_found<M: MailHeaderMap>(row: &Row, answer: &mut Answer, map: &M) -> Outcome {
+    let name = row.text(1);
+    match row.call.as_str() {
+        "get_first_header" => answer.put(map.get_first_header(name).map(|it| it.get_value_raw())),
+        "get_first_value" => answer.put(map.get_first_value(row.alloc, name)),
+        "get_all_values" => answer.put(map.get_all_values(row.alloc, name)),
+        "count_headers" => answer.put(map.get_all_headers(row.alloc, name)?.len()),
+        _ => push_values(answer, map.get_all_headers(row.alloc, name)?.as_slice()),
     }
-}
-
-fn push_header(answer: &mut Answer, found: Option<&MailHeader<'_>>) {
-    match found {
-        Some(header) => answer.bytes(header.get_value_raw()),
-        None => answer.word("none"),
-    }
-}
-
-/// Writes the values of headers, or how many there are.
-fn push_headers(
-    answer: &mut Answer,
-    call: &str,
-    found: Result<Vec<&MailHeader<'_>>, MailParseError>,
-) {
-    match found {
-        Ok(headers) if call == "count_headers" => answer.number(headers.len()),
-        Ok(headers) => push_values(answer, headers.as_slice()),
-        Err(error) => answer.refusal(error),
-    }
+    Ok(())
 }
 
 fn push_values(answer: &mut Answer, headers: &[&MailHeader<'_>]) {
     for header in headers {
-        answer.bytes(header.get_value_raw());
+        answer.put(header.get_value_raw());
     }
 }
 
-fn push_names_of_each(alloc: Global, row: &Row, answer: &mut Answer) -> Result<(), MailParseError> {
-    let names = names_of(alloc, row.text(1))?;
+fn push_names_of_each(row: &Row, answer: &mut Answer) -> Outcome {
+    let names = names_of(row.alloc, row.text(1))?;
     for byte in row.bytes(0) {
-        push_names(alloc, answer, &[b'k', *byte, b':', b'v'], names.as_str());
+        answer.put(names_that_match(row.alloc, &[b'k', *byte, b':', b'v'], names.as_str()));
     }
     Ok(())
 }
@@ -97,12 +73,10 @@ fn names_of(alloc: Global, characters: &str) -> Result<String, AllocError> {
 /// The separator after each name, which is not a character of a key.
 const BETWEEN: char = '\u{20AC}';
 
-/// Writes the characters that follow `K` in names of this header.
-fn push_names(alloc: Global, answer: &mut Answer, raw: &[u8], names: &str) {
-    match parse_headers(alloc, raw) {
-        Ok((headers, _)) => answer.made(names_among(alloc, &headers, names)),
-        Err(error) => answer.refusal(error),
-    }
+/// Returns the characters that follow `K` in names of this header.
+fn names_that_match(alloc: Global, raw: &[u8], names: &str) -> Result<String, MailParseError> {
+    let (headers, _) = parse_headers(alloc, raw)?;
+    Ok(names_among(alloc, &headers, names)?)
 }
 
 /// Returns the characters that follow `K` in names of these headers.
@@ -113,18 +87,9 @@ fn names_among(
 ) -> Result<String, AllocError> {
     let mut found = String::new(alloc);
     for name in names.split(BETWEEN) {
-        push_if_named(&mut found, headers, name)?;
+        if headers.get_first_header(name).is_some() {
+            found.push_str(name.strip_prefix('K').unwrap_or(name))?;
+        }
     }
     Ok(found)
-}
-
-fn push_if_named(
-    found: &mut String,
-    headers: &Vec<MailHeader<'_>>,
-    name: &str,
-) -> Result<(), AllocError> {
-    match headers.get_first_header(name) {
-        Some(_) => found.push_str(name.strip_prefix('K').unwrap_or(name)),
-        None => Ok(()),
-    }
 }

@@ -1,60 +1,49 @@
 //! The calls on mailboxes, and on those of other forms: mboxrd, mboxcl and mboxcl2.
 
-use crate::notation::{Answer, Row};
+use crate::notation::{Answer, Decision, Row, Show};
 use mail_data::mailbox::quoted::unquoted;
 use mail_data::mailbox::{
     Format, MailboxEntry, has_front, has_line, is_mailbox, read_mailbox, settled_entry,
 };
-use std::alloc::Global;
 
 /// Makes the call of a row, if it is one of these.
-pub fn make(alloc: Global, row: &Row, answer: &mut Answer) -> bool {
+///
+/// - `settled_entry BYTES => SEPARATOR MAIL ENDING REST`, or `none`; likewise `settled_counted_entry`
+pub fn make(row: &Row, answer: &mut Answer) -> Decision {
     match row.call.as_str() {
         "read_mailbox" => list_mails(row, answer, Format::Plain),
         "read_counted_mailbox" => list_mails(row, answer, Format::Counted),
-        "settled_entry" => settle(answer, settled_entry(row.bytes(0), Format::Plain)),
-        "settled_counted_entry" => {
-            settle(answer, settled_entry(row.bytes(0), Format::Counted));
-        }
-        "settled_front" => settle_front(row, answer),
-        "unquoted" => answer.made_bytes(unquoted(alloc, row.bytes(0))),
-        _ => return false,
+        "settled_entry" => answer.put(settled_entry(row.bytes(0), Format::Plain)),
+        "settled_counted_entry" => answer.put(settled_entry(row.bytes(0), Format::Counted)),
+        "settled_front" => settle_front(answer, row.bytes(0)),
+        "unquoted" => answer.put(unquoted(row.alloc, row.bytes(0))),
+        _ => return Ok(false),
     }
-    true
+    Ok(true)
 }
 
 /// `read_mailbox BYTES => FRONT`, and `SEPARATOR MAIL ENDING` for each mail; likewise
 /// `read_counted_mailbox`.
 fn list_mails(row: &Row, answer: &mut Answer, format: Format) {
     let mails = read_mailbox(row.bytes(0), format);
-    answer.bytes(mails.front());
+    answer.put(mails.front());
     for entry in mails {
-        write_entry(answer, &entry);
+        answer.put(entry);
     }
 }
 
-/// Writes a mail with its separator and its ending.
-fn write_entry(answer: &mut Answer, entry: &MailboxEntry<'_>) {
-    answer.bytes(entry.separator());
-    answer.bytes(entry.mail());
-    answer.bytes(entry.ending());
-}
-
-/// `settled_entry BYTES => SEPARATOR MAIL ENDING REST`, or `none`; likewise `settled_counted_entry`.
-fn settle(answer: &mut Answer, found: Option<(MailboxEntry<'_>, &[u8])>) {
-    match found {
-        Some((entry, rest)) => {
-            write_entry(answer, &entry);
-            answer.bytes(rest);
-        }
-        None => answer.word("none"),
+/// A mail is shown with its separator and its ending.
+impl Show for MailboxEntry<'_> {
+    fn show(self, answer: &mut Answer) {
+        answer.put(self.separator());
+        answer.put(self.mail());
+        answer.put(self.ending());
     }
 }
 
 /// `settled_front BYTES => IS_MAILBOX HAS_LINE HAS_FRONT`.
-fn settle_front(row: &Row, answer: &mut Answer) {
-    let bytes = row.bytes(0);
-    answer.truth(is_mailbox(bytes));
-    answer.truth(has_line(bytes));
-    answer.truth(has_front(bytes));
+fn settle_front(answer: &mut Answer, bytes: &[u8]) {
+    answer.put(is_mailbox(bytes));
+    answer.put(has_line(bytes));
+    answer.put(has_front(bytes));
 }

@@ -11,21 +11,22 @@ mod steps;
 
 use crate::calls::levels::least_levels;
 use crate::calls::parts::count_parts;
-use crate::notation::{Answer, Row};
+use crate::notation::{Answer, Decision, Outcome, Row};
 use compare::is_message_of;
 use mail_laws::render::{Outline, is_well_formed, render};
-use mailparse::{MAX_LEVELS, MailParseError, parse_mail, parse_mail_limited};
+use mailparse::{MAX_LEVELS, parse_mail, parse_mail_limited};
 use std::alloc::Global;
 pub use steps::outline_of;
 
 /// Makes the call of a row, if it is one of these.
-pub fn make(alloc: Global, row: &Row, answer: &mut Answer) -> bool {
-    let outcome = match row.call.as_str() {
-        "render" | "is_well_formed" | "read_outline" | "outline" => write_all(alloc, row, answer),
-        _ => return false,
-    };
-    answer.end(outcome);
-    true
+pub fn make(row: &Row, answer: &mut Answer) -> Decision {
+    match row.call.as_str() {
+        "render" | "is_well_formed" | "read_outline" | "outline" => {
+            write_of(row.call.as_str(), answer, &outline_of(row, 0)?)?;
+        }
+        _ => return Ok(false),
+    }
+    Ok(true)
 }
 
 /// Writes the result of a call on an outline.
@@ -37,27 +38,17 @@ pub fn make(alloc: Global, row: &Row, answer: &mut Answer) -> bool {
 ///   the mail that the outline represents.
 /// - `outline STEP.. => BYTES TRUTH`: the answers of the first two calls, and after `true` that of the
 ///   third.
-fn write_all(alloc: Global, row: &Row, answer: &mut Answer) -> Result<(), MailParseError> {
-    let outline = outline_of(alloc, row, 0)?;
-    write_of(alloc, row.call.as_str(), &outline, answer)
-}
-
-fn write_of(
-    alloc: Global,
-    call: &str,
-    outline: &Outline,
-    answer: &mut Answer,
-) -> Result<(), MailParseError> {
+fn write_of(call: &str, answer: &mut Answer, outline: &Outline) -> Outcome {
     match call {
-        "render" => answer.bytes_or_refusal(render(alloc, outline)),
-        "is_well_formed" => answer.truth(is_well_formed(alloc, outline)?),
-        "read_outline" => return read_back(alloc, outline, answer),
+        "render" => answer.put(render(answer.alloc, outline)),
+        "is_well_formed" => answer.put(is_well_formed(answer.alloc, outline)),
+        "read_outline" => return read_back(answer, outline),
         _ => {
-            answer.bytes_or_refusal(render(alloc, outline));
-            let is_well_formed = is_well_formed(alloc, outline)?;
-            answer.truth(is_well_formed);
+            answer.put(render(answer.alloc, outline));
+            let is_well_formed = is_well_formed(answer.alloc, outline)?;
+            answer.put(is_well_formed);
             if is_well_formed {
-                return read_back(alloc, outline, answer);
+                return read_back(answer, outline);
             }
         }
     }
@@ -65,21 +56,16 @@ fn write_of(
 }
 
 /// Writes LEVELS and PARTS.
-fn read_back(alloc: Global, outline: &Outline, answer: &mut Answer) -> Result<(), MailParseError> {
-    let bytes = render(alloc, outline)?;
-    read_bytes(alloc, outline, bytes.as_slice(), answer)
+fn read_back(answer: &mut Answer, outline: &Outline) -> Outcome {
+    let bytes = render(answer.alloc, outline)?;
+    read_bytes(answer, outline, bytes.as_slice())
 }
 
-fn read_bytes(
-    alloc: Global,
-    outline: &Outline,
-    bytes: &[u8],
-    answer: &mut Answer,
-) -> Result<(), MailParseError> {
-    let levels = least_levels(alloc, bytes)?;
-    if is_read_under(alloc, outline, bytes, levels)? {
-        answer.number(usize::from(levels));
-        write_mail(alloc, outline, bytes, answer)
+fn read_bytes(answer: &mut Answer, outline: &Outline, bytes: &[u8]) -> Outcome {
+    let levels = least_levels(answer.alloc, bytes)?;
+    if is_read_under(answer.alloc, outline, bytes, levels)? {
+        answer.put(usize::from(levels));
+        write_mail(answer, outline, bytes)
     } else {
         answer.word("differs");
         Ok(())
@@ -88,28 +74,18 @@ fn read_bytes(
 
 /// Returns whether these bytes are read, under a limit on levels, as the mail that an outline
 /// represents.
-fn is_read_under(
-    alloc: Global,
-    outline: &Outline,
-    bytes: &[u8],
-    levels: u8,
-) -> Result<bool, MailParseError> {
+fn is_read_under(alloc: Global, outline: &Outline, bytes: &[u8], levels: u8) -> Decision {
     let mail = parse_mail_limited(alloc, bytes, levels.min(MAX_LEVELS))?;
     is_message_of(alloc, outline, &mail)
 }
 
 /// Writes how many messages a mail contains, or the word `differs`.
-fn write_mail(
-    alloc: Global,
-    outline: &Outline,
-    bytes: &[u8],
-    answer: &mut Answer,
-) -> Result<(), MailParseError> {
-    let mail = parse_mail(alloc, bytes)?;
-    match is_message_of(alloc, outline, &mail) {
-        Ok(true) => answer.number_or_refusal(count_parts(alloc, &mail)),
-        Ok(false) => answer.word("differs"),
-        Err(error) => answer.refusal(error),
+fn write_mail(answer: &mut Answer, outline: &Outline, bytes: &[u8]) -> Outcome {
+    let mail = parse_mail(answer.alloc, bytes)?;
+    if is_message_of(answer.alloc, outline, &mail)? {
+        answer.put(count_parts(answer.alloc, &mail));
+    } else {
+        answer.word("differs");
     }
     Ok(())
 }

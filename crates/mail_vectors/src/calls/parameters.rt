@@ -8,7 +8,7 @@
 //!
 //! PARAMS are the names of the parameters, each with its value, in the order of the names' bytes.
 
-use crate::notation::{Answer, Row};
+use crate::notation::{Answer, Decision, Outcome, Row, Show};
 use mailparse::{
     DispositionType, MailParseError, ParsedContentDisposition, ParsedContentType,
     parse_content_disposition, parse_content_type,
@@ -17,63 +17,59 @@ use std::alloc::Global;
 use std::collections::BTreeMap;
 
 /// Makes the call of a row, if it is one of these.
-pub fn make(alloc: Global, row: &Row, answer: &mut Answer) -> bool {
+pub fn make(row: &Row, answer: &mut Answer) -> Decision {
     match row.call.as_str() {
-        "parse_content_type" => push_parsed_type(answer, parse_content_type(alloc, row.text(0))),
+        "parse_content_type" => answer.put(parse_content_type(row.alloc, row.text(0))),
         "parse_content_disposition" => {
-            push_parsed_disposition(answer, parse_content_disposition(alloc, row.text(0)));
+            answer.put(parse_content_disposition(row.alloc, row.text(0)));
         }
-        "parse_many_parameters" => push_many(alloc, answer, row.number(0)),
-        _ => return false,
+        "parse_many_parameters" => push_many(row, answer)?,
+        _ => return Ok(false),
     }
-    true
+    Ok(true)
 }
 
-/// Writes the type that a call returned.
-pub fn push_parsed_type(answer: &mut Answer, found: Result<ParsedContentType, MailParseError>) {
-    match found {
-        Ok(ctype) => push_type(answer, &ctype),
-        Err(error) => answer.refusal(error),
-    }
-}
-
-/// Writes a type.
-pub fn push_type(answer: &mut Answer, ctype: &ParsedContentType) {
-    answer.text(ctype.mimetype.as_str());
-    answer.text(ctype.charset.as_str());
-    push_params(answer, &ctype.params);
-}
-
-/// Writes the disposition that a call returned.
-pub fn push_parsed_disposition(
-    answer: &mut Answer,
-    found: Result<ParsedContentDisposition, MailParseError>,
-) {
-    match found {
-        Ok(disposition) => push_disposition(answer, &disposition),
-        Err(error) => answer.refusal(error),
+impl Show for &ParsedContentType {
+    fn show(self, answer: &mut Answer) {
+        answer.put(self.mimetype.as_str());
+        answer.put(self.charset.as_str());
+        answer.put(&self.params);
     }
 }
 
-/// Writes a disposition.
-pub fn push_disposition(answer: &mut Answer, found: &ParsedContentDisposition) {
-    match &found.disposition {
-        DispositionType::Inline => answer.word("inline"),
-        DispositionType::Attachment => answer.word("attachment"),
-        DispositionType::FormData => answer.word("form-data"),
-        DispositionType::Extension(name) => {
-            answer.word("extension");
-            answer.text(name.as_str());
+impl Show for ParsedContentType {
+    fn show(self, answer: &mut Answer) {
+        answer.put(&self);
+    }
+}
+
+impl Show for &ParsedContentDisposition {
+    fn show(self, answer: &mut Answer) {
+        match &self.disposition {
+            DispositionType::Inline => answer.word("inline"),
+            DispositionType::Attachment => answer.word("attachment"),
+            DispositionType::FormData => answer.word("form-data"),
+            DispositionType::Extension(name) => {
+                answer.word("extension");
+                answer.put(name.as_str());
+            }
         }
+        answer.put(&self.params);
     }
-    push_params(answer, &found.params);
 }
 
-/// Writes parameters.
-fn push_params(answer: &mut Answer, params: &BTreeMap<String, String>) {
-    for (name, value) in params {
-        answer.text(name.as_str());
-        answer.text(value.as_str());
+impl Show for ParsedContentDisposition {
+    fn show(self, answer: &mut Answer) {
+        answer.put(&self);
+    }
+}
+
+impl Show for &BTreeMap<String, String> {
+    fn show(self, answer: &mut Answer) {
+        for (name, value) in self {
+            answer.put(name.as_str());
+            answer.put(value.as_str());
+        }
     }
 }
 
@@ -86,22 +82,13 @@ fn many_parameters(alloc: Global, count: usize) -> Result<ParsedContentType, Mai
     parse_content_type(alloc, text.as_str())
 }
 
-/// Writes how many parameters a type with `count` of them has, and the last of them.
-fn push_many(alloc: Global, answer: &mut Answer, count: usize) {
-    match many_parameters(alloc, count) {
-        Ok(found) => push_last(alloc, answer, &found, count.saturating_sub(1)),
-        Err(error) => answer.refusal(error),
-    }
-}
-
-/// Writes how many parameters a type has, and the one with this number.
-fn push_last(alloc: Global, answer: &mut Answer, found: &ParsedContentType, number: usize) {
-    answer.number(found.params.len());
-    match format!(in alloc; "n{number}") {
-        Ok(name) => {
-            answer.text(name.as_str());
-            answer.optional_text(found.params.get(name.as_str()).map(String::as_str));
-        }
-        Err(error) => answer.refusal(MailParseError::from(error)),
-    }
+/// Writes how many parameters a type with many of them has, and the last of them.
+fn push_many(row: &Row, answer: &mut Answer) -> Outcome {
+    let found = many_parameters(row.alloc, row.number(0))?;
+    let last = row.number(0).saturating_sub(1);
+    let name = format!(in row.alloc; "n{last}")?;
+    answer.put(found.params.len());
+    answer.put(name.as_str());
+    answer.put(found.params.get(name.as_str()).map(String::as_str));
+    Ok(())
 }

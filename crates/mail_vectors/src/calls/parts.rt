@@ -19,31 +19,28 @@
 //!   bytes of the block; `without_parts MAIL => COUNT`; `under_charset MAIL LABEL => TEXT`: the body
 //!   after the charset of the type was set.
 
-use crate::calls::bodies::push_body;
-use crate::calls::headers::push_field;
-use crate::calls::parameters::push_parsed_disposition;
-use crate::notation::{Answer, Row};
+use crate::calls::kinds::push_type;
+use crate::notation::{Answer, Decision, Outcome, Row};
 use mailparse::{MailParseError, ParsedMail, parse_mail};
 use std::alloc::Global;
 
 /// Makes the call of a row, if it is one of these.
-pub fn make(alloc: Global, row: &Row, answer: &mut Answer) -> bool {
-    let outcome = match row.call.as_str() {
+pub fn make(row: &Row, answer: &mut Answer) -> Decision {
+    match row.call.as_str() {
         "mail"
         | "nodes"
         | "types"
         | "get_raw_bytes"
         | "get_body"
         | "get_body_raw"
-        | "get_content_disposition" => push_parts(alloc, row, answer),
+        | "get_content_disposition" => push_parts(row, answer)?,
         "count_parts" | "next_parts" | "held" | "get_headers" | "debug_headers" | "debug_mail" => {
-            push_whole(alloc, row, answer)
+            push_whole(row, answer)?;
         }
-        "without_headers" | "without_parts" | "under_charset" => push_changed(alloc, row, answer),
-        _ => return false,
-    };
-    answer.end(outcome);
-    true
+        "without_headers" | "without_parts" | "under_charset" => push_changed(row, answer)?,
+        _ => return Ok(false),
+    }
+    Ok(true)
 }
 
 /// Returns how many messages a mail contains, with itself.
@@ -57,111 +54,90 @@ pub fn count_below(alloc: Global, mail: &ParsedMail<'_>) -> Result<usize, MailPa
 }
 
 /// Writes the result of a call on each part.
-fn push_parts(alloc: Global, row: &Row, answer: &mut Answer) -> Result<(), MailParseError> {
-    let mail = parse_mail(alloc, row.bytes(0))?;
-    for part in mail.parts(alloc)? {
-        push_part(alloc, answer, row.call.as_str(), part);
+fn push_parts(row: &Row, answer: &mut Answer) -> Outcome {
+    let mail = parse_mail(row.alloc, row.bytes(0))?;
+    for part in mail.parts(row.alloc)? {
+        push_part(answer, row.call.as_str(), part);
     }
     Ok(())
 }
 
-fn push_part(alloc: Global, answer: &mut Answer, call: &str, part: &ParsedMail<'_>) {
+fn push_part(answer: &mut Answer, call: &str, part: &ParsedMail<'_>) {
+    let alloc = answer.alloc;
     match call {
-        "nodes" => push_node(alloc, answer, part),
-        "types" => {
-            answer.text(part.ctype.mimetype.as_str());
-            answer.text(part.ctype.charset.as_str());
-        }
-        "get_raw_bytes" => push_raw_bytes(answer, part),
-        "get_body" => answer.text_or_refusal(part.get_body(alloc)),
-        "get_body_raw" => answer.bytes_or_refusal(part.get_body_raw(alloc)),
-        "mail" => push_fields(alloc, answer, part),
+        "types" => push_type(answer, &part.ctype),
+        "get_body" => answer.put(part.get_body(alloc)),
+        "get_body_raw" => answer.put(part.get_body_raw(alloc)),
         _ => {
             answer.word("part");
-            push_parsed_disposition(answer, part.get_content_disposition(alloc));
+            push_node(answer, call, part);
         }
     }
 }
 
-fn push_fields(alloc: Global, answer: &mut Answer, part: &ParsedMail<'_>) {
-    answer.word("part");
-    answer.number(part.subparts.len());
-    answer.text(part.ctype.mimetype.as_str());
-    answer.text(part.ctype.charset.as_str());
+/// Writes what follows the word `part`.
+fn push_node(answer: &mut Answer, call: &str, part: &ParsedMail<'_>) {
+    let alloc = answer.alloc;
+    match call {
+        "mail" => {
+            answer.put(part.subparts.len());
+            push_type(answer, &part.ctype);
+            push_fields(answer, part);
+            answer.put(part.get_body_encoded(alloc));
+        }
+        "nodes" => {
+            answer.put(part.subparts.len());
+            answer.put(part.headers.len());
+            answer.put(part.ctype.mimetype.as_str());
+            answer.put(part.get_body(alloc));
+        }
+        "get_raw_bytes" => {
+            answer.put(part.raw_bytes);
+            answer.put(part.get_headers().get_raw_bytes());
+            answer.put(part.headers.len());
+        }
+        _ => answer.put(part.get_content_disposition(alloc)),
+    }
+}
+
+fn push_fields(answer: &mut Answer, part: &ParsedMail<'_>) {
     for header in &part.headers {
         answer.word("header");
-        answer.text_or_refusal(header.get_key(alloc));
-        answer.text_or_refusal(header.get_value(alloc));
+        answer.put(header.get_key(answer.alloc));
+        answer.put(header.get_value(answer.alloc));
     }
-    match part.get_body_encoded(alloc) {
-        Ok(body) => push_body(alloc, answer, &body),
-        Err(error) => answer.refusal(error),
-    }
-}
-
-fn push_node(alloc: Global, answer: &mut Answer, part: &ParsedMail<'_>) {
-    answer.word("part");
-    answer.number(part.subparts.len());
-    answer.number(part.headers.len());
-    answer.text(part.ctype.mimetype.as_str());
-    answer.text_or_refusal(part.get_body(alloc));
-}
-
-fn push_raw_bytes(answer: &mut Answer, part: &ParsedMail<'_>) {
-    answer.word("part");
-    answer.bytes(part.raw_bytes);
-    answer.bytes(part.get_headers().get_raw_bytes());
-    answer.number(part.headers.len());
 }
 
 /// Writes the result of a call on the whole mail.
-fn push_whole(alloc: Global, row: &Row, answer: &mut Answer) -> Result<(), MailParseError> {
-    let mail = parse_mail(alloc, row.bytes(0))?;
-    push_of_whole(alloc, row, answer, &mail)
-}
-
-fn push_of_whole(
-    alloc: Global,
-    row: &Row,
-    answer: &mut Answer,
-    mail: &ParsedMail<'_>,
-) -> Result<(), MailParseError> {
+fn push_whole(row: &Row, answer: &mut Answer) -> Outcome {
+    let mail = parse_mail(row.alloc, row.bytes(0))?;
     match row.call.as_str() {
-        "count_parts" => answer.number_or_refusal(count_parts(alloc, mail)),
-        "next_parts" => return push_next(alloc, answer, mail, row.number(1)),
-        "held" => return push_held(alloc, answer, mail),
-        "get_headers" => push_listed(answer, mail),
+        "count_parts" => answer.put(count_parts(row.alloc, &mail)),
+        "next_parts" => return push_next(answer, &mail, row.number(1)),
+        "held" => return push_held(answer, &mail),
+        "get_headers" => push_listed(answer, &mail),
         "debug_headers" => answer.debug(&mail.get_headers()),
-        _ => answer.debug(mail),
+        _ => answer.debug(&mail),
     }
     Ok(())
 }
 
-fn push_next(
-    alloc: Global,
-    answer: &mut Answer,
-    mail: &ParsedMail<'_>,
-    times: usize,
-) -> Result<(), MailParseError> {
-    let mut parts = mail.parts(alloc)?;
+fn push_next(answer: &mut Answer, mail: &ParsedMail<'_>, times: usize) -> Outcome {
+    let mut parts = mail.parts(answer.alloc)?;
     for _turn in 0..times {
         match parts.next() {
-            Some(part) => answer.text(part.ctype.mimetype.as_str()),
+            Some(part) => answer.put(part.ctype.mimetype.as_str()),
             None => answer.word("none"),
         }
     }
     Ok(())
 }
 
-fn push_held(
-    alloc: Global,
-    answer: &mut Answer,
-    mail: &ParsedMail<'_>,
-) -> Result<(), MailParseError> {
-    let held = Held::of(alloc, mail)?;
-    answer.number(held.headers);
-    answer.number(held.bytes);
-    answer.number(held.parts);
+fn push_held(answer: &mut Answer, mail: &ParsedMail<'_>) -> Outcome {
+    let held = Held::of(answer.alloc, mail)?;
+    answer.put(held.headers);
+    answer.put(held.bytes);
+    answer.put(held.parts);
     Ok(())
 }
 
@@ -195,21 +171,18 @@ impl Held {
 
 /// Writes the headers of the block.
 fn push_listed(answer: &mut Answer, mail: &ParsedMail<'_>) {
-    let mut headers = mail.get_headers().into_iter();
-    for _turn in 0..=mail.headers.len() {
-        if let Some(header) = headers.next() {
-            push_field(answer, header);
-        }
+    for header in mail.get_headers() {
+        answer.put(header);
     }
 }
 
 /// Writes the result of a call on a modified mail.
-fn push_changed(alloc: Global, row: &Row, answer: &mut Answer) -> Result<(), MailParseError> {
-    let mut mail = parse_mail(alloc, row.bytes(0))?;
+fn push_changed(row: &Row, answer: &mut Answer) -> Outcome {
+    let mut mail = parse_mail(row.alloc, row.bytes(0))?;
     match row.call.as_str() {
         "without_headers" => push_without_headers(answer, &mut mail),
-        "without_parts" => push_without_parts(alloc, answer, &mut mail),
-        _ => return push_under_charset(alloc, row, answer, &mut mail),
+        "without_parts" => push_without_parts(answer, &mut mail),
+        _ => return push_under_charset(row, answer, &mut mail),
     }
     Ok(())
 }
@@ -219,24 +192,19 @@ fn push_without_headers(answer: &mut Answer, mail: &mut ParsedMail<'_>) {
     headers.clear();
     let block = mail.get_headers();
     let raw = block.get_raw_bytes();
-    answer.number(block.into_iter().count());
-    answer.bytes(raw);
+    answer.put(block.into_iter().count());
+    answer.put(raw);
 }
 
-fn push_without_parts(alloc: Global, answer: &mut Answer, mail: &mut ParsedMail<'_>) {
+fn push_without_parts(answer: &mut Answer, mail: &mut ParsedMail<'_>) {
     let subparts = &mut mail.subparts;
     subparts.clear();
-    answer.number_or_refusal(count_parts(alloc, mail));
+    answer.put(count_parts(answer.alloc, mail));
 }
 
-fn push_under_charset(
-    alloc: Global,
-    row: &Row,
-    answer: &mut Answer,
-    mail: &mut ParsedMail<'_>,
-) -> Result<(), MailParseError> {
+fn push_under_charset(row: &Row, answer: &mut Answer, mail: &mut ParsedMail<'_>) -> Outcome {
     let ctype = &mut mail.ctype;
-    ctype.charset = String::from_str(alloc, row.text(1))?;
-    answer.text_or_refusal(mail.get_body(alloc));
+    ctype.charset = String::from_str(row.alloc, row.text(1))?;
+    answer.put(mail.get_body(row.alloc));
     Ok(())
 }

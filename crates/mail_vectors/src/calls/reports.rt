@@ -1,10 +1,9 @@
 //! The calls on delivery reports and on threads.
 
-use crate::notation::{Answer, Row};
+use crate::notation::{Answer, Decision, Outcome, Row};
 use mail_data::archive::{message_id, parents};
 use mail_data::bounce::{Recipient, original_message_id, recipients};
-use mailparse::{MailParseError, ParsedMail, parse_mail};
-use std::alloc::Global;
+use mailparse::parse_mail;
 
 /// Makes the call of a row, if it is one of these.
 ///
@@ -12,34 +11,22 @@ use std::alloc::Global;
 /// - `original_message_id MAIL => ID`
 /// - `message_id MAIL => ID`
 /// - `parents MAIL => ID..`
-pub fn make(alloc: Global, row: &Row, answer: &mut Answer) -> bool {
-    let outcome = match row.call.as_str() {
-        "recipients" | "original_message_id" | "message_id" | "parents" => {
-            read_mail(alloc, row, answer)
-        }
-        _ => return false,
-    };
-    answer.end(outcome);
-    true
+pub fn make(row: &Row, answer: &mut Answer) -> Decision {
+    match row.call.as_str() {
+        "recipients" | "original_message_id" | "message_id" | "parents" => read_mail(row, answer)?,
+        _ => return Ok(false),
+    }
+    Ok(true)
 }
 
 /// Writes the result of a call on a mail.
-fn read_mail(alloc: Global, row: &Row, answer: &mut Answer) -> Result<(), MailParseError> {
-    let mail = parse_mail(alloc, row.bytes(0))?;
-    write_of(alloc, row.call.as_str(), answer, &mail)
-}
-
-fn write_of(
-    alloc: Global,
-    call: &str,
-    answer: &mut Answer,
-    mail: &ParsedMail<'_>,
-) -> Result<(), MailParseError> {
-    match call {
-        "recipients" => write_recipients(answer, recipients(alloc, mail, &())?.as_slice()),
-        "original_message_id" => answer.optional_or_refusal(original_message_id(alloc, mail, &())),
-        "message_id" => answer.optional_or_refusal(message_id(alloc, mail, &())),
-        _ => answer.texts_or_refusal(parents(alloc, mail, &())),
+fn read_mail(row: &Row, answer: &mut Answer) -> Outcome {
+    let mail = parse_mail(row.alloc, row.bytes(0))?;
+    match row.call.as_str() {
+        "recipients" => write_recipients(answer, recipients(row.alloc, &mail, &())?.as_slice()),
+        "original_message_id" => answer.put(original_message_id(row.alloc, &mail, &())),
+        "message_id" => answer.put(message_id(row.alloc, &mail, &())),
+        _ => answer.put(parents(row.alloc, &mail, &())),
     }
     Ok(())
 }
@@ -47,10 +34,10 @@ fn write_of(
 /// Writes the fields of recipients.
 fn write_recipients(answer: &mut Answer, recipients: &[Recipient]) {
     for recipient in recipients {
-        answer.optional_text(recipient.final_recipient.as_deref());
-        answer.optional_text(recipient.original_recipient.as_deref());
-        answer.optional_text(recipient.action.as_deref());
-        answer.optional_text(recipient.status.as_deref());
-        answer.optional_text(recipient.diagnostic_code.as_deref());
+        answer.put(recipient.final_recipient.as_deref());
+        answer.put(recipient.original_recipient.as_deref());
+        answer.put(recipient.action.as_deref());
+        answer.put(recipient.status.as_deref());
+        answer.put(recipient.diagnostic_code.as_deref());
     }
 }

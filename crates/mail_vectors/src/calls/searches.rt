@@ -18,34 +18,26 @@
 //! ```
 
 use super::sweeps::{Runs, push_times};
-use crate::notation::{Answer, Row};
+use crate::notation::{Answer, Decision, Row};
 use mail_codec::bytescan::{find, find_byte, find_either, find_pair, strip_ascii_whitespace};
-use mailparse::MailParseError;
-use std::alloc::{AllocError, Global};
+use std::alloc::AllocError;
 
 /// Makes the call of a row, if it is one of these.
-pub fn make(alloc: Global, row: &Row, answer: &mut Answer) -> bool {
-    let outcome = match row.call.as_str() {
-        "find_byte" | "find_either" | "find" | "find_pair" => {
-            find_all(row, answer);
-            Ok(())
-        }
-        "strip_ascii_whitespace" => {
-            answer.made_bytes(strip_ascii_whitespace(alloc, row.bytes(0)));
-            Ok(())
-        }
-        "find_each_byte" => find_each_byte(alloc, row, answer),
-        "find_each_pair" => find_each_pair(alloc, row, answer),
-        _ => return false,
-    };
-    answer.end(outcome);
-    true
+pub fn make(row: &Row, answer: &mut Answer) -> Decision {
+    match row.call.as_str() {
+        "find_byte" | "find_either" | "find" | "find_pair" => find_all(row, answer),
+        "strip_ascii_whitespace" => answer.put(strip_ascii_whitespace(row.alloc, row.bytes(0))),
+        "find_each_byte" => find_each_byte(row, answer)?,
+        "find_each_pair" => find_each_pair(row, answer)?,
+        _ => return Ok(false),
+    }
+    Ok(true)
 }
 
 /// Makes a search for each needle.
 fn find_all(row: &Row, answer: &mut Answer) {
     for at in 1..row.count() {
-        answer.optional_number(offset(row, row.call.as_str(), row.bytes(0), row.bytes(at)));
+        answer.put(offset(row, row.call.as_str(), row.bytes(0), row.bytes(at)));
     }
 }
 
@@ -73,8 +65,8 @@ struct Sweep {
 }
 
 /// Looks for each byte beside each other byte.
-fn find_each_byte(alloc: Global, row: &Row, answer: &mut Answer) -> Result<(), MailParseError> {
-    let mut sweep = Sweep::new(alloc, row);
+fn find_each_byte(row: &Row, answer: &mut Answer) -> Result<(), AllocError> {
+    let mut sweep = Sweep::new(row);
     for byte in 0..=255u8 {
         for other in 0..=255u8 {
             sweep.find_beside(answer, row.text(0), byte, other)?;
@@ -84,8 +76,8 @@ fn find_each_byte(alloc: Global, row: &Row, answer: &mut Answer) -> Result<(), M
 }
 
 /// Looks for each pair that has a byte of this pair, and for each byte twice, among other bytes.
-fn find_each_pair(alloc: Global, row: &Row, answer: &mut Answer) -> Result<(), MailParseError> {
-    let mut sweep = Sweep::new(alloc, row);
+fn find_each_pair(row: &Row, answer: &mut Answer) -> Result<(), AllocError> {
+    let mut sweep = Sweep::new(row);
     let [first, second] = row.bytes(0) else {
         row.reject();
         return Ok(());
@@ -99,9 +91,9 @@ fn find_each_pair(alloc: Global, row: &Row, answer: &mut Answer) -> Result<(), M
 }
 
 impl Sweep {
-    fn new(alloc: Global, row: &Row) -> Sweep {
+    fn new(row: &Row) -> Sweep {
         Sweep {
-            text: Vec::new(alloc),
+            text: Vec::new(row.alloc),
             most: row.number(1),
             runs: Runs::new(),
         }

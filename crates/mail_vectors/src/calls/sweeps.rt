@@ -24,7 +24,7 @@
 
 use super::searches::offset;
 use super::transfer::push_invalid;
-use crate::notation::{Answer, FORM, Row};
+use crate::notation::{Answer, Decision, FORM, Outcome, Row};
 use mail_codec::bytescan::strip_ascii_whitespace;
 use mail_codec::charset::{Charset, decode_ascii, decode_latin1};
 use mail_codec::transfer::{decode_base64, decode_base64_body, decode_quoted_printable};
@@ -33,15 +33,14 @@ use std::alloc::{AllocError, Global};
 use std::borrow::CowStr;
 
 /// Makes the call of a row, if it is one of these.
-pub fn make(alloc: Global, row: &Row, answer: &mut Answer) -> bool {
-    let outcome = match row.call.as_str() {
-        "places" => go_over_places(alloc, row, answer),
-        "around" => go_around(alloc, row, answer),
-        "fronts" => go_on(alloc, row, answer),
-        _ => return false,
-    };
-    answer.end(outcome);
-    true
+pub fn make(row: &Row, answer: &mut Answer) -> Decision {
+    match row.call.as_str() {
+        "places" => go_over_places(row, answer)?,
+        "around" => go_around(row, answer)?,
+        "fronts" => go_on(row, answer)?,
+        _ => return Ok(false),
+    }
+    Ok(true)
 }
 
 /// The run of equal items at the end of an answer.
@@ -68,7 +67,7 @@ impl Runs {
         let from = answer.len();
         match found {
             Some(offset) if offset < start => answer.negative(start.saturating_sub(offset)),
-            Some(offset) => answer.number(offset.saturating_sub(start)),
+            Some(offset) => answer.put(offset.saturating_sub(start)),
             None => answer.word("none"),
         }
         self.take(answer, from);
@@ -81,7 +80,7 @@ impl Runs {
             answer.cut(self.end);
             self.times = self.times.saturating_add(1);
             answer.word("x");
-            answer.number(self.times);
+            answer.put(self.times);
         } else {
             self.start = from;
             self.end = answer.len();
@@ -111,16 +110,16 @@ fn push_between(
 }
 
 /// Tries the bytes at all offsets.
-fn go_over_places(alloc: Global, row: &Row, answer: &mut Answer) -> Result<(), MailParseError> {
+fn go_over_places(row: &Row, answer: &mut Answer) -> Outcome {
     let mut sweep = Sweep {
-        text: Vec::new(alloc),
-        joined: Vec::new(alloc),
+        text: Vec::new(row.alloc),
+        joined: Vec::new(row.alloc),
         runs: Runs::new(),
     };
     let (fewest, most) = (row.number(6), row.number(7));
     for trail in 0..=most {
         for lead in fewest.saturating_sub(trail)..=most.saturating_sub(trail) {
-            sweep.try_place(alloc, row, answer, (lead, trail))?;
+            sweep.try_place(row, answer, (lead, trail))?;
         }
     }
     Ok(())
@@ -138,22 +137,16 @@ struct Sweep {
 
 impl Sweep {
     /// Tries the bytes at an offset, with these numbers of pieces before and after.
-    fn try_place(
-        &mut self,
-        alloc: Global,
-        row: &Row,
-        answer: &mut Answer,
-        pieces: (usize, usize),
-    ) -> Result<(), MailParseError> {
+    fn try_place(&mut self, row: &Row, answer: &mut Answer, pieces: (usize, usize)) -> Outcome {
         self.joined.clear();
         for byte in 0..=255u8 {
             if row.bytes(3) == b"any".as_slice() || row.bytes(3) == [byte].as_slice() {
-                self.try_byte(alloc, row, answer, byte, pieces)?;
+                self.try_byte(row, answer, byte, pieces)?;
             }
         }
         if !row.text(0).starts_with("find") {
             let from = answer.len();
-            answer.bytes(self.joined.as_slice());
+            answer.put(self.joined.as_slice());
             self.runs.take(answer, from);
         }
         Ok(())
@@ -162,12 +155,11 @@ impl Sweep {
     /// Tries a byte at an offset.
     fn try_byte(
         &mut self,
-        alloc: Global,
         row: &Row,
         answer: &mut Answer,
         byte: u8,
         (lead, trail): (usize, usize),
-    ) -> Result<(), MailParseError> {
+    ) -> Outcome {
         self.text.clear();
         push_times(&mut self.text, row.bytes(1), lead)?;
         push_between(&mut self.text, row.bytes(2), byte, row.bytes(4))?;
@@ -178,7 +170,7 @@ impl Sweep {
             self.runs.offset(answer, found, start);
             return Ok(());
         }
-        match decode(alloc, row.text(0), self.text.as_slice())? {
+        match decode(row, self.text.as_slice())? {
             Ok(read) => {
                 let middle = without_pieces(read.as_slice(), row.bytes(8), lead, trail);
                 self.joined.extend_from_slice(middle)?;
@@ -192,36 +184,26 @@ impl Sweep {
 /// Returns the bytes without `lead` pieces in front and `trail` pieces at the end, or all of them if
 /// there are other bytes.
 fn without_pieces<'b>(bytes: &'b [u8], piece: &[u8], lead: usize, trail: usize) -> &'b [u8] {
-    match after_pieces(bytes, piece, lead) {
-        Some(rest) => before_pieces(rest, piece, trail).unwrap_or(bytes),
-        None => bytes,
-    }
-}
-
-fn after_pieces<'b>(bytes: &'b [u8], piece: &[u8], times: usize) -> Option<&'b [u8]> {
     let mut rest = bytes;
-    for _turn in 0..times {
-        rest = rest.strip_prefix(piece)?;
+    for turn in 0..lead.saturating_add(trail) {
+        let shorter = if turn < lead {
+            rest.strip_prefix(piece)
+        } else {
+            rest.strip_suffix(piece)
+        };
+        let Some(inner) = shorter else {
+            return bytes;
+        };
+        rest = inner;
     }
-    Some(rest)
-}
-
-fn before_pieces<'b>(bytes: &'b [u8], piece: &[u8], times: usize) -> Option<&'b [u8]> {
-    let mut rest = bytes;
-    for _turn in 0..times {
-        rest = rest.strip_suffix(piece)?;
-    }
-    Some(rest)
+    rest
 }
 
 /// Decodes a text, or returns the group that is refused. The `borrowed` calls return the text if it
 /// is borrowed, and nothing if it is not.
-fn decode(
-    alloc: Global,
-    call: &str,
-    text: &[u8],
-) -> Result<Result<Vec<u8>, usize>, MailParseError> {
-    let bytes = match call {
+fn decode(row: &Row, text: &[u8]) -> Result<Result<Vec<u8>, usize>, MailParseError> {
+    let alloc = row.alloc;
+    let bytes = match row.text(0) {
         "decode_base64" => return Ok(decode_base64(alloc, text)?),
         "decode_base64_body" => return Ok(decode_base64_body(alloc, text)?),
         "strip_ascii_whitespace" => strip_ascii_whitespace(alloc, text),
@@ -252,14 +234,14 @@ fn bytes_of(
 }
 
 /// Decodes two texts with each byte between them.
-fn go_around(alloc: Global, row: &Row, answer: &mut Answer) -> Result<(), MailParseError> {
-    let mut text = Vec::new(alloc);
+fn go_around(row: &Row, answer: &mut Answer) -> Outcome {
+    let mut text = Vec::new(row.alloc);
     let mut runs = Runs::new();
     for byte in 0..=255u8 {
         text.clear();
         push_between(&mut text, row.bytes(1), byte, row.bytes(2))?;
         let from = answer.len();
-        write_between(row, answer, decode(alloc, row.text(0), text.as_slice())?);
+        write_between(row, answer, decode(row, text.as_slice())?);
         runs.take(answer, from);
     }
     Ok(())
@@ -268,7 +250,7 @@ fn go_around(alloc: Global, row: &Row, answer: &mut Answer) -> Result<(), MailPa
 /// Appends the decoded bytes between two sides, or the refused group.
 fn write_between(row: &Row, answer: &mut Answer, read: Result<Vec<u8>, usize>) {
     match read {
-        Ok(bytes) => answer.bytes(between(bytes.as_slice(), row.bytes(3), row.bytes(4))),
+        Ok(bytes) => answer.put(between(bytes.as_slice(), row.bytes(3), row.bytes(4))),
         Err(group) => push_invalid(answer, group),
     }
 }
@@ -282,20 +264,15 @@ fn between<'b>(bytes: &'b [u8], front: &[u8], back: &[u8]) -> &'b [u8] {
 }
 
 /// Decodes a text, and then its fronts one after another.
-fn go_on(alloc: Global, row: &Row, answer: &mut Answer) -> Result<(), MailParseError> {
+fn go_on(row: &Row, answer: &mut Answer) -> Outcome {
     let text = row.bytes(1);
-    let whole = decode(alloc, row.text(0), text)?.unwrap_or(Vec::new(alloc));
-    answer.bytes(whole.as_slice());
+    let whole = decode(row, text)?.unwrap_or(Vec::new(row.alloc));
+    answer.put(whole.as_slice());
     let mut runs = Runs::new();
     for length in row.number(2)..=text.len() {
         let front = text.get(..length).unwrap_or(text);
         let from = answer.len();
-        write_front(
-            answer,
-            whole.as_slice(),
-            length,
-            decode(alloc, row.text(0), front)?,
-        );
+        write_front(answer, whole.as_slice(), length, decode(row, front)?);
         runs.take(answer, from);
     }
     Ok(())
@@ -308,7 +285,7 @@ fn write_front(answer: &mut Answer, whole: &[u8], length: usize, read: Result<Ve
             if !whole.starts_with(read.as_slice()) {
                 answer.word("other");
             }
-            answer.number(length.saturating_sub(read.len()));
+            answer.put(length.saturating_sub(read.len()));
         }
         Err(group) => push_invalid(answer, group),
     }

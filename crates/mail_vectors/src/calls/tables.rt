@@ -22,9 +22,8 @@
 //! parses under the first tables, and reads the parsed mail under the others.
 
 use crate::calls::bodies::Label;
-use crate::calls::parameters::{push_parsed_disposition, push_parsed_type, push_type};
 use crate::calls::values::raw_header;
-use crate::notation::{Answer, Row};
+use crate::notation::{Answer, Decision, Outcome, Row};
 use mail_charsets::TABLES;
 use mail_codec::charset::{SingleByteTable, table_for_label};
 use mailparse::body::Body;
@@ -35,12 +34,9 @@ use mailparse::{
 use std::alloc::{AllocError, Global};
 
 /// Makes the call of a row, if it is one of these.
-pub fn make(alloc: Global, row: &Row, answer: &mut Answer) -> bool {
-    let outcome = match row.call.as_str() {
-        "labels_of_table" => {
-            push_labels(row, answer);
-            Ok(())
-        }
+pub fn make(row: &Row, answer: &mut Answer) -> Decision {
+    match row.call.as_str() {
+        "labels_of_table" => push_labels(row, answer),
         "table_for_label"
         | "decode_with"
         | "decode_without_bom_handling_with"
@@ -48,44 +44,38 @@ pub fn make(alloc: Global, row: &Row, answer: &mut Answer) -> bool {
         | "parse_content_type_with"
         | "parse_content_disposition_with"
         | "body_with"
-        | "mail_with" => choose_tables(alloc, row, answer),
-        "tables" => write_mail(alloc, answer, row.bytes(0), all_tables(), all_tables()),
-        _ => return false,
-    };
-    answer.end(outcome);
-    true
+        | "mail_with" => choose_tables(row, answer)?,
+        "tables" => write_mail(answer, row.bytes(0), all_tables(), all_tables())?,
+        _ => return Ok(false),
+    }
+    Ok(true)
 }
 
 /// Makes the call of a row with the tables that it names.
-fn choose_tables(alloc: Global, row: &Row, answer: &mut Answer) -> Result<(), MailParseError> {
+fn choose_tables(row: &Row, answer: &mut Answer) -> Outcome {
     if row.text(0) == "all" {
-        return call_with(alloc, row, answer, all_tables());
+        return call_with(row, answer, all_tables());
     }
-    let made_up = made_up(alloc, row.text(0))?;
-    let tables = own_tables(alloc, made_up.as_slice())?;
-    call_with(alloc, row, answer, tables.as_slice())
+    let made_up = made_up(row.alloc, row.text(0))?;
+    let tables = own_tables(row.alloc, made_up.as_slice())?;
+    call_with(row, answer, tables.as_slice())
 }
 
 /// Makes the call of a row with tables.
-fn call_with(
-    alloc: Global,
-    row: &Row,
-    answer: &mut Answer,
-    tables: &[SingleByteTable<'_>],
-) -> Result<(), MailParseError> {
+fn call_with(row: &Row, answer: &mut Answer, tables: &[SingleByteTable<'_>]) -> Outcome {
+    let alloc = row.alloc;
     match row.call.as_str() {
         "table_for_label" => push_numbers(row, answer, tables),
-        "decode_with" | "decode_without_bom_handling_with" => decode(alloc, row, answer, tables),
-        "get_value_with" => answer.text_or_refusal(value_of(alloc, row, tables)),
+        "decode_with" | "decode_without_bom_handling_with" => decode(row, answer, tables),
+        "get_value_with" => answer.put(value_of(row, tables)),
         "parse_content_type_with" => {
-            push_parsed_type(answer, parse_content_type_with(alloc, row.text(1), tables));
+            answer.put(parse_content_type_with(alloc, row.text(1), tables));
         }
         "parse_content_disposition_with" => {
-            let found = parse_content_disposition_with(alloc, row.text(1), tables);
-            push_parsed_disposition(answer, found);
+            answer.put(parse_content_disposition_with(alloc, row.text(1), tables));
         }
-        "body_with" => answer.text_or_refusal(body_text(alloc, row, tables)),
-        _ => return read_mail(alloc, row, answer, tables),
+        "body_with" => answer.put(body_text(row, tables)),
+        _ => return read_mail(row, answer, tables),
     }
     Ok(())
 }
@@ -157,7 +147,7 @@ pub fn all_tables() -> &'static [SingleByteTable<'static>] {
 /// Writes the number of the table for each label.
 fn push_numbers(row: &Row, answer: &mut Answer, tables: &[SingleByteTable<'_>]) {
     for at in 1..row.count() {
-        answer.optional_number(table_for_label(row.bytes(at), tables));
+        answer.put(table_for_label(row.bytes(at), tables));
     }
 }
 
@@ -172,41 +162,33 @@ fn push_labels(row: &Row, answer: &mut Answer) {
 /// Writes texts.
 fn push_all(answer: &mut Answer, texts: &[&str]) {
     for text in texts {
-        answer.text(text);
+        answer.put(*text);
     }
 }
 
 /// Writes the text of bytes under the table of a label.
-fn decode(alloc: Global, row: &Row, answer: &mut Answer, tables: &[SingleByteTable<'_>]) {
+fn decode(row: &Row, answer: &mut Answer, tables: &[SingleByteTable<'_>]) {
     let number = table_for_label(row.bytes(1), tables).unwrap_or(tables.len());
     let Some(table) = tables.get(number) else {
         return answer.word("none");
     };
-    answer.made(match row.call.as_str() {
-        "decode_with" => table.decode(alloc, row.bytes(2)),
-        _ => table.decode_without_bom_handling(alloc, row.bytes(2)),
+    answer.put(match row.call.as_str() {
+        "decode_with" => table.decode(row.alloc, row.bytes(2)),
+        _ => table.decode_without_bom_handling(row.alloc, row.bytes(2)),
     });
 }
 
 /// Returns the text that a value shows.
-fn value_of(
-    alloc: Global,
-    row: &Row,
-    tables: &[SingleByteTable<'_>],
-) -> Result<String, MailParseError> {
-    let raw = raw_header(alloc, row.bytes(1))?;
+fn value_of(row: &Row, tables: &[SingleByteTable<'_>]) -> Result<String, MailParseError> {
+    let raw = raw_header(row.alloc, row.bytes(1))?;
     let (header, _) = parse_header(raw.as_slice())?;
-    header.get_value_with(alloc, tables)
+    header.get_value_with(row.alloc, tables)
 }
 
 /// Returns the text of a body.
-fn body_text(
-    alloc: Global,
-    row: &Row,
-    tables: &[SingleByteTable<'_>],
-) -> Result<String, MailParseError> {
-    let label = Label::of(alloc, row, 1)?;
-    text_of(alloc, &label.body(row.bytes(3)), tables)
+fn body_text(row: &Row, tables: &[SingleByteTable<'_>]) -> Result<String, MailParseError> {
+    let label = Label::of(row, 1)?;
+    text_of(row.alloc, &label.body(row.bytes(3)), tables)
 }
 
 fn text_of(
@@ -224,59 +206,40 @@ fn text_of(
 }
 
 /// Writes a mail that is parsed under tables, and read under others.
-fn read_mail(
-    alloc: Global,
-    row: &Row,
-    answer: &mut Answer,
-    first: &[SingleByteTable<'_>],
-) -> Result<(), MailParseError> {
+fn read_mail(row: &Row, answer: &mut Answer, first: &[SingleByteTable<'_>]) -> Outcome {
     if row.text(1) == "all" {
-        return write_mail(alloc, answer, row.bytes(2), first, all_tables());
+        return write_mail(answer, row.bytes(2), first, all_tables());
     }
-    let made_up = made_up(alloc, row.text(1))?;
-    let others = own_tables(alloc, made_up.as_slice())?;
-    write_mail(alloc, answer, row.bytes(2), first, others.as_slice())
+    let made_up = made_up(row.alloc, row.text(1))?;
+    let others = own_tables(row.alloc, made_up.as_slice())?;
+    write_mail(answer, row.bytes(2), first, others.as_slice())
 }
 
 /// Writes a mail and its parts, parsed under tables, and read under others.
 fn write_mail(
-    alloc: Global,
     answer: &mut Answer,
     raw: &[u8],
     tables: &[SingleByteTable<'_>],
     others: &[SingleByteTable<'_>],
-) -> Result<(), MailParseError> {
-    let mail = parse_mail_with(alloc, raw, tables)?;
-    write_parts(alloc, answer, &mail, others)
-}
-
-fn write_parts(
-    alloc: Global,
-    answer: &mut Answer,
-    mail: &ParsedMail<'_>,
-    tables: &[SingleByteTable<'_>],
-) -> Result<(), MailParseError> {
-    for part in mail.parts(alloc)? {
-        write_part(alloc, answer, part, tables);
+) -> Outcome {
+    let mail = parse_mail_with(answer.alloc, raw, tables)?;
+    for part in mail.parts(answer.alloc)? {
+        write_part(answer, part, others);
     }
     Ok(())
 }
 
 /// Writes a part by itself.
-fn write_part(
-    alloc: Global,
-    answer: &mut Answer,
-    part: &ParsedMail<'_>,
-    tables: &[SingleByteTable<'_>],
-) {
+fn write_part(answer: &mut Answer, part: &ParsedMail<'_>, tables: &[SingleByteTable<'_>]) {
+    let alloc = answer.alloc;
     answer.word("part");
-    answer.number(part.subparts.len());
-    push_type(answer, &part.ctype);
+    answer.put(part.subparts.len());
+    answer.put(&part.ctype);
     for header in &part.headers {
         answer.word("header");
-        answer.text_or_refusal(header.get_key(alloc));
-        answer.text_or_refusal(header.get_value_with(alloc, tables));
+        answer.put(header.get_key(alloc));
+        answer.put(header.get_value_with(alloc, tables));
     }
-    push_parsed_disposition(answer, part.get_content_disposition_with(alloc, tables));
-    answer.text_or_refusal(part.get_body_with(alloc, tables));
+    answer.put(part.get_content_disposition_with(alloc, tables));
+    answer.put(part.get_body_with(alloc, tables));
 }

@@ -6,35 +6,32 @@
 //! decode_quoted_printable TEXT => BYTES
 //! ```
 
-use crate::notation::{Answer, Row};
+use crate::notation::{Answer, Decision, Row};
 use mail_codec::transfer::{decode_base64, decode_base64_body, decode_quoted_printable};
-use mailparse::MailParseError;
-use std::alloc::{AllocError, Global};
 
 /// Makes the call of a row, if it is one of these.
-pub fn make(alloc: Global, row: &Row, answer: &mut Answer) -> bool {
+pub fn make(row: &Row, answer: &mut Answer) -> Decision {
     match row.call.as_str() {
-        "decode_base64" => push_groups(answer, decode_base64(alloc, row.bytes(0))),
-        "decode_base64_body" => push_groups(answer, decode_base64_body(alloc, row.bytes(0))),
+        "decode_base64" => push_groups(answer, decode_base64(row.alloc, row.bytes(0))?),
+        "decode_base64_body" => push_groups(answer, decode_base64_body(row.alloc, row.bytes(0))?),
         "decode_quoted_printable" => {
-            answer.made_bytes(decode_quoted_printable(alloc, row.bytes(0)));
+            answer.put(decode_quoted_printable(row.alloc, row.bytes(0)));
         }
-        _ => return false,
+        _ => return Ok(false),
     }
-    true
+    Ok(true)
 }
 
 /// Writes the bytes of groups, or the number of the first invalid one.
-fn push_groups(answer: &mut Answer, groups: Result<Result<Vec<u8>, usize>, AllocError>) {
+fn push_groups(answer: &mut Answer, groups: Result<Vec<u8>, usize>) {
     match groups {
-        Ok(Ok(bytes)) => answer.bytes(bytes.as_slice()),
-        Ok(Err(group)) => push_invalid(answer, group),
-        Err(error) => answer.refusal(MailParseError::from(error)),
+        Ok(bytes) => answer.put(bytes),
+        Err(group) => push_invalid(answer, group),
     }
 }
 
 /// Writes the number of an invalid group.
 pub fn push_invalid(answer: &mut Answer, group: usize) {
     answer.word("error");
-    answer.number(group);
+    answer.put(group);
 }

@@ -19,10 +19,9 @@
 
 use crate::calls::bodies::Label;
 use crate::calls::latin1::OnlyLatin1;
-use crate::calls::parameters::{push_parsed_disposition, push_parsed_type, push_type};
 use crate::calls::tables::{made_up, own_tables};
 use crate::calls::values::raw_header;
-use crate::notation::{Answer, FORM, Row};
+use crate::notation::{Answer, Decision, FORM, Outcome, Row};
 use mail_charsets::{AllCharsets, Indexes};
 use mailparse::body::Body;
 use mailparse::{
@@ -32,94 +31,64 @@ use mailparse::{
 };
 use std::alloc::Global;
 
-/// Makes the call of a row, if it is one of these.
-pub fn make(alloc: Global, row: &Row, answer: &mut Answer) -> bool {
-    let outcome = match row.call.as_str() {
-        "value_under"
-        | "value_text_under"
-        | "first_value_under"
-        | "all_values_under"
-        | "type_under"
-        | "disposition_under"
-        | "body_under"
-        | "mail_under"
-        | "limited_mail_under" => choose_charsets(alloc, row, answer),
-        _ => return false,
-    };
-    answer.end(outcome);
-    true
-}
-
-/// Makes the call of a row with the charsets that it names.
-fn choose_charsets(alloc: Global, row: &Row, answer: &mut Answer) -> Result<(), MailParseError> {
-    match row.text(0) {
-        "latin1" => call_under(alloc, row, answer, &OnlyLatin1),
-        "all" => call_under(alloc, row, answer, &AllCharsets::standard()),
-        text => return call_under_made_up(alloc, row, answer, text),
+/// Makes the call of a row with the charsets that it names, if it is one of these.
+pub fn make(row: &Row, answer: &mut Answer) -> Decision {
+    if !row.call.as_str().ends_with("_under") {
+        return Ok(false);
     }
-    Ok(())
+    match row.text(0) {
+        "latin1" => call_under(row, answer, &OnlyLatin1),
+        "all" => call_under(row, answer, &AllCharsets::standard()),
+        text => call_under_made_up(row, answer, text)?,
+    }
+    Ok(true)
 }
 
 /// Makes the call of a row with made-up tables.
-fn call_under_made_up(
-    alloc: Global,
-    row: &Row,
-    answer: &mut Answer,
-    text: &str,
-) -> Result<(), MailParseError> {
-    let made_up = made_up(alloc, text)?;
-    let tables = own_tables(alloc, made_up.as_slice())?;
+fn call_under_made_up(row: &Row, answer: &mut Answer, text: &str) -> Outcome {
+    let made_up = made_up(row.alloc, text)?;
+    let tables = own_tables(row.alloc, made_up.as_slice())?;
     let known = (tables.as_slice(), Indexes::standard());
-    call_under(alloc, row, answer, &known);
+    call_under(row, answer, &known);
     Ok(())
 }
 
-/// Makes the call of a row under charsets.
-fn call_under<K: KnownCharsets>(alloc: Global, row: &Row, answer: &mut Answer, known: &K) {
+/// Makes the call of a row under charsets, and writes a refusal.
+fn call_under<K: KnownCharsets>(row: &Row, answer: &mut Answer, known: &K) {
+    let outcome = write_under(row, answer, known);
+    answer.put(outcome);
+}
+
+/// The same, except that the caller writes a refusal.
+fn write_under<K: KnownCharsets>(row: &Row, answer: &mut Answer, known: &K) -> Outcome {
+    let alloc = row.alloc;
     match row.call.as_str() {
-        "value_under" => answer.text_or_refusal(value_of(alloc, row, known)),
-        "value_text_under" => answer.text_or_refusal(value_text_in(alloc, row.bytes(1), known)),
-        "first_value_under" | "all_values_under" => look_up(alloc, row, answer, known),
-        "type_under" => {
-            push_parsed_type(answer, parse_content_type_in(alloc, row.text(1), known));
-        }
+        "value_under" => answer.put(value_of(row, known)),
+        "value_text_under" => answer.put(value_text_in(alloc, row.bytes(1), known)),
+        "first_value_under" | "all_values_under" => look_up(row, answer, known)?,
+        "type_under" => answer.put(parse_content_type_in(alloc, row.text(1), known)),
         "disposition_under" => {
-            let found = parse_content_disposition_in(alloc, row.text(1), known);
-            push_parsed_disposition(answer, found);
+            answer.put(parse_content_disposition_in(alloc, row.text(1), known));
         }
-        "body_under" => answer.text_or_refusal(body_text(alloc, row, known)),
-        "mail_under" => write_mail(
-            alloc,
-            answer,
-            parse_mail_in(alloc, row.bytes(1), known),
-            known,
-        ),
-        _ => {
-            let mail = limited(alloc, row.bytes(1), row.levels(2), known);
-            write_mail(alloc, answer, mail, known);
-        }
+        "body_under" => answer.put(body_text(row, known)),
+        "mail_under" => write_mail(answer, &parse_mail_in(alloc, row.bytes(1), known)?, known)?,
+        "limited_mail_under" => write_mail(answer, &limited(row, known)?, known)?,
+        _ => row.reject(),
     }
+    Ok(())
 }
 
 /// Returns the text that a value shows.
-fn value_of<K: KnownCharsets>(
-    alloc: Global,
-    row: &Row,
-    known: &K,
-) -> Result<String, MailParseError> {
-    let raw = raw_header(alloc, row.bytes(1))?;
+fn value_of<K: KnownCharsets>(row: &Row, known: &K) -> Result<String, MailParseError> {
+    let raw = raw_header(row.alloc, row.bytes(1))?;
     let (header, _) = parse_header(raw.as_slice())?;
-    header.get_value_in(alloc, known)
+    header.get_value_in(row.alloc, known)
 }
 
 /// Returns the text of a body.
-fn body_text<K: KnownCharsets>(
-    alloc: Global,
-    row: &Row,
-    known: &K,
-) -> Result<String, MailParseError> {
-    let label = Label::of(alloc, row, 1)?;
-    text_of(alloc, &label.body(row.bytes(3)), known)
+fn body_text<K: KnownCharsets>(row: &Row, known: &K) -> Result<String, MailParseError> {
+    let label = Label::of(row, 1)?;
+    text_of(row.alloc, &label.body(row.bytes(3)), known)
 }
 
 fn text_of<K: KnownCharsets>(
@@ -137,88 +106,57 @@ fn text_of<K: KnownCharsets>(
 }
 
 /// Writes the first value with a name, or all.
-fn look_up<K: KnownCharsets>(alloc: Global, row: &Row, answer: &mut Answer, known: &K) {
-    match parse_mail_in(alloc, row.bytes(1), known) {
-        Ok(mail) => {
-            answer.word("list");
-            push_found(alloc, row, answer, &mail.headers, known);
-            answer.word("block");
-            push_found(alloc, row, answer, &mail.get_headers(), known);
-        }
-        Err(error) => answer.refusal(error),
-    }
-}
-
-fn push_found<M: MailHeaderMap, K: KnownCharsets>(
-    alloc: Global,
-    row: &Row,
-    answer: &mut Answer,
-    map: &M,
-    known: &K,
-) {
-    let (call, name) = (row.call.as_str(), row.text(2));
-    match call {
-        "first_value_under" => {
-            answer.optional_or_refusal(map.get_first_value_in(alloc, name, known));
-        }
-        _ => answer.texts_or_refusal(map.get_all_values_in(alloc, name, known)),
-    }
-}
-
-/// Writes a mail and its parts, each before its own parts.
-fn write_mail<K: KnownCharsets>(
-    alloc: Global,
-    answer: &mut Answer,
-    mail: Result<ParsedMail<'_>, MailParseError>,
-    known: &K,
-) {
-    let outcome = match mail {
-        Ok(mail) => write_parts(alloc, answer, &mail, known),
-        Err(error) => Err(error),
-    };
-    answer.end(outcome);
-}
-
-fn write_parts<K: KnownCharsets>(
-    alloc: Global,
-    answer: &mut Answer,
-    mail: &ParsedMail<'_>,
-    known: &K,
-) -> Result<(), MailParseError> {
-    for part in mail.parts(alloc)? {
-        write_part(alloc, answer, part, known);
-    }
+fn look_up<K: KnownCharsets>(row: &Row, answer: &mut Answer, known: &K) -> Outcome {
+    let mail = parse_mail_in(row.alloc, row.bytes(1), known)?;
+    answer.word("list");
+    push_found(row, answer, &mail.headers, known);
+    answer.word("block");
+    push_found(row, answer, &mail.get_headers(), known);
     Ok(())
+}
+
+fn push_found<M, K>(row: &Row, answer: &mut Answer, map: &M, known: &K)
+where
+    M: MailHeaderMap,
+    K: KnownCharsets,
+{
+    match row.call.as_str() {
+        "first_value_under" => answer.put(map.get_first_value_in(row.alloc, row.text(2), known)),
+        _ => answer.put(map.get_all_values_in(row.alloc, row.text(2), known)),
+    }
 }
 
 /// Parses a mail under a limit on levels.
 fn limited<'a, K: KnownCharsets>(
-    alloc: Global,
-    raw: &'a [u8],
-    levels: u8,
+    row: &'a Row,
     known: &K,
 ) -> Result<ParsedMail<'a>, MailParseError> {
+    let levels = row.levels(2);
     if levels > MAX_LEVELS {
         return Err(FORM);
     }
-    parse_mail_limited_in(alloc, raw, levels, known)
+    parse_mail_limited_in(row.alloc, row.bytes(1), levels, known)
+}
+
+/// Writes a mail and its parts, each before its own parts.
+fn write_mail<K: KnownCharsets>(answer: &mut Answer, mail: &ParsedMail<'_>, known: &K) -> Outcome {
+    for part in mail.parts(answer.alloc)? {
+        write_part(answer, part, known);
+    }
+    Ok(())
 }
 
 /// Writes a part by itself.
-fn write_part<K: KnownCharsets>(
-    alloc: Global,
-    answer: &mut Answer,
-    part: &ParsedMail<'_>,
-    known: &K,
-) {
+fn write_part<K: KnownCharsets>(answer: &mut Answer, part: &ParsedMail<'_>, known: &K) {
+    let alloc = answer.alloc;
     answer.word("part");
-    answer.number(part.subparts.len());
-    push_type(answer, &part.ctype);
+    answer.put(part.subparts.len());
+    answer.put(&part.ctype);
     for header in &part.headers {
         answer.word("header");
-        answer.text_or_refusal(header.get_key(alloc));
-        answer.text_or_refusal(header.get_value_in(alloc, known));
+        answer.put(header.get_key(alloc));
+        answer.put(header.get_value_in(alloc, known));
     }
-    push_parsed_disposition(answer, part.get_content_disposition_in(alloc, known));
-    answer.text_or_refusal(part.get_body_in(alloc, known));
+    answer.put(part.get_content_disposition_in(alloc, known));
+    answer.put(part.get_body_in(alloc, known));
 }

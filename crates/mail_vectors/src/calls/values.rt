@@ -4,28 +4,28 @@
 //! - `dateparse TEXT => SECONDS`: the seconds since 1970, or a refusal
 //! - `msgidparse TEXT => ID..`, or a refusal
 
-use crate::notation::{Answer, Row};
-use mailparse::{MailParseError, dateparse, msgidparse, parse_header};
+use crate::notation::{Answer, Decision, Row, Show};
+use mailparse::{MailParseError, MessageIdList, dateparse, msgidparse, parse_header};
 use std::alloc::Global;
 
 /// Makes the call of a row, if it is one of these.
-pub fn make(alloc: Global, row: &Row, answer: &mut Answer) -> bool {
+pub fn make(row: &Row, answer: &mut Answer) -> Decision {
     match row.call.as_str() {
-        "get_value" | "get_value_utf8" => answer.text_or_refusal(value_of(alloc, row)),
-        "dateparse" => push_date(row, answer),
-        "msgidparse" => push_ids(alloc, row, answer),
-        _ => return false,
+        "get_value" | "get_value_utf8" => answer.put(value_of(row)),
+        "dateparse" => answer.put(dateparse(row.text(0))),
+        "msgidparse" => answer.put(msgidparse(row.alloc, row.text(0))),
+        _ => return Ok(false),
     }
-    true
+    Ok(true)
 }
 
 /// Returns the text of a value.
-fn value_of(alloc: Global, row: &Row) -> Result<String, MailParseError> {
-    let raw = raw_header(alloc, row.bytes(0))?;
+fn value_of(row: &Row) -> Result<String, MailParseError> {
+    let raw = raw_header(row.alloc, row.bytes(0))?;
     let (header, _) = parse_header(raw.as_slice())?;
     match row.call.as_str() {
-        "get_value" => header.get_value(alloc),
-        _ => header.get_value_utf8(alloc),
+        "get_value" => header.get_value(row.alloc),
+        _ => header.get_value_utf8(row.alloc),
     }
 }
 
@@ -36,16 +36,8 @@ pub fn raw_header(alloc: Global, value: &[u8]) -> Result<Vec<u8>, MailParseError
     Ok(raw)
 }
 
-fn push_date(row: &Row, answer: &mut Answer) {
-    match dateparse(row.text(0)) {
-        Ok(seconds) => answer.signed(seconds),
-        Err(error) => answer.refusal(error),
-    }
-}
-
-fn push_ids(alloc: Global, row: &Row, answer: &mut Answer) {
-    match msgidparse(alloc, row.text(0)) {
-        Ok(ids) => answer.texts(ids.0.as_slice()),
-        Err(error) => answer.refusal(error),
+impl Show for MessageIdList {
+    fn show(self, answer: &mut Answer) {
+        answer.put(self.0);
     }
 }
