@@ -20,7 +20,8 @@ pub(crate) fn write_result(
     }
 }
 
-/// Writes bytes to the front of the buffer if they fit, and their length to `needed`. Returns the code.
+/// Writes bytes to the front of the buffer if they fit, and their length to `needed`. Returns the
+/// code.
 pub(crate) fn write_bytes(buffer: &mut [u8], needed: &mut usize, bytes: &[u8]) -> u32
     ensures code { result ≡ written_code buffer.old bytes.now }
     ensures written { buffer.new ≡ filled buffer.old bytes.now }

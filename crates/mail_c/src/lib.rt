@@ -1,9 +1,10 @@
 //! The C library: `c/rocktray.h` declares and describes the calls that are exported here.
 //!
-//! A call whose result is bytes gets its input, an output buffer and a reference to a length. It writes
-//! the result to the front of the buffer and sets the length to that of the result. If the buffer is too
-//! short it only sets the length. It returns a code (`codes`): after every code but 0 the buffer is
-//! unchanged, and after every code but 0 and 1 the length is too. No call keeps memory or a reference.
+//! A call whose result is bytes gets its input, an output buffer and a reference to a length. It
+//! writes the result to the front of the buffer and sets the length to that of the result. If the
+//! buffer is too short it only sets the length. It returns a code (`codes`): after every code but 0
+//! the buffer is unchanged, and after every code but 0 and 1 the length is too. No call keeps
+//! memory or a reference.
 #![tactic(auto)]
 
 ghost use Rattle.std.specs.Prelude.{◌≡◌, length};
@@ -164,7 +165,8 @@ pub extern "C" fn rocktray_ids(
     write_result(buffer, needed, results::ids(alloc, text, needs_at))
 }
 
-/// Reads the value of a Date header: the seconds since 1970, and whether its zone is known (1 or 0).
+/// Reads the value of a Date header: the seconds since 1970, and whether its zone is known (1 or
+/// 0).
 #[unsafe(no_mangle)]
 pub extern "C" fn rocktray_date(text: &[u8], seconds: &mut i64, is_zone_known: &mut u8) -> u32
     ensures { ReturnsDate (date text.now) seconds.old seconds.new is_zone_known.new result }

@@ -27,7 +27,8 @@ pub(crate) fn date(seconds: &mut i64, is_zone_known: &mut u8, text: &[u8]) -> u3
     }
 }
 
-/// Returns the seconds since 1970 of a date and whether its zone is known, or the code of its refusal.
+/// Returns the seconds since 1970 of a date and whether its zone is known, or the code of its
+/// refusal.
 fn dated(text: &[u8]) -> Result<(i64, bool), u32>
     ensures { result ≡ date text.now }
 {

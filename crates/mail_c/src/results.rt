@@ -84,8 +84,8 @@ pub(crate) fn text<K: KnownCharsets>(
     Ok(Some(read.text.into_bytes()))
 }
 
-/// Returns the raw value of the `number`-th header with this name, counting from 0, or `None` if there
-/// is no such header.
+/// Returns the raw value of the `number`-th header with this name, counting from 0, or `None` if
+/// there is no such header.
 #[tactic(auto, unfolding(crate::specs::Results::raw_value))]
 pub(crate) fn raw_value(
     alloc: Global,

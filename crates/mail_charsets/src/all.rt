@@ -51,8 +51,8 @@ type Tables = &'static [SingleByteTable<'static>];
 /// The tables of ISO 8859, those of Windows, the other tables, and the indexes of the encodings.
 type Standard = (Tables, (Tables, (Tables, Indexes<'static>)));
 
-/// All charsets of the standard that can be read: the four of `mail_codec`, then those of the tables
-/// of this crate, and then its encodings.
+/// All charsets of the standard that can be read: the four of `mail_codec`, then those of the
+/// tables of this crate, and then its encodings.
 ///
 /// The labels of the replacement encoding, such as `iso-2022-kr`, are unknown, since the standard
 /// does not read its texts: a value in one of them stays as it is written.

@@ -82,8 +82,8 @@ fn entry_characters(plane: &[u16], entry: u16) -> Characters
     characters_of_code(0x2_0000 + u32::from(entry_at(plane, usize::from(entry - 0xD800))))
 }
 
-/// Returns the text of the bytes in Big5 under its two indexes (the WHATWG Encoding Standard, section
-/// 11.1).
+/// Returns the text of the bytes in Big5 under its two indexes (the WHATWG Encoding Standard,
+/// section 11.1).
 pub(crate) fn decode_big5(
     alloc: Global,
     bytes: &[u8],

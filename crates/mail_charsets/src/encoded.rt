@@ -26,8 +26,8 @@ pub(crate) trait Encoded {
     fn pair(&self, lead: u8, trail: u8) -> Characters
         ensures { characters_of result ≡ pairs self.now lead trail };
 
-    /// Returns the sequence of more than two bytes at the front, or `None` if the bytes do not begin
-    /// one.
+    /// Returns the sequence of more than two bytes at the front, or `None` if the bytes do not
+    /// begin one.
     fn long(&self, bytes: &[u8]) -> Option<Front>
         requires { 2 ≤ length bytes.now }
         ensures read { option_map taken_of result ≡ long self.now bytes.now }
@@ -61,8 +61,8 @@ pub(crate) fn decode<E: Encoded>(
     Ok(text)
 }
 
-/// Writes the text of as many fronts as fit into the buffer, and returns how many bytes were read and
-/// written.
+/// Writes the text of as many fronts as fit into the buffer, and returns how many bytes were read
+/// and written.
 fn encode_fronts<E: Encoded>(buffer: &mut [u8], bytes: &[u8], encoding: &E) -> (usize, usize)
     requires capacity { 8 ≤ length buffer.old }
     requires some { 0 < length bytes.now }

@@ -61,8 +61,8 @@ impl Encoding {
         encoding_of(label.trim_ascii())
     }
 
-    /// Returns the encoding that has the label, as `for_label` does, but `None` for the labels of the
-    /// replacement encoding, whose texts cannot be read.
+    /// Returns the encoding that has the label, as `for_label` does, but `None` for the labels of
+    /// the replacement encoding, whose texts cannot be read.
     ///
     /// Does not allocate.
     ///

@@ -41,7 +41,8 @@ impl<'t> Encoded for EucKr<'t> {
     }
 }
 
-/// Returns the text of the bytes in EUC-KR under an index (the WHATWG Encoding Standard, section 13.1).
+/// Returns the text of the bytes in EUC-KR under an index (the WHATWG Encoding Standard, section
+/// 13.1).
 pub(crate) fn decode_euc_kr(
     alloc: Global,
     bytes: &[u8],

@@ -61,8 +61,8 @@ pub(crate) fn put_characters(buffer: &mut [u8], at: usize, characters: Character
     }
 }
 
-/// Returns the front of `taken` bytes with these characters or, if there are none, of `faulty` invalid
-/// bytes.
+/// Returns the front of `taken` bytes with these characters or, if there are none, of `faulty`
+/// invalid bytes.
 pub(crate) fn front_or(characters: Characters, taken: usize, faulty: usize) -> Front
     requires some { 0 < faulty }
     requires less { faulty ≤ taken }
@@ -77,8 +77,8 @@ pub(crate) fn front_or(characters: Characters, taken: usize, faulty: usize) -> F
     }
 }
 
-/// Returns how many of `taken` bytes are invalid together: all, except that an ASCII byte at their end
-/// is read again.
+/// Returns how many of `taken` bytes are invalid together: all, except that an ASCII byte at their
+/// end is read again.
 pub(crate) fn faulty(last: u8, taken: usize) -> usize
     requires { 1 < taken }
     ensures value { result ≡ faulty last taken }

@@ -109,8 +109,8 @@ fn four_characters(ranges: &[(u16, u16)], pointer: u32) -> Characters
     characters_of_code(0x1_0000 + (pointer - 189000))
 }
 
-/// Returns the code at a pointer, counted from the last range that begins at it or before it, or 0 if
-/// none does.
+/// Returns the code at a pointer, counted from the last range that begins at it or before it, or 0
+/// if none does.
 fn code(ranges: &[(u16, u16)], pointer: u32) -> u32
     requires { pointer < 39420 }
     ensures value { result ≡ range_code ranges.now 0 pointer }
@@ -125,8 +125,8 @@ fn code(ranges: &[(u16, u16)], pointer: u32) -> u32
     found
 }
 
-/// Returns the text of the bytes in gb18030 under an index and ranges (the WHATWG Encoding Standard,
-/// section 10.2).
+/// Returns the text of the bytes in gb18030 under an index and ranges (the WHATWG Encoding
+/// Standard, section 10.2).
 pub(crate) fn decode_gb18030(
     alloc: Global,
     bytes: &[u8],

@@ -2,16 +2,16 @@
 
 use crate::tables;
 
-/// The indexes from which the encodings take their characters. An index maps each pointer to the code
-/// of a character, or to 0 if it has no character there.
+/// The indexes from which the encodings take their characters. An index maps each pointer to the
+/// code of a character, or to 0 if it has no character there.
 ///
 /// As known charsets, they know all encodings of this crate except for replacement.
 #[derive(Clone, Copy, Debug)]
 pub struct Indexes<'t> {
     /// The index of GBK and gb18030.
     pub gb18030: &'t [u16],
-    /// The ranges of gb18030 up to pointer 39419: pointers of four bytes in ascending order, each with
-    /// the code of its character.
+    /// The ranges of gb18030 up to pointer 39419: pointers of four bytes in ascending order, each
+    /// with the code of its character.
     pub gb18030_ranges: &'t [(u16, u16)],
     /// The index of Big5, in which 0xD800 + n refers to entry n of `big5_plane`.
     pub big5: &'t [u16],

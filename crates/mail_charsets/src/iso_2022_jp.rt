@@ -1,4 +1,5 @@
-//! ISO-2022-JP, in which escape sequences select a mode (the WHATWG Encoding Standard, section 12.2).
+//! ISO-2022-JP, in which escape sequences select a mode (the WHATWG Encoding Standard, section
+//! 12.2).
 ghost use Rattle.std.specs.Prelude.{◌≡◌, ◌<◌, ◌≤◌, ◌++◌, length, take, drop, IsUtf8, IfOk, IfSome, if◌then◌else◌, [], ◌∷◌, string_bytes};
 ghost use Rattle.mail_charsets.specs.Front.{characters_of, taken_of};
 ghost use Rattle.mail_charsets.specs.Iso2022Jp.{ascii_or, escape, iso_2022_jp_text, jp_chars, jp_front, jp_pair, jp_step, jp_text_from, katakana_or, roman_or};
@@ -122,7 +123,8 @@ fn step(bytes: &[u8], index: &[u16], state: State) -> (Front, State)
     }
 }
 
-/// Returns the characters of an escape: U+FFFD if another comes right before it, and none otherwise.
+/// Returns the characters of an escape: U+FFFD if another comes right before it, and none
+/// otherwise.
 fn escape_characters(fresh: bool) -> Characters
     ensures { characters_of result ≡ (if fresh then 0xFFFD ∷ [] else []) }
 {

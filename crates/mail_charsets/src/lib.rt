@@ -3,9 +3,10 @@
 //! ISO-2022-JP, Shift_JIS and EUC-KR, in which a character may take several bytes, are values of
 //! `Encoding`, as are x-user-defined and the replacement encoding.
 //!
-//! Pass all of the tables, or a few, to the calls of `mailparse` that take tables; a byte that has no
-//! character in an encoding is U+FFFD. `AllCharsets` knows all charsets of the standard; the pair
-//! `(tables, Indexes::standard())` knows the tables of a caller and the encodings of several bytes.
+//! Pass all of the tables, or a few, to the calls of `mailparse` that take tables; a byte that has
+//! no character in an encoding is U+FFFD. `AllCharsets` knows all charsets of the standard; the
+//! pair `(tables, Indexes::standard())` knows the tables of a caller and the encodings of several
+//! bytes.
 //!
 //! # Examples
 //!

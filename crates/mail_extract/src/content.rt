@@ -11,8 +11,8 @@ use mailparse::{MailParseError, ParsedMail};
 use std::alloc::Global;
 use std::borrow::CowSlice;
 
-/// What can be read of a part. Where its body is empty, as that of a multipart whose delimiter never
-/// comes, it is all that follows its headers.
+/// What can be read of a part. Where its body is empty, as that of a multipart whose delimiter
+/// never comes, it is all that follows its headers.
 pub fn content_of<'m>(
     alloc: Global,
     part: &'m ParsedMail<'_>,

@@ -16,8 +16,8 @@ pub enum Created {
     Failed(io::Error),
 }
 
-/// A directory in which files are saved. A contract sees its files, if the directory shows them, and
-/// whether creating a file may fail.
+/// A directory in which files are saved. A contract sees its files, if the directory shows them,
+/// and whether creating a file may fail.
 pub trait Directory {
     ghost held: { Self → Option (List File) };
 

@@ -12,8 +12,8 @@ use std::alloc::{AllocError, Global};
 /// The greatest number of bytes of a name before a number.
 const MOST_STEM: usize = 200;
 
-/// Returns the wanted name of a file with this name from its sender, or of one without a name and with
-/// this ending.
+/// Returns the wanted name of a file with this name from its sender, or of one without a name and
+/// with this ending.
 ///
 /// # Errors
 ///

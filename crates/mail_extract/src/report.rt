@@ -31,8 +31,8 @@ pub struct Line<'l> {
 ///
 /// # Errors
 ///
-/// `Fault::Output` if a write fails, and `Fault::Mail` with `MailParseError::Memory` if it runs out of
-/// memory.
+/// `Fault::Output` if a write fails, and `Fault::Mail` with `MailParseError::Memory` if it runs out
+/// of memory.
 pub fn write_line<W: Write>(alloc: Global, out: &mut W, line: &Line<'_>) -> Result<(), Fault>
     ensures { Writes (W.contents out.old) (W.contents out.new) result (line_text (line_view line.now)) }
 {

@@ -59,7 +59,8 @@ pub struct Request<'a> {
     expected: Expected,
 }
 
-/// Returns what the arguments request. The first that is wrong or requests help or the version decides.
+/// Returns what the arguments request. The first that is wrong or requests help or the version
+/// decides.
 ///
 /// # Errors
 ///

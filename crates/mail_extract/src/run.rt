@@ -174,8 +174,8 @@ impl<'r, R: Files + Eprint + AllocGlobal, W: Write> Saver<'r, R, W> {
         Ok(outcome)
     }
 
-    /// Writes the line of an input or a mail that is refused. `path` is the part that contains the mail,
-    /// for one inside a mail.
+    /// Writes the line of an input or a mail that is refused. `path` is the part that contains the
+    /// mail, for one inside a mail.
     fn write_error<'l>(
         &mut self,
         file: Option<&'l str>,

@@ -61,8 +61,9 @@ enum Kept {
     Nowhere(io::Error),
 }
 
-/// Saves the files of a mail and of the mails inside it in a directory. File names are decoded under
-/// the known charsets. If a name is taken, a number is added to it; `number` is the next to be tried.
+/// Saves the files of a mail and of the mails inside it in a directory. File names are decoded
+/// under the known charsets. If a name is taken, a number is added to it; `number` is the next to
+/// be tried.
 ///
 /// # Errors
 ///

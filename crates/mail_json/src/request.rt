@@ -147,7 +147,8 @@ impl<'w> Request<'w> {
         }
     }
 
-    /// Returns whether parts of the inputs can be read: they are files, and no mail gives its length.
+    /// Returns whether parts of the inputs can be read: they are files, and no mail gives its
+    /// length.
     fn may_be_in_parts(&self) -> bool {
         let are_files = !self.inputs.is_empty() && self.inputs.iter().all(|input| input.is_some());
         match self.how.kind {

@@ -57,8 +57,8 @@ pub fn are_files(rt: &(impl Files + Eprint + AllocGlobal), inputs: &[Option<&str
     true
 }
 
-/// Writes the mails of the inputs, and reports on standard error what could not be read. Returns the
-/// fault that ends the run if a write fails or it runs out of memory.
+/// Writes the mails of the inputs, and reports on standard error what could not be read. Returns
+/// the fault that ends the run if a write fails or it runs out of memory.
 pub fn run(
     rt: &(impl Files + Input + Print + Eprint + AllocGlobal + Clone + Drop),
     request: &Request<'_>,
@@ -227,8 +227,8 @@ fn run_input<R: Read, W: Write>(
     }
 }
 
-/// Writes the mails of a directory: those of a Maildir, which has a directory `cur` or `new`, or each
-/// file.
+/// Writes the mails of a directory: those of a Maildir, which has a directory `cur` or `new`, or
+/// each file.
 fn run_directory<W: Write>(
     rt: &(impl Files + Eprint + AllocGlobal + Clone + Drop),
     out: &mut W,
@@ -262,8 +262,8 @@ fn is_directory(rt: &impl Files, name: &str) -> bool {
     }
 }
 
-/// Writes the mails of the files of a directory in the order of their names, without those whose names
-/// begin with a dot.
+/// Writes the mails of the files of a directory in the order of their names, without those whose
+/// names begin with a dot.
 fn run_files<W: Write>(
     rt: &(impl Files + Eprint + AllocGlobal + Clone + Drop),
     out: &mut W,

@@ -21,8 +21,8 @@ use mailparse::{KnownCharsets, MailParseError, parse_mail_in};
 use std::alloc::{AllocError, Global};
 use std::io::Write;
 
-/// Writes the objects of the parts of the mails inside a mail, each after a comma. The mail begins at
-/// the offset `start` of the input.
+/// Writes the objects of the parts of the mails inside a mail, each after a comma. The mail begins
+/// at the offset `start` of the input.
 pub(crate) fn write_inside<W: Write, K: KnownCharsets>(
     alloc: Global,
     out: &mut W,
@@ -41,7 +41,8 @@ pub(crate) fn write_inside<W: Write, K: KnownCharsets>(
     Ok(())
 }
 
-/// Writes the objects of the parts of a mail inside, each after a comma; none for one that is refused.
+/// Writes the objects of the parts of a mail inside, each after a comma; none for one that is
+/// refused.
 fn write_inner_parts<W: Write, K: KnownCharsets>(
     alloc: Global,
     out: &mut W,

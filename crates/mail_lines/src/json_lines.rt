@@ -28,8 +28,8 @@ use std::io::Write;
 ///
 /// # Errors
 ///
-/// `Fault::Output` if a write fails, and `Fault::Mail` with `MailParseError::Memory` if it runs out of
-/// memory.
+/// `Fault::Output` if a write fails, and `Fault::Mail` with `MailParseError::Memory` if it runs out
+/// of memory.
 ///
 /// # Examples
 ///

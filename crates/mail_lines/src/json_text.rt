@@ -186,8 +186,9 @@ fn has_hidden(text: &str) -> bool
     false
 }
 
-/// Returns whether a character, which JSON allows in a string, moves the cursor of a terminal or ends a
-/// line for some readers: DEL, the controls from U+0080 to U+009F, and the separators U+2028 and U+2029.
+/// Returns whether a character, which JSON allows in a string, moves the cursor of a terminal or
+/// ends a line for some readers: DEL, the controls from U+0080 to U+009F, and the separators U+2028
+/// and U+2029.
 #[tactic(auto, unfolding(crate::specs::JsonText::is_hidden))]
 fn is_hidden(c: char) -> bool
     ensures { result ≡ is_hidden c }

@@ -17,9 +17,9 @@ ghost use Rattle.mail_lines.specs.declared.options.InputKind.{InputKind};
 ghost use Rattle.mail_lines.specs.Values.{AreJsonLines, IsJsonLine, IsLineValue, unread_value};
 
 /// Each line that is written of an input is JSON, and ends in its only LF: the parser of the crate
-/// `json` reads the text before the LF as a value in which no object has a key twice. For the line of a
-/// mail, or of its refusal, this is the value that `IsLineValue` gives, and for that of an input that
-/// could not be read it is `unread_value`.
+/// `json` reads the text before the LF as a value in which no object has a key twice. For the line
+/// of a mail, or of its refusal, this is the value that `IsLineValue` gives, and for that of an
+/// input that could not be read it is `unread_value`.
 pub fn lines_are_json()
     ensures line { (options : Options) (origin : Origin) (mail : Reads Tree) (is_clean : Bool)
         (text : List ℕ) → IsLineOf options origin mail is_clean text →
@@ -36,8 +36,8 @@ pub fn lines_are_json()
         × (line_of (unread_value file text) ≡ object ++ codes "\n") }
 {}
 
-/// The lines of equal parts of an input, one after another, are those of the whole without the numbers
-/// of mails, and no error is among them exactly if none is in any part.
+/// The lines of equal parts of an input, one after another, are those of the whole without the
+/// numbers of mails, and no error is among them exactly if none is in any part.
 pub fn parts_join()
     ensures { (options : Options) (kind : InputKind) (file : Option (List ℕ)) (bytes : List ℕ)
         (count : ℕ) (are_clean : ℕ → Bool) (texts : ℕ → List ℕ) →
@@ -49,8 +49,8 @@ pub fn parts_join()
         (flat_map (λ text. text) (values_below count texts)) }
 {}
 
-/// The lines of the mails that begin in a range of offsets are found by reading from its `reading_start`
-/// onwards.
+/// The lines of the mails that begin in a range of offsets are found by reading from its
+/// `reading_start` onwards.
 pub fn range_is_found()
     ensures { (options : Options) (format : Format) (file : Option (List ℕ)) (bytes : List ℕ)
         (from to : ℕ) (is_clean : Bool) (text : List ℕ) → has_parts format ≡ true →

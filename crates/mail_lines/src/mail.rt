@@ -33,8 +33,8 @@ use std::io::Write;
 ///
 /// # Errors
 ///
-/// `Fault::Output` if a write fails, and `Fault::Mail` with `MailParseError::Memory` if it runs out of
-/// memory.
+/// `Fault::Output` if a write fails, and `Fault::Mail` with `MailParseError::Memory` if it runs out
+/// of memory.
 ///
 /// # Examples
 ///
@@ -123,8 +123,8 @@ fn write_raw<W: Write>(alloc: Global, out: &mut W, mail: &ParsedMail<'_>) -> Res
     write_word(out, "}")
 }
 
-/// Writes the raw value of the first header with this name, after the text `before`: each byte is the
-/// character of its number.
+/// Writes the raw value of the first header with this name, after the text `before`: each byte is
+/// the character of its number.
 #[tactic(auto, unfolding(crate::specs::Printed::text_of))]
 fn write_raw_value<W: Write>(
     alloc: Global,
@@ -203,8 +203,8 @@ fn write_id_list<W: Write, K: KnownCharsets>(
     write_texts(alloc, out, ids.as_slice())
 }
 
-/// Writes the date: its seconds, and whether its zone is unknown. Without a date it writes `null`, and
-/// so for one that is refused, with the reason.
+/// Writes the date: its seconds, and whether its zone is unknown. Without a date it writes `null`,
+/// and so for one that is refused, with the reason.
 fn write_date<W: Write, K: KnownCharsets>(
     alloc: Global,
     out: &mut W,

@@ -81,8 +81,8 @@ pub(crate) fn write_error<W: Write>(
 ///
 /// # Errors
 ///
-/// `Fault::Output` if a write fails, and `Fault::Mail` with `MailParseError::Memory` if it runs out of
-/// memory.
+/// `Fault::Output` if a write fails, and `Fault::Mail` with `MailParseError::Memory` if it runs out
+/// of memory.
 ///
 /// # Examples
 ///

@@ -38,8 +38,8 @@ use mailparse::{
 use std::alloc::{AllocError, Global};
 use std::io::Write;
 
-/// Writes the objects of a mail that begins at this offset of the input and of its parts, separated by
-/// commas, without those of the mails inside it.
+/// Writes the objects of a mail that begins at this offset of the input and of its parts, separated
+/// by commas, without those of the mails inside it.
 pub(crate) fn write_parts<W: Write, K: KnownCharsets>(
     alloc: Global,
     out: &mut W,
@@ -88,8 +88,8 @@ pub(crate) fn write_found<W: Write, K: KnownCharsets>(
     Ok(())
 }
 
-/// Writes the object of a part, without its parts. The mail begins at the offset `mail_start` of the
-/// input, or is encoded.
+/// Writes the object of a part, without its parts. The mail begins at the offset `mail_start` of
+/// the input, or is encoded.
 pub(crate) fn write_part<W: Write, K: KnownCharsets>(
     alloc: Global,
     out: &mut W,
@@ -135,8 +135,8 @@ fn is_hashed(hashes: bool, is_attachment: bool) -> bool
     hashes && is_attachment
 }
 
-/// Returns an offset in the input by the offset `at` in a mail that begins at `start`, or `None` if the
-/// mail is encoded.
+/// Returns an offset in the input by the offset `at` in a mail that begins at `start`, or `None` if
+/// the mail is encoded.
 pub(crate) fn place_in(start: Option<usize>, at: usize) -> Option<usize>
     ensures { result ≡ place_in start at }
 {

@@ -51,8 +51,8 @@ impl FilePart {
 }
 
 /// Returns the offset at which reading starts, so that the first mail of a range from this offset
-/// onwards is found: three bytes before it, since a separator follows an empty line and the end of the
-/// line before that.
+/// onwards is found: three bytes before it, since a separator follows an empty line and the end of
+/// the line before that.
 ///
 /// # Examples
 ///
@@ -82,8 +82,8 @@ fn part_start(size: usize, count: usize, number: usize) -> usize
 ///
 /// # Errors
 ///
-/// `Fault::Input` if a read fails, and `Fault::Mail` with `MailParseError::Memory` if it runs out of
-/// memory.
+/// `Fault::Input` if a read fails, and `Fault::Mail` with `MailParseError::Memory` if it runs out
+/// of memory.
 ///
 /// # Examples
 ///
@@ -103,8 +103,8 @@ pub fn shows_mailbox<R: Read>(alloc: Global, reader: &mut R, kind: InputKind) ->
 }
 
 /// Writes the lines of the first part of an input, which ends at the offset `end`: of a mailbox the
-/// error for the text before the first mail, and the mails that begin before `end`; or the line of an
-/// input that is one mail.
+/// error for the text before the first mail, and the mails that begin before `end`; or the line of
+/// an input that is one mail.
 ///
 /// # Errors
 ///
@@ -146,7 +146,8 @@ pub fn write_first_part<R: Read, W: Write, M: Watch, K: KnownCharsets>(
 }
 
 /// Writes the lines of the mails of a mailbox that begin in a range, where the reader is at the
-/// `reading_start` of the range. An input whose kind does not say its format is read in the plain one.
+/// `reading_start` of the range. An input whose kind does not say its format is read in the plain
+/// one.
 ///
 /// # Errors
 ///

@@ -14,15 +14,15 @@ use mailparse::{KnownCharsets, ParsedMail};
 use std::alloc::Global;
 use std::io::Write;
 
-/// Writes the recipients of a delivery report (RFC 3464, section 2.3), as a line with one list. Each is
-/// an object with the members `final_recipient`, `original_recipient`, `action`, `status` and
-/// `diagnostic_code`, which are strings or `null`. The list is empty if the mail is no such report.
-/// Takes memory as `mail_data::bounce::recipients` does, and for each string.
+/// Writes the recipients of a delivery report (RFC 3464, section 2.3), as a line with one list.
+/// Each is an object with the members `final_recipient`, `original_recipient`, `action`, `status`
+/// and `diagnostic_code`, which are strings or `null`. The list is empty if the mail is no such
+/// report. Takes memory as `mail_data::bounce::recipients` does, and for each string.
 ///
 /// # Errors
 ///
-/// `Fault::Output` if a write fails, and `Fault::Mail` with `MailParseError::Memory` if it runs out of
-/// memory.
+/// `Fault::Output` if a write fails, and `Fault::Mail` with `MailParseError::Memory` if it runs out
+/// of memory.
 ///
 /// # Examples
 ///

@@ -11,8 +11,8 @@ use mail_data::mailbox::MailboxEntry;
 pub enum Selection {
     /// All of them. They are numbered, and the next one has this number.
     Numbered(usize),
-    /// Those whose separator begins at `from` or later, and before `to`. They have no numbers, since
-    /// it is not known how many come before them.
+    /// Those whose separator begins at `from` or later, and before `to`. They have no numbers,
+    /// since it is not known how many come before them.
     Within {
         /// The first offset of the range.
         from: usize,

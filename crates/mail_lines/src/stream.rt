@@ -106,8 +106,8 @@ pub fn write_input<R: Read, W: Write, M: Watch, K: KnownCharsets>(
     write_chosen(alloc, out, reader, source, Selection::Numbered(1), watch)
 }
 
-/// Writes the lines of an input, of a mailbox those of the mails that have one, each as soon as it was
-/// read.
+/// Writes the lines of an input, of a mailbox those of the mails that have one, each as soon as it
+/// was read.
 pub(crate) fn write_chosen<R: Read, W: Write, M: Watch, K: KnownCharsets>(
     alloc: Global,
     out: &mut W,
@@ -185,7 +185,8 @@ fn first_wanted(kind: InputKind) -> Wanted
 }
 
 /// Appends what the reader has left until the bytes contain what is wanted, or to its end. Returns
-/// whether it is at its end. The bytes are doubled from one look to the next, so the time is linear.
+/// whether it is at its end. The bytes are doubled from one look to the next, so the time is
+/// linear.
 pub(crate) fn read_until<R: Read>(
     alloc: Global,
     bytes: &mut Vec<u8>,
@@ -219,7 +220,8 @@ fn is_there(wanted: Wanted, bytes: &[u8]) -> bool
     }
 }
 
-/// Writes the lines of a mailbox of which these bytes were read, up to the first separator or further.
+/// Writes the lines of a mailbox of which these bytes were read, up to the first separator or
+/// further.
 fn write_following<R: Read, W: Write, M: Watch, K: KnownCharsets>(
     alloc: Global,
     out: &mut W,

@@ -18,7 +18,8 @@ use std::io::{Read, Write};
 ///
 /// # Errors
 ///
-/// - `Fault::Mail` if `parse_mail` refuses the input, with its refusal, and if it runs out of memory,
+/// - `Fault::Mail` if `parse_mail` refuses the input, with its refusal, and if it runs out of
+///   memory,
 /// - `Fault::Input` if a read fails,
 /// - `Fault::Output` if a write or the flush fails.
 pub fn run<R: Read, W: Write>(alloc: Global, reader: &mut R, writer: &mut W) -> Result<(), Fault>

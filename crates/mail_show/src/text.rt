@@ -8,8 +8,8 @@ ghost use Rattle.mailparse.specs.Views.{tree_of};
 use mailparse::{MailHeader, MailParseError, ParsedMail};
 use std::alloc::{AllocError, Global};
 
-/// Returns the text of a message and its parts, each before its own parts: a line for each part, and
-/// one for each of its headers. Allocates the text.
+/// Returns the text of a message and its parts, each before its own parts: a line for each part,
+/// and one for each of its headers. Allocates the text.
 ///
 /// # Errors
 ///
@@ -44,8 +44,8 @@ fn push_part(
     Ok(())
 }
 
-/// Writes the line of the part with this number: its type, the number of its headers, and the size of
-/// its body.
+/// Writes the line of the part with this number: its type, the number of its headers, and the size
+/// of its body.
 #[tactic(auto, unfolding(crate::specs::Text::part_line))]
 fn push_part_line(
     text: &mut String,

@@ -1,24 +1,24 @@
 //! Times tasks on the bytes of standard input: `mail_speed ROUNDS TASK..`; or decodes them:
 //! `mail_speed recode LABEL`.
 //!
-//! TASK is one of these, or the label of an encoding of several bytes, in which the input is decoded:
+//! TASK is one of these, or the label of an encoding of several bytes, in which the input is
+//! decoded:
 //!
 //! - `lines` finds each LF, `absent` searches for a byte that is absent, and `text` for a text that
 //!   begins with LF,
 //! - `whitespace` removes ASCII whitespace,
-//! - `base64`, `base64-body` (without whitespace, as in the body of a message) and `quoted-printable`
-//!   decode the input,
-//! - `parse` reads a message, `values` also the value of each of its headers, and `full` the values and
-//!   decoded bodies of all its parts,
+//! - `base64`, `base64-body` (without whitespace, as in the body of a message) and
+//!   `quoted-printable` decode the input,
+//! - `parse` reads a message, `values` also the value of each of its headers, and `full` the values
+//!   and decoded bodies of all its parts,
 //! - `mailbox-parse` and `mailbox-full` do so with each message of a mailbox.
 //!
-//! The size of the result goes to standard output. The nanoseconds for each byte of the input, the least
-//! and the median of the rounds, go to standard error. bench/bench.py runs it on large bodies,
-//! on texts in each encoding, and on large mails and
-//! mailboxes.
+//! The size of the result goes to standard output. The nanoseconds for each byte of the input, the
+//! least and the median of the rounds, go to standard error. bench/bench.py runs it on large
+//! bodies, on texts in each encoding, and on large mails and mailboxes.
 //!
-//! `recode` writes the input, decoded from the encoding of several bytes that has this label, as UTF-8,
-//! for tests/test_charsets.py. The exit status is 1 if no such encoding has the label.
+//! `recode` writes the input, decoded from the encoding of several bytes that has this label, as
+//! UTF-8, for tests/test_charsets.py. The exit status is 1 if no such encoding has the label.
 #![tactic(auto)]
 
 mod tasks;

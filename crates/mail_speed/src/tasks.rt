@@ -7,7 +7,8 @@ use mail_data::mailbox::{Format, read_mailbox};
 use mailparse::{MailParseError, ParsedMail, parse_mail};
 use std::alloc::{AllocError, Global};
 
-/// Runs the task of this name. Returns the size of its result: bytes, lines, or headers of a message.
+/// Runs the task of this name. Returns the size of its result: bytes, lines, or headers of a
+/// message.
 pub fn run(alloc: Global, name: &str, input: &[u8]) -> Result<usize, MailParseError> {
     match name {
         "lines" => Ok(lines(input)),
@@ -34,8 +35,8 @@ fn decoded(alloc: Global, label: &str, input: &[u8]) -> Result<usize, MailParseE
     }
 }
 
-/// Returns the input, decoded from the encoding of several bytes that has this label, or `None` if none
-/// has it.
+/// Returns the input, decoded from the encoding of several bytes that has this label, or `None` if
+/// none has it.
 pub fn text_of(alloc: Global, label: &str, input: &[u8]) -> Result<Option<String>, AllocError> {
     match Encoding::for_label(label.as_bytes()) {
         Some(encoding) => Ok(Some(encoding.decode_under(alloc, input, &Indexes::standard())?)),
@@ -80,8 +81,8 @@ fn mails(alloc: Global, is_full: bool, mailbox: &[u8]) -> Result<usize, MailPars
     Ok(size)
 }
 
-/// Reads a message; if `is_full`, also its values and bodies. Returns the size of the result, which is 0
-/// if the message is refused.
+/// Reads a message; if `is_full`, also its values and bodies. Returns the size of the result, which
+/// is 0 if the message is refused.
 fn mail(alloc: Global, is_full: bool, input: &[u8]) -> Result<usize, MailParseError> {
     match parse_mail(alloc, input) {
         Ok(mail) if is_full => full(alloc, &mail),
@@ -99,8 +100,8 @@ fn values(alloc: Global, mail: &ParsedMail<'_>) -> Result<usize, MailParseError>
     Ok(mail.headers.len())
 }
 
-/// Reads the value of each header and the whole body of a message and of each of its parts. Returns the
-/// size of the decoded bodies.
+/// Reads the value of each header and the whole body of a message and of each of its parts. Returns
+/// the size of the decoded bodies.
 fn full(alloc: Global, mail: &ParsedMail<'_>) -> Result<usize, MailParseError> {
     let mut bytes = 0usize;
     for part in mail.parts(alloc)? {
@@ -109,8 +110,8 @@ fn full(alloc: Global, mail: &ParsedMail<'_>) -> Result<usize, MailParseError> {
     Ok(bytes)
 }
 
-/// Reads the value of each header and the body of a part. Returns the size of the decoded body, which is
-/// 0 if it is refused.
+/// Reads the value of each header and the body of a part. Returns the size of the decoded body,
+/// which is 0 if it is refused.
 fn part_bytes(alloc: Global, part: &ParsedMail<'_>) -> Result<usize, MailParseError> {
     let _headers = values(alloc, part)?;
     match part.get_body_raw(alloc) {

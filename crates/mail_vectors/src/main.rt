@@ -1,5 +1,5 @@
-//! Replays the suite: each row of the given files is a call with its inputs and its expected result.
-//! The rows that differ are printed, with what the call returned.
+//! Replays the suite: each row of the given files is a call with its inputs and its expected
+//! result. The rows that differ are printed, with what the call returned.
 //!
 //! With `again` among the arguments, a row that runs out of memory is tried again while that may
 //! help. So a run under failing allocations shows that each call reports them, and that it returns

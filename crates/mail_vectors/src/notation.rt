@@ -1,5 +1,5 @@
-//! The notation of the suite: a row is read into a call, its inputs and the expected answer, and the
-//! result of a call is written in the same notation. `data/README.md` describes it.
+//! The notation of the suite: a row is read into a call, its inputs and the expected answer, and
+//! the result of a call is written in the same notation. `data/README.md` describes it.
 
 use mailparse::MailParseError;
 use std::alloc::{AllocError, Global};
@@ -14,9 +14,9 @@ pub const FORM: MailParseError = MailParseError::Generic(NOT_A_ROW);
 /// The message of the refusal of such a row.
 const NOT_A_ROW: &str = "not a row of the suite";
 
-/// The capacity of a new answer, so that writing it allocates nothing more. Nothing else allocates a
-/// buffer of this size, so `tests/refuse.c`, which has the same constant, recognizes the start of a
-/// row by it.
+/// The capacity of a new answer, so that writing it allocates nothing more. Nothing else allocates
+/// a buffer of this size, so `tests/refuse.c`, which has the same constant, recognizes the start of
+/// a row by it.
 const ANSWER_SIZE: usize = 48_611;
 
 /// The end of a call whose answer is written, or why there is none.
@@ -61,8 +61,8 @@ enum Part {
 }
 
 impl Row {
-    /// Reads `NAME: CALL INPUT.. => ITEM.. ! MARK..`, where the name and the marks are optional, and
-    /// `refusal` may come before the call.
+    /// Reads `NAME: CALL INPUT.. => ITEM.. ! MARK..`, where the name and the marks are optional,
+    /// and `refusal` may come before the call.
     pub fn read(alloc: Global, text: &str) -> Result<Row, MailParseError> {
         let (name, rest) = name_and_rest(text);
         let is_debug = rest.starts_with("refusal ");
@@ -94,8 +94,8 @@ impl Row {
 
     /// Returns the bytes of an input.
     ///
-    /// This call and the next ones return an empty value if the row has no such input; `fits` reports
-    /// that afterwards, once for all inputs.
+    /// This call and the next ones return an empty value if the row has no such input; `fits`
+    /// reports that afterwards, once for all inputs.
     pub fn bytes(&self, at: usize) -> &[u8] {
         let input = self.inputs.get(at).map(|item| item.bytes.as_slice());
         self.given(input, b"")
@@ -457,8 +457,8 @@ impl Answer {
         self.push(digits.get(front..).unwrap_or(&digits));
     }
 
-    /// Appends `error` and the text of a refusal, or what `debug_error` does if the row asks for that.
-    /// Running out of memory is not a refusal, and neither is `FORM`.
+    /// Appends `error` and the text of a refusal, or what `debug_error` does if the row asks for
+    /// that. Running out of memory is not a refusal, and neither is `FORM`.
     pub fn refusal(&mut self, error: MailParseError) {
         match &error {
             MailParseError::Memory(_) => self.has_run_out = true,
@@ -506,8 +506,8 @@ impl Answer {
         }
     }
 
-    /// Appends the Debug texts of an error, of its source and of its kind; each of the last two may be
-    /// the word `none`.
+    /// Appends the Debug texts of an error, of its source and of its kind; each of the last two may
+    /// be the word `none`.
     pub fn debug_error(&mut self, error: &MailParseError) {
         self.debug(error);
         self.optional_debug(error.source());

@@ -72,8 +72,8 @@ impl Tally {
         }
     }
 
-    /// Makes the call of a row, and again at most `times` times if memory runs out. A call that must
-    /// not allocate is made once.
+    /// Makes the call of a row, and again at most `times` times if memory runs out. A call that
+    /// must not allocate is made once.
     fn make_call(&mut self, row: &Row, times: u32) -> Result<(), AllocError> {
         for _turn in 0..times {
             if self.has_returned(row)? {

@@ -1,5 +1,5 @@
-//! The calls on addresses. An ITEM is `mailbox NAME ADDRESS`, `group NAME COUNT` and its members, or
-//! `unknown BYTES`.
+//! The calls on addresses. An ITEM is `mailbox NAME ADDRESS`, `group NAME COUNT` and its members,
+//! or `unknown BYTES`.
 //!
 //! ```text
 //! addresses VALUE => ITEM..

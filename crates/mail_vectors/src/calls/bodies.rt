@@ -1,7 +1,7 @@
 //! Bodies.
 //!
-//! - `body ENCODING LABEL BYTES => BODY`: ENCODING is the transfer encoding or `none`, LABEL that of
-//!   the charset. BODY is the kind of the body, its raw bytes, its decoded bytes and their text;
+//! - `body ENCODING LABEL BYTES => BODY`: ENCODING is the transfer encoding or `none`, LABEL that
+//!   of the charset. BODY is the kind of the body, its raw bytes, its decoded bytes and their text;
 //!   each of the last two may be a refusal.
 
 use crate::notation::{Answer, Decision, Row, Show};

@@ -1,9 +1,9 @@
 //! The calls on errors.
 //!
-//! - `error KIND => DISPLAY DEBUG SOURCE REFUSAL`: the texts of an error. KIND is `generic`, whose text
-//!   is `a "text"`, `encoding` and `owned_encoding`, whose text is `x`, `memory`, `quoted-printable`, or
-//!   `base64` and the number of a group. SOURCE is the Debug text of the wrapped fault, and REFUSAL
-//!   that of the kind of refusal; each may be `none`.
+//! - `error KIND => DISPLAY DEBUG SOURCE REFUSAL`: the texts of an error. KIND is `generic`, whose
+//!   text is `a "text"`, `encoding` and `owned_encoding`, whose text is `x`, `memory`,
+//!   `quoted-printable`, or `base64` and the number of a group. SOURCE is the Debug text of the
+//!   wrapped fault, and REFUSAL that of the kind of refusal; each may be `none`.
 //! - `from KIND => DEBUG`: the error that another one is converted to.
 //! - `fault KIND => DISPLAY DEBUG`: the texts of a fault by itself.
 

@@ -53,8 +53,8 @@ fn list_files<K: KnownCharsets>(row: &Row, answer: &mut Answer, known: &K) -> Ou
     Ok(())
 }
 
-/// `file_name MAIL PART => NAME`, `is_attachment MAIL PART => TRUTH` and `is_leaf MAIL PART => TRUTH`;
-/// likewise `file_name_with` and `is_attachment_with`, under all tables.
+/// `file_name MAIL PART => NAME`, `is_attachment MAIL PART => TRUTH` and `is_leaf MAIL PART =>
+/// TRUTH`; likewise `file_name_with` and `is_attachment_with`, under all tables.
 fn look_at<K: KnownCharsets>(row: &Row, answer: &mut Answer, known: &K) -> Outcome {
     let mail = parse_mail_in(row.alloc, row.bytes(0), known)?;
     let part = part_at(row.alloc, &mail, row.number(1))?;
@@ -104,8 +104,8 @@ fn get_parameter(row: &Row, answer: &mut Answer) -> Outcome {
     Ok(())
 }
 
-/// `part_places MAIL => PATH START END START END` for the mail and each part: its range, and then that
-/// of its body.
+/// `part_places MAIL => PATH START END START END` for the mail and each part: its range, and then
+/// that of its body.
 fn list_places(row: &Row, answer: &mut Answer) -> Outcome {
     let mail = parse_mail(row.alloc, row.bytes(0))?;
     for place in &places(row.alloc, &mail)? {

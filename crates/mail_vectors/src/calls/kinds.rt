@@ -5,8 +5,8 @@
 //! - `default_content_type => MIMETYPE CHARSET COUNT DEBUG`, with how many parameters there are.
 //! - `default_disposition => KIND EQUAL EQUAL`: the default, and whether a copy of its kind and the
 //!   default kind are equal to it; `debug_default_disposition => TEXT`.
-//! - `get_content_type ENCODING LABEL BODY => MIMETYPE CHARSET`: the type of a body that was made of the
-//!   default type with this charset, in this transfer encoding or `none`.
+//! - `get_content_type ENCODING LABEL BODY => MIMETYPE CHARSET`: the type of a body that was made
+//!   of the default type with this charset, in this transfer encoding or `none`.
 //! - `equal_dispositions TEXT TEXT => true`, or `false`: whether the kinds of two dispositions are
 //!   equal, and so a copy of the first and the second.
 //! - `show_ids ID.. => DISPLAY DEBUG` of a list of these ids.

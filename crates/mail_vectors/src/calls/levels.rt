@@ -2,12 +2,12 @@
 //!
 //! - `max_levels => NUMBER`.
 //! - `parse_mail_limited LEVELS MAIL => PARTS`: how many parts there are, or the refusal.
-//! - `levels MAIL => LEVELS PARTS PARTS`: the least limit under which the mail is not refused for its
-//!   depth, how many parts there are then, or the refusal, and the same of `parse_mail`.
-//! - `truncated MAIL => COUNT`: to how many lengths the mail can be truncated, from none of its bytes
-//!   to all of them, so that the front is read, with its bodies unless one is not Base64, and has no
-//!   more headers, bytes of bodies, and parts at three bytes each, than it has bytes. Each other
-//!   length precedes the count, with the refusal, or with the word `more`.
+//! - `levels MAIL => LEVELS PARTS PARTS`: the least limit under which the mail is not refused for
+//!   its depth, how many parts there are then, or the refusal, and the same of `parse_mail`.
+//! - `truncated MAIL => COUNT`: to how many lengths the mail can be truncated, from none of its
+//!   bytes to all of them, so that the front is read, with its bodies unless one is not Base64, and
+//!   has no more headers, bytes of bodies, and parts at three bytes each, than it has bytes. Each
+//!   other length precedes the count, with the refusal, or with the word `more`.
 
 use crate::calls::parts::{Held, count_below};
 use crate::notation::{Answer, Decision, FORM, Outcome, Row};
@@ -81,8 +81,8 @@ fn push_truncated(answer: &mut Answer, raw: &[u8]) {
     answer.put(count);
 }
 
-/// Returns whether the front of a mail is read and contains no more than its bytes; otherwise writes
-/// why not.
+/// Returns whether the front of a mail is read and contains no more than its bytes; otherwise
+/// writes why not.
 fn is_read(answer: &mut Answer, front: &[u8]) -> bool {
     match outcome(answer.alloc, front) {
         Ok(true) => return true,
@@ -104,8 +104,8 @@ fn outcome(alloc: Global, front: &[u8]) -> Decision {
     Ok(bytes_held(alloc, &mail)? <= front.len())
 }
 
-/// Returns how many bytes a mail with such contents must have at least. Each body is decoded; one that
-/// is not the Base64 that it claims to be is not an error.
+/// Returns how many bytes a mail with such contents must have at least. Each body is decoded; one
+/// that is not the Base64 that it claims to be is not an error.
 fn bytes_held(alloc: Global, mail: &ParsedMail<'_>) -> Result<usize, MailParseError> {
     for part in mail.parts(alloc)? {
         read_body(alloc, part)?;

@@ -5,8 +5,8 @@
 //! - `get_first_value`, `get_all_values`: the texts of the values, or the word `none`.
 //! - `count_headers`: how many headers there are with this name.
 //!
-//! `names_of_each BYTES NAMES`: for each key of `k` and a byte, the characters of NAMES that make it
-//! match a name of `K` and the character.
+//! `names_of_each BYTES NAMES`: for each key of `k` and a byte, the characters of NAMES that make
+//! it match a name of `K` and the character.
 
 use crate::notation::{Answer, Decision, Outcome, Row};
 use mailparse::{MailHeader, MailHeaderMap, MailParseError, parse_headers, parse_mail};

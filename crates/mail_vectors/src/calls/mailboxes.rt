@@ -8,7 +8,8 @@ use mail_data::mailbox::{
 
 /// Makes the call of a row, if it is one of these.
 ///
-/// - `settled_entry BYTES => SEPARATOR MAIL ENDING REST`, or `none`; likewise `settled_counted_entry`
+/// - `settled_entry BYTES => SEPARATOR MAIL ENDING REST`, or `none`; likewise
+///   `settled_counted_entry`
 pub fn make(row: &Row, answer: &mut Answer) -> Decision {
     match row.call.as_str() {
         "read_mailbox" => list_mails(row, answer, Format::Plain),

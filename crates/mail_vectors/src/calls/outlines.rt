@@ -2,8 +2,8 @@
 //!
 //! - `header KEY VALUE` adds a header to the next outline;
 //! - `leaf BODY` makes an outline with this body;
-//! - `branch BOUNDARY COUNT` makes one whose parts are the last COUNT outlines, in the order in which
-//!   they were made;
+//! - `branch BOUNDARY COUNT` makes one whose parts are the last COUNT outlines, in the order in
+//!   which they were made;
 //! - `mixed BOUNDARY COUNT` does so with a last header `Content-Type` that names the boundary.
 
 mod compare;
@@ -36,8 +36,8 @@ pub fn make(row: &Row, answer: &mut Answer) -> Decision {
 /// - `read_outline STEP.. => LEVELS PARTS`: the least limit on levels under which the bytes of the
 ///   outline are read, and how many messages the mail contains; or the word `differs` if it is not
 ///   the mail that the outline represents.
-/// - `outline STEP.. => BYTES TRUTH`: the answers of the first two calls, and after `true` that of the
-///   third.
+/// - `outline STEP.. => BYTES TRUTH`: the answers of the first two calls, and after `true` that of
+///   the third.
 fn write_of(call: &str, answer: &mut Answer, outline: &Outline) -> Outcome {
     match call {
         "render" => answer.put(render(answer.alloc, outline)),

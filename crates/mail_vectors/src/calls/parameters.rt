@@ -3,8 +3,8 @@
 //! - `parse_content_type TEXT => TYPE CHARSET`, and then PARAMS
 //! - `parse_content_disposition TEXT => KIND`, and then PARAMS. KIND is `inline`, `attachment`,
 //!   `form-data`, or `extension` and the name of another kind.
-//! - `parse_many_parameters COUNT => COUNT NAME VALUE`: a type with COUNT parameters `n0=v0`, `n1=v1`
-//!   and so on; how many there are, and the last one.
+//! - `parse_many_parameters COUNT => COUNT NAME VALUE`: a type with COUNT parameters `n0=v0`,
+//!   `n1=v1` and so on; how many there are, and the last one.
 //!
 //! PARAMS are the names of the parameters, each with its value, in the order of the names' bytes.
 

@@ -1,23 +1,23 @@
-//! The calls on mails and on their parts. Unless stated otherwise, each answers for the mail and then
-//! for each of its parts, each before its own parts. A refused mail is an answer, too.
+//! The calls on mails and on their parts. Unless stated otherwise, each answers for the mail and
+//! then for each of its parts, each before its own parts. A refused mail is an answer, too.
 //!
 //! - `mail MAIL => NODE..`. A NODE is `part`, how many parts it has, its type and the label of its
-//!   charset; `header` with a key and its value for each header; and then its body as in the calls on
-//!   bodies.
+//!   charset; `header` with a key and its value for each header; and then its body as in the calls
+//!   on bodies.
 //! - `nodes MAIL => part SUBPARTS HEADERS MIMETYPE BODY`, the body as text.
 //! - `types MAIL => MIMETYPE CHARSET`.
-//! - `get_raw_bytes MAIL => part RAW BLOCK HEADERS`: the bytes of the part, those of its block with the
-//!   blank line, and how many headers there are.
+//! - `get_raw_bytes MAIL => part RAW BLOCK HEADERS`: the bytes of the part, those of its block with
+//!   the blank line, and how many headers there are.
 //! - `get_body MAIL => TEXT`, `get_body_raw MAIL => BYTES`.
 //! - `get_content_disposition MAIL => part KIND`, then NAME VALUE of each parameter.
 //! - `next_parts MAIL TIMES => MIMETYPE`, or the word `none`, for each call of `next`.
-//! - `count_parts MAIL => COUNT`; `held MAIL => HEADERS BYTES PARTS`: how many headers there are, how
-//!   many bytes of bodies, and how many parts.
+//! - `count_parts MAIL => COUNT`; `held MAIL => HEADERS BYTES PARTS`: how many headers there are,
+//!   how many bytes of bodies, and how many parts.
 //! - `get_headers MAIL => KEY VALUE` of each header of the mail.
 //! - `debug_headers MAIL => TEXT`, `debug_mail MAIL => TEXT`.
-//! - `without_headers MAIL => COUNT BLOCK`: how many headers are left after they were removed, and the
-//!   bytes of the block; `without_parts MAIL => COUNT`; `under_charset MAIL LABEL => TEXT`: the body
-//!   after the charset of the type was set.
+//! - `without_headers MAIL => COUNT BLOCK`: how many headers are left after they were removed, and
+//!   the bytes of the block; `without_parts MAIL => COUNT`; `under_charset MAIL LABEL => TEXT`: the
+//!   body after the charset of the type was set.
 
 use crate::calls::kinds::push_type;
 use crate::notation::{Answer, Decision, Outcome, Row};

@@ -9,18 +9,19 @@
 //! fronts CALL TEXT FROM => WHOLE, FEWER.. | error GROUP.. | other FEWER..
 //! ```
 //!
-//! `places` makes texts of repeated LEAD, BEFORE, one of BYTES, AFTER, and repeated TRAIL, where LEAD
-//! and TRAIL occur at least FEWEST and at most MOST times in all: first all texts without TRAIL, each
-//! with one LEAD more than the one before, then all with one TRAIL, and so on. The word `any` means
-//! all 256 bytes. A search returns the offset of NEEDLE, counted from the start of BEFORE. A decoder
-//! reads each LEAD and TRAIL as READ; what it reads from the rest for all of BYTES is one item.
+//! `places` makes texts of repeated LEAD, BEFORE, one of BYTES, AFTER, and repeated TRAIL, where
+//! LEAD and TRAIL occur at least FEWEST and at most MOST times in all: first all texts without
+//! TRAIL, each with one LEAD more than the one before, then all with one TRAIL, and so on. The word
+//! `any` means all 256 bytes. A search returns the offset of NEEDLE, counted from the start of
+//! BEFORE. A decoder reads each LEAD and TRAIL as READ; what it reads from the rest for all of
+//! BYTES is one item.
 //!
-//! `around` decodes BEFORE, a byte and AFTER for all 256 bytes in turn, and writes the bytes between
-//! FRONT and BACK.
+//! `around` decodes BEFORE, a byte and AFTER for all 256 bytes in turn, and writes the bytes
+//! between FRONT and BACK.
 //!
-//! `fronts` decodes TEXT, which gives WHOLE, and then the first FROM bytes of TEXT, one byte more, and
-//! so on. Each gives a front of WHOLE, and FEWER is how many bytes it has fewer than its text, or
-//! `other` bytes.
+//! `fronts` decodes TEXT, which gives WHOLE, and then the first FROM bytes of TEXT, one byte more,
+//! and so on. Each gives a front of WHOLE, and FEWER is how many bytes it has fewer than its text,
+//! or `other` bytes.
 
 use super::searches::offset;
 use super::transfer::push_invalid;
@@ -181,8 +182,8 @@ impl Sweep {
     }
 }
 
-/// Returns the bytes without `lead` pieces in front and `trail` pieces at the end, or all of them if
-/// there are other bytes.
+/// Returns the bytes without `lead` pieces in front and `trail` pieces at the end, or all of them
+/// if there are other bytes.
 fn without_pieces<'b>(bytes: &'b [u8], piece: &[u8], lead: usize, trail: usize) -> &'b [u8] {
     let mut rest = bytes;
     for turn in 0..lead.saturating_add(trail) {

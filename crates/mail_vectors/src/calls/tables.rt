@@ -1,8 +1,8 @@
 //! The calls that take tables of single-byte charsets.
 //!
 //! TABLES is `all`, those of `mail_charsets`, or a text of made-up tables, separated by semicolons,
-//! each as `LABEL,LABEL:CHARACTER`: the bytes from 0x80 onwards are the 128 characters from this one
-//! onwards. OTHERS are tables too.
+//! each as `LABEL,LABEL:CHARACTER`: the bytes from 0x80 onwards are the 128 characters from this
+//! one onwards. OTHERS are tables too.
 //!
 //! ```text
 //! table_for_label TABLES LABEL.. => NUMBER | none ..

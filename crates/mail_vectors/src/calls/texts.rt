@@ -33,8 +33,8 @@ fn join_lines(row: &Row, answer: &mut Answer) {
     answer.put(unflowed(row.alloc, row.text(0), del_sp));
 }
 
-/// `text_part MAIL => TEXT`, the text of the part's body, or `none`; likewise `text_part_with`, under
-/// all tables.
+/// `text_part MAIL => TEXT`, the text of the part's body, or `none`; likewise `text_part_with`,
+/// under all tables.
 fn find_text<K: KnownCharsets>(row: &Row, answer: &mut Answer, known: &K) -> Outcome {
     let mail = parse_mail_in(row.alloc, row.bytes(0), known)?;
     match text_part(row.alloc, &mail, known)? {

@@ -1,4 +1,5 @@
-//! The transfer encodings. A refusal of Base64 is `error` and the number of the first invalid group.
+//! The transfer encodings. A refusal of Base64 is `error` and the number of the first invalid
+//! group.
 //!
 //! ```text
 //! decode_base64 TEXT => BYTES | error GROUP

@@ -1,6 +1,6 @@
 //! The calls that take charsets: those that end in `_in`, and a few more. CHARSETS is `latin1`, the
-//! charset of `latin1.rt` alone; `all`, those of the standard; or made-up tables, written as for the
-//! calls in `tables.rt`, with the four charsets and the encodings of several bytes.
+//! charset of `latin1.rt` alone; `all`, those of the standard; or made-up tables, written as for
+//! the calls in `tables.rt`, with the four charsets and the encodings of several bytes.
 //!
 //! ```text
 //! value_under CHARSETS RAW => TEXT               of the header `X:RAW`

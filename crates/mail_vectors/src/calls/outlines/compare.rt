@@ -6,8 +6,8 @@ use mailparse::{MailHeader, ParsedMail};
 use std::alloc::Global;
 use std::str::from_utf8;
 
-/// Returns whether a message is the one that an outline represents: its bytes, its headers in order,
-/// its raw body, and its parts in order.
+/// Returns whether a message is the one that an outline represents: its bytes, its headers in
+/// order, its raw body, and its parts in order.
 pub fn is_message_of(alloc: Global, outline: &Outline, mail: &ParsedMail<'_>) -> Decision {
     if !has_bytes(alloc, outline, mail)? || !are_headers_of(alloc, outline, mail)? {
         return Ok(false);
