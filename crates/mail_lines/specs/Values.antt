@@ -1,7 +1,7 @@
 -- The JSON values of the lines, in the form that the kit's parser of JSON returns; the program's own form.
 use Rattle.std.specs.Prelude.{◌≡◌, ℕ, Bool, true, false, not, ◌&&◌, ◌==◌, List, [], ◌∷◌, ◌++◌, length, map, Option, Some, None, option_map, Ok, Err, codes}
 use Rattle.std.specs.List.{flat_map, list_all, AllByRecursion}
-use Rattle.json.specs.Json.{Json, null, boolean, number, string, document}
+use Rattle.json.specs.Json.{Json, null, boolean, string, document}
 use Rattle.json.specs.Strict.{HasUniqueKeys}
 use Rattle.mail_codec.specs.Charset.{Charsets}
 use Rattle.mail_codec.specs.Latin1.{latin1_text}
