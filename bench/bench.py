@@ -5,14 +5,19 @@
     bench/bench.py small headers              these cases
     bench/bench.py --oracle PROGRAM --real DIRECTORY   beside the Rust crate, and on real mails
 
-Cases named `json-..` and `show-..` measure the programs: seconds and peak memory. Else a cell is nanoseconds for each byte: the least of all rounds. All readers take turns, so that a machine that slows down
-for a while does so for each; a turn lasts a fifth of a second or one round, and a reader that takes more than a second
-for one round has three turns. With --instructions a cell is instructions for each byte, counted by valgrind's
-callgrind: the same in each run. A cell in brackets belongs to a reader that decodes less than three quarters of what
-another does. The last column is one copy of the bytes. With --json FILE the figures are written as JSON too.
+Cases named `json-..` and `show-..` measure the programs: seconds and peak memory. Else a cell is nanoseconds for each
+byte: the least of all rounds. All readers take turns, so that a machine that slows down for a while does so for each; a
+turn lasts a fifth of a second or one round, and a reader that takes more than a second for one round has three turns.
+With --instructions a cell is instructions for each byte, counted by valgrind's callgrind: the same in each run. A cell
+in brackets belongs to a reader that decodes less than three quarters of what another does. The last column is one copy
+of the bytes. With --json FILE the figures are written as JSON too.
 
 The programs must be built (tools/program.sh mail_speed and so on); other readers that are missing are named, and left
-out. README.md describes the cases and the readers, and has the figures.
+out. The Rust crate is --oracle PROGRAM (oracle/crate), --encoding-rs PROGRAM decodes encodings of several bytes alone.
+GMime needs libgmime-3.0-dev; it copies the input first, reads mails inside `message/rfc822` too, and mailboxes by its
+own reader. mimetic needs libmimetic-dev; it leaves encoded words in values, and finds no parts after a multipart without
+its end. Python's email reads mails inside `message/rfc822` too. fetch_real.sh DIRECTORY takes real mails for --real out
+of Debian's source packages, and made_mails.py makes the others. README.md has figures.
 """
 import argparse
 import json
