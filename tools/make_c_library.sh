@@ -2,9 +2,8 @@
 # make_c_library.sh PREFIX: installs the C library into the directory PREFIX: lib/librocktray.so,
 # include/rocktray.h and lib/pkgconfig/rocktray.pc. It prints where the library is.
 #
-# Where crates/mail_c/out/libmail_c.a is missing or older than a source, the crate is proved and the
-# archive built first: 20 minutes on four slow processors from nothing, a minute where all is proved.
-# How far that is goes to standard error. It needs the kit and a C compiler (CC, or cc), and the library
+# If crates/mail_c/out/libmail_c.a is missing or older than a source, the crate is proved and the
+# archive built first, with progress on standard error (docs/CONTRIBUTING.md says how long). It needs the kit and a C compiler (CC, or cc), and the library
 # needs the C library alone.
 arguments='PREFIX'
 . "$(dirname "$0")/arguments.sh"

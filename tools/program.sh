@@ -2,9 +2,8 @@
 # program.sh NAME: prints where the program of the crate NAME is, a directory crates/NAME with
 # src/main.rt.
 #
-# Where the program is missing or older than a source, the crate is proved and the program built
-# first: 10 to 16 minutes on four slow processors from nothing. How far that is goes to standard
-# error. With BUILT=only in the environment a program that has to be built is an error.
+# If the program is missing or older than a source, the crate is proved and the program built first,
+# with progress on standard error (docs/CONTRIBUTING.md says how long). With BUILT=only in the environment a program that has to be built is an error.
 arguments='NAME'
 . "$(dirname "$0")/arguments.sh"
 name=$1
