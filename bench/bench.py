@@ -5,7 +5,8 @@
     bench/bench.py small headers              these cases
     bench/bench.py --oracle PROGRAM --real DIRECTORY   beside the Rust crate, and on real mails
 
-Cases named `json-..` and `show-..` measure the programs: seconds and peak memory. Else a cell is nanoseconds for each
+Cases named `json-..` and `show-..` measure the programs: seconds and peak memory; those named `python-..` the Python
+module beside Python's email: microseconds for each mail, in at most five turns. Else a cell is nanoseconds for each
 byte: the least of all rounds. All readers take turns, so that a machine that slows down for a while does so for each; a
 turn lasts a fifth of a second or one round, and a reader that takes more than a second for one round has three turns.
 With --instructions a cell is instructions for each byte, counted by valgrind's callgrind: the same in each run. A cell
@@ -13,11 +14,11 @@ in brackets belongs to a reader that decodes less than three quarters of what an
 of the bytes. With --json FILE the figures are written as JSON too.
 
 The programs must be built (tools/program.sh mail_speed and so on); other readers that are missing are named, and left
-out. The Rust crate is --oracle PROGRAM (oracle/crate), --encoding-rs PROGRAM decodes encodings of several bytes alone.
-GMime needs libgmime-3.0-dev; it copies the input first, reads mails inside `message/rfc822` too, and mailboxes by its
-own reader. mimetic needs libmimetic-dev; it leaves encoded words in values, and finds no parts after a multipart without
-its end. Python's email reads mails inside `message/rfc822` too. fetch_real.sh DIRECTORY takes real mails for --real out
-of Debian's source packages, and made_mails.py makes the others. README.md has figures.
+out. The Rust crate is --oracle PROGRAM (oracle/crate), --encoding-rs PROGRAM decodes encodings of several bytes
+alone. GMime needs libgmime-3.0-dev; it copies the input first, reads mails inside `message/rfc822` too, and mailboxes
+by its own reader. mimetic needs libmimetic-dev; it leaves encoded words in values, and finds no parts after a
+multipart without its end. Python's email reads mails inside `message/rfc822` too. fetch_real.sh DIRECTORY takes real
+mails for --real out of Debian's source packages, and made_mails.py makes the others. README.md has figures.
 """
 import argparse
 import json
@@ -35,6 +36,7 @@ TOP = os.path.dirname(HERE)
 sys.path[:0] = [HERE, os.path.join(TOP, "oracle")]
 
 import made_mails
+import python_module
 import real_mail
 from texts import CHARSETS, text_of
 
@@ -267,7 +269,7 @@ def table(asked, work):
     print("| What | " + " | ".join(titles) + " |\n" + "|---" * (len(titles) + 1) + "|")
     measure = counted if asked.instructions else timed
     for name in asked.cases:
-        if name in PROGRAMS:
+        if name in PROGRAMS or name in python_module.CASES:
             continue
         print(f"bench.py: {name}", file=sys.stderr)
         title, works, data = input_of(name, asked, work, 0.1 if asked.instructions else 1)
@@ -336,12 +338,12 @@ def arguments():
     parser.add_argument("--real", metavar="DIRECTORY", help="real mails, as fetch_real.sh makes the directory")
     parser.add_argument("--turns", metavar="N", type=int, default=16, help="the turns of each reader (16)")
     parser.add_argument("--json", metavar="FILE", help="write the figures to a file too")
-    parser.add_argument("cases", metavar="CASE", nargs="*", help=f"of {', '.join([*REAL, *CASES, *PROGRAMS])}")
+    parser.add_argument("cases", metavar="CASE", nargs="*", help=f"of {', '.join([*REAL, *CASES, *PROGRAMS, *python_module.CASES])}")
     asked = parser.parse_args()
     for name in asked.cases:
-        if name not in {**CASES, **REAL, **PROGRAMS}:
+        if name not in {**CASES, **REAL, **PROGRAMS, **python_module.CASES}:
             parser.error(f"{name} is no case")
-    if any(name in REAL for name in asked.cases) and not asked.real:
+    if any(name in REAL or name == "python-real" for name in asked.cases) and not asked.real:
         parser.error("real mails are given by --real")
     if asked.instructions and not shutil.which("valgrind"):
         parser.error("counting instructions needs valgrind")
@@ -354,6 +356,8 @@ def main():
     asked = arguments()
     with tempfile.TemporaryDirectory() as work:
         figures = dict(table(asked, work)) | dict(program_table(asked, work))
+    in_python = [name for name in asked.cases if name in python_module.CASES]
+    figures |= python_module.table(in_python, asked.real, min(asked.turns, 5))
     if asked.json:
         with open(asked.json, "w", encoding="utf-8") as file:
             json.dump({"processor": processor(), "instructions": asked.instructions, "cases": figures}, file, indent=1)

@@ -1,14 +1,8 @@
-#!/usr/bin/env python3
 """Times the Python module beside Python's email, with policy=default and compat32.
 
 Each reads a mail and then everything: subject, sender, recipients, date, ids, all headers decoded, and of each part its
-type, name, bytes and text. Printed are the microseconds for each mail, the least of the rounds, which go in turn, and how many
-times as long email takes. The mails are the samples, those of a mailbox of 2,000 mails of 5 kB, and mails with an
-attachment of 20 MB; with DIRECTORY also the real mails there (fetch_real.sh).
-
-The module is that of PYTHONPATH, or of python/ with the library that ROCKTRAY_LIBRARY names.
+type, name, bytes and text. The module is that of PYTHONPATH, or of python/ with the library that ROCKTRAY_LIBRARY names.
 """
-import argparse
 import email
 import email.policy
 import email.utils
@@ -112,40 +106,47 @@ def least_times(mails, rounds):
     return least
 
 
-def show(name, mails, rounds):
-    """Times the readers on some mails, and prints a line."""
-    kept = readable(mails)
-    if not kept:
-        print(f"{name}: email reads none of {len(mails)} mails")
-        return
-    times = least_times(kept, rounds)
-    size = sum(map(len, kept)) // len(kept)
-    cells = [f"{reader} {1e6 * seconds / len(kept):9.0f} us" for reader, seconds in times.items()]
-    ratios = [f"{times[reader] / times['rocktray']:.1f}" for reader in READERS if reader != "rocktray"]
-    print(f"{name:12} {len(kept):5} of {len(mails)} mails of {size} bytes: {', '.join(cells)}; {' and '.join(ratios)} times as long")
-
-
 def contents(path):
     with open(path, "rb") as file:
         return file.read()
 
 
-def main():
-    reader = argparse.ArgumentParser(description=__doc__, formatter_class=argparse.RawDescriptionHelpFormatter)
-    reader.add_argument("--rounds", type=int, default=5, metavar="N", help="how many rounds (5)")
-    reader.add_argument("directory", nargs="?", metavar="DIRECTORY", help="a directory of mails, as fetch_real.sh makes it")
-    words = reader.parse_args()
-    if words.directory is not None and not os.path.isdir(words.directory):
-        reader.error(f"{words.directory} is no directory")
+def samples(_real):
+    return [contents(path) for path in sorted(glob.glob(f"{TOP}/samples/*.eml"))] * 20
+
+
+def mailbox(_real):
+    return list(made_mails.mails(1))[:500]
+
+
+def attachment(_real):
+    return [made_mails.KINDS["attachment"][1](1)]
+
+
+def real_mails(real):
+    return [contents(path) for path in sorted(glob.glob(f"{real}/**", recursive=True)) if os.path.isfile(path)]
+
+
+# by case: the mails, from the directory of real mails
+CASES = {"python-samples": samples, "python-mailbox": mailbox, "python-attachment": attachment, "python-real": real_mails}
+
+
+def table(names, real, turns):
+    """Prints the microseconds for each mail and how many times as long email takes, and yields the figures of each case."""
     sys.path.append(os.path.join(TOP, "python"))
-    samples = [contents(path) for path in sorted(glob.glob(f"{TOP}/samples/*.eml"))]
-    show("samples", samples * 20, words.rounds)
-    show("mailbox", list(made_mails.mails(1))[:500], words.rounds)
-    show("attachment", [made_mails.KINDS["attachment"][1](1)], words.rounds)
-    if words.directory:
-        paths = sorted(it for it in glob.glob(f"{words.directory}/**", recursive=True) if os.path.isfile(it))
-        show("real", [contents(path) for path in paths], words.rounds)
-
-
-if __name__ == "__main__":
-    main()
+    if names:
+        print("\n| Mails read in Python | " + " | ".join(f"{it}, us" for it in READERS) + " | times as long |")
+        print("|---" * (len(READERS) + 2) + "|")
+    for name in names:
+        print(f"bench.py: {name}", file=sys.stderr)
+        mails = CASES[name](real)
+        kept = readable(mails)
+        if not kept:
+            print(f"bench.py: {name} is left out: email reads none of {len(mails)} mails", file=sys.stderr)
+            continue
+        least = {reader: 1e6 * it / len(kept) for reader, it in least_times(kept, turns).items()}
+        size = sum(map(len, kept)) // len(kept)
+        ratios = [f"{least[reader] / least['rocktray']:.1f}" for reader in READERS if reader != "rocktray"]
+        cells = [f"{us:.0f}" for us in least.values()] + ["; ".join(ratios)]
+        print(f"| {name}: {len(kept)} of {len(mails)}, of {size} bytes | " + " | ".join(cells) + " |", flush=True)
+        yield name, least
