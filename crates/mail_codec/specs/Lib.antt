@@ -1,5 +1,6 @@
 pub mod Ascii
 pub mod Places
+pub mod Escapes
 pub mod Latin1
 pub mod Charset
 pub mod Tables

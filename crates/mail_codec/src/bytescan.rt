@@ -1,13 +1,16 @@
 //! Searches in bytes. Offsets are counted in bytes from 0.
 ghost use Rattle.std.specs.Prelude.{◌≡◌, ◌∷◌, [], IfOk};
+ghost use Rattle.mail_codec.specs.Escapes.{escape_place};
 ghost use Rattle.mail_codec.specs.Places.{byte_place, either_place, text_place, without_ascii_whitespace};
 
 mod alternatives;
+mod escapes;
 mod pairs;
 pub(crate) mod runs;
 mod single;
 
 use alternatives::either_len;
+use escapes::escape_len;
 use pairs::{WIDE, pair_len};
 use runs::{RunEnd, push_runs};
 use single::byte_len;
@@ -53,6 +56,31 @@ pub fn find_either(haystack: &[u8], first: u8, second: u8) -> Option<usize>
 {
     let place = either_len(haystack, first, second);
     if place == haystack.len() {
+        return None;
+    }
+    Some(place)
+}
+
+/// Returns the offset of the first byte that JSON text may have to escape, or `None` if there is
+/// none: a control below 0x20, `"`, `\`, DEL, 0xC2 or 0xE2.
+///
+/// With 0xC2 and 0xE2, UTF-8 begins the controls from U+0080 to U+009F and the separators U+2028
+/// and U+2029, and other characters too (RFC 8259, section 7). Does not allocate.
+///
+/// # Examples
+///
+/// ```rust
+/// use mail_codec::bytescan::find_escape;
+///
+/// assert_eq!(rt; find_escape(b"a \"b\""), Some(2));
+/// assert_eq!(rt; find_escape(b"caf\xC3\xA9"), None);
+/// ```
+#[inline(always)]
+pub fn find_escape(text: &[u8]) -> Option<usize>
+    ensures { result ≡ escape_place text.now }
+{
+    let place = escape_len(text);
+    if place == text.len() {
         return None;
     }
     Some(place)

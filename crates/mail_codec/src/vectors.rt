@@ -3,6 +3,7 @@
 //!
 //! Each operation is a small inlined function with a contract of its own.
 
+pub(crate) mod escapes;
 pub(crate) mod letters;
 pub(crate) mod masks;
 

@@ -86,3 +86,15 @@ three_at bytes k =
 abbrev pub Packs : List ℕ → List ℕ → Type 0
 Packs letters bytes = (k : ℕ) → 4 * k + 4 ≤ prefix_len is_letter letters
     → group_of letters k ≡ Some (three_at bytes k)
+
+-- what may make a byte need an escape, by its upper half and by its lower half
+abbrev pub upper_escapes : List ℕ
+upper_escapes = 1 ∷ 1 ∷ 2 ∷ 0 ∷ 0 ∷ 4 ∷ 0 ∷ 8 ∷ 0 ∷ 0 ∷ 0 ∷ 0 ∷ 2 ∷ 0 ∷ 2 ∷ 0 ∷ []
+
+abbrev pub lower_escapes : List ℕ
+lower_escapes = 1 ∷ 1 ∷ 3 ∷ 1 ∷ 1 ∷ 1 ∷ 1 ∷ 1 ∷ 1 ∷ 1 ∷ 1 ∷ 1 ∷ 5 ∷ 1 ∷ 1 ∷ 9 ∷ []
+
+-- what makes it need one by both halves; 0 if nothing does
+abbrev pub escape_class : ℕ → ℕ
+escape_class b =
+    bit_and (slice_index upper_escapes (b / 16)) (slice_index lower_escapes (bit_and b 15))

@@ -5,6 +5,7 @@
 //! find_either BYTES PAIR => OFFSET | none
 //! find BYTES NEEDLE => OFFSET | none
 //! find_pair BYTES PAIR => OFFSET | none
+//! find_escape BYTES => OFFSET | none
 //! strip_ascii_whitespace BYTES => KEPT
 //! ```
 //!
@@ -19,13 +20,16 @@
 
 use super::sweeps::{Runs, push_times};
 use crate::notation::{Answer, Decision, Row};
-use mail_codec::bytescan::{find, find_byte, find_either, find_pair, strip_ascii_whitespace};
+use mail_codec::bytescan::{
+    find, find_byte, find_either, find_escape, find_pair, strip_ascii_whitespace,
+};
 use std::alloc::AllocError;
 
 /// Makes the call of a row, if it is one of these.
 pub fn make(row: &Row, answer: &mut Answer) -> Decision {
     match row.call.as_str() {
         "find_byte" | "find_either" | "find" | "find_pair" => find_all(row, answer),
+        "find_escape" => answer.put(find_escape(row.bytes(0))),
         "strip_ascii_whitespace" => answer.put(strip_ascii_whitespace(row.alloc, row.bytes(0))),
         "find_each_byte" => find_each_byte(row, answer)?,
         "find_each_pair" => find_each_pair(row, answer)?,
