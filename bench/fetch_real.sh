@@ -7,7 +7,7 @@
 # if it is among tests and its first line is a header, or a separator of a mailbox. A package that cannot
 # be fetched is left out and named. The mails are not ours: commit none of them.
 #
-# The last line is `N mails of M packages`; the status is 1 where there is none.
+# The last line is `N mails of M packages`; the exit status is 1 if there are none.
 arguments='DIRECTORY'
 . "$(dirname "$0")/../tools/arguments.sh"
 packages='python3.11 notmuch gmime kmime kf5-messagelib rspamd spamassassin maildir-utils mailman3

@@ -82,7 +82,7 @@ def ids(value, needs_at):
 
 
 def seconds(value):
-    """The seconds of a date, or None where there is none; a date without a zone is UTC, and so is one with `-0000`."""
+    """The seconds of a date, or None if there is none; a date without a zone is UTC, and so is one with `-0000`."""
     if value is None:
         return None
     found = email.utils.parsedate_to_datetime(str(value))
@@ -108,7 +108,7 @@ def parts_of(mail):
 
 
 def mails_inside(mail, path):
-    """The mails that the parts of a mail hold, each before those inside it, with the paths of these parts."""
+    """The mails in the parts of a mail, each before those inside it, with the paths of these parts."""
     for path_, part in walk(mail, path):
         if part.get_content_type() == "message/rfc822" and part.is_multipart():
             inner = part.get_payload(0)
@@ -266,7 +266,7 @@ def bytes_of(part):
 
 
 def saved_files(data, path=""):
-    """The paths and the bytes of what is saved of a mail that the part with this path holds, then of the mails inside
+    """The paths and the bytes of what is saved of the mail in the part with this path, then of the mails inside
     it."""
     mail = email.message_from_bytes(closed(data))
     parts = list(walk(mail, path if has_parts(mail) else f"{path}.1" if path else "1"))

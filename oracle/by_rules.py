@@ -437,7 +437,7 @@ def first(headers, name):
 
 
 def delimiter(data, dash, start, begin):
-    """Where the first delimiter from `begin` on is, and where what it ends does; a line begins at `start`."""
+    """Where the first delimiter at or after `begin` is, and where what it ends does; a line begins at `start`."""
     at = data.find(dash, begin)
     while at >= 0 and at != start and data[at - 1 : at] != b"\n":
         at = data.find(dash, at + 1)

@@ -117,7 +117,7 @@ class Outline:
         return steps + [f"branch {quoted(self.boundary)} {len(self.parts)}"]
 
     def count(self):
-        """How many messages it holds, itself among them."""
+        """How many messages it contains, itself among them."""
         return 1 + sum(part.count() for part in self.parts or [])
 
     def depth(self):

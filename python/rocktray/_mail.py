@@ -244,7 +244,7 @@ class Part:
 
 
 def _as_bytes(raw: Any) -> bytes:
-    """The bytes of a buffer. Raises `TypeError` if it is none, and says how to get the bytes of a mail."""
+    """The bytes of a buffer. Raises `TypeError` for anything else, and says how to get the bytes of a mail."""
     try:
         return memoryview(raw).tobytes()
     except TypeError:

@@ -49,7 +49,7 @@ class _File:
         self._size = size
 
     def read_on(self, left: bytes, start: int) -> Tuple[bytes, bool]:
-        """The bytes from `start` on: those that are left, and at least as many more if the file has them. Also whether
+        """The bytes from `start`: those that are left, and at least as many more if the file has them. Also whether
         the file ends there.
         """
         count = min(max(BLOCK, 2 * len(left)), self._size - start)
@@ -248,7 +248,7 @@ def _settled(window: _Window, is_counted: bool) -> List[Tuple[int, int, int]]:
 
 
 def _is_count_known(data: bytes, start: int, after: int) -> bool:
-    """Whether the bytes decide where a Content-Length ends the mail from `start` on, which has a separator after it.
+    """Whether the bytes decide where a Content-Length ends the mail at `start`, which has a separator after it.
     The library decides it: here each number that may be the one has to be followed by enough bytes.
     """
     # the block ends there, or earlier if the lines of the mail end otherwise than that of its separator

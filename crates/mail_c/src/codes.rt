@@ -26,7 +26,7 @@ pub(crate) const NOT_UTF8: u32 = 20;
 /// A refusal that has no code of its own.
 pub(crate) const REFUSED: u32 = 21;
 
-/// Returns the code of an error: that of its kind of refusal, or `NO_MEMORY` if it is none.
+/// Returns the code of an error: that of its kind of refusal, or `NO_MEMORY` if it is not a refusal.
 pub(crate) fn code_of(error: &MailParseError) -> u32
     ensures { result ≡ error_code error.now }
 {

@@ -35,7 +35,7 @@ euc_jp_pair index lead trail =
 abbrev pub begins_three : List ℕ → Bool
 begins_three bytes = (slice_index bytes 0 == 0x8F) && is_in_range 0xA1 0xFE (slice_index bytes 1)
 
--- the characters of three bytes are those of JIS X 0212; if there are none, an ASCII byte at the end is read again
+-- the characters of three bytes are those of JIS X 0212; otherwise an ASCII byte at the end is read again
 abbrev pub euc_jp_long : List ℕ → List ℕ → Option Taken
 euc_jp_long second bytes =
     if begins_three bytes

@@ -25,7 +25,7 @@ abbrev pub long_or : Option Taken → Taken → Taken
 long_or None other = other
 long_or (Some taken) other = taken
 
--- `taken` bytes with these characters or, if there are none, `faulty` invalid bytes
+-- `taken` bytes with these characters; without characters, `faulty` invalid bytes
 abbrev pub whole_or : List ℕ → ℕ → ℕ → Taken
 whole_or [] taken faulty = fault faulty
 whole_or (character ∷ others) taken faulty = (character ∷ others, taken)

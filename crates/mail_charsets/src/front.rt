@@ -61,7 +61,7 @@ pub(crate) fn put_characters(buffer: &mut [u8], at: usize, characters: Character
     }
 }
 
-/// Returns the front of `taken` bytes with these characters or, if there are none, of `faulty`
+/// Returns the front of `taken` bytes with these characters; without characters, that of `faulty`
 /// invalid bytes.
 pub(crate) fn front_or(characters: Characters, taken: usize, faulty: usize) -> Front
     requires some { 0 < faulty }

@@ -2,7 +2,7 @@
 use Rattle.std.specs.Prelude.{ℕ, List, [], ◌∷◌, ◌++◌, Option, Some, None}
 use Rattle.mailparse.specs.Sections.{Section, text, octets}
 
--- the text of a run that is still open: empty if there is none, otherwise its bytes decoded in the charset of the last section
+-- the text of an open run: its bytes decoded in the charset of the last section; without an open run, the empty text
 abbrev pub run_text : Option (List ℕ → List ℕ) → List ℕ → List ℕ
 run_text None bytes = []
 run_text (Some reading) bytes = reading bytes

@@ -23,7 +23,8 @@ use std::io::{Read, Write};
 /// - `Fault::Input` if a read fails,
 /// - `Fault::Output` if a write or the flush fails.
 pub fn run<R: Read, W: Write>(alloc: Global, reader: &mut R, writer: &mut W) -> Result<(), Fault>
-    ensures written { IfOk result (λ done. HasWritten (R.remaining reader.old) (R.remaining reader.new)
+    ensures written { IfOk result (λ done. HasWritten
+        (R.remaining reader.old) (R.remaining reader.new)
         (W.contents writer.old) (W.contents writer.new)) }
     ensures refused { IfErr result (IfMail (λ e.
         Keeps (W.contents writer.old) (W.contents writer.new)

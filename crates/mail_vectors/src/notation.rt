@@ -19,7 +19,7 @@ const NOT_A_ROW: &str = "not a row of the suite";
 /// a row by it.
 const ANSWER_SIZE: usize = 48_611;
 
-/// The end of a call whose answer is written, or why there is none.
+/// The result of a call whose answer is written, or why it has no answer.
 pub type Outcome = Result<(), MailParseError>;
 
 /// Whether something is so, or why that cannot be said.
