@@ -12,8 +12,7 @@ use Rattle.mailparse.specs.declared.body.content.BodyContent.{BodyContent}
 use Rattle.mailparse.specs.declared.body.encoded.Encoding.{Encoding}
 use Rattle.mailparse.specs.declared.body.encoded.Encoding.TheVariants as encoding
 use Rattle.mailparse.specs.declared.body.encoded.EncodedBody.{EncodedBody}
-use Rattle.mailparse.specs.declared.body.unencoded.TextBody.{TextBody}
-use Rattle.mailparse.specs.declared.body.unencoded.BinaryBody.{BinaryBody}
+use Rattle.mailparse.specs.declared.body.unencoded.UnencodedBody.{UnencodedBody}
 
 -- the content of a body: its bytes as they appear in the message, and its content type
 pub record Content : Type 0 where
@@ -41,21 +40,17 @@ encoded_kind b = encoding_kind b.encoding
 abbrev pub encoded_content : EncodedBody → Content
 encoded_content b = content b.content
 
--- the content of a body of text
-abbrev pub text_content : TextBody → Content
-text_content b = content b.content
-
--- the content of a body of bytes
-abbrev pub binary_content : BinaryBody → Content
-binary_content b = content b.content
+-- the content of a body that is not encoded, of text or of bytes
+abbrev pub unencoded_content : {Kind : Type 0} → UnencodedBody Kind → Content
+unencoded_content b = content b.content
 
 -- the content of a body, whatever its transfer encoding
 abbrev pub body_content : Body → Content
 body_content (Base64 b) = encoded_content b
 body_content (QuotedPrintable b) = encoded_content b
-body_content (SevenBit b) = text_content b
-body_content (EightBit b) = text_content b
-body_content (Binary b) = binary_content b
+body_content (SevenBit b) = unencoded_content b
+body_content (EightBit b) = unencoded_content b
+body_content (Binary b) = unencoded_content b
 
 -- the transfer encoding of a body
 abbrev pub kind_of : Body → BodyKind
@@ -74,6 +69,6 @@ name_of (Some name) = Some (string_bytes name)
 abbrev pub IsBody : BodyKind → Content → Body → Type 0
 IsBody kind given (Base64 b) = (kind ≡ in_base64) × (encoded_kind b ≡ in_base64) × (encoded_content b ≡ given)
 IsBody kind given (QuotedPrintable b) = (kind ≡ in_quoted_printable) × (encoded_kind b ≡ in_quoted_printable) × (encoded_content b ≡ given)
-IsBody kind given (SevenBit b) = (kind ≡ in_7bit) × (text_content b ≡ given)
-IsBody kind given (EightBit b) = (kind ≡ in_8bit) × (text_content b ≡ given)
-IsBody kind given (Binary b) = (kind ≡ in_binary) × (binary_content b ≡ given)
+IsBody kind given (SevenBit b) = (kind ≡ in_7bit) × (unencoded_content b ≡ given)
+IsBody kind given (EightBit b) = (kind ≡ in_8bit) × (unencoded_content b ≡ given)
+IsBody kind given (Binary b) = (kind ≡ in_binary) × (unencoded_content b ≡ given)

@@ -18,7 +18,7 @@ pub use encoded::EncodedBody;
 use encoded::Encoding;
 use std::alloc::Global;
 use std::borrow::CowSlice;
-pub use unencoded::{BinaryBody, TextBody};
+pub use unencoded::{Binary, BinaryBody, Text, TextBody, UnencodedBody};
 
 /// A body by its transfer encoding (RFC 2045, section 6).
 #[derive(Debug, Drop)]
@@ -67,8 +67,12 @@ impl<'a> Body<'a> {
             (record { raw = body.entry.now; ctype = content_type ctype.entry.now }) result }
     {
         let content = BodyContent { raw: body, ctype };
+        let text = TextBody {
+            kind: Text,
+            content,
+        };
         let Some(name) = transfer_encoding else {
-            return Body::SevenBit(TextBody { content });
+            return Body::SevenBit(text);
         };
         match name.as_str() {
             "base64" => Body::Base64(EncodedBody {
@@ -79,9 +83,12 @@ impl<'a> Body<'a> {
                 encoding: Encoding::QuotedPrintable,
                 content,
             }),
-            "8bit" => Body::EightBit(TextBody { content }),
-            "binary" => Body::Binary(BinaryBody { content }),
-            _ => Body::SevenBit(TextBody { content }),
+            "8bit" => Body::EightBit(text),
+            "binary" => Body::Binary(BinaryBody {
+                kind: Binary,
+                content,
+            }),
+            _ => Body::SevenBit(text),
         }
     }
 

@@ -7,7 +7,7 @@ ghost use Rattle.std.specs.Prelude.{◌≡◌, length, IfOk, IsErr, Ok};
 ghost use Rattle.mail_codec.specs.Tables.{charsets_with};
 ghost use Rattle.mailparse.specs.Block.{header_count, read_headers};
 ghost use Rattle.mailparse.specs.Body.{decoded_text_in, text_under_in};
-ghost use Rattle.mailparse.specs.BodyViews.{binary_content, encoded_content, encoded_kind, text_content};
+ghost use Rattle.mailparse.specs.BodyViews.{encoded_content, encoded_kind, unencoded_content};
 ghost use Rattle.mailparse.specs.Bound.{IsBounded};
 ghost use Rattle.mailparse.specs.ContentType.{content_type_in};
 ghost use Rattle.mailparse.specs.Disposition.{disposition_in};
@@ -17,7 +17,7 @@ ghost use Rattle.mailparse.specs.Placement.{placements};
 ghost use Rattle.mailparse.specs.Value.{lenient_value_in};
 ghost use Rattle.mailparse.specs.Views.{content_type, disposition, placements_of, tree_of};
 
-use crate::body::{BinaryBody, EncodedBody, TextBody};
+use crate::body::{EncodedBody, UnencodedBody};
 use crate::content_type::{ParsedContentType, parse_content_type_in};
 use crate::disposition::{ParsedContentDisposition, parse_content_disposition_in};
 use crate::error::MailParseError;
@@ -129,7 +129,7 @@ impl<'a> EncodedBody<'a> {
     }
 }
 
-impl<'a> TextBody<'a> {
+impl<'a, Kind> UnencodedBody<'a, Kind> {
     /// Returns the text of the body as `get_as_string_in` does, in the built-in charsets and those
     /// of the tables.
     pub fn get_as_string_with(
@@ -138,22 +138,7 @@ impl<'a> TextBody<'a> {
         tables: &[SingleByteTable<'_>],
     ) -> Result<String, MailParseError>
         ensures { GivesText result (text_under_in (charsets_with tables.now)
-            (text_content self.now).ctype.charset (text_content self.now).raw) }
-    {
-        self.get_as_string_in(alloc, &tables)
-    }
-}
-
-impl<'a> BinaryBody<'a> {
-    /// Returns the text of the body as `get_as_string_in` does, in the built-in charsets and those
-    /// of the tables.
-    pub fn get_as_string_with(
-        &self,
-        alloc: Global,
-        tables: &[SingleByteTable<'_>],
-    ) -> Result<String, MailParseError>
-        ensures { GivesText result (text_under_in (charsets_with tables.now)
-            (binary_content self.now).ctype.charset (binary_content self.now).raw) }
+            (unencoded_content self.now).ctype.charset (unencoded_content self.now).raw) }
     {
         self.get_as_string_in(alloc, &tables)
     }
