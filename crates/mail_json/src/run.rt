@@ -103,7 +103,7 @@ fn fail<W: Write>(
     let text = format!(in rt.alloc(); "{error}")?;
     let name = file.unwrap_or("input failed");
     let _ = eprintln!(rt; "mail_json: {name}: {text}");
-    write_unread(rt.alloc(), out, file, text.as_str())?;
+    write_unread(out, file, text.as_str())?;
     Ok(Outcome::Failed)
 }
 

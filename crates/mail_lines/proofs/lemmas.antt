@@ -1,4 +1,6 @@
 pub mod JsonText
+pub mod Escaped
+pub mod Characters
 pub mod Escapes
 pub mod Texts
 pub mod Written

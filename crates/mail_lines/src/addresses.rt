@@ -11,9 +11,7 @@ ghost use Rattle.mail_lines.specs.Values.{address_list, addresses_members, eleme
 ghost use Rattle.mail_lines.specs.Values.{group_value, single_value, unknown_value};
 ghost use Rattle.mail_lines.specs.Written.{Writes};
 
-use crate::json_text::{
-    Position, write_comma, write_optional, write_owned, write_text, write_word,
-};
+use crate::json_text::{Position, write_comma, write_optional, write_text, write_word};
 use mail_address::{Address, Group, Mailbox, Member, Unknown, addresses_of};
 use mail_codec::charset::decode_latin1;
 use mail_program::Fault;
@@ -106,7 +104,7 @@ fn write_group<W: Write, K: KnownCharsets>(
 {
     let name = group.get_display_name(alloc, known)?;
     write_word(out, "{\"group\":")?;
-    write_owned(alloc, out, name)?;
+    write_text(out, name.as_str())?;
     write_word(out, ",\"members\":")?;
     write_members(alloc, out, group.members.as_slice(), known)?;
     write_word(out, "}")
@@ -161,9 +159,9 @@ fn write_mailbox<W: Write, K: KnownCharsets>(
     let name = mailbox.get_display_name(alloc, known)?;
     let address = mailbox.get_address(alloc)?;
     write_word(out, "{\"name\":")?;
-    write_optional(alloc, out, unless_empty(name))?;
+    write_optional(out, unless_empty(name))?;
     write_word(out, ",\"address\":")?;
-    write_owned(alloc, out, address)?;
+    write_text(out, address.as_str())?;
     write_word(out, "}")
 }
 
@@ -181,6 +179,6 @@ fn write_unknown<W: Write>(alloc: Global, out: &mut W, unknown: &Unknown<'_>) ->
 {
     let text = decode_latin1(alloc, unknown.text)?;
     write_word(out, "{\"unknown\":")?;
-    write_text(alloc, out, text.as_str())?;
+    write_text(out, text.as_str())?;
     write_word(out, "}")
 }

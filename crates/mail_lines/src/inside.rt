@@ -118,7 +118,7 @@ fn write_inner<W: Write>(
         (text_of (inner_value start (inner_view inner.now))) }
 {
     write_word(out, "{\"path\":")?;
-    write_text(alloc, out, inner.path.as_str())?;
+    write_text(out, inner.path.as_str())?;
     write_word(out, ",\"start\":")?;
     write_number_or_null(out, place_in(inner.start, start))?;
     write_word(out, ",\"error\":")?;
@@ -140,5 +140,5 @@ fn write_refusal<W: Write>(
         Some(error) => refusal_of(alloc, error)?,
         None => None,
     };
-    write_optional(alloc, out, text)
+    write_optional(out, text)
 }

@@ -82,7 +82,7 @@ pub(crate) fn write_mailbox<W: Write, K: KnownCharsets>(
 {
     let mails = read_mailbox(input, source.kind.format());
     let front = mails.front();
-    let written = write_front(alloc, out, front, source.file)?;
+    let written = write_front(out, front, source.file)?;
     let first = NextMail {
         selection,
         at: front.len(),
@@ -92,7 +92,6 @@ pub(crate) fn write_mailbox<W: Write, K: KnownCharsets>(
 
 /// Writes an error for the text before the first mail of a mailbox, unless it is whitespace.
 pub(crate) fn write_front<W: Write>(
-    alloc: Global,
     out: &mut W,
     front: &[u8],
     file: Option<&str>,
@@ -109,12 +108,7 @@ pub(crate) fn write_front<W: Write>(
         start: 0,
         end: front.len(),
     };
-    write_error(
-        alloc,
-        out,
-        &origin,
-        "The mailbox does not begin with a separator",
-    )?;
+    write_error(out, &origin, "The mailbox does not begin with a separator")?;
     Ok(Written::WithErrors)
 }
 
@@ -221,7 +215,7 @@ fn write_line<W: Write, K: KnownCharsets>(
             let Some(text) = refusal_of(alloc, &error)? else {
                 return Err(Fault::Mail(error));
             };
-            write_error(alloc, out, origin, text.as_str())?;
+            write_error(out, origin, text.as_str())?;
             Ok(Written::WithErrors)
         }
     }

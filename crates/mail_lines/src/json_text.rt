@@ -1,17 +1,16 @@
 //! JSON text of strings, numbers and refusals (RFC 8259, sections 5 to 7).
-ghost use Rattle.std.specs.Prelude.{◌≡◌, ◌++◌, false, map, option_map, string_bytes, IfOk, OnOk};
+ghost use Rattle.std.specs.Prelude.{◌≡◌, map, option_map, string_bytes, IfOk};
 ghost use Rattle.json.specs.Json.{string};
-ghost use Rattle.mail_lines.specs.JsonText.{character_text, escaped, is_hidden, refusal_text};
-ghost use Rattle.mail_lines.specs.JsonText.{utf8_text};
+ghost use Rattle.mail_lines.specs.JsonText.{refusal_text};
 ghost use Rattle.mail_lines.specs.Printed.{comma, number_or_null, number_value};
 ghost use Rattle.mail_lines.specs.Printed.{string_or_null, strings, text_of};
 ghost use Rattle.mail_lines.specs.Written.{Writes};
 ghost use Rattle.mailparse.specs.Map.{text_found};
 ghost use Rattle.mailparse.specs.Outcome.{IsMemory, refusal_of};
 
+use crate::escapes::write_escaped;
 use mail_program::Fault;
 use mailparse::MailParseError;
-use serde_json::Value;
 use std::alloc::{AllocError, Global};
 use std::io::Write;
 
@@ -24,74 +23,43 @@ pub(crate) enum Position {
     Later,
 }
 
-/// Writes a string.
-pub(crate) fn write_text<W: Write>(alloc: Global, out: &mut W, text: &str) -> Result<(), Fault>
+/// Writes a string. Does not allocate.
+#[tactic(auto, unfolding(crate::specs::JsonText::json_text, crate::specs::Printed::text_of))]
+pub(crate) fn write_text<W: Write>(out: &mut W, text: &str) -> Result<(), Fault>
     ensures { Writes (W.contents out.old) (W.contents out.new) result
         (text_of (string text.now)) }
 {
-    write_owned(alloc, out, String::from_str(alloc, text)?)
-}
-
-/// Writes a string, which is not copied first.
-pub(crate) fn write_owned<W: Write>(alloc: Global, out: &mut W, text: String) -> Result<(), Fault>
-    ensures { Writes (W.contents out.old) (W.contents out.new) result
-        (text_of (string (string_bytes text))) }
-{
-    write_quoted(alloc, out, text)
-}
-
-/// Writes the same as `write_owned`. Its contract says that the text is UTF-8.
-#[tactic(auto, unfolding(crate::specs::JsonText::utf8_text))]
-fn write_quoted<W: Write>(alloc: Global, out: &mut W, text: String) -> Result<(), Fault>
-    ensures { Writes (W.contents out.old) (W.contents out.new) result
-        (utf8_text (string_bytes text)) }
-{
-    let json = Value::String(text).to_string(alloc)?;
-    if has_hidden(json.as_str()) {
-        let json = escaped(alloc, json.as_str())?;
-        return write_word(out, json.as_str());
-    }
-    write_word(out, json.as_str())
+    write_word(out, "\"")?;
+    write_escaped(out, text.as_bytes())?;
+    write_word(out, "\"")
 }
 
 /// Writes a string, or `null` for `None`.
 #[tactic(auto, unfolding(crate::specs::Printed::text_of))]
-pub(crate) fn write_optional<W: Write>(
-    alloc: Global,
-    out: &mut W,
-    text: Option<String>,
-) -> Result<(), Fault>
+pub(crate) fn write_optional<W: Write>(out: &mut W, text: Option<String>) -> Result<(), Fault>
     ensures { Writes (W.contents out.old) (W.contents out.new) result
         (text_of (string_or_null (text_found text))) }
 {
     match text {
-        Some(text) => write_owned(alloc, out, text),
+        Some(text) => write_text(out, text.as_str()),
         None => write_word(out, "null"),
     }
 }
 
 /// Writes a name as a string, or `null` for `None`.
 #[tactic(auto, unfolding(crate::specs::Printed::text_of))]
-pub(crate) fn write_name<W: Write>(
-    alloc: Global,
-    out: &mut W,
-    name: Option<&str>,
-) -> Result<(), Fault>
+pub(crate) fn write_name<W: Write>(out: &mut W, name: Option<&str>) -> Result<(), Fault>
     ensures { Writes (W.contents out.old) (W.contents out.new) result
         (text_of (string_or_null (option_map (λ text. text.now) name.entry))) }
 {
     match name {
-        Some(name) => write_text(alloc, out, name),
+        Some(name) => write_text(out, name),
         None => write_word(out, "null"),
     }
 }
 
 /// Writes a list of strings.
-pub(crate) fn write_texts<W: Write>(
-    alloc: Global,
-    out: &mut W,
-    texts: &[String],
-) -> Result<(), Fault>
+pub(crate) fn write_texts<W: Write>(out: &mut W, texts: &[String]) -> Result<(), Fault>
     ensures { Writes (W.contents out.old) (W.contents out.new) result
         (text_of (strings (map (λ t. string_bytes t) texts.now))) }
 {
@@ -99,7 +67,7 @@ pub(crate) fn write_texts<W: Write>(
     let mut position = Position::First;
     for text in texts {
         write_comma(out, position)?;
-        write_text(alloc, out, text.as_str())?;
+        write_text(out, text.as_str())?;
         position = Position::Later;
     }
     write_word(out, "]")
@@ -116,6 +84,7 @@ pub(crate) fn write_comma<W: Write>(out: &mut W, position: Position) -> Result<(
 }
 
 /// Writes text as it is.
+#[inline(always)]
 pub(crate) fn write_word<W: Write>(out: &mut W, word: &str) -> Result<(), Fault>
     ensures { Writes (W.contents out.old) (W.contents out.new) result word.now }
 {
@@ -172,49 +141,4 @@ pub(crate) fn refusal_of(
         MailParseError::Memory(_) => Err(AllocError),
     };
     Ok(Some(text?))
-}
-
-/// Returns `false` only if `escaped` leaves the text as it is.
-fn has_hidden(text: &str) -> bool
-    ensures { result ≡ false → escaped text.now ≡ text.now }
-{
-    for c in text.chars() {
-        if is_hidden(c) {
-            return true;
-        }
-    }
-    false
-}
-
-/// Returns whether a character, which JSON allows in a string, moves the cursor of a terminal or
-/// ends a line for some readers: DEL, the controls from U+0080 to U+009F, and the separators U+2028
-/// and U+2029.
-#[tactic(auto, unfolding(crate::specs::JsonText::is_hidden))]
-fn is_hidden(c: char) -> bool
-    ensures { result ≡ is_hidden c }
-{
-    matches!(c, '\u{7f}'..='\u{9f}' | '\u{2028}' | '\u{2029}')
-}
-
-/// Returns a JSON text with escapes for such characters, which occur only within its strings.
-fn escaped(alloc: Global, json: &str) -> Result<String, AllocError>
-    ensures { IfOk result (λ text. string_bytes text ≡ escaped json.now) }
-{
-    let mut text = String::with_capacity(alloc, json.len())?;
-    for c in json.chars() {
-        push_escaped(&mut text, c)?;
-    }
-    Ok(text)
-}
-
-/// Appends a character, or its escape.
-fn push_escaped(text: &mut String, c: char) -> Result<(), AllocError>
-    ensures { OnOk result (string_bytes text.new ≡ string_bytes text.old ++ character_text c) }
-{
-    if is_hidden(c) {
-        let number = u32::from(c);
-        return write!(text, "\\u{number:04x}");
-    }
-    text.push(c)?;
-    Ok(())
 }

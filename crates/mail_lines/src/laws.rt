@@ -1,12 +1,14 @@
-//! Laws: each line is JSON, and the lines of all parts of an input are those of the whole.
+//! Laws: each string is written character by character, each line is JSON, and the lines of all
+//! parts of an input are those of the whole.
 ghost use Rattle.std.specs.Prelude.{◌++◌, ◌<◌, ◌≡◌, ◌≤◌, Bool, List, Option, codes, drop, length};
-ghost use Rattle.std.specs.Prelude.{true, ℕ};
+ghost use Rattle.std.specs.Prelude.{encode_utf8_all, true, ℕ};
 ghost use Rattle.std.specs.List.{flat_map, list_all};
 ghost use Rattle.json.specs.Json.{Json};
 ghost use Rattle.mail_codec.specs.Places.{values_below};
 ghost use Rattle.mail_data.specs.declared.mailbox.formats.Format.{Format};
 ghost use Rattle.mailparse.specs.Mail.{Tree};
 ghost use Rattle.mailparse.specs.Refusal.{Reads};
+ghost use Rattle.mail_lines.specs.JsonText.{character_text, json_text};
 ghost use Rattle.mail_lines.specs.JsonLines.{AreMailboxLines, IsLineOf, format_of};
 ghost use Rattle.mail_lines.specs.Options.{Options};
 ghost use Rattle.mail_lines.specs.Origin.{Origin};
@@ -15,6 +17,13 @@ ghost use Rattle.mail_lines.specs.Range.{ArePartLines, AreRangeLines, AreRangeLi
 ghost use Rattle.mail_lines.specs.Range.{AreUnnumberedLines, has_parts, reading_start};
 ghost use Rattle.mail_lines.specs.declared.options.InputKind.{InputKind};
 ghost use Rattle.mail_lines.specs.Values.{AreJsonLines, IsJsonLine, IsLineValue, unread_value};
+
+/// A string in UTF-8 is written character by character, between quotation marks.
+#[tactic(auto, using(crate::proofs::lemmas::Characters::json_text_characters))]
+pub fn strings_are_characters()
+    ensures { (characters : List ℕ) → json_text (encode_utf8_all characters)
+        ≡ codes "\"" ++ (flat_map character_text characters ++ codes "\"") }
+{}
 
 /// Each line that is written of an input is JSON, and ends in its only LF: the parser of the crate
 /// `json` reads the text before the LF as a value in which no object has a key twice. For the line

@@ -3,6 +3,7 @@
 
 mod addresses;
 mod body;
+mod escapes;
 mod fields;
 mod inside;
 mod json_lines;

@@ -61,7 +61,7 @@ pub fn write_mail<W: Write, K: KnownCharsets>(
         (IsMailValue (options_of (K.known known.now) options) (origin_of origin.now)
         (tree_of mail.now)) }
 {
-    write_origin(alloc, out, origin)?;
+    write_origin(out, origin)?;
     write_values(alloc, out, mail, known)?;
     write_word(out, ",\"raw\":")?;
     write_raw(alloc, out, mail)?;
@@ -106,7 +106,7 @@ fn write_value<W: Write, K: KnownCharsets>(
 {
     let value = value_of(alloc, mail, key, known)?;
     write_word(out, before)?;
-    write_optional(alloc, out, value)
+    write_optional(out, value)
 }
 
 /// Writes the object of the raw values of addresses.
@@ -140,7 +140,7 @@ fn write_raw_value<W: Write>(
     match mail.headers.get_first_header(key) {
         Some(header) => {
             let text = decode_latin1(alloc, header.get_value_raw())?;
-            write_text(alloc, out, text.as_str())
+            write_text(out, text.as_str())
         }
         None => write_word(out, "null"),
     }
@@ -200,7 +200,7 @@ fn write_id_list<W: Write, K: KnownCharsets>(
 {
     let ids = ids_of(alloc, mail, key, rule, known)?;
     write_word(out, before)?;
-    write_texts(alloc, out, ids.as_slice())
+    write_texts(out, ids.as_slice())
 }
 
 /// Writes the date: its seconds, and whether its zone is unknown. Without a date it writes `null`,
@@ -226,7 +226,7 @@ fn write_date<W: Write, K: KnownCharsets>(
         Err(error) => {
             write_word(out, ",\"date\":null")?;
             write_word(out, ",\"date_error\":")?;
-            write_text(alloc, out, date_fault(error))
+            write_text(out, date_fault(error))
         }
     }
 }

@@ -8,7 +8,6 @@ ghost use Rattle.mail_lines.specs.Written.{Writes};
 
 use crate::json_text::{write_name, write_number, write_number_or_null, write_text, write_word};
 use mail_program::Fault;
-use std::alloc::Global;
 use std::io::Write;
 
 /// The origin of a line.
@@ -25,29 +24,25 @@ pub struct Origin<'n> {
 }
 
 /// Writes the first members of the line of a mail.
-pub(crate) fn write_origin<W: Write>(
-    alloc: Global,
-    out: &mut W,
-    origin: &Origin<'_>,
-) -> Result<(), Fault>
+pub(crate) fn write_origin<W: Write>(out: &mut W, origin: &Origin<'_>) -> Result<(), Fault>
     ensures { Writes (W.contents out.old) (W.contents out.new) result
         (begun (origin_members (origin_of origin.now))) }
 {
-    write_file(alloc, out, origin.file)?;
+    write_file(out, origin.file)?;
     write_word(out, ",\"number\":")?;
     write_number_or_null(out, origin.number)?;
     write_bounds(out, origin.start, origin.end)
 }
 
 /// Writes the first members of a line: the number of the schema and the name of the file.
-fn write_file<W: Write>(alloc: Global, out: &mut W, file: Option<&str>) -> Result<(), Fault>
+fn write_file<W: Write>(out: &mut W, file: Option<&str>) -> Result<(), Fault>
     ensures { Writes (W.contents out.old) (W.contents out.new) result
         (begun (file_members (option_map (λ name. name.now) file.entry))) }
 {
     write_word(out, "{\"schema\":")?;
     write_number(out, 4)?;
     write_word(out, ",\"file\":")?;
-    write_name(alloc, out, file)
+    write_name(out, file)
 }
 
 /// Writes the members of the offsets at which a mail begins and ends.
@@ -63,7 +58,6 @@ fn write_bounds<W: Write>(out: &mut W, start: usize, end: usize) -> Result<(), F
 
 /// Writes the line of an error.
 pub(crate) fn write_error<W: Write>(
-    alloc: Global,
     out: &mut W,
     origin: &Origin<'_>,
     error: &str,
@@ -71,18 +65,17 @@ pub(crate) fn write_error<W: Write>(
     ensures { Writes (W.contents out.old) (W.contents out.new) result
         (line_of (error_value (origin_of origin.now) error.now)) }
 {
-    write_origin(alloc, out, origin)?;
+    write_origin(out, origin)?;
     write_word(out, ",\"error\":")?;
-    write_text(alloc, out, error)?;
+    write_text(out, error)?;
     write_word(out, "}\n")
 }
 
-/// Writes the line of an input that could not be read.
+/// Writes the line of an input that could not be read. Does not allocate.
 ///
 /// # Errors
 ///
-/// `Fault::Output` if a write fails, and `Fault::Mail` with `MailParseError::Memory` if it runs out
-/// of memory.
+/// `Fault::Output` if a write fails.
 ///
 /// # Examples
 ///
@@ -90,25 +83,20 @@ pub(crate) fn write_error<W: Write>(
 /// use mail_lines::write_unread;
 ///
 /// let mut out = Vec::new(alloc);
-/// write_unread(alloc, &mut out, Some("in.eml"), "it is a directory")?;
+/// write_unread(&mut out, Some("in.eml"), "it is a directory")?;
 /// let text = "{\"schema\":4,\"file\":\"in.eml\",\"number\":null,\"start\":null,\"end\":null,";
 /// assert!(rt; out.as_slice().starts_with(text.as_bytes()));
 /// assert!(rt; out.as_slice().ends_with(b"\"error\":\"it is a directory\"}\n"));
 /// ```
-pub fn write_unread<W: Write>(
-    alloc: Global,
-    out: &mut W,
-    file: Option<&str>,
-    error: &str,
-) -> Result<(), Fault>
+pub fn write_unread<W: Write>(out: &mut W, file: Option<&str>, error: &str) -> Result<(), Fault>
     ensures { Writes (W.contents out.old) (W.contents out.new) result
         (line_of (unread_value (option_map (λ name. name.now) file.entry) error.now)) }
 {
-    write_file(alloc, out, file)?;
+    write_file(out, file)?;
     write_word(out, ",\"number\":null")?;
     write_word(out, ",\"start\":null")?;
     write_word(out, ",\"end\":null")?;
     write_word(out, ",\"error\":")?;
-    write_text(alloc, out, error)?;
+    write_text(out, error)?;
     write_word(out, "}\n")
 }

@@ -22,7 +22,7 @@ use crate::body::encoding_name;
 use crate::fields::disposition_name;
 use crate::json_text::{
     Position, refusal_of, write_comma, write_name, write_number, write_number_or_null,
-    write_optional, write_owned, write_text, write_word,
+    write_optional, write_text, write_word,
 };
 use crate::options::LineOptions;
 use mail_data::files::{describes_attachment, is_attachment_disposition, is_leaf, named_file};
@@ -103,8 +103,8 @@ pub(crate) fn write_part<W: Write, K: KnownCharsets>(
 {
     let part = place.part;
     write_word(out, "{\"path\":")?;
-    write_text(alloc, out, place.path.as_str())?;
-    write_type(alloc, out, &part.ctype)?;
+    write_text(out, place.path.as_str())?;
+    write_type(out, &part.ctype)?;
     let disposition = part.get_content_disposition_in(alloc, known)?;
     let attached = is_attachment(alloc, part, &disposition)?;
     write_disposition(alloc, out, part, &disposition, attached)?;
@@ -120,7 +120,7 @@ pub(crate) fn write_part<W: Write, K: KnownCharsets>(
     let hashed = is_hashed(options.hashes, attached);
     let hash = hash_of(alloc, content.bytes.as_slice(), hashed)?;
     write_word(out, ",\"sha256\":")?;
-    write_optional(alloc, out, hash)?;
+    write_optional(out, hash)?;
     write_word(out, ",\"headers\":")?;
     write_headers(alloc, out, part.headers.as_slice(), known)?;
     let shown = is_read(part, &disposition);
@@ -171,40 +171,35 @@ fn write_place<W: Write>(
 }
 
 /// Writes the type, its charset and its parameters.
-fn write_type<W: Write>(alloc: Global, out: &mut W, ctype: &ParsedContentType) -> Result<(), Fault>
+fn write_type<W: Write>(out: &mut W, ctype: &ParsedContentType) -> Result<(), Fault>
     ensures { let ctype = content_type ctype.now in
         WritesOne (W.contents out.old) (W.contents out.new) result
         (λ pairs. members_after (type_members ctype.mimetype ctype.charset pairs))
         (Lists ctype.params) }
 {
     write_word(out, ",\"type\":")?;
-    write_text(alloc, out, ctype.mimetype.as_str())?;
+    write_text(out, ctype.mimetype.as_str())?;
     write_word(out, ",\"charset\":")?;
-    write_text(alloc, out, ctype.charset.as_str())?;
+    write_text(out, ctype.charset.as_str())?;
     write_word(out, ",\"params\":")?;
     write_word(out, "{")?;
     let mut position = Position::First;
     for (name, value) in &ctype.params {
         write_comma(out, position)?;
-        write_parameter(alloc, out, name.as_str(), value.as_str())?;
+        write_parameter(out, name.as_str(), value.as_str())?;
         position = Position::Later;
     }
     write_word(out, "}")
 }
 
 /// Writes a parameter as a member.
-fn write_parameter<W: Write>(
-    alloc: Global,
-    out: &mut W,
-    name: &str,
-    value: &str,
-) -> Result<(), Fault>
+fn write_parameter<W: Write>(out: &mut W, name: &str, value: &str) -> Result<(), Fault>
     ensures { Writes (W.contents out.old) (W.contents out.new) result
         (member_text (parameter_member (name.now, value.now))) }
 {
-    write_text(alloc, out, name)?;
+    write_text(out, name)?;
     write_word(out, ":")?;
-    write_text(alloc, out, value)
+    write_text(out, value)
 }
 
 /// Returns whether a part of this disposition is an attachment: it has no parts of its own, and its
@@ -236,10 +231,10 @@ fn write_disposition<W: Write>(
         (root (tree_of part.now)) is_attachment)) }
 {
     write_word(out, ",\"disposition\":")?;
-    write_name(alloc, out, disposition_name(part, disposition))?;
+    write_name(out, disposition_name(part, disposition))?;
     write_word(out, ",\"file_name\":")?;
     let name = named_file(alloc, disposition, &part.ctype)?;
-    write_optional(alloc, out, name)?;
+    write_optional(out, name)?;
     write_word(out, ",\"attachment\":")?;
     write_word(out, flag_text(is_attachment))
 }
@@ -271,7 +266,7 @@ fn write_decoded_size<W: Write>(
             let text = refusal_of(alloc, &MailParseError::from(fault))?;
             write_word(out, ",\"decoded_size\":null")?;
             write_word(out, ",\"error\":")?;
-            write_optional(alloc, out, text)
+            write_optional(out, text)
         }
     }
 }
@@ -325,9 +320,9 @@ fn write_flowed<W: Write, K: KnownCharsets>(
     }
     let read = flowed_text(alloc, part, known)?;
     write_word(out, ",\"text\":")?;
-    write_text(alloc, out, read.text.as_str())?;
+    write_text(out, read.text.as_str())?;
     write_word(out, ",\"text_charset\":")?;
-    write_text(alloc, out, read.charset.as_str())?;
+    write_text(out, read.charset.as_str())?;
     write_word(out, damaged_text(read.is_damaged))
 }
 
@@ -351,9 +346,9 @@ fn write_body_text<W: Write, K: KnownCharsets>(
     let bytes = content.bytes.as_slice();
     write_word(out, ",\"text\":")?;
     let text = lenient_text(alloc, bytes, ctype, known)?;
-    write_owned(alloc, out, text)?;
+    write_text(out, text.as_str())?;
     write_word(out, ",\"text_charset\":")?;
-    write_text(alloc, out, charset_used(bytes, ctype, known))?;
+    write_text(out, charset_used(bytes, ctype, known))?;
     write_word(out, damaged_text(content.fault.is_some()))
 }
 
@@ -394,11 +389,11 @@ fn write_header<W: Write, K: KnownCharsets>(
     ensures { Writes (W.contents out.old) (W.contents out.new) result
         (text_of (header_value (K.known known.now) header.now)) }
 {
-    let key = header.get_key(alloc)?;
+    let key = header.get_key_ref(alloc)?;
     let value = header.get_value_in(alloc, known)?;
     write_word(out, "[")?;
-    write_owned(alloc, out, key)?;
+    write_text(out, key.as_str())?;
     write_word(out, ",")?;
-    write_owned(alloc, out, value)?;
+    write_text(out, value.as_str())?;
     write_word(out, "]")
 }

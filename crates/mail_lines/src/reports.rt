@@ -54,7 +54,7 @@ pub fn write_recipients<W: Write, K: KnownCharsets>(
     let mut position = Position::First;
     for recipient in &found {
         write_comma(out, position)?;
-        write_recipient(alloc, out, recipient)?;
+        write_recipient(out, recipient)?;
         position = Position::Later;
     }
     write_word(out, "]")?;
@@ -62,44 +62,28 @@ pub fn write_recipients<W: Write, K: KnownCharsets>(
 }
 
 /// Writes the object of a recipient.
-fn write_recipient<W: Write>(alloc: Global, out: &mut W, recipient: &Recipient) -> Result<(), Fault>
+fn write_recipient<W: Write>(out: &mut W, recipient: &Recipient) -> Result<(), Fault>
     ensures { Writes (W.contents out.old) (W.contents out.new) result
         (text_of (delivery_value (delivery recipient.now))) }
 {
     let r = recipient;
+    write_field(out, "{\"final_recipient\":", r.final_recipient.as_deref())?;
     write_field(
-        alloc,
-        out,
-        "{\"final_recipient\":",
-        r.final_recipient.as_deref(),
-    )?;
-    write_field(
-        alloc,
         out,
         ",\"original_recipient\":",
         r.original_recipient.as_deref(),
     )?;
-    write_field(alloc, out, ",\"action\":", r.action.as_deref())?;
-    write_field(alloc, out, ",\"status\":", r.status.as_deref())?;
-    write_field(
-        alloc,
-        out,
-        ",\"diagnostic_code\":",
-        r.diagnostic_code.as_deref(),
-    )?;
+    write_field(out, ",\"action\":", r.action.as_deref())?;
+    write_field(out, ",\"status\":", r.status.as_deref())?;
+    write_field(out, ",\"diagnostic_code\":", r.diagnostic_code.as_deref())?;
     write_word(out, "}")
 }
 
 /// Writes the text `before`, and then the string, or `null` if there is none.
-fn write_field<W: Write>(
-    alloc: Global,
-    out: &mut W,
-    before: &str,
-    text: Option<&str>,
-) -> Result<(), Fault>
+fn write_field<W: Write>(out: &mut W, before: &str, text: Option<&str>) -> Result<(), Fault>
     ensures { Writes (W.contents out.old) (W.contents out.new) result
         (before.now ++ text_of (string_or_null (option_map (λ text. text.now) text.entry))) }
 {
     write_word(out, before)?;
-    write_name(alloc, out, text)
+    write_name(out, text)
 }

@@ -239,7 +239,7 @@ fn write_following<R: Read, W: Write, M: Watch, K: KnownCharsets>(
         (read.now ++ more)) }
 {
     let front = read_mailbox(read, source.kind.format()).front();
-    let written = write_front(alloc, out, front, source.file)?;
+    let written = write_front(out, front, source.file)?;
     let first = NextMail {
         selection,
         at: front.len(),

@@ -1,25 +1,21 @@
--- How the kit's parser reads a written string: each character has an escape that is read back, or is unchanged.
-use Rattle.std.proofs.Common.{◌≡◌, ℕ, suc, ◌<◌, ◌≤◌, Bool, true, false, cond, not, ◌&&◌, ◌||◌, ◌==◌, List, [], ◌∷◌, ◌++◌, length, get_or, Option, Some, None, inl, inr, ◌⊎◌, refl, sym, ap, ap₂, subst, ◌∙◌, arith, append_assoc, append-nil, flat_map, IsUtf8, bytes_eq, encode_utf8_all, true≢false}
-use Rattle.std.proofs.lemmas.Bool.{agree_below, agree_below_at, and_parts, and_from, cases_lt, cases_Bool, cases_eq, eqb-true, le-ltb, ne_eqb, or_parts, not-true, eqb-false, ltb-false, cond-true, cond-false}
-use Rattle.std.proofs.lemmas.Grind.{flat_map-append}
+-- How the kit's parser reads a written string: each byte and each character has an escape that is read back, or is
+-- unchanged.
+use Rattle.std.proofs.Common.{◌≡◌, ℕ, zero, suc, ◌<◌, ◌≤◌, Bool, true, false, cond, not, ◌&&◌, ◌||◌, ◌==◌, nat_le, codes, List, [], ◌∷◌, ◌++◌, take, drop, slice_index, Option, Some, None, inl, inr, refl, sym, ap, ap₂, subst, ◌∙◌, arith, append_assoc, append-nil, bytes_eq, true≢false}
+use Rattle.std.proofs.lemmas.Bool.{agree_below, agree_below_at, and_parts, and_from, cases_lt, cases_Bool, eqb-true, le-leb, le-ltb, leb-true, ltb-true, ne_eqb, or_cases, or_parts, not-true, eqb-false, ltb-false}
+use Rattle.std.proofs.lemmas.List.{take-append-drop}
 use Rattle.std.proofs.lemmas.List.Folds.{list_all-append}
 use Rattle.std.proofs.lemmas.Slice.Eq.{bytes_eq-Decides}
-use Rattle.std.proofs.lemmas.Str.{IsUtf8-encode, IsUtf8-from_is_utf8, chars-append, chars-encodes, encode_ascii, inside_one}
-use Rattle.std.specs.Char.{IsScalar, encode_utf8}
-use Rattle.std.specs.Fmt.{padded_integral, digits, char_count}
+use Rattle.std.specs.Char.{encode_utf8}
 use Rattle.std.specs.List.{list_all}
-use Rattle.std.specs.Str.{all_scalars, chars, is_utf8}
 use Rattle.json.proofs.Printed.Strings.{escape_byte_plain}
-use Rattle.json.proofs.Printed.Utf8.{are_ascii, IsUtf8-are_ascii}
 use Rattle.json.specs.Lex.{Lexeme, token, Mode, lex, lex_byte, between, in_string, operator, space, other, string_token}
 use Rattle.json.specs.Token.{Token}
-use Rattle.json.specs.Print.{escape, escape_byte, quoted}
+use Rattle.json.specs.Print.{escape_byte}
 use Rattle.json.specs.Run.{is_plain}
 use Rattle.json.specs.Text.{content, plain, prepend, code_unit, short_escape, is_high_surrogate, is_low_surrogate}
 use Rattle.json.specs.Word.{is_operator, is_space}
-use Rattle.mail_lines.specs.JsonText.{is_hidden, character_text, escaped, json_text, utf8_text}
+use Rattle.mail_lines.specs.JsonText.{begins_control, begins_separator, byte_text, escaped, escaped_after, first_text, json_text, more_bytes, separator_text, unicode_escape}
 use Rattle.mail_lines.specs.Values.{is_within_line}
-use Rattle.mail_lines.proofs.lemmas.JsonText.{character_plain}
 
 -- how both readers read a piece of a string before any text; and the piece has no line end
 pub record Passes (bytes piece : List ℕ) : Type 0 where
@@ -46,21 +42,6 @@ stands_for bytes (e ∷ u ∷ a ∷ b ∷ c ∷ []) = false
 stands_for bytes (e ∷ u ∷ a ∷ b ∷ c ∷ d ∷ []) =
     (e == 92) && (u == 117) && (is_plain a && is_plain b && is_plain c && is_plain d) && spells bytes (code_unit a b c d)
 stands_for bytes (e ∷ u ∷ a ∷ b ∷ c ∷ d ∷ f ∷ rest) = false
-
--- the piece for a character
-abbrev pub piece : ℕ → List ℕ
-piece c = flat_map character_text (chars (escape (encode_utf8 c)))
-
-abbrev is_read : ℕ → Bool
-is_read c = stands_for (encode_utf8 c) (piece c)
-
-low_read : agree_below is_read (λ c. true) 160 ≡ true
-unfolding character_text is_hidden chars escape_byte encode_utf8 short_escape code_unit padded_integral digits char_count
-low_read = refl
-
-separators_read : (is_read 8232 ≡ true) × (is_read 8233 ≡ true)
-unfolding character_text is_hidden chars escape_byte encode_utf8 short_escape code_unit padded_integral digits char_count
-separators_read = (refl, refl)
 
 -- ---- the three shapes are read
 
@@ -178,162 +159,97 @@ passes_then a b p q f g = record {
   one_line = list_all-append is_within_line p q ∙ and_from _ _ f.one_line g.one_line;
 }
 
-high_passes : (bs : List ℕ) → ((k : ℕ) → k < length bs → 128 ≤ get_or bs k 0) → Passes bs bs
-high_passes [] h = passes_nil
-high_passes (x ∷ bs) h =
-    let high : 128 ≤ x = h 0 (omega arith) in
-    passes_then (x ∷ []) bs (x ∷ []) bs (plain_passes x (λ e. omega arith) (λ e. omega arith) (omega arith))
-    (high_passes bs (λ k below. h (suc k) (omega arith)))
+-- ---- the text of a byte, and of a character
 
--- ---- a text that is not UTF-8 is only quoted
-
-bytes_read : agree_below (λ x. stands_for (x ∷ []) (escape_byte x)) (λ x. true) 128 ≡ true
+bytes_read : agree_below (λ x. stands_for (x ∷ []) (byte_text x)) (λ x. true) 128 ≡ true
 unfolding escape_byte short_escape code_unit encode_utf8
 bytes_read = refl
 
-byte_passes : (x : ℕ) → Passes (x ∷ []) (escape_byte x)
+byte_passes : (x : ℕ) → Passes (x ∷ []) (byte_text x)
 byte_passes x = elim (cases_lt x 128) [
-  | inl low ↦ stands_for-passes (x ∷ []) (escape_byte x) (agree_below_at (λ y. stands_for (y ∷ []) (escape_byte y)) (λ y. true) 128 x bytes_read low)
-  | inr high ↦ subst (Passes (x ∷ [])) (sym (escape_byte_plain x (λ e. omega arith) (λ e. omega arith) (omega arith)))
-      (plain_passes x (λ e. omega arith) (λ e. omega arith) (omega arith))
+  | inl low ↦ stands_for-passes (x ∷ []) (byte_text x) (agree_below_at (λ y. stands_for (y ∷ []) (byte_text y)) (λ y. true) 128 x bytes_read low)
+  | inr high ↦ rw (ne_eqb x 127 (λ e. omega arith)) (subst (Passes (x ∷ [])) (sym (escape_byte_plain x (λ e. omega arith) (λ e. omega arith) (omega arith)))
+      (plain_passes x (λ e. omega arith) (λ e. omega arith) (omega arith)))
 ]
 
-escape_passes : (s : List ℕ) → Passes s (escape s)
-escape_passes [] = passes_nil
-escape_passes (x ∷ s) = passes_then (x ∷ []) s (escape_byte x) (escape s) (byte_passes x) (escape_passes s)
+abbrev is_control_read : ℕ → Bool
+is_control_read c = not (nat_le 128 c) || stands_for (194 ∷ c ∷ []) (unicode_escape c)
 
--- ---- a text that is UTF-8, character by character
+controls_read : agree_below is_control_read (λ c. true) 160 ≡ true
+unfolding short_escape code_unit encode_utf8
+controls_read = refl
 
-encode_high : (c : ℕ) → 128 ≤ c → (k : ℕ) → k < length (encode_utf8 c) → 128 ≤ get_or (encode_utf8 c) k 0
-encode_high c big k below = elim (cases_lt (get_or (encode_utf8 c) k 0) 128) [
-  | inl low ↦ absurd (omega (arith, inside_one c [] (encode_utf8 c) k (sym (append-nil _)) below low))
-  | inr h ↦ h
+control_passes : (c : ℕ) → 128 ≤ c → c < 160 → Passes (194 ∷ c ∷ []) (unicode_escape c)
+control_passes c least most =
+    let read : not (nat_le 128 c) || stands_for (194 ∷ c ∷ []) (unicode_escape c) ≡ true = agree_below_at is_control_read (λ d. true) 160 c controls_read most in
+    stands_for-passes (194 ∷ c ∷ []) (unicode_escape c) (rw (le-leb 128 c least) at read)
+
+separators_read : (stands_for (226 ∷ 128 ∷ 168 ∷ []) (codes "\\u2028") ≡ true) × (stands_for (226 ∷ 128 ∷ 169 ∷ []) (codes "\\u2029") ≡ true)
+unfolding short_escape code_unit encode_utf8
+separators_read = (refl, refl)
+
+-- ---- what the bytes begin with
+
+-- a control is two bytes
+control_first : (b : ℕ) (bytes : List ℕ) → begins_control (b ∷ bytes) ≡ true → Passes (b ∷ take 1 bytes) (unicode_escape (slice_index bytes 0))
+control_first b [] e = absurd (true≢false (sym (and_parts (b == 194) _ e).1))
+control_first b (c ∷ bytes) e =
+    let p = and_parts (b == 194) _ e in
+    let q = and_parts (nat_le 128 c) _ p.1 in
+    subst (λ a. Passes (a ∷ c ∷ []) (unicode_escape c)) (sym (eqb-true b 194 p.0)) (control_passes c (leb-true 128 c q.0) (ltb-true c 160 q.1))
+
+separator_passes : (c : ℕ) → (c == 168 || c == 169) ≡ true → Passes (226 ∷ 128 ∷ c ∷ []) (separator_text c)
+separator_passes c e = elim (or_cases (c == 168) (c == 169) e) [
+  | inl is ↦ subst (λ d. Passes (226 ∷ 128 ∷ d ∷ []) (separator_text d)) (sym (eqb-true c 168 is)) (stands_for-passes _ _ separators_read.0)
+  | inr is ↦ subst (λ d. Passes (226 ∷ 128 ∷ d ∷ []) (separator_text d)) (sym (eqb-true c 169 is)) (stands_for-passes _ _ separators_read.1)
 ]
 
-escape_high : (xs : List ℕ) → ((k : ℕ) → k < length xs → 128 ≤ get_or xs k 0) → escape xs ≡ xs
-escape_high [] h = refl
-escape_high (x ∷ xs) h =
-    let high : 128 ≤ x = h 0 (omega arith) in
-    ap₂ (λ (a b : List ℕ). a ++ b) (escape_byte_plain x (λ e. omega arith) (λ e. omega arith) (omega arith))
-    (escape_high xs (λ k below. h (suc k) (omega arith)))
+-- a separator is three
+separator_first : (b : ℕ) (bytes : List ℕ) → begins_separator (b ∷ bytes) ≡ true → Passes (b ∷ take 2 bytes) (separator_text (slice_index bytes 1))
+separator_first b [] e = absurd (true≢false (sym (and_parts (b == 226) _ e).1))
+separator_first b (c ∷ []) e =
+    let p = and_parts (b == 226) _ e in let q = and_parts (c == 128) _ p.1 in absurd (true≢false (sym q.1))
+separator_first b (c ∷ d ∷ bytes) e =
+    let p = and_parts (b == 226) _ e in
+    let q = and_parts (c == 128) _ p.1 in
+    subst (λ a. Passes (a ∷ c ∷ d ∷ []) (separator_text d)) (sym (eqb-true b 226 p.0))
+    (subst (λ a. Passes (226 ∷ a ∷ d ∷ []) (separator_text d)) (sym (eqb-true c 128 q.0)) (separator_passes d q.1))
 
-one_scalar : (c : ℕ) → IsScalar c → all_scalars (c ∷ []) ≡ true
-one_scalar c ok = and_from _ _ ok refl
-
-chars-one : (c : ℕ) → IsScalar c → chars (encode_utf8 c) ≡ c ∷ []
-chars-one c ok = ap chars (sym (append-nil (encode_utf8 c))) ∙ chars-encodes (c ∷ []) (one_scalar c ok)
-
-not_hidden : (c : ℕ) → 160 ≤ c → (c ≡ 8232 → ⊥) → (c ≡ 8233 → ⊥) → is_hidden c ≡ false
-unfolding is_hidden
-not_hidden c big a b = grind arith
-
-piece_high : (c : ℕ) → IsScalar c → 160 ≤ c → (c ≡ 8232 → ⊥) → (c ≡ 8233 → ⊥) → piece c ≡ encode_utf8 c
-piece_high c ok big a b =
-    ap (λ t. flat_map character_text (chars t)) (escape_high (encode_utf8 c) (encode_high c (omega arith)))
-    ∙ ap (flat_map character_text) (chars-one c ok) ∙ append-nil (character_text c) ∙ character_plain c (not_hidden c big a b)
-
-character_passes : (c : ℕ) → IsScalar c → Passes (encode_utf8 c) (piece c)
-character_passes c ok = go (cases_lt c 160) (cases_eq c 8232) (cases_eq c 8233)
-  where
-    go : (c < 160) ⊎ (160 ≤ c) → (c ≡ 8232) ⊎ (c ≡ 8232 → ⊥) → (c ≡ 8233) ⊎ (c ≡ 8233 → ⊥) → Passes (encode_utf8 c) (piece c)
-    go (inl low) p q = stands_for-passes (encode_utf8 c) (piece c) (agree_below_at is_read (λ d. true) 160 c low_read low)
-    go (inr big) (inl e) q = subst (λ d. Passes (encode_utf8 d) (piece d)) (sym e) (stands_for-passes (encode_utf8 8232) (piece 8232) separators_read.0)
-    go (inr big) (inr a) (inl e) = subst (λ d. Passes (encode_utf8 d) (piece d)) (sym e) (stands_for-passes (encode_utf8 8233) (piece 8233) separators_read.1)
-    go (inr big) (inr a) (inr b) =
-        subst (Passes (encode_utf8 c)) (sym (piece_high c ok big a b)) (high_passes (encode_utf8 c) (encode_high c (omega arith)))
-
-ascii_bytes : agree_below (λ x. are_ascii (escape_byte x)) (λ x. true) 128 ≡ true
-unfolding escape_byte
-ascii_bytes = refl
-
-escaped_utf8 : (c : ℕ) → IsScalar c → IsUtf8 (escape (encode_utf8 c))
-escaped_utf8 c ok = elim (cases_lt c 128) [
-  | inl low ↦ subst IsUtf8 (sym (ap escape (encode_ascii c low) ∙ append-nil (escape_byte c)))
-      (IsUtf8-are_ascii (escape_byte c) (agree_below_at (λ x. are_ascii (escape_byte x)) (λ x. true) 128 c ascii_bytes low))
-  | inr big ↦ subst IsUtf8 (sym (escape_high (encode_utf8 c) (encode_high c big))) (IsUtf8-encode c ok)
+first_passes : (b : ℕ) (bytes : List ℕ) → Passes (b ∷ take (more_bytes (b ∷ bytes)) bytes) (first_text (b ∷ bytes))
+unfolding first_text more_bytes
+first_passes b bytes = elim (cases_Bool (begins_control (b ∷ bytes))) [
+  | inl e ↦ rw e (control_first b bytes e)
+  | inr e ↦ elim (cases_Bool (begins_separator (b ∷ bytes))) [
+    | inl f ↦ rw (e, f) (separator_first b bytes f)
+    | inr f ↦ rw (e, f) (byte_passes b)
+  ]
 ]
-
-pieces : List ℕ → List ℕ
-pieces cs = flat_map piece cs
-
-pieces_pass : (cs : List ℕ) → all_scalars cs ≡ true → Passes (encode_utf8_all cs) (pieces cs)
-unfolding pieces
-pieces_pass [] ok = passes_nil
-pieces_pass (c ∷ cs) ok =
-    let p = and_parts _ _ ok in
-    passes_then (encode_utf8 c) (encode_utf8_all cs) (piece c) (pieces cs) (character_passes c p.0) (pieces_pass cs p.1)
-
-close_text : flat_map character_text (chars (34 ∷ [])) ≡ 34 ∷ []
-unfolding character_text is_hidden chars encode_utf8
-close_text = refl
-
-pieces_text : (cs : List ℕ) → all_scalars cs ≡ true → flat_map character_text (chars (escape (encode_utf8_all cs) ++ 34 ∷ [])) ≡ pieces cs ++ 34 ∷ []
-unfolding pieces
-pieces_text [] ok = close_text
-pieces_text (c ∷ cs) ok =
-    let p = and_parts _ _ ok in
-    let rest = escape (encode_utf8_all cs) ++ 34 ∷ [] in
-    let split : escape (encode_utf8_all (c ∷ cs)) ++ 34 ∷ [] ≡ escape (encode_utf8 c) ++ rest =
-    ap (λ t. t ++ 34 ∷ []) (flat_map-append escape_byte (encode_utf8 c) (encode_utf8_all cs)) ∙ append_assoc (escape (encode_utf8 c)) _ _ in
-    ap (λ t. flat_map character_text (chars t)) split
-    ∙ ap (flat_map character_text) (chars-append (escape (encode_utf8 c)) rest (escaped_utf8 c p.0))
-    ∙ flat_map-append character_text (chars (escape (encode_utf8 c))) (chars rest)
-    ∙ ap (λ t. piece c ++ t) (pieces_text cs p.1)
-    ∙ sym (append_assoc (piece c) (pieces cs) (34 ∷ []))
 
 -- ---- a string
 
-quoted_open : (inner : List ℕ) → flat_map character_text (chars (34 ∷ inner)) ≡ 34 ∷ flat_map character_text (chars inner)
-unfolding character_text is_hidden encode_utf8 chars
-quoted_open inner = ap (flat_map character_text) (chars-append (34 ∷ []) inner (IsUtf8-are_ascii (34 ∷ []) refl))
+after_passes : (k : ℕ) (bytes : List ℕ) → Passes (drop k bytes) (escaped_after k bytes)
+unfolding escaped_after
+after_passes zero [] = passes_nil
+after_passes (suc k) [] = passes_nil
+after_passes zero (b ∷ bytes) =
+    let m = more_bytes (b ∷ bytes) in
+    subst (λ t. Passes t (first_text (b ∷ bytes) ++ escaped_after m bytes)) (ap (λ t. b ∷ t) (take-append-drop m bytes))
+    (passes_then (b ∷ take m bytes) (drop m bytes) (first_text (b ∷ bytes)) (escaped_after m bytes) (first_passes b bytes) (after_passes m bytes))
+after_passes (suc k) (b ∷ bytes) = after_passes k bytes
 
--- the text between the quotation marks
-pub record IsInside (text inner : List ℕ) : Type 0 where
-  pub passes : Passes text inner
-  pub written : json_text text ≡ 34 ∷ (inner ++ 34 ∷ [])
-
-inside_utf8 : (text : List ℕ) → is_utf8 text ≡ true → (inner : List ℕ) × IsInside text inner
-unfolding json_text utf8_text escaped
-inside_utf8 text e =
-    let u = IsUtf8-from_is_utf8 text e in
-    let cs = u.0 in
-    let same = u.1.1 in (
-      pieces cs,
-      record {
-        passes = subst (λ t. Passes t (pieces cs)) same (pieces_pass cs u.1.0);
-        written = cond-true (is_utf8 text) (escaped (quoted text)) (quoted text) e
-            ∙ ap (λ t. escaped (quoted t)) (sym same)
-            ∙ quoted_open (escape (encode_utf8_all cs) ++ 34 ∷ [])
-            ∙ ap (λ t. 34 ∷ t) (pieces_text cs u.1.0);
-      },
-    )
-
-inside_other : (text : List ℕ) → is_utf8 text ≡ false → (inner : List ℕ) × IsInside text inner
-unfolding json_text
-inside_other text e = (
-  escape text,
-  record { passes = escape_passes text; written = cond-false (is_utf8 text) (utf8_text text) (quoted text) e },
-)
-
-pub inside : (text : List ℕ) → (inner : List ℕ) × IsInside text inner
-inside text = elim (cases_Bool (is_utf8 text)) [
-  | inl e ↦ inside_utf8 text e
-  | inr e ↦ inside_other text e
-]
+escaped_passes : (text : List ℕ) → Passes text (escaped text)
+escaped_passes text = after_passes 0 text
 
 -- the lexer reads a string as the text
 pub lex-json_text : (text r : List ℕ) → lex between (json_text text ++ r) ≡ token (Token.string text) ∷ lex between r
-unfolding lex content
+unfolding lex content json_text
 lex-json_text text r =
-    let i = inside text in
-    let f = i.1.passes in
-    ap (λ t. lex between (t ++ r)) i.1.written
-    ∙ ap (λ t. lex between (34 ∷ t)) (append_assoc i.0 (34 ∷ []) r)
+    let f = escaped_passes text in
+    ap (λ t. lex between (34 ∷ t)) (append_assoc (escaped text) (34 ∷ []) r)
     ∙ ap₂ (λ o l. token (string_token o) ∷ l)
     (f.read (34 ∷ r) ∙ ap Some (append-nil text)) (f.lexed (34 ∷ r))
 
 -- a string has no line end
 pub one_line-json_text : (text : List ℕ) → list_all is_within_line (json_text text) ≡ true
-one_line-json_text text =
-    let i = inside text in
-    ap (list_all is_within_line) i.1.written ∙ list_all-append is_within_line i.0 (34 ∷ []) ∙ and_from _ _ i.1.passes.one_line refl
+unfolding json_text
+one_line-json_text text = list_all-append is_within_line (escaped text) (34 ∷ []) ∙ and_from _ _ (escaped_passes text).one_line refl

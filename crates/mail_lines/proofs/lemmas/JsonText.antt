@@ -1,62 +1,12 @@
 -- Lemmas on JSON text, and on lists.
-use Rattle.std.proofs.Common.{◌≡◌, ℕ, suc, ◌+◌, ◌<◌, true, false, List, [], ◌∷◌, ◌++◌, length, drop, get_or, min, ℤ, pos, negsuc, Option, String, Global, FitsSigned, w64, decimal, arith, string_bytes, refl, sym, ap, subst, ◌∙◌, append_assoc, add-one, drop-cons}
+use Rattle.std.proofs.Common.{◌≡◌, ℕ, suc, ◌+◌, ◌<◌, List, [], ◌∷◌, ◌++◌, length, drop, get_or, min, ℤ, pos, negsuc, Option, FitsSigned, w64, decimal, arith, refl, sym, ap, subst, ◌∙◌, append_assoc, add-one, drop-cons}
 use Rattle.std.proofs.KnownBytes.{Appends-trans}
-use Rattle.std.proofs.lemmas.Bool.{cond-true, cond-false}
 use Rattle.std.proofs.lemmas.List.{append-nil}
-use Rattle.std.proofs.lemmas.Str.{chars-nil, chars_past_char, is_utf8-from_IsUtf8, IsUtf8-string_bytes}
-use Rattle.std.specs.Prelude.{◌^◌, ◌-◌, option_map, codes}
-use Rattle.std.specs.Char.{encode_utf8}
-use Rattle.std.specs.Fmt.{padded_integral, format_spec, signed_decimal}
+use Rattle.std.specs.Prelude.{◌^◌, ◌-◌, codes}
+use Rattle.std.specs.Fmt.{signed_decimal}
 use Rattle.std.specs.Io.KnownBytes.{Appends}
-use Rattle.std.specs.List.{flat_map}
-use Rattle.std.specs.Str.{chars, is_utf8, IsUtf8}
-use Rattle.json.specs.Print.{quoted}
-use Rattle.mail_lines.specs.JsonText.{is_hidden, hexadecimal, character_text, escaped, json_text, utf8_text, number_text, seconds_text}
+use Rattle.mail_lines.specs.JsonText.{number_text, seconds_text}
 use Rattle.mail_lines.specs.Printed.{after_commas, listed}
-
--- a character that is kept, and one that is escaped
-pub character_plain : (c : ℕ) → is_hidden c ≡ false → character_text c ≡ encode_utf8 c
-unfolding character_text
-character_plain c e = cond-false (is_hidden c) (codes "\\u" ++ hexadecimal c) (encode_utf8 c) e
-
-pub character_hidden : (c : ℕ) → is_hidden c ≡ true → character_text c ≡ codes "\\u" ++ hexadecimal c
-unfolding character_text
-character_hidden c e = cond-true (is_hidden c) (codes "\\u" ++ hexadecimal c) (encode_utf8 c) e
-
--- the text of a number in four digits or more, padded with 0
-abbrev pub hexadecimal_output : Option (List ℕ) → Option (List ℕ)
-hexadecimal_output digits = option_map (padded_integral (format_spec 32 0 4 4 (2 ^ 64 - 1)) false []) digits
-
--- the first character, and what follows it
-pub escaped_first : (rest next : List ℕ) (c : ℕ) → IsUtf8 rest → rest ≡ encode_utf8 c ++ next → escaped rest ≡ character_text c ++ escaped next
-unfolding escaped
-escaped_first rest next c utf8 e = ap (λ cs. flat_map character_text cs) (chars_past_char rest next c utf8 e)
-
-pub escaped_nil : (rest : List ℕ) → rest ≡ [] → escaped rest ≡ []
-unfolding escaped
-escaped_nil rest e = ap (λ cs. flat_map character_text cs) (ap chars e ∙ chars-nil)
-
--- if the text after a plain character is unchanged, so is the whole
-pub same_past : (rest next : List ℕ) (c : ℕ) → IsUtf8 rest → rest ≡ encode_utf8 c ++ next → is_hidden c ≡ false → escaped next ≡ next → escaped rest ≡ rest
-same_past rest next c utf8 e plain same =
-    escaped_first rest next c utf8 e ∙ ap (λ t. t ++ escaped next) (character_plain c plain) ∙ ap (λ t. encode_utf8 c ++ t) same ∙ sym e
-
--- the text so far and the rest escaped are all escaped
-pub escaped_past : (all written rest next new : List ℕ) (c : ℕ) → IsUtf8 rest → rest ≡ encode_utf8 c ++ next → new ≡ written ++ character_text c
-    → written ++ escaped rest ≡ all → new ++ escaped next ≡ all
-escaped_past all written rest next new c utf8 e push here =
-    ap (λ w. w ++ escaped next) push ∙ append_assoc written (character_text c) (escaped next)
-    ∙ ap (λ t. written ++ t) (sym (escaped_first rest next c utf8 e)) ∙ here
-
-pub escaped_end : (all written rest : List ℕ) → rest ≡ [] → written ++ escaped rest ≡ all → written ≡ all
-escaped_end all written rest none here = sym (append-nil written) ∙ ap (λ t. written ++ t) (sym (escaped_nil rest none)) ∙ here
-
--- a `String` is UTF-8
-pub json_text_string : (text : String Global) → json_text (string_bytes text) ≡ utf8_text (string_bytes text)
-unfolding json_text
-json_text_string text =
-    cond-true (is_utf8 (string_bytes text)) (utf8_text (string_bytes text)) (quoted (string_bytes text))
-    (is_utf8-from_IsUtf8 (string_bytes text) (IsUtf8-string_bytes text))
 
 -- numbers of 64 bits are written as they are
 pub number_text-fits : (n : ℕ) → n < 2 ^ 64 → decimal n ≡ number_text n

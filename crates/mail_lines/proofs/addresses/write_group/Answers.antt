@@ -1,4 +1,4 @@
-use Rattle.std.proofs.Common.{List, map, refl, sym}
+use Rattle.std.proofs.Common.{List, map, refl, sym, ◌∙◌}
 use Rattle.std.specs.Prelude.{codes}
 use Rattle.json.specs.Json.{string}
 use Rattle.mail_address.specs.AddressViews.{member_view}
@@ -11,7 +11,7 @@ use Rattle.mail_lines.proofs.addresses.write_group.Goals as goal
 
 pub returns : goal.returns
 returns g c =
-    let name = value_as (λ t. string t) _ _ _ _ (sym (ok_same _ _ c.in_ok-name.ensures)) c.in_ok-write_owned.ensures in
+    let name = value_as (λ t. string t) _ _ _ _ (c.as_str.ensures.value ∙ sym (ok_same _ _ c.in_ok-name.ensures)) c.in_ok-write_text.ensures in
     let members = value_as (λ (ms : List Member). list_of (map (single_value (g.K.KnownCharsets.known c.args.known.now)) (map member_view ms))) _ _ _ _ c.as_slice.ensures.value c.in_ok-write_members.ensures in
     let named = object_begun (codes "group") _ _ _ _ refl c.in_ok-write_word.ensures name in
     let both = object_appended _ _ _ _ _ _ named (member_appended (codes "members") _ _ _ _ refl c.in_ok-write_word-2.ensures members) in
