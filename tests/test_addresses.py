@@ -48,6 +48,7 @@ NAMES = SPACED + [
 ADDRESSES = [
     b"ann@example.org", b"x@xn--bcher-kva.example", "joe@b\u00fccher.example".encode(), b'"a b"@c', b'"a"."b"@c', b"a@[1.2.3.4]",
     b"a . b @ c (home) . d", b"a@[IPv6:2001:db8::1]", b"a at b", b"a..b@c", b"boss@corp.com,evil@x.org", b"", b"a@b@c", b'""@c',
+    b'"a\r\n b"@c', b'"a\n b"@c', b'"a\r\n\tb"@c', b'"a\rb"@c', b'"a\\\rb"@c', b"ann@[1.2.3.4\r\n ]", b"a@[1\\ \x7f]",
 ]
 ROUTES = [b""] * 6 + [b"@a,@b:", b"@a,,(x)@b :", b"@a:b:", b"joe@c:"]
 SEPARATORS = [b", "] * 6 + [b",", b";", b"; ", b",,", b", (x, y) ,", b",\r\n "]
@@ -125,6 +126,13 @@ def meaning(letter, raw):
     return b"" if letter == "w" else raw
 
 
+def address_meaning(letter, raw):
+    """The text of a token of an address: without folding in quotes, and without whitespace in a literal."""
+    if letter == "l":
+        return re.sub(rb"(\\.)|[ \t\r\n]", lambda found: found[1] or b"", raw, flags=re.S)
+    return meaning(letter, re.sub(rb"\r?\n(?=[ \t])", b"", raw))
+
+
 def as_text(raw):
     try:
         return raw.decode()
@@ -169,9 +177,11 @@ def name_of(text):
 
 
 def address_of(local, domain):
-    """An address in canonical form."""
-    user = b"".join(meaning(*it) for it in local.tokens())
-    host = b"".join(meaning(*it) for it in domain.tokens())
+    """An address in canonical form, or None if a control character is left."""
+    user = b"".join(address_meaning(*it) for it in local.tokens())
+    host = b"".join(address_meaning(*it) for it in domain.tokens())
+    if re.search(rb"[\x00-\x1f\x7f]", user + host):
+        return None
     if not re.fullmatch(ATOM + rb"(?:\." + ATOM + rb")*", user):
         user = b'"' + re.sub(rb'(["\\])', rb"\\\1", user) + b'"'
     return as_text(user + b"@" + host).encode()
@@ -199,7 +209,8 @@ def mailbox_of(text):
     at = text.word.find("@")
     if at < 0 or not LOCAL.fullmatch(text.word[:at]) or not DOMAIN.fullmatch(text.word[at + 1 :]):
         return None
-    return ["mailbox", name, address_of(text.part(0, at), text.part(at + 1, len(text.word)))]
+    address = address_of(text.part(0, at), text.part(at + 1, len(text.word)))
+    return None if address is None else ["mailbox", name, address]
 
 
 def single_of(text):

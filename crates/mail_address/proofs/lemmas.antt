@@ -1,6 +1,7 @@
 pub mod Tokens
 pub mod Addresses
 pub mod Text
+pub mod Folding
 pub mod Bounds
 pub mod MakeUp
 pub mod Enclosed
@@ -9,6 +10,7 @@ pub mod Passed
 pub mod GrammarRead
 pub mod GrammarMade
 pub mod GrammarLists
+pub mod Safe
 pub mod Encode
 pub mod EncodeCut
 pub mod EncodeWord

@@ -6,7 +6,7 @@ use Rattle.std.specs.List.{list_all}
 use Rattle.mail_codec.specs.Ascii.{closing_parenthesis, colon, comma, greater_than, less_than, opening_parenthesis}
 use Rattle.mail_address.specs.Addresses.{Element, Single, single, group}
 use Rattle.mail_address.specs.Enclosed.{IsBetween, IsCommented}
-use Rattle.mail_address.specs.Mailbox.{Parts}
+use Rattle.mail_address.specs.Mailbox.{are_clean, Parts}
 use Rattle.mail_address.specs.Names.{IsNameWord}
 use Rattle.mail_address.specs.Tokens.{at_sign, closing_bracket, dot, is_atom_byte, is_white, opening_bracket}
 
@@ -126,14 +126,16 @@ pub data MayBeRoute : List ℕ → Type 0 where
 
 -- ---- Mailboxes.
 
--- the text is the mailbox with these parts (mailbox). The cases:
+-- the text is the mailbox with these parts (mailbox). Neither quoted strings nor domain literals of its address contain control
+-- characters, but for folding. The cases:
 pub data IsMailbox : List ℕ → Parts → Type 0 where
   -- an address (addr-spec)
-  address : {local domain text : List ℕ} → IsLocalPart local → IsDomain domain → text ≡ local ++ at_sign ∷ domain
+  address : {local domain text : List ℕ} → IsLocalPart local → IsDomain domain → are_clean local domain ≡ true
+      → text ≡ local ++ at_sign ∷ domain
       → IsMailbox text (record { display_name = []; local_part = local; domain = domain })
   -- an address in angle brackets, after a name or none (name-addr)
   named_address : {name may_be_route local domain after text : List ℕ} → IsName name → MayBeRoute may_be_route → IsLocalPart local
-      → IsDomain domain → IsWhite after
+      → IsDomain domain → are_clean local domain ≡ true → IsWhite after
       → text ≡ name ++ less_than ∷ ((may_be_route ++ (local ++ at_sign ∷ domain)) ++ greater_than ∷ after)
       → IsMailbox text (record { display_name = name; local_part = local; domain = domain })
 

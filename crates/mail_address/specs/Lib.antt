@@ -1,4 +1,5 @@
 pub mod Tokens
+pub mod Folding
 pub mod Mailbox
 pub mod MailboxViews
 pub mod Addresses
@@ -9,6 +10,7 @@ pub mod Order
 pub mod Enclosed
 pub mod Names
 pub mod Grammar
+pub mod Safe
 pub mod WordTokens
 pub mod Encode
 pub mod Writer

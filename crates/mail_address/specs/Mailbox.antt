@@ -3,9 +3,10 @@ use Rattle.std.specs.Prelude.{ℕ, suc, ◌+◌, ◌-◌, Bool, true, false, not
 use Rattle.mail_codec.specs.Ascii.{colon}
 use Rattle.mail_codec.specs.Places.{begins}
 use Rattle.mail_address.specs.declared.tokens.Kind.{Kind}
-use Rattle.mail_address.specs.declared.tokens.Kind.TheVariants.{Angle}
+use Rattle.mail_address.specs.declared.tokens.Kind.TheVariants.{Angle, Blank, Comment, Literal, Quoted}
 use Rattle.mail_address.specs.declared.tokens.Span.{Span}
 use Rattle.mail_address.specs.declared.tokens.Span.TheVariants.{White, Phrase, Word, Atoms, Literals, BeforeAt, BeforeColon, BeforeComma}
+use Rattle.mail_address.specs.Folding.{has_no_control, unfolded, without_white}
 use Rattle.mail_address.specs.Tokens.{at_sign, dot, far, is_all_white, is_in, run, step, front_token}
 
 -- the length of the word at the front, with the whitespace and comments around it, or 0 if there is none
@@ -68,18 +69,41 @@ after_route text =
 unfoldable pub is_phrase : List ℕ → Bool
 is_phrase text = is_in Word (front_token (after_white text)).kind && run Phrase text == length text
 
+-- a token of an address without control characters, but for folding in a quoted string, and whitespace in a domain literal
+abbrev pub is_clean_token : Kind → List ℕ → Bool
+is_clean_token Blank text = true
+is_clean_token Comment text = true
+is_clean_token Quoted text = has_no_control (unfolded text)
+is_clean_token Literal text = has_no_control (without_white false text)
+is_clean_token _ text = has_no_control text
+
+-- the length of the token at the front, if it is such a token
+unfoldable pub clean_len : List ℕ → ℕ
+clean_len bytes =
+    let token = front_token bytes in
+    if is_clean_token token.kind (take token.len bytes) then token.len else 0
+
+-- the bytes are such tokens
+unfoldable pub is_clean : List ℕ → Bool
+is_clean bytes = far clean_len bytes == length bytes
+
+-- a local part and a domain of such tokens
+abbrev pub are_clean : List ℕ → List ℕ → Bool
+are_clean local_part domain = is_clean local_part && is_clean domain
+
 -- the parts of a mailbox, as they are written: its display name, its local part and its domain
 pub record Parts : Type 0 where
   pub display_name : List ℕ
   pub local_part : List ℕ
   pub domain : List ℕ
 
--- the mailbox of an address (addr-spec): a local part, an `@` and a domain
+-- the mailbox of an address (addr-spec): a local part, an `@` and a domain, without control characters
 unfoldable pub spec_mailbox : List ℕ → List ℕ → Option Parts
 spec_mailbox name text =
     let len = run BeforeAt text in
-    if begins (λ b. b == at_sign) (drop len text) && (is_local_part (take len text) && is_domain (drop (suc len) text))
-    then Some (record { display_name = name; local_part = take len text; domain = drop (suc len) text }) else None
+    let domain = drop (suc len) text in
+    if begins (λ b. b == at_sign) (drop len text) && (is_local_part (take len text) && is_domain domain && are_clean (take len text) domain)
+    then Some (record { display_name = name; local_part = take len text; domain = domain }) else None
 
 -- a pair of angle brackets with bytes between them
 abbrev pub is_enclosed : Kind → Bool

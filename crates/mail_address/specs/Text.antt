@@ -4,8 +4,9 @@ use Rattle.std.specs.Prelude.{ℕ, Bool, true, false, not, ◌&&◌, ◌||◌, �
 use Rattle.std.specs.List.{list_all}
 use Rattle.mail_codec.specs.Ascii.{backslash, quote, space}
 use Rattle.mail_address.specs.declared.tokens.Kind.{Kind}
-use Rattle.mail_address.specs.declared.tokens.Kind.TheVariants.{Blank, Comment, Quoted}
+use Rattle.mail_address.specs.declared.tokens.Kind.TheVariants.{Blank, Comment, Literal, Quoted}
 use Rattle.mail_address.specs.declared.tokens.Span.TheVariants.{White, Atoms}
+use Rattle.mail_address.specs.Folding.{unfolded, without_white}
 use Rattle.mail_address.specs.Tokens.{at_sign, dot, front_token, is_all_white, is_atom_byte, run, step}
 use Rattle.mail_address.specs.Mailbox.{after_white, is_dotted, within_ends}
 use Rattle.mail_address.specs.Addresses.{items}
@@ -31,13 +32,23 @@ front_len bytes = (front_token bytes).len
 unfoldable pub front_meaning : List ℕ → List ℕ
 front_meaning bytes = meaning (front_token bytes).kind (take (front_len bytes) bytes)
 
--- the same, of an item at an offset
-abbrev pub meaning_at : ℕ → List ℕ → List ℕ
-meaning_at start bytes = front_meaning bytes
+-- the meaning of a token of an address: without folding in a quoted string, and without whitespace in a domain literal
+abbrev pub address_meaning : Kind → List ℕ → List ℕ
+address_meaning Quoted text = unquoted false (within_ends (unfolded text))
+address_meaning Literal text = without_white false text
+address_meaning kind text = meaning kind text
 
--- a local part or a domain without quotes, whitespace and comments
+-- the meaning of the token at the front of an address
+unfoldable pub address_front : List ℕ → List ℕ
+address_front bytes = address_meaning (front_token bytes).kind (take (front_len bytes) bytes)
+
+-- the same, of an item at an offset
+abbrev pub address_front_at : ℕ → List ℕ → List ℕ
+address_front_at start bytes = address_front bytes
+
+-- a local part or a domain without quotes, comments, whitespace and folding
 unfoldable pub bare : List ℕ → List ℕ
-bare bytes = items meaning_at front_len 0 bytes
+bare bytes = items address_front_at front_len 0 bytes
 
 -- the length of the token at the front, or of the whitespace and comments there
 unfoldable pub word_or_white_len : List ℕ → ℕ

@@ -1,6 +1,6 @@
 -- Lists of addresses, written so that they read back: RFC 5322, section 3.4, and RFC 2047, section 5, rule (3). Which form a name
 -- takes is our own rule.
-use Rattle.std.specs.Prelude.{ℕ, Bool, true, false, not, ◌&&◌, ◌||◌, ◌==◌, nat_lt, List, [], ◌∷◌, ◌++◌, length, map, flat_map, Option, Some, if◌then◌else◌}
+use Rattle.std.specs.Prelude.{ℕ, Bool, true, false, not, ◌&&◌, ◌||◌, ◌==◌, List, [], ◌∷◌, ◌++◌, length, map, flat_map, Option, Some, if◌then◌else◌}
 use Rattle.std.specs.List.{list_all}
 use Rattle.std.specs.Option.{option_map}
 use Rattle.std.specs.Str.{IsUtf8}
@@ -17,23 +17,16 @@ use Rattle.mail_address.specs.declared.writer.NewMailbox.{NewMailbox}
 use Rattle.mail_address.specs.declared.writer.WriteError.{WriteError}
 use Rattle.mail_address.specs.declared.writer.WriteError.TheVariants as errors
 use Rattle.mail_address.specs.Addresses.{Element, Single, single, group}
+use Rattle.mail_address.specs.Folding.{has_no_control, without_white}
 use Rattle.mail_address.specs.Names.{bracketed}
 use Rattle.mail_address.specs.Text.{address_bytes, needs_no_quotes, phrase_text, quoted_text}
-use Rattle.mail_address.specs.Tokens.{at_sign, delete, front_token, is_atom_byte, is_in}
+use Rattle.mail_address.specs.Tokens.{at_sign, front_token, is_atom_byte, is_in}
 
 -- ---- What can be written.
-
--- a control character of ASCII
-abbrev pub is_control : ℕ → Bool
-is_control b = nat_lt b space || b == delete
 
 -- a domain literal and nothing else
 unfoldable pub is_literal : List ℕ → Bool
 is_literal text = is_in Literals (front_token text).kind && (front_token text).len == length text
-
--- a text without control characters
-abbrev pub has_no_control : List ℕ → Bool
-has_no_control text = list_all (λ b. not (is_control b)) text
 
 -- an address that can be written: it contains no control character, and its domain is a dot-atom or a domain literal
 unfoldable pub is_writable : NewMailbox → Bool
@@ -138,9 +131,12 @@ module _ (known : Charsets) where
   element_shows (single s) = seen_single (single_shows s)
   element_shows (group g) = seen_group (lenient_value_in known (phrase_text g.display_name)) (map single_shows g.members)
 
--- what a written mailbox has to show
+-- what a written mailbox has to show: its address without the whitespace in a domain literal
 abbrev pub mailbox_shown_for : NewMailbox → Option Seen
-mailbox_shown_for m = Some (record { name = m.display_name.now; address = written_address m })
+mailbox_shown_for m = Some (record {
+  name = m.display_name.now;
+  address = written_local m.local_part.now ++ at_sign ∷ without_white false m.domain.now;
+})
 
 abbrev pub element_shown_for : NewAddress → SeenElement
 element_shown_for (new.Mailbox m) = seen_single (mailbox_shown_for m)

@@ -3,14 +3,17 @@ ghost use Rattle.std.specs.Prelude.{[], ◌≡◌, ◌+◌, ◌∷◌, ◌++◌,
 ghost use Rattle.mail_codec.specs.Ascii.{backslash, comma, space};
 ghost use Rattle.mail_codec.specs.Charset.{Charsets, four_charsets};
 ghost use Rattle.mail_codec.specs.Tables.{charsets_with};
+ghost use Rattle.mailparse.specs.Header.{Header};
 ghost use Rattle.mail_codec.specs.declared.charset.tables.SingleByteTable.{SingleByteTable};
 ghost use Rattle.mail_address.specs.Encode.{KnowUtf8};
 ghost use Rattle.mail_address.specs.Addresses.{addresses, element_at, element_len, items};
 ghost use Rattle.mail_address.specs.Enclosed.{IsEnclosed, IsInAngles};
 ghost use Rattle.mail_address.specs.Grammar.{FollowGrammar, IsMailbox};
+ghost use Rattle.mail_address.specs.Headers.{addresses_of};
 ghost use Rattle.mail_address.specs.Mailbox.{Parts};
 ghost use Rattle.mail_address.specs.Names.{AreNameWords, bracketed, named};
 ghost use Rattle.mail_address.specs.Order.{AreInOrder, MakeUp};
+ghost use Rattle.mail_address.specs.Safe.{AreAllSafe};
 ghost use Rattle.mail_address.specs.Text.{phrase_text, quoted_text};
 ghost use Rattle.mail_address.specs.Tokens.{is_in, run};
 ghost use Rattle.mail_address.specs.Writer.{HaveTexts, are_writable, element_shows};
@@ -99,9 +102,24 @@ pub fn mailboxes_are_those_of_the_grammar()
     ensures one { (text : List ℕ) (m n : Parts) → IsMailbox text m → IsMailbox text n → m ≡ n }
 {}
 
+/// No address that is read contains a control character: no byte below 0x20, and no 0x7F. So it may
+/// be written into a header, or into a command of SMTP, and ends no line there.
+///
+/// # Examples
+///
+/// ```rust
+/// mail_address::laws::addresses_contain_no_control();
+/// ```
+pub fn addresses_contain_no_control()
+    ensures value { (raw : List ℕ) → AreAllSafe (addresses raw) }
+    ensures headers { (name : List ℕ) (headers : List Header) →
+        AreAllSafe (addresses_of name headers) }
+{}
+
 /// What `write_addresses` writes reads back: as many elements, in order, with the same names,
-/// whatever they contain, and the same addresses in canonical form. This holds in all charsets that
-/// know UTF-8 by its label as the four do, so also in those with the tables of a caller.
+/// whatever they contain, and the same addresses in canonical form, so without whitespace in a
+/// domain literal. This holds in all charsets that know UTF-8 by its label as the four do, so also
+/// in those with the tables of a caller.
 ///
 /// # Examples
 ///

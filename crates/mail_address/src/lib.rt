@@ -10,6 +10,7 @@
 #![tactic(auto)]
 
 pub mod encode;
+mod folding;
 mod headers;
 pub mod laws;
 mod list;

@@ -78,10 +78,12 @@ impl<'a> Mailbox<'a> {
         name_text(alloc, self.display_name, known)
     }
 
-    /// Returns the address in canonical form, `local@domain`: without comments and whitespace, and
-    /// with quotes only where the local part needs them (RFC 5322, section 3.4.1).
+    /// Returns the address in canonical form, `local@domain`: without comments, folding and
+    /// whitespace, and with quotes only if the local part needs them (RFC 5322, sections 3.2.4 and
+    /// 3.4.1).
     ///
-    /// Bytes that are not UTF-8 are read as Latin-1. Allocates the text.
+    /// A mailbox that was read has no control character in it. Bytes that are not UTF-8 are read as
+    /// Latin-1. Allocates the text.
     ///
     /// # Errors
     ///
@@ -190,7 +192,8 @@ pub type AddressList<'a> = Vec<Address<'a>>;
 ///
 /// A comma separates elements, and so does a semicolon that ends no group. Inside quotes, comments
 /// and brackets nothing separates. An element that is not an address is `Unknown`, with its bytes,
-/// and does not affect the others. Allocates the list and the members of groups.
+/// and does not affect the others; so is an address with a control character in quotes or in a
+/// domain literal, except for folding. Allocates the list and the members of groups.
 ///
 /// # Errors
 ///

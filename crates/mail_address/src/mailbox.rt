@@ -1,11 +1,13 @@
 //! A mailbox: a local part and a domain, perhaps with a display name.
 ghost use Rattle.std.specs.Prelude.{◌≡◌, ◌+◌, ◌<◌, ◌≤◌, length, option_map};
-ghost use Rattle.mail_address.specs.Mailbox.{after_route, after_white, dot_word_len, is_domain};
+ghost use Rattle.mail_address.specs.Mailbox.{after_route, after_white, are_clean, clean_len};
+ghost use Rattle.mail_address.specs.Mailbox.{dot_word_len, is_clean, is_clean_token, is_domain};
 ghost use Rattle.mail_address.specs.Mailbox.{is_dotted, is_enclosed, is_phrase, is_route, is_stop};
 ghost use Rattle.mail_address.specs.Mailbox.{is_word, mailbox_of, named_mailbox, spec_mailbox};
 ghost use Rattle.mail_address.specs.Mailbox.{stop_len, within_ends, word_len};
 ghost use Rattle.mail_address.specs.MailboxViews.{parts};
 
+use crate::folding::{has_no_control, is_clean_without_white, is_unfolded_clean};
 use crate::tokens::{
     Kind, Span, Steps, begins_at, far, front_token, is_all_white, is_in, run, step,
 };
@@ -142,6 +144,55 @@ pub(crate) fn is_phrase(text: &[u8]) -> bool
     is_in(Span::Word, front_token(after_white(text)).kind) && run(Span::Phrase, text) == text.len()
 }
 
+/// Returns whether a token of an address contains no control character, but for folding in a quoted
+/// string, and whitespace in a domain literal.
+fn is_clean_token(kind: Kind, text: &[u8]) -> bool
+    ensures { result ≡ is_clean_token kind text.now }
+{
+    match kind {
+        Kind::Blank | Kind::Comment => true,
+        Kind::Quoted => is_unfolded_clean(text),
+        Kind::Literal => is_clean_without_white(text),
+        _ => has_no_control(text),
+    }
+}
+
+/// The step over such a token.
+#[derive(Clone, Copy)]
+struct CleanToken;
+
+impl Steps for CleanToken {
+    ghost passes = { λ _. clean_len };
+
+    #[tactic(auto, unfolding(crate::specs::Mailbox::clean_len))]
+    fn pass(self, bytes: &[u8]) -> usize {
+        let token = front_token(bytes);
+        if is_clean_token(token.kind, &bytes[..token.len]) {
+            token.len
+        } else {
+            0
+        }
+    }
+}
+
+/// Returns whether the bytes are such tokens. A text without control characters needs no tokens.
+#[tactic(auto, using(crate::proofs::lemmas::Folding::plain_clean), unfolding(crate::specs::Mailbox::is_clean))]
+fn is_clean(text: &[u8]) -> bool
+    ensures { result ≡ is_clean text.now }
+{
+    if has_no_control(text) {
+        return true;
+    }
+    far(CleanToken, text) == text.len()
+}
+
+/// Returns whether a local part and a domain are such tokens.
+fn are_clean(local_part: &[u8], domain: &[u8]) -> bool
+    ensures { result ≡ are_clean local_part.now domain.now }
+{
+    is_clean(local_part) && is_clean(domain)
+}
+
 /// Returns the mailbox with this name and this address, if the bytes are an address.
 #[tactic(auto, unfolding(crate::specs::Mailbox::spec_mailbox))]
 fn spec_mailbox<'a>(name: &'a [u8], text: &'a [u8]) -> Option<Parts<'a>>
@@ -153,7 +204,7 @@ fn spec_mailbox<'a>(name: &'a [u8], text: &'a [u8]) -> Option<Parts<'a>>
     }
     let local_part = &text[..len];
     let domain = &text[len + 1..];
-    if is_dotted(Span::Word, local_part) && is_domain(domain) {
+    if is_dotted(Span::Word, local_part) && is_domain(domain) && are_clean(local_part, domain) {
         Some(Parts {
             display_name: name,
             local_part,

@@ -3,12 +3,14 @@ ghost use Rattle.std.specs.Prelude.{◌≡◌, ◌++◌, ◌<◌, ◌≤◌, ◌
 ghost use Rattle.std.specs.List.{list_all};
 ghost use Rattle.mailparse.specs.Outcome.{GivesText};
 ghost use Rattle.mailparse.specs.Value.{lenient_value_in, value_text};
-ghost use Rattle.mail_address.specs.Text.{address_bytes, bare, escaped_byte, front_len};
+ghost use Rattle.mail_address.specs.Text.{address_bytes, address_front, address_meaning, bare};
+ghost use Rattle.mail_address.specs.Text.{escaped_byte, front_len};
 ghost use Rattle.mail_address.specs.Text.{front_meaning, local_text, meaning, needs_no_quotes};
 ghost use Rattle.mail_address.specs.Text.{phrase_text, quoted_text, unquoted, word_or_space};
 ghost use Rattle.mail_address.specs.Text.{word_or_white_len, words_text};
 ghost use Rattle.mail_address.specs.Tokens.{dot, is_atom_byte};
 
+use crate::folding::{push_without_white, unfolded};
 use crate::mailbox::{after_white, is_dotted, within_ends};
 use crate::tokens::{Kind, Span, front_token, is_all_white, is_atom_byte, run, step};
 use mail_codec::charset::{KnownCharsets, decode_latin1};
@@ -63,7 +65,36 @@ fn push_front(text: &mut Vec<u8>, bytes: &[u8]) -> Result<(), AllocError>
     push_meaning(text, token.kind, &bytes[..token.len])
 }
 
-/// Returns a local part or a domain without quotes, whitespace and comments.
+/// Appends the meaning of a token of an address: without folding in a quoted string, and without
+/// whitespace in a domain literal.
+fn push_address_meaning(
+    alloc: Global,
+    text: &mut Vec<u8>,
+    kind: Kind,
+    bytes: &[u8],
+) -> Result<(), AllocError>
+    ensures { OnOk result (text.new.items ≡ text.old.items ++ address_meaning kind bytes.now) }
+{
+    match kind {
+        Kind::Quoted => {
+            let line = unfolded(alloc, bytes)?;
+            push_unquoted(text, within_ends(line.as_slice()))
+        }
+        Kind::Literal => push_without_white(text, bytes),
+        _ => push_meaning(text, kind, bytes),
+    }
+}
+
+/// Appends the meaning of the token at the front of an address.
+#[tactic(auto, unfolding(crate::specs::Text::front_len, crate::specs::Text::address_front))]
+fn push_address_front(alloc: Global, text: &mut Vec<u8>, bytes: &[u8]) -> Result<(), AllocError>
+    ensures { OnOk result (text.new.items ≡ text.old.items ++ address_front bytes.now) }
+{
+    let token = front_token(bytes);
+    push_address_meaning(alloc, text, token.kind, &bytes[..token.len])
+}
+
+/// Returns a local part or a domain without quotes, comments, whitespace and folding.
 #[tactic(auto, unfolding(crate::specs::Text::bare))]
 fn bare(alloc: Global, bytes: &[u8]) -> Result<Vec<u8>, AllocError>
     ensures { IfOk result (λ text. text.items ≡ bare bytes.now) }
@@ -71,7 +102,7 @@ fn bare(alloc: Global, bytes: &[u8]) -> Result<Vec<u8>, AllocError>
     let mut text = Vec::new(alloc);
     let mut rest = bytes;
     'tokens: while !rest.is_empty() {
-        push_front(&mut text, rest)?;
+        push_address_front(alloc, &mut text, rest)?;
         rest = &rest[front_len(rest)..];
     }
     Ok(text)

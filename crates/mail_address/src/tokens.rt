@@ -103,7 +103,7 @@ pub(crate) fn far<S: Steps>(step: S, bytes: &[u8]) -> usize
 }
 
 /// Returns whether a byte is whitespace: a space, a tab, a CR or a LF.
-fn is_white(byte: u8) -> bool
+pub(crate) fn is_white(byte: u8) -> bool
     ensures { result ≡ is_white byte }
 {
     byte == b' ' || byte == b'\t' || byte == b'\r' || byte == b'\n'

@@ -4,15 +4,15 @@ ghost use Rattle.std.specs.Prelude.{true};
 ghost use Rattle.std.specs.List.{list_all};
 ghost use Rattle.mail_address.specs.Encode.{one_word};
 ghost use Rattle.mail_address.specs.Text.{quoted_text};
-ghost use Rattle.mail_address.specs.Writer.{are_atoms, are_writable, has_no_control, is_control};
-ghost use Rattle.mail_address.specs.Writer.{is_element_writable, is_literal, is_refusal};
-ghost use Rattle.mail_address.specs.Writer.{is_writable};
+ghost use Rattle.mail_address.specs.Writer.{are_atoms, are_writable, is_element_writable};
+ghost use Rattle.mail_address.specs.Writer.{is_literal, is_refusal, is_writable};
 ghost use Rattle.mail_address.specs.Writer.{joined, next_element, next_mailbox};
 ghost use Rattle.mail_address.specs.Writer.{written_element, written_group};
 ghost use Rattle.mail_address.specs.Writer.{written_list, written_local, written_mailbox};
 ghost use Rattle.mail_address.specs.Writer.{written_name, written_phrase};
 
 use crate::encode::{is_plain, push_word};
+use crate::folding::has_no_control;
 use crate::text::{needs_no_quotes, push_escaped};
 use crate::tokens::{Span, front_token, is_atom_byte, is_in};
 use std::alloc::{AllocError, Global};
@@ -139,20 +139,6 @@ fn is_writable(mailbox: &NewMailbox<'_>) -> bool
     has_no_control(mailbox.local_part.as_bytes())
         && has_no_control(domain)
         && (needs_no_quotes(domain) || is_literal(domain))
-}
-
-/// Returns whether a text contains no control character.
-fn has_no_control(text: &[u8]) -> bool
-    ensures { result ≡ has_no_control text.now }
-{
-    text.iter().all(|byte| !is_control(*byte))
-}
-
-/// Returns whether a byte is a control character.
-fn is_control(byte: u8) -> bool
-    ensures { result ≡ is_control byte }
-{
-    byte < b' ' || byte == 127
 }
 
 /// Returns whether a text is a domain literal.

@@ -15,7 +15,7 @@ use Rattle.mail_address.specs.declared.tokens.Token.{Token}
 use Rattle.mail_address.specs.Addresses.{is_separator}
 use Rattle.mail_address.specs.Enclosed.{IsBetween, no_bytes, quoted_pair, plain_byte, IsCommented, comment_ends, comment_pair, comment_byte, comment_within}
 use Rattle.mail_address.specs.Grammar.{address, AreDotted, AreDotWords, AreStops, atom, any_word, any_words, atoms, dot_word, dots_end, dotted, in_brackets, IsDomain, IsMailbox, IsName, IsPadded, IsPhrase, IsPhraseRest, IsRoute, IsStop, IsWhite, IsWord, last_stop, literal, literals, MayBeRoute, more_stops, named_address, next_stop, no_name, no_route, no_stop, one_stop, phrase, phrase_dot, phrase_ends, phrase_white, phrase_word, route, stop, white_byte, white_comment, white_ends, Words}
-use Rattle.mail_address.specs.Mailbox.{after_route, after_white, dot_word_len, is_domain, is_dotted, is_enclosed, is_local_part, is_phrase, is_route, is_stop, is_word, mailbox_of, named_mailbox, Parts, spec_mailbox, stop_len, within_ends, word_len}
+use Rattle.mail_address.specs.Mailbox.{are_clean, after_route, after_white, dot_word_len, is_domain, is_dotted, is_enclosed, is_local_part, is_phrase, is_route, is_stop, is_word, mailbox_of, named_mailbox, Parts, spec_mailbox, stop_len, within_ends, word_len}
 use Rattle.mail_address.specs.Names.{IsNameWord, atom_word, quoted_word}
 use Rattle.mail_address.specs.Tokens.{angle_place, angle_token, closes_comment, comment_place, comment_token, depth_after, far, far_within, front_token, is_all_white, is_atom_byte, is_in, is_white, literal_token, plain_token, quoted_token, run, single_kind, step, unquoted_place}
 use Rattle.mail_address.proofs.lemmas.Addresses.{begins-within}
@@ -598,6 +598,7 @@ record SpecCut (name text : List ℕ) (m : Parts) : Type 0 where
   pub domain : List ℕ
   pub is_local : AreDotted any_words local
   pub domain_is : IsDomain domain
+  pub clean : are_clean local domain ≡ true
   pub cut : text ≡ local ++ 64 ∷ domain
   pub same : record { display_name = name; local_part = local; domain = domain } ≡ m
 
@@ -608,14 +609,16 @@ spec-made : (name text : List ℕ) (m : Parts) → spec_mailbox name text ≡ So
 unfolding spec_mailbox
 spec-made name text m h =
     let len : ℕ = run BeforeAt text in
-    cond_both (begins (λ b. eqb b 64) (drop len text) && (is_local_part (take len text) && is_domain (drop (suc len) text))) _ None (λ o. o ≡ Some m → SpecCut name text m)
-    (λ e h. let first = and_parts (begins (λ b. eqb b 64) (drop len text)) (is_local_part (take len text) && is_domain (drop (suc len) text)) e in
-    let both = and_parts (is_local_part (take len text)) (is_domain (drop (suc len) text)) first.1 in
+    cond_both (begins (λ b. eqb b 64) (drop len text) && (is_local_part (take len text) && is_domain (drop (suc len) text) && are_clean (take len text) (drop (suc len) text))) _ None (λ o. o ≡ Some m → SpecCut name text m)
+    (λ e h. let first = and_parts (begins (λ b. eqb b 64) (drop len text)) (is_local_part (take len text) && is_domain (drop (suc len) text) && are_clean (take len text) (drop (suc len) text)) e in
+    let clean = and_parts (is_local_part (take len text) && is_domain (drop (suc len) text)) (are_clean (take len text) (drop (suc len) text)) first.1 in
+    let both = and_parts (is_local_part (take len text)) (is_domain (drop (suc len) text)) clean.0 in
     record {
       local = take len text;
       domain = drop (suc len) text;
       is_local = dotted-made any_words (take len text) both.0;
       domain_is = domain-made (drop (suc len) text) both.1;
+      clean = clean.1;
       cut = cut-around 64 len text first.0;
       same = same_Some _ m h;
     }) (λ e h. absurd (none-some h)) h
@@ -644,7 +647,7 @@ named-made name rest m angle h =
     let cut : rest ≡ 60 ∷ (inner ++ 62 ∷ drop (front_token rest).len rest) =
     sym (take-append-drop (front_token rest).len rest) ∙ ap (λ b. b ++ drop (front_token rest).len rest) is_angle.1 ∙ delimited 60 62 inner (drop (front_token rest).len rest) in
     subst (IsMailbox (name ++ rest)) spec.same
-    (named_address {name = name} {may_be_route = routed.0} {local = spec.local} {domain = spec.domain} {after = drop (front_token rest).len rest} (name-made name both.0) routed.1 spec.is_local spec.domain_is
+    (named_address {name = name} {may_be_route = routed.0} {local = spec.local} {domain = spec.domain} {after = drop (front_token rest).len rest} (name-made name both.0) routed.1 spec.is_local spec.domain_is spec.clean
     (all_white-made (drop (front_token rest).len rest) both.1)
     (ap (λ r. name ++ r) cut ∙ ap (λ i. name ++ 60 ∷ (i ++ 62 ∷ drop (front_token rest).len rest)) whole)))
     (λ e h. absurd (none-some h)) h
@@ -656,4 +659,4 @@ mailbox-made text m h =
     (λ o. o ≡ Some m → IsMailbox text m)
     (λ e h. subst (λ b. IsMailbox b m) (take-append-drop (run Phrase text) text) (named-made (take (run Phrase text) text) (drop (run Phrase text) text) m e h))
     (λ e h. let spec = spec-made [] text m h in
-    subst (IsMailbox text) spec.same (address {local = spec.local} {domain = spec.domain} spec.is_local spec.domain_is spec.cut)) h
+    subst (IsMailbox text) spec.same (address {local = spec.local} {domain = spec.domain} spec.is_local spec.domain_is spec.clean spec.cut)) h

@@ -12,7 +12,7 @@ use Rattle.mail_address.specs.declared.tokens.Span.{Span}
 use Rattle.mail_address.specs.declared.tokens.Span.TheVariants.{Atoms, BeforeAt, BeforeColon, BeforeComma, Literals, Phrase, White, Word}
 use Rattle.mail_address.specs.Enclosed.{IsInAngles}
 use Rattle.mail_address.specs.Grammar.{address, AreDotted, AreDotWords, AreStops, atom, any_word, any_words, atoms, dot_word, dots_end, dotted, in_brackets, IsDomain, IsMailbox, IsName, IsPadded, IsPhrase, IsRoute, IsStop, IsWhite, IsWord, last_stop, literal, literals, MayBeRoute, more_stops, named_address, next_stop, no_name, no_route, no_stop, one_stop, phrase, route, stop, white_byte, white_comment, white_ends, Words}
-use Rattle.mail_address.specs.Mailbox.{after_route, after_white, dot_word_len, is_domain, is_dotted, is_phrase, is_route, is_stop, is_word, mailbox_of, named_mailbox, Parts, spec_mailbox, stop_len, within_ends, word_len}
+use Rattle.mail_address.specs.Mailbox.{are_clean, is_clean, after_route, after_white, dot_word_len, is_domain, is_dotted, is_phrase, is_route, is_stop, is_word, mailbox_of, named_mailbox, Parts, spec_mailbox, stop_len, within_ends, word_len}
 use Rattle.mail_address.specs.Names.{atom_word, quoted_word}
 use Rattle.mail_address.specs.Tokens.{far, front_token, is_all_white, is_atom_byte, is_in, run, step}
 use Rattle.mail_address.proofs.lemmas.Enclosed.{angle-front, ClosedToken, far-token, literal-closed, delimited, delimited-length, quoted-closed, step-token}
@@ -254,12 +254,13 @@ route-read {bytes} is = and_from _ _ (route-begins is) (eq-eqb (far stop_len byt
 -- ---- addresses
 
 module _ (local domain : List ℕ) (is_local : AreDotted any_words local) (domain_is : IsDomain domain) where
-  spec-read : (name : List ℕ) → spec_mailbox name (local ++ 64 ∷ domain) ≡ Some (record { display_name = name; local_part = local; domain = domain })
+  spec-read : are_clean local domain ≡ true → (name : List ℕ) → spec_mailbox name (local ++ 64 ∷ domain) ≡ Some (record { display_name = name; local_part = local; domain = domain })
   unfolding spec_mailbox
-  spec-read name =
+  spec-read clean name =
+      let both = and_parts (is_clean local) (is_clean domain) clean in
       let len : run BeforeAt (local ++ 64 ∷ domain) ≡ length local =
       passed-up_to BeforeAt local (64 ∷ domain) (dotted-passed (over-words BeforeAt refl refl refl refl refl) is_local) (run-stops BeforeAt (64 ∷ domain) 1 At (at-front domain) refl) in
-      rw (len, drop_at local (64 ∷ domain) (length local) refl, take_at local (64 ∷ domain) (length local) refl, drop_past local 64 domain) (rw (dotted-read is_local, domain-read domain_is) refl)
+      rw (len, drop_at local (64 ∷ domain) (length local) refl, take_at local (64 ∷ domain) (length local) refl, drop_past local 64 domain) (rw (dotted-read is_local, domain-read domain_is, both.0, both.1) refl)
 
   -- a run up to a colon contains an address
   over-spec : IsPassed BeforeColon (local ++ 64 ∷ domain)
@@ -290,12 +291,12 @@ module _ (local domain : List ℕ) (is_local : AreDotted any_words local) (domai
 
   -- ---- mailboxes
 
-  address-read : mailbox_of (local ++ 64 ∷ domain) ≡ Some (record { display_name = []; local_part = local; domain = domain })
+  address-read : are_clean local domain ≡ true → mailbox_of (local ++ 64 ∷ domain) ≡ Some (record { display_name = []; local_part = local; domain = domain })
   unfolding mailbox_of
-  address-read =
+  address-read clean =
       let len : run Phrase (local ++ 64 ∷ domain) ≡ length local =
       passed-up_to Phrase local (64 ∷ domain) (dotted-passed (over-words Phrase refl refl refl refl refl) is_local) (run-stops Phrase (64 ∷ domain) 1 At (at-front domain) refl) in
-      rw (len, drop_at local (64 ∷ domain) (length local) refl, at-front domain) (spec-read [])
+      rw (len, drop_at local (64 ∷ domain) (length local) refl, at-front domain) (spec-read clean [])
 
 -- a name, and the bytes in angle brackets
 module _ (name inner after : List ℕ) (is_name : IsName name) (inside : IsInAngles inner) (is_white : IsWhite after) where
@@ -327,10 +328,10 @@ module _ (name inner after : List ℕ) (is_name : IsName name) (inside : IsInAng
       rw (len, drop_at name bracket (length name) refl, take_at name bracket (length name) refl) (rw angle named-read)
 
 pub mailbox-read : (text : List ℕ) (m : Parts) → IsMailbox text m → mailbox_of text ≡ Some m
-mailbox-read text m (address {local = local} {domain = domain} is_local is_domain e) = ap mailbox_of e ∙ address-read local domain is_local is_domain
-mailbox-read text m (named_address {name = name} {may_be_route = may_be_route} {local = local} {domain = domain} {after = after} is_name is_route is_local is_domain is_white e) =
+mailbox-read text m (address {local = local} {domain = domain} is_local is_domain clean e) = ap mailbox_of e ∙ address-read local domain is_local is_domain clean
+mailbox-read text m (named_address {name = name} {may_be_route = may_be_route} {local = local} {domain = domain} {after = after} is_name is_route is_local is_domain clean is_white e) =
     ap mailbox_of e ∙ bracket-read name (may_be_route ++ (local ++ 64 ∷ domain)) after is_name (spec-angles is_route is_local is_domain) is_white
-    ∙ ap (spec_mailbox name) (may_be_route-passes local domain is_local is_domain is_route) ∙ spec-read local domain is_local is_domain name
+    ∙ ap (spec_mailbox name) (may_be_route-passes local domain is_local is_domain is_route) ∙ spec-read local domain is_local is_domain clean name
 
 pub mailbox-one : (text : List ℕ) (m n : Parts) → IsMailbox text m → IsMailbox text n → m ≡ n
 mailbox-one text m n one two = same_Some m n (sym (mailbox-read text m one) ∙ mailbox-read text n two)

@@ -33,15 +33,15 @@ use Rattle.mail_address.proofs.lemmas.GrammarRead.{mailbox-read, phrase-read}
 use Rattle.mail_address.proofs.lemmas.Names.{no_items, Crosses, IsEnd, at_comma, at_end, crosses-group, crosses-delimiter, end-stops, member-first, single-first}
 use Rattle.mail_address.proofs.lemmas.Passed.{at_domain-passed, at-passed, colon-front, comma-passed, dotted-passed, IsPassed, name-passed, passed-append, passed-same, passed-up_to, passed-whole, phrase-passed, run-stops, semicolon-front, spec-angles, white-passed}
 use Rattle.mail_address.proofs.lemmas.Tokens.{drop_past}
-use Rattle.mail_address.proofs.lemmas.WriterWords.{address-shows, domain-is_domain, local-is_local, phrase-nothing, phrase-written}
+use Rattle.mail_address.proofs.lemmas.WriterWords.{address-shows, domain-is_domain, local-is_local, phrase-nothing, phrase-written, written-clean}
 
 -- ---- runs over a mailbox
 
 mailbox-passed : {span : Span} → Crosses span → {text : List ℕ} {m : Parts} → IsMailbox text m → IsPassed span text
-mailbox-passed {span} over (address {local = local} {domain = domain} is_local is_domain e) =
+mailbox-passed {span} over (address {local = local} {domain = domain} is_local is_domain clean e) =
     passed-same span e
     (passed-append span local (64 ∷ domain) (dotted-passed over.over_words is_local) (at_domain-passed over.over_atoms over.over_literals (at-passed span over.at) [] domain white_ends is_domain))
-mailbox-passed {span} over (named_address {name = name} {may_be_route = may_be_route} {local = local} {domain = domain} {after = after} is_name is_route is_local is_domain is_white e) =
+mailbox-passed {span} over (named_address {name = name} {may_be_route = may_be_route} {local = local} {domain = domain} {after = after} is_name is_route is_local is_domain clean is_white e) =
     let inner : List ℕ = may_be_route ++ (local ++ 64 ∷ domain) in
     passed-same span (e ∙ ap (λ b. name ++ b) (sym (delimited 60 62 inner after)))
     (passed-append span name (bracketed inner ++ after) (name-passed over.over_words is_name)
@@ -118,7 +118,7 @@ module _ (known : Charsets) (knows : KnowUtf8 known) where
   mailbox-written : (before : List ℕ) (m : NewMailbox) → IsWhite before → IsUtf8 m.display_name.now → is_writable m ≡ true → IsMailbox (before ++ written_mailbox m) (parts_of before m)
   mailbox-written before m white utf8 able =
       named_address {name = before ++ written_name m.display_name.now} {may_be_route = []} {local = written_local m.local_part.now} {domain = m.domain.now} {after = []}
-      (name-is before m.display_name.now white utf8).is no_route (local-is_local m.local_part.now) (domain-is_domain m able).0 white_ends
+      (name-is before m.display_name.now white utf8).is no_route (local-is_local m.local_part.now) (domain-is_domain m able).0 (written-clean m able) white_ends
       (sym (append_assoc before (written_name m.display_name.now) (bracketed (written_address m))))
 
   mailbox-shows : (before : List ℕ) (m : NewMailbox) (start : ℕ) (text : List ℕ) → IsWhite before → IsUtf8 m.display_name.now → is_writable m ≡ true

@@ -23,18 +23,20 @@ use Rattle.mail_address.specs.declared.tokens.Span.TheVariants.{Atoms, Literals,
 use Rattle.mail_address.specs.declared.writer.NewMailbox.{NewMailbox}
 use Rattle.mail_address.specs.Addresses.{items, items_within}
 use Rattle.mail_address.specs.Grammar.{any_word, any_words, AreDotted, AreDotWords, atom, atoms, dot_word, dots_end, dotted, in_brackets, IsDomain, IsPadded, IsPhrase, IsPhraseRest, IsWhite, IsWord, literals, phrase_ends, phrase_white, phrase_word, white_ends, Words}
-use Rattle.mail_address.specs.Mailbox.{after_white, is_dotted}
+use Rattle.mail_address.specs.Folding.{has_no_control, unfolded, without_white}
+use Rattle.mail_address.specs.Mailbox.{after_white, are_clean, is_dotted, within_ends}
 use Rattle.mail_address.specs.Names.{IsNameWord, atom_word}
-use Rattle.mail_address.specs.Text.{address_bytes, bare, front_len, front_meaning, local_text, meaning, meaning_at, needs_no_quotes, phrase_text, quoted_text, word_at, word_or_space, word_or_white_len, words_text}
-use Rattle.mail_address.specs.Tokens.{front_token, is_all_white, is_atom_byte, is_in, run, step}
-use Rattle.mail_address.specs.Writer.{are_atoms, are_atoms_after, has_no_control, is_literal, is_writable, written_address, written_local, written_phrase}
+use Rattle.mail_address.specs.Text.{address_bytes, address_front, address_front_at, address_meaning, bare, front_len, front_meaning, local_text, meaning, needs_no_quotes, phrase_text, quoted_text, word_at, word_or_space, word_or_white_len, unquoted, words_text}
+use Rattle.mail_address.specs.Tokens.{front_token, is_all_white, is_atom_byte, is_in, is_white, run, step}
+use Rattle.mail_address.specs.Writer.{are_atoms, are_atoms_after, is_literal, is_writable, written_local, written_phrase}
 use Rattle.mail_address.proofs.lemmas.Addresses.{items-more}
+use Rattle.mail_address.proofs.lemmas.Folding.{all-drop, plain_clean, quoted-no_control, unfolded-same}
 use Rattle.mail_address.proofs.lemmas.GrammarMade.{dotted-made, either-made, front-meets, Meets, word-meets}
 use Rattle.mail_address.proofs.lemmas.GrammarRead.{prefix-whole, white-no_atom}
 use Rattle.mail_address.proofs.lemmas.Names.{after_white-same, Front, no_white-front, no_words, quoted-is_word, quoted-len, quoted-meaning, quoted-token, word-len, word-meaning, one_space, space-rest}
 use Rattle.mail_address.proofs.lemmas.Passed.{atom_byte-front, dot-front, passed-whole, white-passed, white-whole}
 use Rattle.mail_address.proofs.lemmas.Text.{front_len-some, word_or_white-some}
-use Rattle.mail_address.proofs.lemmas.Tokens.{far-stop, no_atom_bytes}
+use Rattle.mail_address.proofs.lemmas.Tokens.{atom_byte-visible, byte-other, far-stop, no_atom_bytes}
 
 -- ---- whitespace around a phrase
 
@@ -290,22 +292,17 @@ phrase-written known knows name utf8 =
 
 -- ---- local parts and domains
 
-list_all-drop : (test : ℕ → Bool) (n : ℕ) (bytes : List ℕ) → list_all test bytes ≡ true → list_all test (drop n bytes) ≡ true
-list_all-drop test zero bytes h = h
-list_all-drop test (suc n) [] h = refl
-list_all-drop test (suc n) (b ∷ bytes) h = list_all-drop test n bytes (and_parts (test b) (list_all test bytes) h).1
-
 abbrev is_dot_atom : ℕ → Bool
 is_dot_atom b = is_atom_byte b || eqb b 46
 
-itself : (b : ℕ) (rest : List ℕ) → is_dot_atom b ≡ true → front_meaning (b ∷ rest) ≡ take (front_len (b ∷ rest)) (b ∷ rest)
-unfolding front_meaning front_len
+itself : (b : ℕ) (rest : List ℕ) → is_dot_atom b ≡ true → address_front (b ∷ rest) ≡ take (front_len (b ∷ rest)) (b ∷ rest)
+unfolding address_front front_len
 itself b rest h =
     either-made (is_atom_byte b) (eqb b 46)
-    (λ e. ap (λ t. meaning t.kind (take (front_token (b ∷ rest)).len (b ∷ rest))) (atom_byte-front b rest e))
-    (λ e. ap (λ t. meaning t.kind (take (front_token (b ∷ rest)).len (b ∷ rest))) (ap (λ c. front_token (c ∷ rest)) (eqb-true b 46 e) ∙ dot-front rest)) h
+    (λ e. ap (λ t. address_meaning t.kind (take (front_token (b ∷ rest)).len (b ∷ rest))) (atom_byte-front b rest e))
+    (λ e. ap (λ t. address_meaning t.kind (take (front_token (b ∷ rest)).len (b ∷ rest))) (ap (λ c. front_token (c ∷ rest)) (eqb-true b 46 e) ∙ dot-front rest)) h
 
-bare-within : (most start : ℕ) (bytes : List ℕ) → length bytes ≤ most → list_all is_dot_atom bytes ≡ true → items_within meaning_at front_len most start bytes ≡ bytes
+bare-within : (most start : ℕ) (bytes : List ℕ) → length bytes ≤ most → list_all is_dot_atom bytes ≡ true → items_within address_front_at front_len most start bytes ≡ bytes
 bare-within zero start [] low h = refl
 bare-within zero start (b ∷ bytes) low h = absurd (omega (arith, low))
 bare-within (suc most) start [] low h = refl
@@ -313,27 +310,40 @@ bare-within (suc most) start (b ∷ bytes) low h =
     let some = front_len-some (b ∷ bytes) (omega arith) in
     let cut = length-drop (front_len (b ∷ bytes)) (b ∷ bytes) in
     let both = and_parts (is_dot_atom b) (list_all is_dot_atom bytes) h in
-    ap (λ f. f ++ items_within meaning_at front_len most (start + front_len (b ∷ bytes)) (drop (front_len (b ∷ bytes)) (b ∷ bytes))) (itself b bytes both.0)
+    ap (λ f. f ++ items_within address_front_at front_len most (start + front_len (b ∷ bytes)) (drop (front_len (b ∷ bytes)) (b ∷ bytes))) (itself b bytes both.0)
     ∙ ap (λ r. take (front_len (b ∷ bytes)) (b ∷ bytes) ++ r)
-    (bare-within most (start + front_len (b ∷ bytes)) (drop (front_len (b ∷ bytes)) (b ∷ bytes)) (omega (arith, some, cut, low)) (list_all-drop is_dot_atom (front_len (b ∷ bytes)) (b ∷ bytes) h))
+    (bare-within most (start + front_len (b ∷ bytes)) (drop (front_len (b ∷ bytes)) (b ∷ bytes)) (omega (arith, some, cut, low)) (all-drop is_dot_atom (front_len (b ∷ bytes)) (b ∷ bytes) h))
     ∙ take-append-drop (front_len (b ∷ bytes)) (b ∷ bytes)
 
 bare-same : (bytes : List ℕ) → list_all is_dot_atom bytes ≡ true → bare bytes ≡ bytes
 unfolding bare items
 bare-same bytes h = bare-within (length bytes) 0 bytes (omega arith) h
 
-bare-one : (text : List ℕ) → 0 < length text → front_len text ≡ length text → bare text ≡ front_meaning text
+bare-one : (text : List ℕ) → 0 < length text → front_len text ≡ length text → bare text ≡ address_front text
 unfolding bare items
 bare-one text low len =
-    items-more meaning_at front_len front_len-some 0 text low
-    ∙ ap (λ n. front_meaning text ++ items meaning_at front_len (0 + n) (drop n text)) len
-    ∙ ap (λ r. front_meaning text ++ items meaning_at front_len (0 + length text) r) (drop_all (length text) text (omega arith))
-    ∙ append-nil (front_meaning text)
+    items-more address_front_at front_len front_len-some 0 text low
+    ∙ ap (λ n. address_front text ++ items address_front_at front_len (0 + n) (drop n text)) len
+    ∙ ap (λ r. address_front text ++ items address_front_at front_len (0 + length text) r) (drop_all (length text) text (omega arith))
+    ∙ append-nil (address_front text)
 
-bare-quoted : (text : List ℕ) → bare (quoted_text text) ≡ text
-bare-quoted text =
+-- a quoted string of an address without control characters means the same as one of a name
+quoted-means : (text : List ℕ) → has_no_control text ≡ true → address_front (quoted_text text) ≡ text
+unfolding address_front front_meaning front_len
+quoted-means text h =
     let same = append-nil (quoted_text text) in
-    bare-one (quoted_text text) (quoted-some text) (ap front_len (sym same) ∙ quoted-len text []) ∙ ap front_meaning (sym same) ∙ quoted-meaning text []
+    let token = ap front_token (sym same) ∙ quoted-token text [] in
+    let whole = take_all (length (quoted_text text)) (quoted_text text) (omega arith) in
+    ap (λ t. address_meaning t.kind (take t.len (quoted_text text))) token
+    ∙ ap (λ b. unquoted false (within_ends (unfolded b))) whole
+    ∙ ap (λ b. unquoted false (within_ends b)) (unfolded-same (quoted_text text) (quoted-no_control text h) ∙ sym whole)
+    ∙ sym (ap (λ t. meaning t.kind (take t.len (quoted_text text))) token)
+    ∙ ap front_meaning (sym same) ∙ quoted-meaning text []
+
+bare-quoted : (text : List ℕ) → has_no_control text ≡ true → bare (quoted_text text) ≡ text
+bare-quoted text h =
+    let same = append-nil (quoted_text text) in
+    bare-one (quoted_text text) (quoted-some text) (ap front_len (sym same) ∙ quoted-len text []) ∙ quoted-means text h
 
 any-atom : {text : List ℕ} → IsWord atoms text → IsWord any_words text
 any-atom is = any_word (name-word is)
@@ -383,9 +393,9 @@ local-is_local text =
       made = sym (append-nil (quoted_text text));
     })
 
-local-bare : (text : List ℕ) → bare (written_local text) ≡ text
+local-bare : (text : List ℕ) → has_no_control text ≡ true → bare (written_local text) ≡ text
 unfolding written_local
-local-bare text = cond_both (needs_no_quotes text) _ _ (λ b. bare b ≡ text) (λ e. bare-same text (dot_atom-parts text e).0) (λ e. bare-quoted text)
+local-bare text h = cond_both (needs_no_quotes text) _ _ (λ b. bare b ≡ text) (λ e. bare-same text (dot_atom-parts text e).0) (λ e. bare-quoted text h)
 
 -- a domain that can be written
 literal-parts : (text : List ℕ) → is_literal text ≡ true → (is_in Literals (front_token text).kind ≡ true) × ((front_token text).len ≡ length text)
@@ -400,7 +410,7 @@ literal-word text h =
     word-meets literals (front_token text).kind text parts.0
     (subst (λ t. Meets (front_token text).kind t) (take_all (front_token text).len text (let whole = parts.1 in omega (arith, whole))) (front-meets text))
 
-literal-meaning : (kind : Kind) (text : List ℕ) → is_in Literals kind ≡ true → meaning kind text ≡ text
+literal-meaning : (kind : Kind) (text : List ℕ) → is_in Literals kind ≡ true → address_meaning kind text ≡ without_white false text
 literal-meaning Literal text h = refl
 literal-meaning _ text h = absurd (false≢true h)
 
@@ -409,30 +419,56 @@ unfolding front_token
 literal-some [] h = absurd (false≢true h)
 literal-some (b ∷ rest) h = omega arith
 
-literal-bare : (text : List ℕ) → is_literal text ≡ true → bare text ≡ text
-unfolding front_meaning front_len
+literal-bare : (text : List ℕ) → is_literal text ≡ true → bare text ≡ without_white false text
+unfolding address_front front_len
 literal-bare text h =
     let parts = literal-parts text h in
     let whole = parts.1 in
     bare-one text (literal-some text parts.0) whole
     ∙ literal-meaning (front_token text).kind (take (front_token text).len text) parts.0
-    ∙ take_all (front_token text).len text (omega (arith, whole))
+    ∙ ap (without_white false) (take_all (front_token text).len text (omega (arith, whole)))
 
-domain-from : (text : List ℕ) → (needs_no_quotes text || is_literal text) ≡ true → IsDomain text × (bare text ≡ text)
+-- a dot-atom has no whitespace
+dot_atom-kept : (text : List ℕ) → list_all is_dot_atom text ≡ true → without_white false text ≡ text
+dot_atom-kept [] h = refl
+dot_atom-kept (b ∷ text) h =
+    let both = and_parts (is_dot_atom b) (list_all is_dot_atom text) h in
+    let visible : is_white b ≡ false = either-made (is_atom_byte b) (eqb b 46) (atom_byte-visible b) (λ e. ap is_white (eqb-true b 46 e)) both.0 in
+    let other : eqb b 92 ≡ false = byte-other is_dot_atom b 92 both.0 (ap (λ t. t || false) no_atom_bytes.8) in
+    cond-false (is_white b) (without_white false text) (b ∷ without_white (eqb b 92) text) visible
+    ∙ ap (λ t. b ∷ without_white t text) other ∙ ap (λ (r : List ℕ). b ∷ r) (dot_atom-kept text both.1)
+
+domain-from : (text : List ℕ) → (needs_no_quotes text || is_literal text) ≡ true → IsDomain text × (bare text ≡ without_white false text)
 domain-from text h =
-    either-made (needs_no_quotes text) (is_literal text) (λ e. (dotted (dotted-made atoms text (dot_atom-parts text e).1), bare-same text (dot_atom-parts text e).0)) (λ e. (in_brackets (padded-alone (literal-word text e)), literal-bare text e)) h
+    either-made (needs_no_quotes text) (is_literal text) (λ e. (dotted (dotted-made atoms text (dot_atom-parts text e).1), bare-same text (dot_atom-parts text e).0 ∙ sym (dot_atom-kept text (dot_atom-parts text e).0))) (λ e. (in_brackets (padded-alone (literal-word text e)), literal-bare text e)) h
 
-pub domain-is_domain : (m : NewMailbox) → is_writable m ≡ true → IsDomain m.domain.now × (bare m.domain.now ≡ m.domain.now)
+pub domain-is_domain : (m : NewMailbox) → is_writable m ≡ true → IsDomain m.domain.now × (bare m.domain.now ≡ without_white false m.domain.now)
 unfolding is_writable
 domain-is_domain m h =
     domain-from m.domain.now
     (and_parts (has_no_control m.local_part.now && has_no_control m.domain.now) (needs_no_quotes m.domain.now || is_literal m.domain.now) h).1
 
--- what is written of an address is its canonical form
-pub address-shows : (m : NewMailbox) → is_writable m ≡ true → address_bytes (written_local m.local_part.now) m.domain.now ≡ written_address m
+no_controls : (m : NewMailbox) → is_writable m ≡ true → (has_no_control m.local_part.now ≡ true) × (has_no_control m.domain.now ≡ true)
+unfolding is_writable
+no_controls m h =
+    and_parts (has_no_control m.local_part.now) (has_no_control m.domain.now)
+    (and_parts (has_no_control m.local_part.now && has_no_control m.domain.now) (needs_no_quotes m.domain.now || is_literal m.domain.now) h).0
+
+written-no_control : (text : List ℕ) → has_no_control text ≡ true → has_no_control (written_local text) ≡ true
+unfolding written_local
+written-no_control text h = cond_both (needs_no_quotes text) _ _ (λ t. has_no_control t ≡ true) (λ e. h) (λ e. quoted-no_control text h)
+
+pub written-clean : (m : NewMailbox) → is_writable m ≡ true → are_clean (written_local m.local_part.now) m.domain.now ≡ true
+written-clean m h =
+    let no = no_controls m h in
+    and_from _ _ (plain_clean (written_local m.local_part.now) (written-no_control m.local_part.now no.0)) (plain_clean m.domain.now no.1)
+
+-- what is written of an address is its canonical form, but for whitespace in a domain literal
+pub address-shows : (m : NewMailbox) → is_writable m ≡ true
+    → address_bytes (written_local m.local_part.now) m.domain.now ≡ written_local m.local_part.now ++ 64 ∷ without_white false m.domain.now
 unfolding address_bytes local_text written_local
 address-shows m h =
-    let local = local-bare m.local_part.now in
+    let local = local-bare m.local_part.now (no_controls m h).0 in
     let domain = (domain-is_domain m h).1 in
     ap (λ l. cond (needs_no_quotes l) l (quoted_text l) ++ 64 ∷ bare m.domain.now) local
     ∙ ap (λ d. cond (needs_no_quotes m.local_part.now) m.local_part.now (quoted_text m.local_part.now) ++ 64 ∷ d) domain

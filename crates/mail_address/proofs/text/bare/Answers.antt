@@ -6,7 +6,7 @@ use Rattle.mail_address.proofs.text.bare.Goals as goal
 
 pub tokens-preserved : goal.tokens-preserved
 tokens-preserved c =
-    MadeOf-more front_len-some c.tokens.invariant (some_bytes c.tokens.rest.now c.is_empty.ensures c.tokens-test.true) c.in_ok-push_front.ensures c.front_len.ensures.value
+    MadeOf-more front_len-some c.tokens.invariant (some_bytes c.tokens.rest.now c.is_empty.ensures c.tokens-test.true) c.in_ok-push_address_front.ensures c.front_len.ensures.value
     c.front_len.ensures.bounds (take_rest c.tokens.rest.now c.front_len.result)
 
 pub returns : goal.returns
