@@ -1,6 +1,6 @@
 -- The grammar of a mailbox: RFC 5322, sections 3.2, 3.4 and 4.4, over bytes that are not decoded; a byte of 128 or more belongs to an
--- atom (RFC 6532). It has no tokens: each rule describes bytes. `Enclosed` has the bytes within quotes, parentheses and square
--- brackets; a word that is an atom or a quoted string is in `Names`.
+-- atom (RFC 6532). It has no tokens, except that `are_clean` excludes control characters: each rule describes bytes. `Enclosed`
+-- has the bytes within quotes, parentheses and square brackets; a word that is an atom or a quoted string is in `Names`.
 use Rattle.std.specs.Prelude.{◌≡◌, ℕ, true, List, [], ◌∷◌, ◌++◌, Some}
 use Rattle.std.specs.List.{list_all}
 use Rattle.mail_codec.specs.Ascii.{closing_parenthesis, colon, comma, greater_than, less_than, opening_parenthesis}

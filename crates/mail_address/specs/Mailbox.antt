@@ -102,7 +102,8 @@ unfoldable pub spec_mailbox : List ℕ → List ℕ → Option Parts
 spec_mailbox name text =
     let len = run BeforeAt text in
     let domain = drop (suc len) text in
-    if begins (λ b. b == at_sign) (drop len text) && (is_local_part (take len text) && is_domain domain && are_clean (take len text) domain)
+    if begins (λ b. b == at_sign) (drop len text)
+    && (is_local_part (take len text) && is_domain domain && are_clean (take len text) domain)
     then Some (record { display_name = name; local_part = take len text; domain = domain }) else None
 
 -- a pair of angle brackets with bytes between them

@@ -1,12 +1,13 @@
 //! Laws of all lists of addresses. Each function does nothing; its contract is the law.
-ghost use Rattle.std.specs.Prelude.{[], ◌≡◌, ◌+◌, ◌∷◌, ◌++◌, List, length, map, suc, true, ℕ};
+ghost use Rattle.std.specs.Prelude.{[], ◌≡◌, ◌+◌, ◌∷◌, ◌++◌, List, Some, length, map, suc, true, ℕ};
 ghost use Rattle.mail_codec.specs.Ascii.{backslash, comma, space};
 ghost use Rattle.mail_codec.specs.Charset.{Charsets, four_charsets};
 ghost use Rattle.mail_codec.specs.Tables.{charsets_with};
 ghost use Rattle.mailparse.specs.Header.{Header};
 ghost use Rattle.mail_codec.specs.declared.charset.tables.SingleByteTable.{SingleByteTable};
 ghost use Rattle.mail_address.specs.Encode.{KnowUtf8};
-ghost use Rattle.mail_address.specs.Addresses.{addresses, element_at, element_len, items};
+ghost use Rattle.mail_address.specs.Addresses.{addresses, element_at, element_len};
+ghost use Rattle.mail_address.specs.Addresses.{is_separator, items, single};
 ghost use Rattle.mail_address.specs.Enclosed.{IsEnclosed, IsInAngles};
 ghost use Rattle.mail_address.specs.Grammar.{FollowGrammar, IsMailbox};
 ghost use Rattle.mail_address.specs.Headers.{addresses_of};
@@ -100,6 +101,25 @@ pub fn names_forge_nothing()
 pub fn mailboxes_are_those_of_the_grammar()
     ensures elements { (raw : List ℕ) → FollowGrammar (addresses raw) }
     ensures one { (text : List ℕ) (m n : Parts) → IsMailbox text m → IsMailbox text n → m ≡ n }
+{}
+
+/// A mailbox of that grammar is an element, if a comma, a semicolon or the end follows it, and the
+/// list goes on after the separator.
+///
+/// # Examples
+///
+/// ```rust
+/// mail_address::laws::separators_separate();
+/// ```
+pub fn separators_separate()
+    ensures first { (start : ℕ) (text rest : List ℕ) (separator : ℕ) (m : Parts) →
+        IsMailbox text m → is_separator separator ≡ true →
+        items element_at element_len start (text ++ separator ∷ rest)
+        ≡ single (record { start = start; text = text; mailbox = Some m })
+        ∷ items element_at element_len (start + suc (length text)) rest }
+    ensures alone { (start : ℕ) (text : List ℕ) (m : Parts) → IsMailbox text m →
+        items element_at element_len start text
+        ≡ single (record { start = start; text = text; mailbox = Some m }) ∷ [] }
 {}
 
 /// No address that is read contains a control character: no byte below 0x20, and no 0x7F. So it may

@@ -6,7 +6,7 @@ use Rattle.std.proofs.lemmas.Bool.{cond_both, cond-false, eqb-false, false≢tru
 use Rattle.std.proofs.lemmas.List.{append-nil, drop_all, drop_at, take_at}
 use Rattle.mail_codec.specs.Places.{begins}
 use Rattle.mail_address.specs.declared.tokens.Kind.{Kind}
-use Rattle.mail_address.specs.declared.tokens.Kind.TheVariants.{Angle, Comma, Quoted, At}
+use Rattle.mail_address.specs.declared.tokens.Kind.TheVariants.{Angle, Comma, Quoted, At, Semicolon}
 use Rattle.mail_address.specs.declared.tokens.Span.{Span}
 use Rattle.mail_address.specs.declared.tokens.Span.TheVariants.{BeforeDelimiter, BeforeSeparator, White, Word, BeforeComma, InGroup}
 use Rattle.mail_address.specs.Addresses.{after_name, element_at, element_len, inner_len, is_group, items, name_len, single, single_at, Single, member_at, member_len}
@@ -19,7 +19,7 @@ use Rattle.mail_address.specs.Grammar.{any_word, any_words, atoms, IsPhrase, IsP
 use Rattle.mail_address.proofs.lemmas.Addresses.{element_len-some, items-more, member_len-some}
 use Rattle.mail_address.proofs.lemmas.Enclosed.{enclosed-passed, delimited-length, quoted-closed}
 use Rattle.mail_address.proofs.lemmas.Tokens.{far-stop, far-nothing}
-use Rattle.mail_address.proofs.lemmas.Passed.{comma-front, GoesOver, IsPassed, over-atoms, over-literals, over-words, passed-append, passed-up_to, phrase-passed, run-stops, white-whole}
+use Rattle.mail_address.proofs.lemmas.Passed.{comma-front, GoesOver, IsPassed, over-atoms, over-literals, over-words, passed-append, passed-up_to, phrase-passed, run-stops, semicolon-front, white-whole}
 use Rattle.mail_address.proofs.lemmas.GrammarRead.{bracket-read, word-front}
 
 -- ---- words with a space after each are a phrase
@@ -129,90 +129,106 @@ pub end-stops : (span : Span) → is_in span Comma ≡ false → {after left : L
 end-stops span stops at_end = far-nothing (step span)
 end-stops span stops (at_comma rest) = run-stops span (44 ∷ rest) 1 Comma (comma-front rest) stops
 
-end-no_colon : {after left : List ℕ} → IsEnd after left → begins (λ b. eqb b 58) after ≡ false
-end-no_colon at_end = refl
-end-no_colon (at_comma rest) = refl
+-- what may follow an element of a list: the same, or a semicolon
+pub data IsElementEnd : List ℕ → List ℕ → Type 0 where
+  ends : {after left : List ℕ} → IsEnd after left → IsElementEnd after left
+  at_semicolon : (rest : List ℕ) → IsElementEnd (59 ∷ rest) rest
 
--- the bytes up to the comma, with it, and the bytes after it
-end-left : (text : List ℕ) {after left : List ℕ} → IsEnd after left → drop (min (suc (length text)) (length (text ++ after))) (text ++ after) ≡ left
-end-left text at_end =
+element-stops : (span : Span) → is_in span Comma ≡ false → is_in span Semicolon ≡ false → {after left : List ℕ} → IsElementEnd after left → run span after ≡ 0
+element-stops span comma semicolon (ends end) = end-stops span comma end
+element-stops span comma semicolon (at_semicolon rest) = run-stops span (59 ∷ rest) 1 Semicolon (semicolon-front rest) semicolon
+
+end-no_colon : {after left : List ℕ} → IsElementEnd after left → begins (λ b. eqb b 58) after ≡ false
+end-no_colon (ends at_end) = refl
+end-no_colon (ends (at_comma rest)) = refl
+end-no_colon (at_semicolon rest) = refl
+
+-- the bytes up to a separator, with it, and the bytes after it
+separator-cut : (text : List ℕ) (b : ℕ) (rest : List ℕ) → drop (min (suc (length text)) (length (text ++ b ∷ rest))) (text ++ b ∷ rest) ≡ rest
+separator-cut text b rest =
+    let len = length-append text (b ∷ rest) in
+    ap (drop (min (suc (length text)) (length (text ++ b ∷ rest)))) (sym (append_assoc text (b ∷ []) rest))
+    ∙ drop_at (text ++ b ∷ []) rest (min (suc (length text)) (length (text ++ b ∷ rest))) (let front = length-append text (b ∷ []) in omega (arith, len, front))
+
+end-left : (text : List ℕ) {after left : List ℕ} → IsElementEnd after left → drop (min (suc (length text)) (length (text ++ after))) (text ++ after) ≡ left
+end-left text (ends at_end) =
     let same = append-nil text in
     let len = ap length same in
     drop_all (min (suc (length text)) (length (text ++ []))) (text ++ []) (omega (arith, len))
-end-left text (at_comma rest) =
-    let len = length-append text (44 ∷ rest) in
-    ap (drop (min (suc (length text)) (length (text ++ 44 ∷ rest)))) (sym (append_assoc text (44 ∷ []) rest))
-    ∙ drop_at (text ++ 44 ∷ []) rest (min (suc (length text)) (length (text ++ 44 ∷ rest))) (let front = length-append text (44 ∷ []) in omega (arith, len, front))
+end-left text (ends (at_comma rest)) = separator-cut text 44 rest
+end-left text (at_semicolon rest) = separator-cut text 59 rest
 
 -- an element of the list, which is more than whitespace
 abbrev pub as_single : ℕ → List ℕ → Option Parts → Single
 as_single start text m = record { start = start; text = text; mailbox = m }
 
-module _ (text after left : List ℕ) (end : IsEnd after left) (over : (span : Span) → Crosses span → IsPassed span text) (shown : is_all_white text ≡ false)
-    (m : Option Parts) (is : mailbox_of text ≡ m) where
-  up_to : (span : Span) → Crosses span → is_in span Comma ≡ false → run span (text ++ after) ≡ length text
-  up_to span crosses stops = passed-up_to span text after (over span crosses) (end-stops span stops end)
+some-shown : (text after : List ℕ) → is_all_white text ≡ false → 0 < length (text ++ after)
+some-shown [] after none = absurd (false≢true (sym none ∙ white-whole white_ends))
+some-shown (b ∷ text) after none = omega arith
 
-  low : 0 < length (text ++ after)
-  low = go text shown
-    where
-      go : (text : List ℕ) → is_all_white text ≡ false → 0 < length (text ++ after)
-      go [] none = absurd (false≢true (sym none ∙ white-whole white_ends))
-      go (b ∷ text) none = omega arith
+single-is : (text : List ℕ) → is_all_white text ≡ false → (m : Option Parts) → mailbox_of text ≡ m → (start : ℕ) → single_at start text ≡ as_single start text m ∷ []
+unfolding single_at
+single-is text shown m is start = cond-false _ _ _ shown ∙ ap (λ m. as_single start text m ∷ []) is
+
+module _ (text after left : List ℕ) (end : IsElementEnd after left) (over : (span : Span) → Crosses span → IsPassed span text) (shown : is_all_white text ≡ false)
+    (m : Option Parts) (is : mailbox_of text ≡ m) where
+  up_to : (span : Span) → Crosses span → is_in span Comma ≡ false → is_in span Semicolon ≡ false → run span (text ++ after) ≡ length text
+  up_to span crosses comma semicolon = passed-up_to span text after (over span crosses) (element-stops span comma semicolon end)
 
   no_group : is_group (text ++ after) ≡ false
   unfolding is_group name_len
   no_group =
       ap (λ n. begins (λ b. eqb b 58) (drop n (text ++ after)) && is_phrase (take n (text ++ after)) && begins (λ b. eqb b 59) (drop (inner_len (text ++ after)) (after_name (text ++ after))))
-      (up_to BeforeDelimiter crosses-delimiter refl)
+      (up_to BeforeDelimiter crosses-delimiter refl refl)
       ∙ ap (λ r. begins (λ b. eqb b 58) r && is_phrase (take (length text) (text ++ after)) && begins (λ b. eqb b 59) (drop (inner_len (text ++ after)) (after_name (text ++ after))))
       (drop_at text after (length text) refl)
       ∙ rw (end-no_colon end) refl
-
-  single-is : (start : ℕ) → single_at start text ≡ as_single start text m ∷ []
-  unfolding single_at
-  single-is start = cond-false _ _ _ shown ∙ ap (λ m. as_single start text m ∷ []) is
 
   element-is : (start : ℕ) → element_at start (text ++ after) ≡ single (as_single start text m) ∷ []
   unfolding element_at
   element-is start =
       cond-false _ _ _ no_group
-      ∙ ap (λ n. map single (single_at start (take n (text ++ after)))) (up_to BeforeSeparator crosses-separator refl)
+      ∙ ap (λ n. map single (single_at start (take n (text ++ after)))) (up_to BeforeSeparator crosses-separator refl refl)
       ∙ ap (λ t. map single (single_at start t)) (take_at text after (length text) refl)
-      ∙ ap (map single) (single-is start)
+      ∙ ap (map single) (single-is text shown m is start)
 
   element_len-is : element_len (text ++ after) ≡ min (suc (length text)) (length (text ++ after))
   unfolding element_len
-  element_len-is = cond-false _ _ _ no_group ∙ ap (λ n. min (suc n) (length (text ++ after))) (up_to BeforeSeparator crosses-separator refl)
+  element_len-is = cond-false _ _ _ no_group ∙ ap (λ n. min (suc n) (length (text ++ after))) (up_to BeforeSeparator crosses-separator refl refl)
 
   -- the first element, and then those of what is left
   pub single-first : (start : ℕ) → items element_at element_len start (text ++ after)
       ≡ single (as_single start text m) ∷ items element_at element_len (start + min (suc (length text)) (length (text ++ after))) left
   single-first start =
-      items-more element_at element_len element_len-some start (text ++ after) low
+      items-more element_at element_len element_len-some start (text ++ after) (some-shown text after shown)
       ∙ ap (λ e. e ++ items element_at element_len (start + element_len (text ++ after)) (drop (element_len (text ++ after)) (text ++ after))) (element-is start)
       ∙ ap (λ n. single (as_single start text m) ∷ items element_at element_len (start + n) (drop n (text ++ after))) element_len-is
       ∙ ap (λ r. single (as_single start text m) ∷ items element_at element_len (start + min (suc (length text)) (length (text ++ after))) r) (end-left text end)
 
-  -- the same among the members of a group
+-- the same among the members of a group
+module _ (text after left : List ℕ) (end : IsEnd after left) (over : (span : Span) → Crosses span → IsPassed span text) (shown : is_all_white text ≡ false)
+    (m : Option Parts) (is : mailbox_of text ≡ m) where
+  up_to_comma : run BeforeComma (text ++ after) ≡ length text
+  up_to_comma = passed-up_to BeforeComma text after (over BeforeComma crosses-comma) (end-stops BeforeComma refl end)
+
   member-is : (start : ℕ) → member_at start (text ++ after) ≡ as_single start text m ∷ []
   unfolding member_at
   member-is start =
-      ap (λ n. single_at start (take n (text ++ after))) (up_to BeforeComma crosses-comma refl)
+      ap (λ n. single_at start (take n (text ++ after))) up_to_comma
       ∙ ap (single_at start) (take_at text after (length text) refl)
-      ∙ single-is start
+      ∙ single-is text shown m is start
 
   member_len-is : member_len (text ++ after) ≡ min (suc (length text)) (length (text ++ after))
   unfolding member_len
-  member_len-is = ap (λ n. min (suc n) (length (text ++ after))) (up_to BeforeComma crosses-comma refl)
+  member_len-is = ap (λ n. min (suc n) (length (text ++ after))) up_to_comma
 
   pub member-first : (start : ℕ) → items member_at member_len start (text ++ after)
       ≡ as_single start text m ∷ items member_at member_len (start + min (suc (length text)) (length (text ++ after))) left
   member-first start =
-      items-more member_at member_len member_len-some start (text ++ after) low
+      items-more member_at member_len member_len-some start (text ++ after) (some-shown text after shown)
       ∙ ap (λ e. e ++ items member_at member_len (start + member_len (text ++ after)) (drop (member_len (text ++ after)) (text ++ after))) (member-is start)
       ∙ ap (λ n. as_single start text m ∷ items member_at member_len (start + n) (drop n (text ++ after))) member_len-is
-      ∙ ap (λ r. as_single start text m ∷ items member_at member_len (start + min (suc (length text)) (length (text ++ after))) r) (end-left text end)
+      ∙ ap (λ r. as_single start text m ∷ items member_at member_len (start + min (suc (length text)) (length (text ++ after))) r) (end-left text (ends end))
 
 -- ---- the laws
 
@@ -234,7 +250,7 @@ module _ (name inner : List ℕ) (words : AreNameWords name) (inside : IsInAngle
   named-first : {after left : List ℕ} → IsEnd after left → (start : ℕ)
       → items element_at element_len start (text ++ after) ≡ named start name inner ∷ items element_at element_len (start + min (suc (length text)) (length (text ++ after))) left
   named-first {after} {left} end =
-      single-first text after left end text-passed text-shown (spec_mailbox name (after_route inner)) (bracket-read name inner [] (phrase (names-phrase words)) inside white_ends)
+      single-first text after left (ends end) text-passed text-shown (spec_mailbox name (after_route inner)) (bracket-read name inner [] (phrase (names-phrase words)) inside white_ends)
 
 pub names-alone : (start : ℕ) (name inner : List ℕ) → AreNameWords name → IsInAngles inner → items element_at element_len start (name ++ bracketed inner) ≡ named start name inner ∷ []
 names-alone start name inner words inside =

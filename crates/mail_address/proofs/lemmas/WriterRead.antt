@@ -3,7 +3,7 @@ use Rattle.std.proofs.Common.{◌≡◌, ℕ, suc, ◌+◌, true, false, cond, e
 use Rattle.std.specs.Prelude.{min}
 use Rattle.std.specs.List.{flat_map, list_all}
 use Rattle.std.specs.Str.{IsUtf8}
-use Rattle.std.proofs.lemmas.Bool.{and_from, and_parts, false_from_ne_true}
+use Rattle.std.proofs.lemmas.Bool.{and_from, and_parts, eqb-true, false_from_ne_true}
 use Rattle.std.proofs.lemmas.List.{append-nil, drop_all, drop_at, take_at}
 use Rattle.std.proofs.Math.Seq.{drop-append-add}
 use Rattle.mail_codec.specs.Charset.{Charsets}
@@ -18,7 +18,7 @@ use Rattle.mail_address.specs.declared.writer.NewAddress.{NewAddress}
 use Rattle.mail_address.specs.declared.writer.NewAddress.TheVariants as new
 use Rattle.mail_address.specs.declared.writer.NewGroup.{NewGroup}
 use Rattle.mail_address.specs.declared.writer.NewMailbox.{NewMailbox}
-use Rattle.mail_address.specs.Addresses.{addresses, after_group, after_name, Element, element_at, element_len, group, group_at, group_len, inner_len, is_group, items, member_at, member_len, members_at, name_len, separator_len, Single, single, single_at}
+use Rattle.mail_address.specs.Addresses.{addresses, after_group, after_name, Element, element_at, element_len, group, group_at, group_len, inner_len, is_group, is_separator, items, member_at, member_len, members_at, name_len, separator_len, Single, single, single_at}
 use Rattle.mail_address.specs.Enclosed.{in_angles}
 use Rattle.mail_address.specs.Grammar.{address, IsMailbox, IsName, IsPhrase, IsWhite, named_address, no_name, no_route, phrase, white_byte, white_ends}
 use Rattle.mail_address.specs.Mailbox.{is_phrase, mailbox_of, Parts, spec_mailbox}
@@ -28,9 +28,9 @@ use Rattle.mail_address.specs.Tokens.{front_token, is_all_white, run}
 use Rattle.mail_address.specs.Writer.{are_writable, AreTexts, element_shows, element_shown_for, HasTexts, HaveTexts, is_element_writable, is_writable, joined, mailbox_shown_for, Seen, SeenElement, seen_group, seen_single, separator, single_shows, written_address, written_element, written_list, written_local, written_mailbox, written_name, written_phrase}
 use Rattle.mail_address.proofs.lemmas.Addresses.{element_len-some, items-more}
 use Rattle.mail_address.proofs.lemmas.Enclosed.{enclosed-passed, delimited}
-use Rattle.mail_address.proofs.lemmas.GrammarMade.{all_white-made, none-some}
+use Rattle.mail_address.proofs.lemmas.GrammarMade.{all_white-made, either-made, none-some}
 use Rattle.mail_address.proofs.lemmas.GrammarRead.{mailbox-read, phrase-read}
-use Rattle.mail_address.proofs.lemmas.Names.{no_items, Crosses, IsEnd, at_comma, at_end, crosses-group, crosses-delimiter, end-stops, member-first, single-first}
+use Rattle.mail_address.proofs.lemmas.Names.{no_items, Crosses, IsElementEnd, IsEnd, at_comma, at_end, at_semicolon, ends, crosses-group, crosses-delimiter, end-stops, member-first, single-first}
 use Rattle.mail_address.proofs.lemmas.Passed.{at_domain-passed, at-passed, colon-front, comma-passed, dotted-passed, IsPassed, name-passed, passed-append, passed-same, passed-up_to, passed-whole, phrase-passed, run-stops, semicolon-front, spec-angles, white-passed}
 use Rattle.mail_address.proofs.lemmas.Tokens.{drop_past}
 use Rattle.mail_address.proofs.lemmas.WriterWords.{address-shows, domain-is_domain, local-is_local, phrase-nothing, phrase-written, written-clean}
@@ -63,6 +63,36 @@ mailbox-not_white {text} {m} is =
     false_from_ne_true (is_all_white text) (λ e. none-some (sym (white-no_mailbox text (all_white-made text e)) ∙ mailbox-read text m is))
 
 -- ---- a mailbox at the front of a list
+
+module _ (text : List ℕ) (m : Parts) (is : IsMailbox text m) (start : ℕ) where
+  abbrev element : Element
+  element = single (record { start = start; text = text; mailbox = Some m })
+
+  mailbox-first : {after left : List ℕ} → IsElementEnd after left
+      → items element_at element_len start (text ++ after) ≡ element ∷ items element_at element_len (start + min (suc (length text)) (length (text ++ after))) left
+  mailbox-first {after} {left} end =
+      single-first text after left end (λ span over. mailbox-passed over is) (mailbox-not_white is) (Some m) (mailbox-read text m is) start
+
+  mailbox-at : (b : ℕ) (rest : List ℕ) → IsElementEnd (b ∷ rest) rest
+      → items element_at element_len start (text ++ b ∷ rest) ≡ element ∷ items element_at element_len (start + suc (length text)) rest
+  mailbox-at b rest end =
+      let len = length-append text (b ∷ rest) in
+      let short : min (suc (length text)) (length (text ++ b ∷ rest)) ≡ suc (length text) = omega (arith, len) in
+      mailbox-first end ∙ ap (λ n. element ∷ items element_at element_len (start + n) rest) short
+
+  -- a mailbox and a separator
+  pub mailbox-separated : (b : ℕ) (rest : List ℕ) → is_separator b ≡ true
+      → items element_at element_len start (text ++ b ∷ rest) ≡ element ∷ items element_at element_len (start + suc (length text)) rest
+  mailbox-separated b rest h =
+      either-made (eqb b 44) (eqb b 59)
+      (λ e. mailbox-at b rest (subst (λ c. IsElementEnd (c ∷ rest) rest) (sym (eqb-true b 44 e)) (ends (at_comma rest))))
+      (λ e. mailbox-at b rest (subst (λ c. IsElementEnd (c ∷ rest) rest) (sym (eqb-true b 59 e)) (at_semicolon rest))) h
+
+  -- a mailbox alone
+  pub mailbox-alone : items element_at element_len start text ≡ element ∷ []
+  mailbox-alone =
+      ap (items element_at element_len start) (sym (append-nil text)) ∙ mailbox-first (ends at_end)
+      ∙ ap (λ es. element ∷ es) (no_items (start + min (suc (length text)) (length (text ++ []))))
 
 -- the bytes after a group, and after a comma if one follows it
 separator-left : (text : List ℕ) {after left : List ℕ} → IsEnd after left → drop (length text + separator_len after) (text ++ after) ≡ left
@@ -299,7 +329,7 @@ module _ (known : Charsets) (knows : KnowUtf8 known) where
       let is = mailbox-written before m white texts able in
       let n : ℕ = min (suc (length text)) (length (text ++ after)) in (
         start + n,
-        ap (map (element_shows known)) (single-first text after left end (λ span over. mailbox-passed over is) (mailbox-not_white is) (Some (parts_of before m))
+        ap (map (element_shows known)) (single-first text after left (ends end) (λ span over. mailbox-passed over is) (mailbox-not_white is) (Some (parts_of before m))
             (mailbox-read text (parts_of before m) is) start)
             ∙ ap (λ s. seen_single s ∷ map (element_shows known) (items element_at element_len (start + n) left)) (mailbox-shows before m start text white texts able),
       )
