@@ -1,5 +1,5 @@
 //! A list of addresses: mailboxes, groups, and elements that are not addresses.
-ghost use Rattle.std.specs.Prelude.{◌≡◌, ◌++◌, ◌+◌, ◌<◌, ◌≤◌, ◌^◌, ◌==◌, true, length, map, IfOk, OnOk};
+ghost use Rattle.std.specs.Prelude.{◌≡◌, ◌++◌, ◌+◌, ◌<◌, ◌≤◌, ◌^◌, ◌==◌, true, length, map, IfOk};
 ghost use Rattle.std.specs.Prelude.{IfSome, MatchOption, ◌∷◌, [], take, option_map, drop};
 ghost use Rattle.std.specs.Prelude.{string_bytes};
 ghost use Rattle.mail_codec.specs.Places.{begins};
@@ -214,37 +214,43 @@ pub fn read_addresses(alloc: Global, raw: &[u8]) -> Result<AddressList<'_>, Allo
     let mut start = 0;
     let mut rest = raw;
     'elements: while !rest.is_empty() {
-        push_element(alloc, &mut list, start, rest)?;
-        let len = element_len(rest);
+        let len = push_element(alloc, &mut list, start, rest)?;
         start += len;
         rest = &rest[len..];
     }
     Ok(list)
 }
 
-/// Appends the element at the front, if there is one before the separator.
-#[tactic(auto, unfolding(crate::specs::Addresses::element_at))]
+/// Appends the element at the front, if there is one before the separator, and returns the length
+/// of both.
+#[tactic(auto, unfolding(crate::specs::Addresses::element_at, crate::specs::Addresses::element_len))]
 fn push_element<'a>(
     alloc: Global,
     list: &mut Vec<Address<'a>>,
     start: usize,
     bytes: &'a [u8],
-) -> Result<(), AllocError>
-    requires { start + length bytes.now < 2 ^ 64 }
-    ensures { OnOk result (map element_view list.new.items
+) -> Result<usize, AllocError>
+    requires fits { start + length bytes.now < 2 ^ 64 }
+    requires some { 0 < length bytes.now }
+    ensures pushed { IfOk result (λ len. map element_view list.new.items
         ≡ map element_view list.old.items ++ element_at start bytes.now) }
+    ensures len { IfOk result (λ len. len ≡ element_len bytes.now) }
+    ensures bounds { IfOk result (λ len. len ≤ length bytes.now) }
+    ensures takes_some { IfOk result (λ len. 0 < len) }
 {
     if is_group(bytes) {
         let group = group_at(alloc, start, bytes)?;
         list.push(Address::Group(group))?;
-        return Ok(());
+        let len = group_len(bytes);
+        return Ok(len + separator_len(&bytes[len..]));
     }
-    match single_at(start, &bytes[..run(Span::BeforeSeparator, bytes)]) {
+    let len = run(Span::BeforeSeparator, bytes);
+    match single_at(start, &bytes[..len]) {
         Some(Member::Mailbox(mailbox)) => list.push(Address::Mailbox(mailbox))?,
         Some(Member::Unknown(unknown)) => list.push(Address::Unknown(unknown))?,
         None => {}
     }
-    Ok(())
+    Ok(bytes.len().min(len + 1))
 }
 
 /// Returns the element that the bytes are, if they are more than whitespace and comments.
@@ -266,21 +272,6 @@ fn single_at(start: usize, text: &[u8]) -> Option<Member<'_>>
         local_part: parts.local_part,
         domain: parts.domain,
     }))
-}
-
-/// Returns the length of the element at the front with the separator after it.
-#[tactic(auto, unfolding(crate::specs::Addresses::element_len))]
-fn element_len(bytes: &[u8]) -> usize
-    ensures value { result ≡ element_len bytes.now }
-    ensures bounds { result ≤ length bytes.now }
-    ensures some { 0 < length bytes.now → 0 < result }
-{
-    if is_group(bytes) {
-        let len = group_len(bytes);
-        len + separator_len(&bytes[len..])
-    } else {
-        bytes.len().min(run(Span::BeforeSeparator, bytes) + 1)
-    }
 }
 
 /// Returns the length of the separator at the front, or 0.
@@ -375,36 +366,31 @@ fn members_at(alloc: Global, start: usize, bytes: &[u8]) -> Result<Vec<Member<'_
     let mut start = start;
     let mut rest = bytes;
     'members: while !rest.is_empty() {
-        push_member(&mut list, start, rest)?;
-        let len = member_len(rest);
+        let len = push_member(&mut list, start, rest)?;
         start += len;
         rest = &rest[len..];
     }
     Ok(list)
 }
 
-/// Appends the member at the front, if there is one before the comma.
-#[tactic(auto, unfolding(crate::specs::Addresses::member_at))]
+/// Appends the member at the front, if there is one before the comma, and returns the length of
+/// both.
+#[tactic(auto, unfolding(crate::specs::Addresses::member_at, crate::specs::Addresses::member_len))]
 fn push_member<'a>(
     list: &mut Vec<Member<'a>>,
     start: usize,
     bytes: &'a [u8],
-) -> Result<(), AllocError>
-    ensures { OnOk result (map member_view list.new.items
+) -> Result<usize, AllocError>
+    requires { 0 < length bytes.now }
+    ensures pushed { IfOk result (λ len. map member_view list.new.items
         ≡ map member_view list.old.items ++ member_at start bytes.now) }
+    ensures len { IfOk result (λ len. len ≡ member_len bytes.now) }
+    ensures bounds { IfOk result (λ len. len ≤ length bytes.now) }
+    ensures takes_some { IfOk result (λ len. 0 < len) }
 {
-    if let Some(member) = single_at(start, &bytes[..run(Span::BeforeComma, bytes)]) {
+    let len = run(Span::BeforeComma, bytes);
+    if let Some(member) = single_at(start, &bytes[..len]) {
         list.push(member)?;
     }
-    Ok(())
-}
-
-/// Returns the length of the member at the front with the comma after it.
-#[tactic(auto, unfolding(crate::specs::Addresses::member_len))]
-fn member_len(bytes: &[u8]) -> usize
-    ensures value { result ≡ member_len bytes.now }
-    ensures bounds { result ≤ length bytes.now }
-    ensures some { 0 < length bytes.now → 0 < result }
-{
-    bytes.len().min(run(Span::BeforeComma, bytes) + 1)
+    Ok(bytes.len().min(len + 1))
 }

@@ -5,8 +5,8 @@ use Rattle.mail_address.proofs.list.members_at.Goals as goal
 
 pub members-preserved : goal.members-preserved
 members-preserved c =
-    MadeTo-more member_len-some c.members.invariant (some_bytes c.members.rest.now c.is_empty.ensures c.members-test.true) c.in_ok-push_member.ensures c.member_len-len.ensures.value
-    c.member_len-len.ensures.bounds (take_rest c.members.rest.now c.member_len-len.result) refl
+    MadeTo-more member_len-some c.members.invariant (some_bytes c.members.rest.now c.is_empty.ensures c.members-test.true) c.in_ok-len.ensures.pushed c.in_ok-len.ensures.len
+    c.in_ok-len.ensures.bounds (take_rest c.members.rest.now c.in_ok-len.len) refl
 
 pub returns : goal.returns
 returns c = MadeTo-end c.members.invariant (no_bytes c.members.rest.now c.is_empty.ensures c.members-test.false)

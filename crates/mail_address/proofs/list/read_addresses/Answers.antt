@@ -5,8 +5,8 @@ use Rattle.mail_address.proofs.list.read_addresses.Goals as goal
 
 pub elements-preserved : goal.elements-preserved
 elements-preserved c =
-    MadeTo-more element_len-some c.elements.invariant (some_bytes c.elements.rest.now c.is_empty.ensures c.elements-test.true) c.in_ok-push_element.ensures c.element_len-len.ensures.value
-    c.element_len-len.ensures.bounds (take_rest c.elements.rest.now c.element_len-len.result) refl
+    MadeTo-more element_len-some c.elements.invariant (some_bytes c.elements.rest.now c.is_empty.ensures c.elements-test.true) c.in_ok-len.ensures.pushed c.in_ok-len.ensures.len
+    c.in_ok-len.ensures.bounds (take_rest c.elements.rest.now c.in_ok-len.len) refl
 
 pub returns : goal.returns
 returns c = MadeTo-end c.elements.invariant (no_bytes c.elements.rest.now c.is_empty.ensures c.elements-test.false)
