@@ -1,6 +1,6 @@
 -- What quoted strings and domain literals contain without meaning it: the line ends of folding (RFC 5322, sections 2.2.3 and
 -- 3.2.4), and whitespace in literals (section 3.4.1). And control characters, which no address contains.
-use Rattle.std.specs.Prelude.{ℕ, Bool, true, false, not, ◌&&◌, ◌||◌, ◌==◌, nat_lt, List, [], ◌∷◌, if◌then◌else◌}
+use Rattle.std.specs.Prelude.{ℕ, Bool, false, not, ◌&&◌, ◌||◌, ◌==◌, nat_lt, List, [], ◌∷◌, if◌then◌else◌}
 use Rattle.std.specs.List.{list_all}
 use Rattle.mail_codec.specs.Ascii.{backslash, carriage_return, line_feed, space, tab}
 use Rattle.mail_codec.specs.Places.{begins}

@@ -1,5 +1,5 @@
 -- The addresses that are read contain no control character.
-use Rattle.std.proofs.Common.{◌≡◌, ℕ, true, List, [], ◌∷◌, ◌++◌, Some}
+use Rattle.std.proofs.Common.{◌≡◌, ℕ, true, List, [], ◌∷◌, ◌++◌}
 use Rattle.mailparse.specs.Header.{Header}
 use Rattle.mailparse.specs.Map.{all_with_key}
 use Rattle.mailparse.specs.Value.{value_text}
