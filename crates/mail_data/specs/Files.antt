@@ -1,9 +1,9 @@
 -- The files that a mail carries (RFC 2183, section 2.3; RFC 2046, section 5.2.1), and the paths of
 -- its parts (RFC 3501, section 6.4.5). The reading of a name in an unknown charset (RFC 2231,
 -- section 4) is the crate's own rule.
-use Rattle.std.specs.Prelude.{ℕ, suc, Bool, true, false, ◌&&◌, ◌||◌, List, [], ◌∷◌, ◌++◌, filter, Option, Some, None, is_some, option_map, codes, decimal, if◌then◌else◌}
+use Rattle.std.specs.Prelude.{ℕ, suc, Bool, true, false, not, ◌&&◌, ◌||◌, List, [], ◌∷◌, ◌++◌, filter, Option, Some, None, is_some, option_map, codes, decimal, if◌then◌else◌}
 use Rattle.std.specs.List.{after_first, list_any}
-use Rattle.std.specs.Str.{is_utf8, trim}
+use Rattle.std.specs.Str.{bytes_eq, is_utf8, trim}
 use Rattle.mail_codec.specs.Charset.{Charsets, text_of}
 use Rattle.mail_codec.specs.Places.{is_empty}
 use Rattle.mailparse.specs.ContentType.{ContentType}
@@ -61,6 +61,14 @@ abbrev pub is_leaf : Tree → Bool
 is_leaf (tree node no_parts) = true
 is_leaf (tree node (part_and t ts)) = false
 
+-- a message is a text that mail readers show: plain text, including `text` without a subtype, or
+-- HTML
+abbrev pub is_shown : Node → Bool
+is_shown node =
+    bytes_eq node.ctype.mimetype (codes "text/plain")
+    || bytes_eq node.ctype.mimetype (codes "text/html")
+    || bytes_eq node.ctype.mimetype (codes "text")
+
 -- a disposition and a type are those of a file: the disposition is `attachment`, or there is a file
 -- name
 abbrev pub describes_attachment : Disposition → ContentType → Bool
@@ -97,6 +105,11 @@ module _ (known : Charsets) where
   -- a message is a file: it has no parts, and its disposition and its type are those of a file
   unfoldable pub is_attachment : Tree → Bool
   is_attachment t = is_leaf t && describes_attachment (shown_as_in known (root t)) (root t).ctype
+
+  -- a message is saved when a mail is extracted: it has no parts and is no text that mail readers
+  -- show, or it is a file
+  abbrev pub is_extracted : Tree → Bool
+  is_extracted t = (is_leaf t && not (is_shown (root t))) || is_attachment t
 
   -- the files among messages with paths
   abbrev pub files_among : List (List ℕ × Tree) → List (List ℕ × Tree)

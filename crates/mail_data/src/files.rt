@@ -8,8 +8,8 @@ ghost use Rattle.mailparse.specs.Views as views;
 ghost use Rattle.mailparse.specs.Views.{content_type, kind, tree_of};
 ghost use Rattle.mail_data.specs.Files.{attachments, describes_attachment, file_name, filled};
 ghost use Rattle.mail_data.specs.Files.{is_attachment_disposition};
-ghost use Rattle.mail_data.specs.Files.{is_attachment, is_leaf, name_among, name_in, path_under};
-ghost use Rattle.mail_data.specs.Files.{whole_path};
+ghost use Rattle.mail_data.specs.Files.{is_attachment, is_extracted, is_leaf, is_shown, name_among};
+ghost use Rattle.mail_data.specs.Files.{name_in, path_under, whole_path};
 ghost use Rattle.mail_data.specs.FileViews.{attachment_view};
 
 mod left_over;
@@ -278,6 +278,52 @@ pub fn is_attachment_disposition(disposition: &DispositionType) -> bool
     ensures { result ≡ is_attachment_disposition (kind disposition.now) }
 {
     matches!(disposition, DispositionType::Attachment)
+}
+
+/// Returns whether a part is saved when the files of a mail are extracted: it is a file by
+/// `is_attachment`, or another part without parts of its own whose type is not `text/plain`,
+/// `text/html` or `text`, which mail readers show as the text of a mail (RFC 2183, section 2.1).
+///
+/// So an image without a name, a forwarded message and the status in a delivery report count. The
+/// disposition is read in the charsets `known` (RFC 2231, section 4). Allocates the disposition.
+///
+/// # Errors
+///
+/// `MailParseError::Memory` if it runs out of memory.
+///
+/// # Examples
+///
+/// ```rust
+/// use mail_data::files::is_extracted;
+/// use mailparse::parse_mail;
+///
+/// let image = parse_mail(alloc, b"Content-Type: image/png\n\n")?;
+/// assert!(rt; is_extracted(alloc, &image, &())?);
+/// let named = parse_mail(alloc, b"Content-Type: text/html; name=a.html\n\n")?;
+/// assert!(rt; is_extracted(alloc, &named, &())?);
+/// let text = parse_mail(alloc, b"Subject: Hi\n\nHi")?;
+/// assert!(rt; !is_extracted(alloc, &text, &())?);
+/// ```
+pub fn is_extracted<K: KnownCharsets>(
+    alloc: Global,
+    part: &ParsedMail<'_>,
+    known: &K,
+) -> Result<bool, MailParseError>
+    ensures { AnswersOrMemory (λ is. is) result
+        (Ok (is_extracted (K.known known.now) (tree_of part.now))) }
+{
+    if is_leaf(part) && !is_shown(part) {
+        return Ok(true);
+    }
+    is_attachment(alloc, part, known)
+}
+
+/// Returns whether a part is a text that mail readers show.
+fn is_shown(part: &ParsedMail<'_>) -> bool
+    ensures { result ≡ is_shown (root (tree_of part.now)) }
+{
+    let mimetype = part.ctype.mimetype.as_str();
+    mimetype == "text/plain" || mimetype == "text/html" || mimetype == "text"
 }
 
 /// Returns the files of a mail (RFC 2183, section 2), in the order in which they appear, each with

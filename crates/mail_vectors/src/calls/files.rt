@@ -5,8 +5,8 @@
 use crate::calls::tables::all_tables;
 use crate::notation::{Answer, Decision, FORM, Outcome, Row};
 use mail_data::files::{
-    attachments, describes_attachment, file_name, filled_parameter, is_attachment, is_leaf,
-    named_file, safe_file_name,
+    attachments, describes_attachment, file_name, filled_parameter, is_attachment, is_extracted,
+    is_leaf, named_file, safe_file_name,
 };
 use mail_data::places::places;
 use mailparse::{
@@ -21,7 +21,7 @@ pub fn make(row: &Row, answer: &mut Answer) -> Decision {
     match row.call.as_str() {
         "attachments" => list_files(row, answer, &())?,
         "attachments_with" => list_files(row, answer, &all_tables())?,
-        "file_name" | "is_attachment" | "is_leaf" => look_at(row, answer, &())?,
+        "file_name" | "is_attachment" | "is_extracted" | "is_leaf" => look_at(row, answer, &())?,
         "file_name_with" | "is_attachment_with" => look_at(row, answer, &all_tables())?,
         "named_file" | "describes_attachment" => describe(row, answer)?,
         "filled_parameter" => get_parameter(row, answer)?,
@@ -53,14 +53,16 @@ fn list_files<K: KnownCharsets>(row: &Row, answer: &mut Answer, known: &K) -> Ou
     Ok(())
 }
 
-/// `file_name MAIL PART => NAME`, `is_attachment MAIL PART => TRUTH` and `is_leaf MAIL PART =>
-/// TRUTH`; likewise `file_name_with` and `is_attachment_with`, under all tables.
+/// `file_name MAIL PART => NAME`, `is_attachment MAIL PART => TRUTH`, `is_extracted MAIL PART =>
+/// TRUTH` and `is_leaf MAIL PART => TRUTH`; likewise `file_name_with` and `is_attachment_with`,
+/// under all tables.
 fn look_at<K: KnownCharsets>(row: &Row, answer: &mut Answer, known: &K) -> Outcome {
     let mail = parse_mail_in(row.alloc, row.bytes(0), known)?;
     let part = part_at(row.alloc, &mail, row.number(1))?;
     match row.call.as_str() {
         "file_name" | "file_name_with" => answer.put(file_name(row.alloc, part, known)),
         "is_leaf" => answer.put(is_leaf(part)),
+        "is_extracted" => answer.put(is_extracted(row.alloc, part, known)),
         _ => answer.put(is_attachment(row.alloc, part, known)),
     }
     Ok(())
