@@ -3,7 +3,6 @@ pub mod Names
 pub mod Directory
 pub mod Hash
 pub mod Content
-pub mod Chosen
 pub mod Save
 pub mod SaveViews
 pub mod Report

@@ -5,11 +5,10 @@ use Rattle.std.specs.Result.{result_ok}
 use Rattle.mail_codec.specs.Charset.{Charsets}
 use Rattle.mailparse.specs.Mail.{Tree, read_mail_in, root}
 use Rattle.mailparse.specs.Placement.{Placement, placements}
-use Rattle.mail_data.specs.Files.{file_name}
+use Rattle.mail_data.specs.Files.{file_name, is_extracted}
 use Rattle.mail_data.specs.InnerMails.{InnerMail, inner_mails, places_under}
 use Rattle.mail_data.specs.PartPlaces.{Place, places}
 use Rattle.mail_data.specs.lenient.Content.{Content}
-use Rattle.mail_extract.specs.Chosen.{is_saved}
 use Rattle.mail_extract.specs.Content.{content}
 use Rattle.mail_extract.specs.Endings.{ending_of}
 use Rattle.mail_extract.specs.Directory.{File, has_file}
@@ -83,7 +82,7 @@ module _ (known : Charsets) where
 
   -- the files among some parts as they are to be saved
   abbrev pub wanted_among : List Place → List Wanted
-  wanted_among found = map wanted (filter (λ place. is_saved known place.part) found)
+  wanted_among found = map wanted (filter (λ place. is_extracted known place.part) found)
 
   -- the files of a mail inside a mail, if it is not refused
   abbrev pub wanted_inside : InnerMail → List Wanted

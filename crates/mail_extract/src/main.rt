@@ -1,7 +1,6 @@
 //! Saves the files in mails: `mail_extract [--into DIRECTORY] [--hash] [FILE..]`.
 #![tactic(auto)]
 
-mod chosen;
 mod content;
 mod directory;
 mod disk;

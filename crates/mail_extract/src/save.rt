@@ -14,13 +14,12 @@ ghost use Rattle.mail_extract.specs.Save.{AreSaved, IsKept, IsKeptNumbered, IsSa
 ghost use Rattle.mail_extract.specs.Save.{wanted, wanted_among, wanted_files, wanted_inside};
 ghost use Rattle.mail_extract.specs.SaveViews.{kept_name, outcome};
 
-use crate::chosen::is_saved;
 use crate::content::content_of;
 use crate::directory::{Created, Directory};
 use crate::endings::ending_of;
 use crate::hash::{Hashing, wanted_hash};
 use crate::names::{numbered, wanted_name};
-use mail_data::files::file_name;
+use mail_data::files::{file_name, is_extracted};
 use mail_data::inner_mails::{InnerMail, inner_mails, places_under};
 use mail_data::lenient::ContentFault;
 use mail_data::places::{Place, places};
@@ -191,7 +190,7 @@ fn save_places<D: Directory, K: KnownCharsets>(
     ensures only_memory { IfErr result IsMemory }
 {
     for place in places {
-        if is_saved(alloc, place.part, known)? {
+        if is_extracted(alloc, place.part, known)? {
             saved.push(save_file(alloc, directory, number, place, hashing, known)?)?;
         }
     }

@@ -12,10 +12,10 @@ use Rattle.mail_codec.specs.Charset.{Charsets}
 use Rattle.mailparse.specs.Mail.{Tree, read_mail_in}
 use Rattle.mailparse.specs.Placement.{Placement, placements}
 use Rattle.mailparse.specs.Refusal.{Reads}
+use Rattle.mail_data.specs.Files.{is_extracted}
 use Rattle.mail_data.specs.InnerMails.{InnerMail, places_under}
 use Rattle.mail_data.specs.PartPlaces.{Place}
 use Rattle.mail_data.specs.lenient.Content.{Content}
-use Rattle.mail_extract.specs.Chosen.{is_saved}
 use Rattle.mail_extract.specs.Directory.{Creates, File, has_file}
 use Rattle.mail_extract.specs.Hash.{wanted_hash}
 use Rattle.mail_extract.specs.declared.hash.Hashing.{Hashing}
@@ -65,16 +65,16 @@ pub each_more : {X : Type 0} (P : X → Type 0) (xs ys : List X) (x : X) → ys 
 each_more P xs ys x made each one = rw made (All-push P xs x each one)
 
 -- the files among some parts, the first of which is saved
-pub among_one : (known : Charsets) (all rest : List Place) (place : Place) → all ≡ place ∷ rest → is_saved known place.part ≡ true
+pub among_one : (known : Charsets) (all rest : List Place) (place : Place) → all ≡ place ∷ rest → is_extracted known place.part ≡ true
     → wanted_among known all ≡ wanted known place ∷ wanted_among known rest
 among_one known all rest place e is =
-    ap (wanted_among known) e ∙ ap (map (wanted known)) (cond-true (is_saved known place.part) _ _ is)
+    ap (wanted_among known) e ∙ ap (map (wanted known)) (cond-true (is_extracted known place.part) _ _ is)
 
 -- the files among some parts, the first of which is not saved
-pub among_none : (known : Charsets) (all rest : List Place) (place : Place) → all ≡ place ∷ rest → is_saved known place.part ≡ false
+pub among_none : (known : Charsets) (all rest : List Place) (place : Place) → all ≡ place ∷ rest → is_extracted known place.part ≡ false
     → wanted_among known all ≡ wanted_among known rest
 among_none known all rest place e is =
-    ap (wanted_among known) e ∙ ap (map (wanted known)) (cond-false (is_saved known place.part) _ _ is)
+    ap (wanted_among known) e ∙ ap (map (wanted known)) (cond-false (is_extracted known place.part) _ _ is)
 
 -- the files of the mails inside a mail, the first and the rest
 inside_one : (known : Charsets) (all rest : List InnerMail) (inner : InnerMail) → all ≡ inner ∷ rest
@@ -165,7 +165,7 @@ module _ (can_fail : Bool) (hashing : Hashing) (files : List File) (all : List W
 
   -- a part that is saved
   pub place_more : (known : Charsets) (parts rest : List Place) (place : Place) (done : List Outcome) (number next : ℕ) (mid now : List File)
-      (outcome : Outcome) → parts ≡ place ∷ rest → is_saved known place.part ≡ true → IsSaved can_fail hashing mid (wanted known place) number outcome next now
+      (outcome : Outcome) → parts ≡ place ∷ rest → is_extracted known place.part ≡ true → IsSaved can_fail hashing mid (wanted known place) number outcome next now
       → Continues done (wanted_among known parts) number mid → Continues (done ++ outcome ∷ []) (wanted_among known rest) next now
   place_more known parts rest place done number next mid now outcome e is one here =
       saved_more done (wanted known place) (wanted_among known rest) number next mid now outcome one
@@ -173,7 +173,7 @@ module _ (can_fail : Bool) (hashing : Hashing) (files : List File) (all : List W
 
   -- a part that is not saved
   pub place_none : (known : Charsets) (parts rest : List Place) (place : Place) (done : List Outcome) (number : ℕ) (mid : List File)
-      → parts ≡ place ∷ rest → is_saved known place.part ≡ false → Continues done (wanted_among known parts) number mid
+      → parts ≡ place ∷ rest → is_extracted known place.part ≡ false → Continues done (wanted_among known parts) number mid
       → Continues done (wanted_among known rest) number mid
   place_none known parts rest place done number mid e is here =
       subst (λ (ws : List Wanted). Continues done ws number mid) (among_none known parts rest place e is) here

@@ -21,7 +21,7 @@ loop-place-preserved g c =
     let left = ap (map place_view) (drop_next items i c.place-item.result (omega arith) c.place-item.is) in
     let rest = map place_view (drop (i + 1) items) in
     let place = place_view c.place-item.result in
-    let is = read_value _ _ c.in_ok-is_saved.ensures in
+    let is = read_value _ _ c.in_ok-is_extracted.ensures in
     elim c.if-branch.branch [
       | then-branch+in_ok-save_file+in_ok-push w ↦
           let file = w.in_ok-save_file.field-0 in
