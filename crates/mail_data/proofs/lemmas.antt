@@ -1,4 +1,5 @@
 pub mod Archive
+pub mod Reports
 pub mod Bounce
 pub mod FileNames
 pub mod Files

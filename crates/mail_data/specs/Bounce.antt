@@ -1,31 +1,17 @@
 -- The recipients of a delivery status notification (RFC 3464, sections 2.1 to 2.3): the fields on
 -- each of them in its part `message/delivery-status`.
-use Rattle.std.specs.Prelude.{ℕ, zero, suc, Bool, not, ◌==◌, ◌||◌, List, [], ◌∷◌, length, take, drop, map, filter, Option, Some, None, option_map, Result, Ok, Err, codes, if◌then◌else◌}
+use Rattle.std.specs.Prelude.{ℕ, Bool, ◌==◌, ◌||◌, List, [], drop, map, Option, Some, None, option_map, codes, if◌then◌else◌}
 use Rattle.std.specs.List.{list_any, after_first}
 use Rattle.std.specs.Option.{option_map_or}
-use Rattle.std.specs.Str.{bytes_eq, trim}
+use Rattle.std.specs.Str.{trim}
 use Rattle.mail_codec.specs.Ascii.{semicolon}
 use Rattle.mail_codec.specs.Charset.{Charsets}
-use Rattle.mail_codec.specs.Places.{is_empty}
-use Rattle.mailparse.specs.Block.{HeaderList, read_headers}
 use Rattle.mailparse.specs.Header.{Header}
 use Rattle.mailparse.specs.Mail.{Node, Tree, Forest, tree, no_parts, part_and, root}
 use Rattle.mailparse.specs.Map.{first_value_in}
-use Rattle.mailparse.specs.Refusal.{Refusal}
 use Rattle.mail_data.specs.Archive.{id_among}
 use Rattle.mail_data.specs.lenient.Comments.{without_comments}
-use Rattle.mail_data.specs.LineEnds.{is_empty_line, after_empty_line, line_place}
-
--- a message has this type
-abbrev pub has_type : List ℕ → Node → Bool
-has_type mimetype node = bytes_eq node.ctype.mimetype mimetype
-
--- a part has the status of a delivery; in a mail with addresses in UTF-8 its type is another one
--- (RFC 6533, section 4)
-abbrev pub has_status : Node → Bool
-has_status node =
-    has_type (codes "message/delivery-status") node
-    || has_type (codes "message/global-delivery-status") node
+use Rattle.mail_data.specs.Reports.{blocks, fields, has_status, has_type}
 
 -- a part is the mail that was returned, or its headers (RFC 3464, section 2; RFC 6533, section 3)
 abbrev pub has_original : Node → Bool
@@ -43,38 +29,6 @@ first_part test (part_and t ts) = if test (root t) then Some t else first_part t
 abbrev pub report_part : (Node → Bool) → Tree → Option Tree
 report_part test (tree node parts) =
     if has_type (codes "multipart/report") node then first_part test parts else None
-
--- the number of bytes before the first empty line
-unfoldable pub block_length : List ℕ → ℕ
-block_length bytes = line_place is_empty_line bytes
-
--- the bytes before it
-abbrev pub block_at : List ℕ → List ℕ
-block_at bytes = take (block_length bytes) bytes
-
--- the bytes after it
-abbrev pub after_block : List ℕ → List ℕ
-after_block bytes = after_empty_line (drop (block_length bytes) bytes)
-
--- the pieces between empty lines, at most `most` of them
-abbrev pub pieces_within : ℕ → List ℕ → List (List ℕ)
-pieces_within zero bytes = []
-pieces_within (suc most) bytes =
-    if is_empty bytes then [] else block_at bytes ∷ pieces_within most (after_block bytes)
-
--- the blocks of some bytes: the pieces between empty lines that are not empty; there are no more
--- than bytes
-unfoldable pub blocks : List ℕ → List (List ℕ)
-blocks bytes = filter (λ block. not (is_empty block)) (pieces_within (length bytes) bytes)
-
--- the headers that were read, or none if they were refused
-abbrev pub headers_or_none : Result HeaderList Refusal → List Header
-headers_or_none (Ok found) = found.headers
-headers_or_none (Err refusal) = []
-
--- the fields of a block, which are written as headers are
-unfoldable pub fields : List ℕ → List Header
-fields block = headers_or_none (read_headers block)
 
 -- the text after the first `;`, or the whole text if it contains no `;`
 unfoldable pub after_type : List ℕ → List ℕ

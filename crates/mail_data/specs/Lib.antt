@@ -18,6 +18,8 @@ pub mod Flowed
 pub mod FlowedViews
 pub mod InnerMails
 pub mod InnerMailViews
+pub mod Reports
+pub mod ReportViews
 pub mod Bounce
 pub mod BounceViews
 pub mod Archive

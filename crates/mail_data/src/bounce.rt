@@ -1,21 +1,20 @@
 //! The recipients that a delivery status notification (RFC 3464), or delivery report, reports.
-ghost use Rattle.std.specs.Prelude.{◌≡◌, ◌≤◌, length, map, string_bytes, IfErr, IfOk, Ok};
-ghost use Rattle.std.specs.Str.{trim};
+ghost use Rattle.std.specs.Prelude.{◌≡◌, map, string_bytes, IfErr, IfOk, Ok};
 ghost use Rattle.mailparse.specs.Mail.{root};
 ghost use Rattle.mailparse.specs.Map.{text_found};
 ghost use Rattle.mailparse.specs.Outcome.{AnswersOrMemory, IsMemory};
 ghost use Rattle.mailparse.specs.Views.{tree_of};
-ghost use Rattle.mail_data.specs.Bounce.{after_block, after_type, block_at, block_length, blocks};
-ghost use Rattle.mail_data.specs.Bounce.{deliveries, delivery_in, fields, has_original, has_status, has_type};
-ghost use Rattle.mail_data.specs.Bounce.{field, original_message_id, recipients, report_part};
+ghost use Rattle.mail_data.specs.Bounce.{after_type, deliveries, delivery_in, field, has_original};
+ghost use Rattle.mail_data.specs.Bounce.{original_message_id, recipients, report_part};
 ghost use Rattle.mail_data.specs.BounceViews.{cleaned, delivery};
+ghost use Rattle.mail_data.specs.Reports.{has_status};
 ghost use Rattle.mail_data.specs.TextViews.{tree_found};
 
 use crate::archive::id_among;
 use crate::lenient::{raw_body, without_comments};
-use crate::line_ends::{empty_line, is_empty_line, line_place};
+use crate::reports::{blocks, fields, has_status, has_type, trimmed};
 use mail_codec::charset::KnownCharsets;
-use mailparse::{MailHeader, MailHeaderMap, MailParseError, ParsedMail, parse_headers};
+use mailparse::{MailHeader, MailHeaderMap, MailParseError, ParsedMail};
 use std::alloc::{AllocError, Global};
 
 /// The fields of a delivery report on one recipient, as `recipients` returns them; a field that is
@@ -164,13 +163,6 @@ fn original_part<'m, 'a>(mail: &'m ParsedMail<'a>) -> Option<&'m ParsedMail<'a>>
     None
 }
 
-/// Returns whether a part has the status of a delivery.
-fn has_status(part: &ParsedMail<'_>) -> bool
-    ensures { result ≡ has_status (root (tree_of part.now)) }
-{
-    has_type(part, "message/delivery-status") || has_type(part, "message/global-delivery-status")
-}
-
 /// Returns whether a part is the returned mail or its headers.
 fn has_original(part: &ParsedMail<'_>) -> bool
     ensures { result ≡ has_original (root (tree_of part.now)) }
@@ -179,13 +171,6 @@ fn has_original(part: &ParsedMail<'_>) -> bool
         || has_type(part, "text/rfc822-headers")
         || has_type(part, "message/global")
         || has_type(part, "message/global-headers")
-}
-
-/// Returns whether a message has this type.
-fn has_type(message: &ParsedMail<'_>, mimetype: &str) -> bool
-    ensures { result ≡ has_type mimetype.now (root (tree_of message.now)) }
-{
-    message.ctype.mimetype.as_str() == mimetype
 }
 
 /// Reads the status of a delivery: the fields on each recipient.
@@ -209,53 +194,6 @@ fn deliveries<K: KnownCharsets>(
         found.push(recipient_in(alloc, &headers, known)?)?;
     }
     Ok(found)
-}
-
-/// Returns the blocks between empty lines that are not empty.
-fn blocks<'s>(alloc: Global, status: &'s [u8]) -> Result<Vec<&'s [u8]>, AllocError>
-    ensures { IfOk result (λ found. map (λ block. block.now) found.items ≡ blocks status.now) }
-{
-    let mut found = Vec::new(alloc);
-    let mut rest = status;
-    'pieces: while !rest.is_empty() {
-        let (block, after) = cut_block(rest);
-        if !block.is_empty() {
-            found.push(block)?;
-        }
-        rest = after;
-    }
-    Ok(found)
-}
-
-/// Returns the bytes before and after the first empty line.
-fn cut_block(bytes: &[u8]) -> (&[u8], &[u8])
-    ensures block { result.0.now ≡ block_at bytes.now }
-    ensures after { result.1.now ≡ after_block bytes.now }
-{
-    let (block, rest) = bytes.split_at(block_length(bytes));
-    let (_, after) = rest.split_at(empty_line(rest));
-    (block, after)
-}
-
-/// Returns the number of bytes before the first empty line.
-fn block_length(bytes: &[u8]) -> usize
-    ensures value { result ≡ block_length bytes.now }
-    ensures bounds { result ≤ length bytes.now }
-{
-    line_place(bytes, is_empty_line)
-}
-
-/// Returns the fields of a block, or none if it is refused.
-#[tactic(auto, unfolding(crate::specs::Bounce::fields))]
-fn fields<'s>(alloc: Global, block: &'s [u8]) -> Result<Vec<MailHeader<'s>>, MailParseError>
-    ensures read { IfOk result (λ headers. headers.items ≡ fields block.now) }
-    ensures only_memory { IfErr result IsMemory }
-{
-    match parse_headers(alloc, block) {
-        Ok((headers, _)) => Ok(headers),
-        Err(MailParseError::Memory(error)) => Err(MailParseError::Memory(error)),
-        Err(_) => Ok(Vec::new(alloc)),
-    }
 }
 
 /// Reads the fields on a recipient.
@@ -304,13 +242,6 @@ fn cleaned(alloc: Global, text: &str, kind: Kind) -> Result<String, AllocError>
         Kind::Typed => trimmed(alloc, after_type(text)),
         Kind::Address => trimmed(alloc, after_type(without_comments(alloc, text)?.as_str())),
     }
-}
-
-/// Returns a text without the whitespace around it.
-fn trimmed(alloc: Global, text: &str) -> Result<String, AllocError>
-    ensures { IfOk result (λ trimmed. string_bytes trimmed ≡ trim text.now) }
-{
-    String::from_str(alloc, text.trim())
 }
 
 /// Returns the text after the first `;`, or the whole text if it contains no `;`.

@@ -1,15 +1,19 @@
 //! The bytes of a body, even if it is damaged.
 ghost use Rattle.std.specs.Prelude.{◌≡◌, IfErr, IfOk};
+ghost use Rattle.std.specs.Cow.{cow_slice_items};
 ghost use Rattle.mailparse.specs.Body.{BodyKind};
 ghost use Rattle.mailparse.specs.BodyViews as bodies;
 ghost use Rattle.mailparse.specs.BodyViews.{IsBody};
+ghost use Rattle.mailparse.specs.Mail.{root};
 ghost use Rattle.mailparse.specs.Outcome.{IsMemory};
-ghost use Rattle.mail_data.specs.lenient.Content.{lenient_content};
+ghost use Rattle.mailparse.specs.Views.{tree_of};
+ghost use Rattle.mail_data.specs.lenient.Content.{lenient_content, message_content};
 ghost use Rattle.mail_data.specs.lenient.ContentViews.{content_view};
 
 use super::base64::base64_front;
+use super::encoding::lenient_body;
 use mailparse::body::Body;
-use mailparse::{Base64Fault, MailParseError};
+use mailparse::{Base64Fault, MailParseError, ParsedMail};
 use std::alloc::Global;
 use std::borrow::CowSlice;
 
@@ -79,4 +83,17 @@ pub fn lenient_content<'b>(alloc: Global, body: &Body<'b>) -> Result<Content<'b>
         }),
         error => Err(error),
     }
+}
+
+/// Returns the bytes of the body of a part without its transfer encoding.
+pub(crate) fn part_content<'m>(
+    alloc: Global,
+    part: &'m ParsedMail<'_>,
+) -> Result<Content<'m>, MailParseError>
+    ensures read { IfOk result (λ content.
+        cow_slice_items content.bytes ≡ (message_content (root (tree_of part.now))).bytes) }
+    ensures only_memory { IfErr result IsMemory }
+{
+    let body = lenient_body(alloc, part)?;
+    lenient_content(alloc, &body)
 }

@@ -11,6 +11,7 @@
 //! debug body MAIL                 debug recipients MAIL
 //! debug body_text MAIL            debug inner_mails MAIL
 //! debug content MAIL              debug places MAIL
+//!                                 debug report_blocks MAIL
 //! ```
 //!
 //! The table has the label `a`, and the character `b` for each byte.
@@ -28,6 +29,7 @@ use mail_data::lenient::{
 };
 use mail_data::mailbox::{Format, read_mailbox};
 use mail_data::places::places;
+use mail_data::reports::report_blocks;
 use mailparse::{MailParseError, ParsedMail, parse_mail};
 use std::alloc::Global;
 
@@ -85,6 +87,7 @@ fn show_of(answer: &mut Answer, kind: &str, mail: &ParsedMail<'_>) -> bool {
         "recipients" => answer.debug_of(recipients(alloc, mail, &())),
         "inner_mails" => answer.debug_of(inner_mails(alloc, mail, &())),
         "places" => answer.debug_of(places(alloc, mail)),
+        "report_blocks" => answer.debug_of(report_blocks(alloc, mail, &())),
         _ => return false,
     }
     true

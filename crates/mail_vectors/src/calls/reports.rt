@@ -3,17 +3,20 @@
 use crate::notation::{Answer, Decision, Outcome, Row};
 use mail_data::archive::{message_id, parents};
 use mail_data::bounce::{Recipient, original_message_id, recipients};
+use mail_data::reports::{Block, report_blocks};
 use mailparse::parse_mail;
 
 /// Makes the call of a row, if it is one of these.
 ///
 /// - `recipients MAIL => FINAL ORIGINAL ACTION STATUS CODE` for each recipient
+/// - `report_blocks MAIL => NAME VALUE..` with `end` after each block, or `none`
 /// - `original_message_id MAIL => ID`
 /// - `message_id MAIL => ID`
 /// - `parents MAIL => ID..`
 pub fn make(row: &Row, answer: &mut Answer) -> Decision {
     match row.call.as_str() {
         "recipients" | "original_message_id" | "message_id" | "parents" => read_mail(row, answer)?,
+        "report_blocks" => read_report(row, answer)?,
         _ => return Ok(false),
     }
     Ok(true)
@@ -40,4 +43,30 @@ fn write_recipients(answer: &mut Answer, recipients: &[Recipient]) {
         answer.put(recipient.status.as_deref());
         answer.put(recipient.diagnostic_code.as_deref());
     }
+}
+
+/// Writes the blocks of a report.
+fn read_report(row: &Row, answer: &mut Answer) -> Outcome {
+    let mail = parse_mail(row.alloc, row.bytes(0))?;
+    match report_blocks(row.alloc, &mail, &())? {
+        Some(blocks) => write_blocks(answer, blocks.as_slice()),
+        None => answer.word("none"),
+    }
+    Ok(())
+}
+
+/// Writes blocks.
+fn write_blocks(answer: &mut Answer, blocks: &[Block]) {
+    for block in blocks {
+        write_block(answer, block);
+    }
+}
+
+/// Writes the fields of a block.
+fn write_block(answer: &mut Answer, block: &Block) {
+    for field in &block.fields {
+        answer.put(field.name.as_str());
+        answer.put(field.value.as_str());
+    }
+    answer.word("end");
 }

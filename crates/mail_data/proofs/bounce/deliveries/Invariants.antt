@@ -1,6 +1,7 @@
 -- The recipients so far, and then those of the blocks that are left, are those of all.
 use Rattle.std.proofs.Common.{◌≡◌, ◌++◌, drop, map}
-use Rattle.mail_data.specs.Bounce.{delivery_in, fields}
+use Rattle.mail_data.specs.Bounce.{delivery_in}
+use Rattle.mail_data.specs.Reports.{fields}
 use Rattle.mail_data.specs.BounceViews.{delivery}
 use Rattle.mail_data.proofs.bounce.deliveries.Given as goal
 

@@ -2,7 +2,8 @@
 use Rattle.std.proofs.Common.{◌≡◌, drop, map}
 use Rattle.mailparse.specs.Mail.{forest}
 use Rattle.mailparse.specs.Views.{tree_of}
-use Rattle.mail_data.specs.Bounce.{first_part, has_status, report_part}
+use Rattle.mail_data.specs.Bounce.{first_part, report_part}
+use Rattle.mail_data.specs.Reports.{has_status}
 use Rattle.mail_data.proofs.bounce.status_part.Given as goal
 
 abbrev pub invariant-loop-part : goal.invariant-loop-part

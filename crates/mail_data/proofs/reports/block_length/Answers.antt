@@ -1,6 +1,6 @@
-use Rattle.mail_data.specs.Bounce.{block_length}
+use Rattle.mail_data.specs.Reports.{block_length}
 use Rattle.mail_data.specs.LineEnds.{is_empty_line}
-use Rattle.mail_data.proofs.bounce.block_length.Goals as goal
+use Rattle.mail_data.proofs.reports.block_length.Goals as goal
 
 pub returns-clause-value : goal.returns-clause-value
 unfolding block_length
