@@ -138,12 +138,18 @@ def said_here(line, job, saved):
     }
 
 
+def parts_within(mail):
+    """A mail and its parts, but not those of the mails that it forwards."""
+    yield mail
+    if mail.get_content_maintype() == "multipart" and mail.is_multipart():
+        for part in mail.get_payload():
+            yield from parts_within(part)
+
+
 def not_reached(mail):
-    """The recipients for whom delivery failed, by the report on it."""
-    if mail.get_content_type() != "multipart/report" or not mail.is_multipart():
-        return []
-    reports = [part for part in mail.get_payload() if part.get_content_type() == "message/delivery-status"]
-    blocks = reports[0].get_payload()[1:] if reports and reports[0].is_multipart() else []
+    """The recipients for whom delivery failed, by the reports in a mail."""
+    reports = [part for part in parts_within(mail) if part.get_content_type() == "message/delivery-status"]
+    blocks = [block for report in reports if report.is_multipart() for block in report.get_payload()]
     failed = [block for block in blocks if str(block.get("action", "")).strip().lower() == "failed"]
     found = [value_of(block, "final-recipient") for block in failed]
     return [text.split(";", 1)[-1].strip() for text in found if text is not None]

@@ -1,16 +1,19 @@
--- The recipients of a delivery status notification (RFC 3464, sections 2.1 to 2.3): the fields on
--- each of them in its part `message/delivery-status`.
-use Rattle.std.specs.Prelude.{ℕ, Bool, ◌==◌, ◌||◌, List, [], drop, map, Option, Some, None, option_map, codes, if◌then◌else◌}
-use Rattle.std.specs.List.{list_any, after_first}
+-- The recipients that delivery status notifications report (RFC 3464, sections 2.1 to 2.3): the
+-- fields on each of them in the parts `message/delivery-status`, and in UTF-8 (RFC 6533) in the
+-- parts `message/global-delivery-status`. The header `X-Failed-Recipients` is in no standard.
+use Rattle.std.specs.Prelude.{ℕ, Bool, ◌==◌, ◌||◌, List, [], ◌∷◌, ◌++◌, flat_map, Option, Some, None, option_map, option_to_list, codes, if◌then◌else◌}
+use Rattle.std.specs.List.{list_any, after_first, slice_split}
 use Rattle.std.specs.Option.{option_map_or}
 use Rattle.std.specs.Str.{trim}
-use Rattle.mail_codec.specs.Ascii.{semicolon}
+use Rattle.mail_codec.specs.Ascii.{comma, semicolon}
 use Rattle.mail_codec.specs.Charset.{Charsets}
+use Rattle.mail_codec.specs.Places.{is_empty}
 use Rattle.mailparse.specs.Header.{Header}
-use Rattle.mailparse.specs.Mail.{Node, Tree, Forest, tree, no_parts, part_and, root}
-use Rattle.mailparse.specs.Map.{first_value_in}
+use Rattle.mailparse.specs.Mail.{Node, Tree, Forest, tree, no_parts, part_and, root, trees_within}
+use Rattle.mailparse.specs.Map.{all_values_in, first_value_in}
 use Rattle.mail_data.specs.Archive.{id_among}
 use Rattle.mail_data.specs.lenient.Comments.{without_comments}
+use Rattle.mail_data.specs.lenient.Content.{message_content}
 use Rattle.mail_data.specs.Reports.{blocks, fields, has_status, has_type}
 
 -- a part is the mail that was returned, or its headers (RFC 3464, section 2; RFC 6533, section 3)
@@ -51,7 +54,7 @@ address_text text = trim (after_type (without_comments text))
 abbrev pub field : (List ℕ → List ℕ) → Charsets → List ℕ → List Header → Option (List ℕ)
 field clean known name headers = option_map clean (first_value_in known name headers)
 
--- the fields on a recipient
+-- a recipient: the fields on it
 pub record Delivery : Type 0 where
   pub final_recipient : Option (List ℕ)
   pub original_recipient : Option (List ℕ)
@@ -59,28 +62,66 @@ pub record Delivery : Type 0 where
   pub status : Option (List ℕ)
   pub diagnostic_code : Option (List ℕ)
 
+-- a recipient of whom only the address is known
+abbrev pub only_address : List ℕ → Delivery
+only_address address = record {
+  final_recipient = Some address;
+  original_recipient = None;
+  action = None;
+  status = None;
+  diagnostic_code = None;
+}
+
+-- the recipient in a text, unless that consists of whitespace
+abbrev pub named_in : List ℕ → List Delivery
+named_in text = if is_empty (trim text) then [] else only_address (trim text) ∷ []
+
+-- the recipients in a list of addresses: one between any two commas
+unfoldable pub listed : List ℕ → List Delivery
+listed text = flat_map named_in (slice_split (λ b. b == comma) text)
+
 -- Under the charsets that are known.
 module _ (known : Charsets) where
-  -- the fields on a recipient among these headers
-  abbrev pub delivery_in : List Header → Delivery
-  delivery_in headers = record {
-    final_recipient = field address_text known (codes "Final-Recipient") headers;
+  -- the fields on a recipient beside its address
+  abbrev pub delivery_to : List ℕ → List Header → Delivery
+  delivery_to address headers = record {
+    final_recipient = Some address;
     original_recipient = field address_text known (codes "Original-Recipient") headers;
     action = field plain_text known (codes "Action") headers;
     status = field plain_text known (codes "Status") headers;
     diagnostic_code = field typed_text known (codes "Diagnostic-Code") headers;
   }
 
-  -- the deliveries in a status: one in each block after the first, which is on the message
-  unfoldable pub deliveries : List ℕ → List Delivery
-  deliveries status = map (λ block. delivery_in (fields block)) (drop 1 (blocks status))
+  -- the recipient that a block is about: none if it has no `Final-Recipient`
+  unfoldable pub delivery_in : List ℕ → Option Delivery
+  delivery_in block =
+      option_map (λ address. delivery_to address (fields block))
+      (field address_text known (codes "Final-Recipient") (fields block))
 
-  -- the deliveries that a mail reports; none if it is no report
+  -- the recipient of a block as a list
+  abbrev pub delivery_or_none : List ℕ → List Delivery
+  delivery_or_none block = option_to_list (delivery_in block)
+
+  -- the recipients in the status of deliveries that a part has; none in any other part
+  unfoldable pub deliveries : Node → List Delivery
+  deliveries node =
+      if has_status node then flat_map delivery_or_none (blocks (message_content node).bytes) else []
+
+  -- the recipients in the headers of a mail
+  unfoldable pub failed_recipients : Node → List Delivery
+  failed_recipients node =
+      flat_map listed (all_values_in known (codes "X-Failed-Recipients") node.headers)
+
+  -- the recipients that the parts of a mail report
+  abbrev pub reported : List Tree → List Delivery
+  reported parts = flat_map (λ part. deliveries (root part)) parts
+
+  -- the recipients that a mail reports: those in its parts, and then those in its headers
   unfoldable pub recipients : Tree → List Delivery
-  recipients t = option_map_or (λ part. deliveries (root part).body) (report_part has_status t) []
+  recipients t = reported (trees_within t) ++ failed_recipients (root t)
 
   -- the id of the mail that a report is about, in the headers that it returns
   unfoldable pub original_message_id : Tree → Option (List ℕ)
   original_message_id t =
-      option_map_or (λ part. id_among known (fields (root part).body))
+      option_map_or (λ part. id_among known (fields (message_content (root part)).bytes))
       (report_part has_original t) None

@@ -1,27 +1,28 @@
-//! The recipients that a delivery status notification (RFC 3464), or delivery report, reports.
-ghost use Rattle.std.specs.Prelude.{◌≡◌, map, string_bytes, IfErr, IfOk, Ok};
+//! The recipients that delivery status notifications (RFC 3464), or delivery reports, report.
+ghost use Rattle.std.specs.Prelude.{◌≡◌, ◌++◌, map, option_map, string_bytes, IfErr, IfOk, Ok, OnOk};
 ghost use Rattle.mailparse.specs.Mail.{root};
 ghost use Rattle.mailparse.specs.Map.{text_found};
 ghost use Rattle.mailparse.specs.Outcome.{AnswersOrMemory, IsMemory};
 ghost use Rattle.mailparse.specs.Views.{tree_of};
-ghost use Rattle.mail_data.specs.Bounce.{after_type, deliveries, delivery_in, field, has_original};
+ghost use Rattle.mail_data.specs.Bounce.{after_type, deliveries, delivery_in, delivery_or_none};
+ghost use Rattle.mail_data.specs.Bounce.{delivery_to};
+ghost use Rattle.mail_data.specs.Bounce.{failed_recipients, field, has_original, listed, named_in};
 ghost use Rattle.mail_data.specs.Bounce.{original_message_id, recipients, report_part};
 ghost use Rattle.mail_data.specs.BounceViews.{cleaned, delivery};
-ghost use Rattle.mail_data.specs.Reports.{has_status};
 ghost use Rattle.mail_data.specs.TextViews.{tree_found};
 
 use crate::archive::id_among;
-use crate::lenient::{raw_body, without_comments};
+use crate::lenient::{part_content, without_comments};
 use crate::reports::{blocks, fields, has_status, has_type, trimmed};
 use mail_codec::charset::KnownCharsets;
 use mailparse::{MailHeader, MailHeaderMap, MailParseError, ParsedMail};
 use std::alloc::{AllocError, Global};
 
-/// The fields of a delivery report on one recipient, as `recipients` returns them; a field that is
-/// missing is `None` (RFC 3464, section 2.3).
+/// A recipient that a mail reports, as `recipients` returns it: the fields of a delivery report on
+/// it, of which a missing one is `None` (RFC 3464, section 2.3).
 #[derive(Debug, Drop)]
 pub struct Recipient {
-    /// The address of the recipient, without its type: `Final-Recipient`.
+    /// The address of the recipient, without its type: `Final-Recipient`. It is never `None`.
     pub final_recipient: Option<String>,
     /// The address that the sender wrote, without its type: `Original-Recipient`.
     pub original_recipient: Option<String>,
@@ -44,18 +45,17 @@ enum Kind {
     Address,
 }
 
-/// Returns the fields of a delivery report on each recipient, in order (RFC 3464, sections 2.1 to
-/// 2.3), or an empty list if the mail is not such a report.
+/// Returns the recipients that a mail reports: those of the delivery reports in it, in order (RFC
+/// 3464, sections 2.1 to 2.3), and then those in its headers `X-Failed-Recipients`.
 ///
-/// The mail has to be a `multipart/report`; the first of its own parts that is a
-/// `message/delivery-status` or a `message/global-delivery-status` (RFC 6533) is used. Its fields
-/// are in blocks separated by empty lines: the first block is about the message, and each other
-/// block is about one recipient. A field is found by its name, ignoring ASCII case. Its text is
-/// read like the value of a header in the charsets `known`, without whitespace around it. In an
-/// address or a diagnostic code, the text up to the first `;` is its type and is left out. Comments
-/// in parentheses are left out of addresses, actions and status codes. A block that `parse_headers`
-/// refuses has no fields. A transfer encoding, which such a part must not have, is not removed.
-/// Allocates the blocks, their headers and the texts.
+/// The reports are all parts of type `message/delivery-status` or `message/global-delivery-status`
+/// (RFC 6533), wherever they are in the mail. Their blocks are those of `reports::report_blocks`;
+/// each block that has a `Final-Recipient` is about one recipient. A field is found by its name,
+/// ignoring ASCII case. Its text is read like the value of a header in the charsets `known`,
+/// without whitespace around it. In an address or a diagnostic code, the text up to the first `;`
+/// is its type and is left out. Comments in parentheses are left out of addresses, actions and
+/// status codes. In the headers, which no standard defines, a comma separates addresses; such a
+/// recipient has no other field. Allocates the blocks, their headers and the texts.
 ///
 /// # Errors
 ///
@@ -86,10 +86,12 @@ pub fn recipients<K: KnownCharsets>(
     ensures { AnswersOrMemory (λ found. map delivery found.items) result
         (Ok (recipients (K.known known.now) (tree_of mail.now))) }
 {
-    let Some(part) = status_part(mail) else {
-        return Ok(Vec::new(alloc));
-    };
-    deliveries(alloc, raw_body(alloc, part)?, known)
+    let mut found = Vec::new(alloc);
+    for part in mail.parts(alloc)? {
+        push_deliveries(alloc, &mut found, part, known)?;
+    }
+    push_failed(alloc, &mut found, mail, known)?;
+    Ok(found)
 }
 
 /// Returns the id of the mail that a delivery report is about, or `None` if the report does not
@@ -98,7 +100,8 @@ pub fn recipients<K: KnownCharsets>(
 /// The mail has to be a `multipart/report`; the first of its own parts that is a `message/rfc822`,
 /// a `text/rfc822-headers`, a `message/global` or a `message/global-headers` is used. Its id is
 /// read as `archive::message_id` reads one, in the charsets `known`. Headers that `parse_headers`
-/// refuses have no id. A transfer encoding is not removed. Allocates the headers and the id.
+/// refuses have no id. The body is read without its transfer encoding, as `lenient_content` reads
+/// it. Allocates the body if it is encoded, the headers and the id.
 ///
 /// # Errors
 ///
@@ -128,24 +131,9 @@ pub fn original_message_id<K: KnownCharsets>(
     let Some(part) = original_part(mail) else {
         return Ok(None);
     };
-    let raw = raw_body(alloc, part)?;
-    let headers = fields(alloc, raw)?;
+    let content = part_content(alloc, part)?;
+    let headers = fields(alloc, content.bytes.as_slice())?;
     id_among(alloc, &headers, known)
-}
-
-/// Returns the part with the status of a delivery, if there is one.
-fn status_part<'m, 'a>(mail: &'m ParsedMail<'a>) -> Option<&'m ParsedMail<'a>>
-    ensures { tree_found result ≡ report_part has_status (tree_of mail.now) }
-{
-    if !has_type(mail, "multipart/report") {
-        return None;
-    }
-    for part in &mail.subparts {
-        if has_status(part) {
-            return Some(part);
-        }
-    }
-    None
 }
 
 /// Returns the part that is the returned mail or its headers, if there is one.
@@ -173,41 +161,77 @@ fn has_original(part: &ParsedMail<'_>) -> bool
         || has_type(part, "message/global-headers")
 }
 
-/// Reads the status of a delivery: the fields on each recipient.
+/// Appends the recipients in the status of deliveries, if the part has one.
 #[tactic(auto, unfolding(crate::specs::Bounce::deliveries))]
-fn deliveries<K: KnownCharsets>(
+fn push_deliveries<K: KnownCharsets>(
     alloc: Global,
-    status: &[u8],
+    found: &mut Vec<Recipient>,
+    part: &ParsedMail<'_>,
     known: &K,
-) -> Result<Vec<Recipient>, MailParseError>
-    ensures read { IfOk result (λ found.
-        map delivery found.items ≡ deliveries (K.known known.now) status.now) }
+) -> Result<(), MailParseError>
+    ensures written { OnOk result (map delivery found.new.items
+        ≡ map delivery found.old.items
+        ++ deliveries (K.known known.now) (root (tree_of part.now))) }
     ensures only_memory { IfErr result IsMemory }
 {
-    let mut found = Vec::new(alloc);
-    let blocks = blocks(alloc, status)?;
-    let Some((_, others)) = blocks.as_slice().split_first() else {
-        return Ok(found);
-    };
-    for block in others {
-        let headers = fields(alloc, block)?;
-        found.push(recipient_in(alloc, &headers, known)?)?;
+    if !has_status(part) {
+        return Ok(());
     }
-    Ok(found)
+    let content = part_content(alloc, part)?;
+    for block in blocks(alloc, content.bytes.as_slice())? {
+        push_delivery(alloc, found, block, known)?;
+    }
+    Ok(())
 }
 
-/// Reads the fields on a recipient.
+/// Appends the recipient that a block is about, if there is one.
+fn push_delivery<K: KnownCharsets>(
+    alloc: Global,
+    found: &mut Vec<Recipient>,
+    block: &[u8],
+    known: &K,
+) -> Result<(), MailParseError>
+    ensures written { OnOk result (map delivery found.new.items
+        ≡ map delivery found.old.items ++ delivery_or_none (K.known known.now) block.now) }
+    ensures only_memory { IfErr result IsMemory }
+{
+    if let Some(recipient) = recipient_in(alloc, block, known)? {
+        found.push(recipient)?;
+    }
+    Ok(())
+}
+
+/// Reads the fields on a recipient, or returns `None` if the block names no recipient.
+#[tactic(auto, unfolding(crate::specs::Bounce::delivery_in))]
 fn recipient_in<K: KnownCharsets>(
     alloc: Global,
+    block: &[u8],
+    known: &K,
+) -> Result<Option<Recipient>, MailParseError>
+    ensures read { IfOk result (λ found.
+        option_map delivery found ≡ delivery_in (K.known known.now) block.now) }
+    ensures only_memory { IfErr result IsMemory }
+{
+    let headers = fields(alloc, block)?;
+    match field(alloc, &headers, "Final-Recipient", Kind::Address, known)? {
+        Some(address) => Ok(Some(recipient_to(alloc, address, &headers, known)?)),
+        None => Ok(None),
+    }
+}
+
+/// Reads the fields on the recipient with this address.
+fn recipient_to<K: KnownCharsets>(
+    alloc: Global,
+    address: String,
     headers: &Vec<MailHeader<'_>>,
     known: &K,
 ) -> Result<Recipient, MailParseError>
-    ensures read { IfOk result (λ recipient.
-        delivery recipient ≡ delivery_in (K.known known.now) headers.now.items) }
+    ensures read { IfOk result (λ recipient. delivery recipient
+        ≡ delivery_to (K.known known.now) (string_bytes address) headers.now.items) }
     ensures only_memory { IfErr result IsMemory }
 {
     Ok(Recipient {
-        final_recipient: field(alloc, headers, "Final-Recipient", Kind::Address, known)?,
+        final_recipient: Some(address),
         original_recipient: field(alloc, headers, "Original-Recipient", Kind::Address, known)?,
         action: field(alloc, headers, "Action", Kind::Plain, known)?,
         status: field(alloc, headers, "Status", Kind::Plain, known)?,
@@ -253,4 +277,57 @@ fn after_type(text: &str) -> &str
         Some((_, rest)) => rest,
         None => text,
     }
+}
+
+/// Appends the recipients in the headers of a mail.
+#[tactic(auto, unfolding(crate::specs::Bounce::failed_recipients))]
+fn push_failed<K: KnownCharsets>(
+    alloc: Global,
+    found: &mut Vec<Recipient>,
+    mail: &ParsedMail<'_>,
+    known: &K,
+) -> Result<(), MailParseError>
+    ensures written { OnOk result (map delivery found.new.items
+        ≡ map delivery found.old.items
+        ++ failed_recipients (K.known known.now) (root (tree_of mail.now))) }
+    ensures only_memory { IfErr result IsMemory }
+{
+    let values = mail
+        .headers
+        .get_all_values_in(alloc, "X-Failed-Recipients", known)?;
+    for value in &values {
+        push_listed(alloc, found, value.as_str())?;
+    }
+    Ok(())
+}
+
+/// Appends the recipients in a list of addresses.
+#[tactic(auto, using(crate::proofs::lemmas::Bounce::listed_next), unfolding(crate::specs::Bounce::listed))]
+fn push_listed(alloc: Global, found: &mut Vec<Recipient>, list: &str) -> Result<(), AllocError>
+    ensures { OnOk result (map delivery found.new.items
+        ≡ map delivery found.old.items ++ listed list.now) }
+{
+    for text in list.split(',') {
+        push_named(alloc, found, text)?;
+    }
+    Ok(())
+}
+
+/// Appends the recipient in a text, unless that consists of whitespace.
+fn push_named(alloc: Global, found: &mut Vec<Recipient>, text: &str) -> Result<(), AllocError>
+    ensures { OnOk result (map delivery found.new.items
+        ≡ map delivery found.old.items ++ named_in text.now) }
+{
+    let address = text.trim();
+    if address.is_empty() {
+        return Ok(());
+    }
+    found.push(Recipient {
+        final_recipient: Some(String::from_str(alloc, address)?),
+        original_recipient: None,
+        action: None,
+        status: None,
+        diagnostic_code: None,
+    })?;
+    Ok(())
 }

@@ -13,6 +13,5 @@ pub(crate) use content::part_content;
 pub use content::{Content, ContentFault, lenient_content};
 pub use date::{DateError, date_of, zoned_date_of};
 pub use encoding::lenient_body;
-pub(crate) use encoding::raw_body;
 pub use ids::{IdRule, find_ids};
 pub use texts::{BodyText, body_text, charset_used, lenient_text};

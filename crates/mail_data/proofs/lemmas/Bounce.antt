@@ -1,13 +1,12 @@
 -- Lemmas on delivery status notifications.
-use Rattle.std.proofs.Common.{◌≡◌, ℕ, ◌≤◌, List, [], ◌∷◌, ◌++◌, length, map, drop, Bor, refl, sym, ap, ◌∙◌, arith}
-use Rattle.std.specs.Prelude.{nat_eq}
+use Rattle.std.proofs.Common.{◌≡◌, ℕ, List, [], ◌∷◌, ◌++◌, length, map, Bor, sym, ap, ◌∙◌, arith, append_assoc}
+use Rattle.std.specs.Prelude.{flat_map, nat_eq}
 use Rattle.std.specs.List.{position_or_len}
 use Rattle.std.proofs.lemmas.Bool.{cond-false, le-ltb}
-use Rattle.std.proofs.lemmas.List.{append-nil, drop_all}
+use Rattle.std.proofs.lemmas.Grind.{flat_map-append}
+use Rattle.std.proofs.lemmas.List.{append-nil, map_push}
 use Rattle.mailparse.proofs.lemmas.EncodedWord.{any_from_place}
-use Rattle.mail_codec.specs.Charset.{Charsets}
-use Rattle.mail_data.specs.Bounce.{Delivery, after_type, deliveries, delivery_in}
-use Rattle.mail_data.specs.Reports.{blocks, fields}
+use Rattle.mail_data.specs.Bounce.{Delivery, after_type, named_in}
 
 -- ---- the type of a value
 
@@ -17,20 +16,17 @@ after_type-none text h = sym (cond-false _ _ _ (any_from_place (λ b. nat_eq b 5
 
 -- ---- the recipients
 
-pub deliveries-some : (known : Charsets) (status : List ℕ) (items : List (Bor (List ℕ))) (first : Bor (List ℕ)) (others : List (Bor (List ℕ))) (found : List Delivery)
-    → map (λ (b : Bor (List ℕ)). b.now) items ≡ blocks status → items ≡ first ∷ others → found ≡ map (λ (b : Bor (List ℕ)). delivery_in known (fields b.now)) others → found ≡ deliveries known status
-unfolding deliveries
-deliveries-some known status items first others found is cut all =
-    all ∙ each others
-    ∙ ap (λ (l : List (Bor (List ℕ))). map (λ block. delivery_in known (fields block)) (drop 1 (map (λ (b : Bor (List ℕ)). b.now) l))) (sym cut)
-    ∙ ap (λ (l : List (List ℕ)). map (λ block. delivery_in known (fields block)) (drop 1 l)) is
-  where
-    each : (bs : List (Bor (List ℕ))) → map (λ (b : Bor (List ℕ)). delivery_in known (fields b.now)) bs ≡ map (λ block. delivery_in known (fields block)) (map (λ (b : Bor (List ℕ)). b.now) bs)
-    each [] = refl
-    each (b ∷ bs) = ap (λ (l : List Delivery). delivery_in known (fields b.now) ∷ l) (each bs)
+-- those of one more item
+pub grown : {X : Type 0} (f : X → List Delivery) (x : X) (rest : List X) (found new all : List Delivery) → new ≡ found ++ f x → found ++ flat_map f (x ∷ rest) ≡ all
+    → new ++ flat_map f rest ≡ all
+grown f x rest found new all e h = ap (λ (l : List Delivery). l ++ flat_map f rest) e ∙ append_assoc found (f x) (flat_map f rest) ∙ h
 
-pub deliveries-end : (known : Charsets) (others : List (Bor (List ℕ))) (n : ℕ) (found : List Delivery) → length others ≤ n
-    → found ++ map (λ (b : Bor (List ℕ)). delivery_in known (fields b.now)) (drop n others) ≡ map (λ (b : Bor (List ℕ)). delivery_in known (fields b.now)) others
-    → found ≡ map (λ (b : Bor (List ℕ)). delivery_in known (fields b.now)) others
-deliveries-end known others n found past all =
-    sym (append-nil found) ∙ ap (λ (l : List (Bor (List ℕ))). found ++ map (λ (b : Bor (List ℕ)). delivery_in known (fields b.now)) l) (sym (drop_all n others past)) ∙ all
+-- those of the pieces so far, after one more piece
+pub listed_next : (pieces : List (Bor (List ℕ))) (piece : Bor (List ℕ)) (old before new : List Delivery) → before ≡ old ++ flat_map named_in (map (λ p. p.now) pieces)
+    → new ≡ before ++ named_in piece.now → new ≡ old ++ flat_map named_in (map (λ p. p.now) (pieces ++ piece ∷ []))
+listed_next pieces piece old before new b e =
+    let done = map (λ (p : Bor (List ℕ)). p.now) pieces in
+    e ∙ ap (λ (l : List Delivery). l ++ named_in piece.now) b ∙ append_assoc old (flat_map named_in done) (named_in piece.now)
+    ∙ ap (λ (l : List Delivery). old ++ l)
+    (ap (λ (l : List Delivery). flat_map named_in done ++ l) (sym (append-nil (named_in piece.now))) ∙ sym (flat_map-append named_in done (piece.now ∷ []))
+    ∙ ap (flat_map named_in) (sym (map_push (λ (p : Bor (List ℕ)). p.now) pieces piece)))

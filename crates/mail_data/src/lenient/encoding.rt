@@ -63,10 +63,7 @@ fn body_named<'m>(alloc: Global, part: &'m ParsedMail<'_>) -> Result<Body<'m>, M
 }
 
 /// Returns the bytes of the body of a part, with their transfer encoding.
-pub(crate) fn raw_body<'m>(
-    alloc: Global,
-    part: &'m ParsedMail<'_>,
-) -> Result<&'m [u8], MailParseError>
+fn raw_body<'m>(alloc: Global, part: &'m ParsedMail<'_>) -> Result<&'m [u8], MailParseError>
     ensures read { IfOk result (λ raw. raw.now ≡ (root (tree_of part.now)).body) }
     ensures only_memory { IfErr result IsMemory }
 {
