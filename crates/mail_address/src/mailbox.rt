@@ -6,6 +6,7 @@ ghost use Rattle.mail_address.specs.Mailbox.{is_dotted, is_enclosed, is_phrase, 
 ghost use Rattle.mail_address.specs.Mailbox.{is_word, mailbox_of, named_mailbox, spec_mailbox};
 ghost use Rattle.mail_address.specs.Mailbox.{stop_len, within_ends, word_len};
 ghost use Rattle.mail_address.specs.MailboxViews.{parts};
+ghost use Rattle.mail_address.specs.Tokens.{front_token};
 
 use crate::folding::{has_no_control, is_clean_without_white, is_unfolded_clean};
 use crate::tokens::{
@@ -233,12 +234,15 @@ pub(crate) fn within_ends(text: &[u8]) -> &[u8]
     }
 }
 
-/// Returns the mailbox of a name and an address in angle brackets, if they are one.
+/// Returns the mailbox of a name and of the bytes after it, if they are one. The bytes begin with
+/// `len` bytes in angle brackets.
 #[tactic(auto, unfolding(crate::specs::Mailbox::named_mailbox))]
-fn named_mailbox<'a>(name: &'a [u8], rest: &'a [u8]) -> Option<Parts<'a>>
+fn named_mailbox<'a>(name: &'a [u8], rest: &'a [u8], len: usize) -> Option<Parts<'a>>
+    requires token { len ≡ (front_token rest.now).len }
+    requires within { len ≤ length rest.now }
     ensures { option_map parts result ≡ named_mailbox name.now rest.now }
 {
-    let (enclosed, after) = rest.split_at(front_token(rest).len);
+    let (enclosed, after) = rest.split_at(len);
     if (is_all_white(name) || is_phrase(name)) && is_all_white(after) {
         spec_mailbox(name, after_route(within_ends(enclosed)))
     } else {
@@ -252,8 +256,9 @@ pub(crate) fn mailbox_of(text: &[u8]) -> Option<Parts<'_>>
     ensures { option_map parts result ≡ mailbox_of text.now }
 {
     let (name, rest) = text.split_at(run(Span::Phrase, text));
-    if is_enclosed(front_token(rest).kind) {
-        named_mailbox(name, rest)
+    let token = front_token(rest);
+    if is_enclosed(token.kind) {
+        named_mailbox(name, rest, token.len)
     } else {
         spec_mailbox(&text[..0], text)
     }
