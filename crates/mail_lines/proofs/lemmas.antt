@@ -6,6 +6,7 @@ pub mod Texts
 pub mod Written
 pub mod Plain
 pub mod Objects
+pub mod Members
 pub mod Values
 pub mod Fields
 pub mod Part

@@ -1,6 +1,7 @@
 pub mod JsonText
 pub mod Printed
 pub mod Written
+pub mod Members
 pub mod Options
 pub mod Fields
 pub mod Addresses

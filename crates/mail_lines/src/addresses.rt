@@ -1,17 +1,19 @@
 //! The members of the authors and recipients of a mail.
-ghost use Rattle.std.specs.Prelude.{◌≡◌, ◌++◌, map, string_bytes};
+ghost use Rattle.std.specs.Prelude.{◌≡◌, map, string_bytes, true};
 ghost use Rattle.mailparse.specs.Mail.{root};
 ghost use Rattle.mailparse.specs.Map.{text_found};
 ghost use Rattle.mailparse.specs.Views.{tree_of};
 ghost use Rattle.mail_address.specs.AddressViews.{element_view, group_view, mailbox_view};
 ghost use Rattle.mail_address.specs.AddressViews.{member_view};
 ghost use Rattle.mail_lines.specs.Addresses.{unless_empty};
-ghost use Rattle.mail_lines.specs.Printed.{list_of, members_after, text_of};
+ghost use Rattle.mail_lines.specs.Members.{AddsMember, AddsMembers, is_key};
+ghost use Rattle.mail_lines.specs.Printed.{list_of, text_of};
 ghost use Rattle.mail_lines.specs.Values.{address_list, addresses_members, element_value};
 ghost use Rattle.mail_lines.specs.Values.{group_value, single_value, unknown_value};
 ghost use Rattle.mail_lines.specs.Written.{Writes};
 
-use crate::json_text::{Position, write_comma, write_optional, write_text, write_word};
+use crate::json_text::{Position, write_comma, write_word};
+use crate::members::{add_optional, add_text, first_key, key};
 use mail_address::{Address, Group, Mailbox, Member, Unknown, addresses_of};
 use mail_codec::charset::decode_latin1;
 use mail_program::Fault;
@@ -26,31 +28,33 @@ pub(crate) fn write_addresses<W: Write, K: KnownCharsets>(
     mail: &ParsedMail<'_>,
     known: &K,
 ) -> Result<(), Fault>
-    ensures { Writes (W.contents out.old) (W.contents out.new) result
-        (members_after (addresses_members (K.known known.now) (root (tree_of mail.now)))) }
+    ensures { AddsMembers (W.contents out.old) (W.contents out.new) result
+        (addresses_members (K.known known.now) (root (tree_of mail.now))) }
 {
-    write_address_list(alloc, out, ",\"from\":", mail, "From", known)?;
-    write_address_list(alloc, out, ",\"to\":", mail, "To", known)?;
-    write_address_list(alloc, out, ",\"cc\":", mail, "Cc", known)?;
-    write_address_list(alloc, out, ",\"bcc\":", mail, "Bcc", known)?;
-    write_address_list(alloc, out, ",\"reply_to\":", mail, "Reply-To", known)?;
-    write_address_list(alloc, out, ",\"sender\":", mail, "Sender", known)
+    add_addresses(alloc, out, key!("from"), mail, "From", known)?;
+    add_addresses(alloc, out, key!("to"), mail, "To", known)?;
+    add_addresses(alloc, out, key!("cc"), mail, "Cc", known)?;
+    add_addresses(alloc, out, key!("bcc"), mail, "Bcc", known)?;
+    add_addresses(alloc, out, key!("reply_to"), mail, "Reply-To", known)?;
+    add_addresses(alloc, out, key!("sender"), mail, "Sender", known)?;
+    Ok(())
 }
 
-/// Writes the addresses in all headers with this name, after the text `before`.
-fn write_address_list<W: Write, K: KnownCharsets>(
+/// Adds a member with the addresses in all headers of this name.
+fn add_addresses<W: Write, K: KnownCharsets>(
     alloc: Global,
     out: &mut W,
-    before: &str,
-    mail: &ParsedMail<'_>,
     key: &str,
+    mail: &ParsedMail<'_>,
+    header: &str,
     known: &K,
 ) -> Result<(), Fault>
-    ensures { Writes (W.contents out.old) (W.contents out.new) result (before.now
-        ++ text_of (address_list (K.known known.now) key.now (root (tree_of mail.now)))) }
+    requires { is_key key.now ≡ true }
+    ensures { AddsMember (W.contents out.old) (W.contents out.new) result key.now
+        (address_list (K.known known.now) header.now (root (tree_of mail.now))) }
 {
-    let list = addresses_of(alloc, &mail.headers, key)?;
-    write_word(out, before)?;
+    let list = addresses_of(alloc, &mail.headers, header)?;
+    write_word(out, key)?;
     write_elements(alloc, out, list.as_slice(), known)
 }
 
@@ -103,9 +107,8 @@ fn write_group<W: Write, K: KnownCharsets>(
         (K.known known.now) group.now.display_name.now (group_view group.now).members)) }
 {
     let name = group.get_display_name(alloc, known)?;
-    write_word(out, "{\"group\":")?;
-    write_text(out, name.as_str())?;
-    write_word(out, ",\"members\":")?;
+    add_text(alloc, out, first_key!("group"), name.as_str())?;
+    write_word(out, key!("members"))?;
     write_members(alloc, out, group.members.as_slice(), known)?;
     write_word(out, "}")
 }
@@ -156,12 +159,10 @@ fn write_mailbox<W: Write, K: KnownCharsets>(
     ensures { Writes (W.contents out.old) (W.contents out.new) result
         (text_of (single_value (K.known known.now) (mailbox_view mailbox.now))) }
 {
-    let name = mailbox.get_display_name(alloc, known)?;
+    let name = unless_empty(mailbox.get_display_name(alloc, known)?);
     let address = mailbox.get_address(alloc)?;
-    write_word(out, "{\"name\":")?;
-    write_optional(out, unless_empty(name))?;
-    write_word(out, ",\"address\":")?;
-    write_text(out, address.as_str())?;
+    add_optional(alloc, out, first_key!("name"), name.as_deref())?;
+    add_text(alloc, out, key!("address"), address.as_str())?;
     write_word(out, "}")
 }
 
@@ -178,7 +179,6 @@ fn write_unknown<W: Write>(alloc: Global, out: &mut W, unknown: &Unknown<'_>) ->
         (text_of (unknown_value unknown.now.text.now)) }
 {
     let text = decode_latin1(alloc, unknown.text)?;
-    write_word(out, "{\"unknown\":")?;
-    write_text(out, text.as_str())?;
+    add_text(alloc, out, first_key!("unknown"), text.as_str())?;
     write_word(out, "}")
 }

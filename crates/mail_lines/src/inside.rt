@@ -1,18 +1,18 @@
 //! The mails inside a mail, and the objects of their parts.
-ghost use Rattle.std.specs.Prelude.{map, option_and_then, option_map, IfOk};
+ghost use Rattle.std.specs.Prelude.{◌≡◌, map, option_and_then, option_map, IfOk, true};
 ghost use Rattle.mailparse.specs.Outcome.{IsMemory, refusal_of};
 ghost use Rattle.mail_data.specs.InnerMailViews.{inner_view};
 ghost use Rattle.mail_lines.specs.Inside.{parts_inside};
 ghost use Rattle.mail_lines.specs.JsonText.{refusal_text};
+ghost use Rattle.mail_lines.specs.Members.{AddsMember, is_key};
 ghost use Rattle.mail_lines.specs.Options.{options_of};
 ghost use Rattle.mail_lines.specs.Part.{place_in};
 ghost use Rattle.mail_lines.specs.Printed.{after_commas, list_of, string_or_null, text_of};
 ghost use Rattle.mail_lines.specs.Values.{AreInsideValues, AreValues, IsPartValue, inner_value};
 ghost use Rattle.mail_lines.specs.Written.{Writes, WritesOne};
 
-use crate::json_text::{
-    Position, refusal_of, write_comma, write_number_or_null, write_optional, write_text, write_word,
-};
+use crate::json_text::{Position, refusal_of, write_comma, write_word};
+use crate::members::{add_number_or_null, add_optional, add_text, first_key, key};
 use crate::options::LineOptions;
 use crate::part::{place_in, write_found};
 use mail_data::inner_mails::{InnerMail, places_under};
@@ -117,28 +117,26 @@ fn write_inner<W: Write>(
     ensures { Writes (W.contents out.old) (W.contents out.new) result
         (text_of (inner_value start (inner_view inner.now))) }
 {
-    write_word(out, "{\"path\":")?;
-    write_text(out, inner.path.as_str())?;
-    write_word(out, ",\"start\":")?;
-    write_number_or_null(out, place_in(inner.start, start))?;
-    write_word(out, ",\"error\":")?;
-    write_refusal(alloc, out, &inner.error)?;
+    add_text(alloc, out, first_key!("path"), inner.path.as_str())?;
+    add_number_or_null(out, key!("start"), place_in(inner.start, start))?;
+    add_refusal(alloc, out, key!("error"), &inner.error)?;
     write_word(out, "}")
 }
 
-/// Writes why a mail is refused, or `null` if it is not.
-fn write_refusal<W: Write>(
+/// Adds a member that says why a mail is refused, or `null` if it is not.
+fn add_refusal<W: Write>(
     alloc: Global,
     out: &mut W,
+    key: &str,
     error: &Option<MailParseError>,
 ) -> Result<(), Fault>
-    ensures { Writes (W.contents out.old) (W.contents out.new) result
-        (text_of (string_or_null
-        (option_map refusal_text (option_and_then refusal_of error.now)))) }
+    requires { is_key key.now ≡ true }
+    ensures { AddsMember (W.contents out.old) (W.contents out.new) result key.now (string_or_null
+        (option_map refusal_text (option_and_then refusal_of error.now))) }
 {
     let text = match error {
         Some(error) => refusal_of(alloc, error)?,
         None => None,
     };
-    write_optional(out, text)
+    add_optional(alloc, out, key, text.as_deref())
 }

@@ -10,6 +10,7 @@ mod json_lines;
 mod json_text;
 pub mod laws;
 mod mail;
+mod members;
 mod options;
 mod origin;
 mod part;

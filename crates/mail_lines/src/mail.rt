@@ -1,15 +1,15 @@
 //! The object of a mail.
-ghost use Rattle.std.specs.Prelude.{◌≡◌, ◌++◌, codes, option_map};
+ghost use Rattle.std.specs.Prelude.{◌≡◌, codes, option_map, true};
 ghost use Rattle.mailparse.specs.Mail.{root};
 ghost use Rattle.mailparse.specs.Placement.{placements};
 ghost use Rattle.mailparse.specs.Views.{placements_of, tree_of};
 ghost use Rattle.mail_data.specs.lenient.Date.{zoned_date_of};
-ghost use Rattle.mail_data.specs.lenient.IdViews.{needs_at};
 ghost use Rattle.mail_lines.specs.Fields.{date_fault_text, value_of};
 ghost use Rattle.mail_lines.specs.Origin.{origin_of};
 ghost use Rattle.mail_lines.specs.Options.{options_of};
-ghost use Rattle.mail_lines.specs.Printed.{members_after, one, seconds_value, text_of};
-ghost use Rattle.mail_lines.specs.Values.{IsMailValue, date_members, id_list, ids_members};
+ghost use Rattle.mail_lines.specs.Members.{AddsMember, AddsMembers, is_key};
+ghost use Rattle.mail_lines.specs.Printed.{text_of};
+ghost use Rattle.mail_lines.specs.Values.{IsMailValue, date_members, ids_members};
 ghost use Rattle.mail_lines.specs.Values.{raw_value, raw_values, value_or_null, values_members};
 ghost use Rattle.mail_lines.specs.Values.{zone_members};
 ghost use Rattle.mail_lines.specs.Written.{Writes, WritesOne};
@@ -17,7 +17,10 @@ ghost use Rattle.mail_lines.specs.Written.{Writes, WritesOne};
 use crate::addresses::write_addresses;
 use crate::fields::{ids_of, value_of};
 use crate::inside::{write_forwarded, write_inside};
-use crate::json_text::{write_optional, write_text, write_texts, write_word};
+use crate::json_text::write_word;
+use crate::members::{
+    add_flag, add_null, add_optional, add_seconds, add_text, add_texts, first_key, key,
+};
 use crate::options::LineOptions;
 use crate::origin::{Origin, write_origin};
 use crate::part::write_parts;
@@ -63,17 +66,17 @@ pub fn write_mail<W: Write, K: KnownCharsets>(
 {
     write_origin(out, origin)?;
     write_values(alloc, out, mail, known)?;
-    write_word(out, ",\"raw\":")?;
+    write_word(out, key!("raw"))?;
     write_raw(alloc, out, mail)?;
     write_date(alloc, out, mail, known)?;
     write_ids(alloc, out, mail, known)?;
     let inside = inner_mails(alloc, mail, known)?;
-    write_word(out, ",\"parts\":")?;
+    write_word(out, key!("parts"))?;
     write_word(out, "[")?;
     write_parts(alloc, out, mail, origin.start, options, known)?;
     write_inside(alloc, out, inside.as_slice(), origin.start, options, known)?;
     write_word(out, "]")?;
-    write_word(out, ",\"forwarded\":")?;
+    write_word(out, key!("forwarded"))?;
     write_forwarded(alloc, out, inside.as_slice(), origin.start)?;
     write_word(out, "}")
 }
@@ -85,28 +88,29 @@ fn write_values<W: Write, K: KnownCharsets>(
     mail: &ParsedMail<'_>,
     known: &K,
 ) -> Result<(), Fault>
-    ensures { Writes (W.contents out.old) (W.contents out.new) result
-        (members_after (values_members (K.known known.now) (root (tree_of mail.now)))) }
+    ensures { AddsMembers (W.contents out.old) (W.contents out.new) result
+        (values_members (K.known known.now) (root (tree_of mail.now))) }
 {
-    write_value(alloc, out, ",\"subject\":", mail, "Subject", known)?;
-    write_addresses(alloc, out, mail, known)
+    add_value(alloc, out, key!("subject"), mail, "Subject", known)?;
+    write_addresses(alloc, out, mail, known)?;
+    Ok(())
 }
 
-/// Writes the value of the first header with this name, after the text `before`.
-fn write_value<W: Write, K: KnownCharsets>(
+/// Adds a member with the value of the first header of this name.
+fn add_value<W: Write, K: KnownCharsets>(
     alloc: Global,
     out: &mut W,
-    before: &str,
-    mail: &ParsedMail<'_>,
     key: &str,
+    mail: &ParsedMail<'_>,
+    header: &str,
     known: &K,
 ) -> Result<(), Fault>
-    ensures { Writes (W.contents out.old) (W.contents out.new) result (before.now
-        ++ text_of (value_or_null (K.known known.now) key.now (root (tree_of mail.now)))) }
+    requires { is_key key.now ≡ true }
+    ensures { AddsMember (W.contents out.old) (W.contents out.new) result key.now
+        (value_or_null (K.known known.now) header.now (root (tree_of mail.now))) }
 {
-    let value = value_of(alloc, mail, key, known)?;
-    write_word(out, before)?;
-    write_optional(out, value)
+    let value = value_of(alloc, mail, header, known)?;
+    add_optional(alloc, out, key, value.as_deref())
 }
 
 /// Writes the object of the raw values of addresses.
@@ -114,35 +118,34 @@ fn write_raw<W: Write>(alloc: Global, out: &mut W, mail: &ParsedMail<'_>) -> Res
     ensures { Writes (W.contents out.old) (W.contents out.new) result
         (text_of (raw_values (root (tree_of mail.now)))) }
 {
-    write_raw_value(alloc, out, "{\"from\":", mail, "From")?;
-    write_raw_value(alloc, out, ",\"to\":", mail, "To")?;
-    write_raw_value(alloc, out, ",\"cc\":", mail, "Cc")?;
-    write_raw_value(alloc, out, ",\"bcc\":", mail, "Bcc")?;
-    write_raw_value(alloc, out, ",\"reply_to\":", mail, "Reply-To")?;
-    write_raw_value(alloc, out, ",\"sender\":", mail, "Sender")?;
+    add_raw(alloc, out, first_key!("from"), mail, "From")?;
+    add_raw(alloc, out, key!("to"), mail, "To")?;
+    add_raw(alloc, out, key!("cc"), mail, "Cc")?;
+    add_raw(alloc, out, key!("bcc"), mail, "Bcc")?;
+    add_raw(alloc, out, key!("reply_to"), mail, "Reply-To")?;
+    add_raw(alloc, out, key!("sender"), mail, "Sender")?;
     write_word(out, "}")
 }
 
-/// Writes the raw value of the first header with this name, after the text `before`: each byte is
-/// the character of its number.
-#[tactic(auto, unfolding(crate::specs::Printed::text_of))]
-fn write_raw_value<W: Write>(
+/// Adds a member with the raw value of the first header of this name: each byte is the character of
+/// its number.
+fn add_raw<W: Write>(
     alloc: Global,
     out: &mut W,
-    before: &str,
-    mail: &ParsedMail<'_>,
     key: &str,
+    mail: &ParsedMail<'_>,
+    header: &str,
 ) -> Result<(), Fault>
-    ensures { Writes (W.contents out.old) (W.contents out.new) result
-        (before.now ++ text_of (raw_value key.now (root (tree_of mail.now)))) }
+    requires { is_key key.now ≡ true }
+    ensures { AddsMember (W.contents out.old) (W.contents out.new) result key.now
+        (raw_value header.now (root (tree_of mail.now))) }
 {
-    write_word(out, before)?;
-    match mail.headers.get_first_header(key) {
+    match mail.headers.get_first_header(header) {
         Some(header) => {
             let text = decode_latin1(alloc, header.get_value_raw())?;
-            write_text(out, text.as_str())
+            add_text(alloc, out, key, text.as_str())
         }
-        None => write_word(out, "null"),
+        None => add_null(out, key),
     }
 }
 
@@ -153,54 +156,16 @@ fn write_ids<W: Write, K: KnownCharsets>(
     mail: &ParsedMail<'_>,
     known: &K,
 ) -> Result<(), Fault>
-    ensures { Writes (W.contents out.old) (W.contents out.new) result
-        (members_after (ids_members (K.known known.now) (root (tree_of mail.now)))) }
+    ensures { AddsMembers (W.contents out.old) (W.contents out.new) result
+        (ids_members (K.known known.now) (root (tree_of mail.now))) }
 {
-    write_id_list(
-        alloc,
-        out,
-        ",\"message_id\":",
-        mail,
-        "Message-ID",
-        IdRule::Any,
-        known,
-    )?;
-    write_id_list(
-        alloc,
-        out,
-        ",\"in_reply_to\":",
-        mail,
-        "In-Reply-To",
-        IdRule::WithAt,
-        known,
-    )?;
-    write_id_list(
-        alloc,
-        out,
-        ",\"references\":",
-        mail,
-        "References",
-        IdRule::WithAt,
-        known,
-    )
-}
-
-/// Writes the ids by this rule in the first header with this name, after the text `before`.
-fn write_id_list<W: Write, K: KnownCharsets>(
-    alloc: Global,
-    out: &mut W,
-    before: &str,
-    mail: &ParsedMail<'_>,
-    key: &str,
-    rule: IdRule,
-    known: &K,
-) -> Result<(), Fault>
-    ensures { Writes (W.contents out.old) (W.contents out.new) result (before.now ++ text_of
-        (id_list (K.known known.now) (needs_at rule) key.now (root (tree_of mail.now)))) }
-{
-    let ids = ids_of(alloc, mail, key, rule, known)?;
-    write_word(out, before)?;
-    write_texts(out, ids.as_slice())
+    let any = ids_of(alloc, mail, "Message-ID", IdRule::Any, known)?;
+    add_texts(alloc, out, key!("message_id"), any.as_slice())?;
+    let answered = ids_of(alloc, mail, "In-Reply-To", IdRule::WithAt, known)?;
+    add_texts(alloc, out, key!("in_reply_to"), answered.as_slice())?;
+    let references = ids_of(alloc, mail, "References", IdRule::WithAt, known)?;
+    add_texts(alloc, out, key!("references"), references.as_slice())?;
+    Ok(())
 }
 
 /// Writes the date: its seconds, and whether its zone is unknown. Without a date it writes `null`,
@@ -211,44 +176,36 @@ fn write_date<W: Write, K: KnownCharsets>(
     mail: &ParsedMail<'_>,
     known: &K,
 ) -> Result<(), Fault>
-    ensures { Writes (W.contents out.old) (W.contents out.new) result (members_after
+    ensures { AddsMembers (W.contents out.old) (W.contents out.new) result
         (date_members (option_map zoned_date_of
-        (value_of (K.known known.now) (codes "Date") (root (tree_of mail.now)))))) }
+        (value_of (K.known known.now) (codes "Date") (root (tree_of mail.now))))) }
 {
     let Some(date) = value_of(alloc, mail, "Date", known)? else {
-        return write_word(out, ",\"date\":null");
+        return add_null(out, key!("date"));
     };
     match zoned_date_of(date.as_str()) {
         Ok((seconds, is_zone_known)) => {
-            write_seconds(out, seconds)?;
-            write_word(out, zone_text(is_zone_known))
+            add_seconds(out, key!("date"), seconds)?;
+            write_zone(out, is_zone_known)?;
+            Ok(())
         }
         Err(error) => {
-            write_word(out, ",\"date\":null")?;
-            write_word(out, ",\"date_error\":")?;
-            write_text(out, date_fault(error))
+            add_null(out, key!("date"))?;
+            add_text(alloc, out, key!("date_error"), date_fault(error))?;
+            Ok(())
         }
     }
 }
 
-/// Returns the member for an unknown zone of a date, or nothing if it is known.
-fn zone_text(is_known: bool) -> &'static str
-    ensures { result.now ≡ members_after (zone_members is_known) }
+/// Writes the member for an unknown zone of a date, or nothing if it is known.
+fn write_zone<W: Write>(out: &mut W, is_known: bool) -> Result<(), Fault>
+    ensures { AddsMembers (W.contents out.old) (W.contents out.new) result
+        (zone_members is_known) }
 {
     if is_known {
-        ""
-    } else {
-        ",\"date_zone_unknown\":true"
+        return Ok(());
     }
-}
-
-/// Writes a date by its seconds.
-fn write_seconds<W: Write>(out: &mut W, seconds: i64) -> Result<(), Fault>
-    ensures { Writes (W.contents out.old) (W.contents out.new) result
-        (members_after (one (codes "date") (seconds_value seconds))) }
-{
-    write!(out, ",\"date\":{seconds}")?;
-    Ok(())
+    add_flag(out, key!("date_zone_unknown"), true)
 }
 
 /// Returns what is missing or wrong in a date, as `Display` shows it.

@@ -1,12 +1,15 @@
 //! The origin of a line: the file, the mail and its offsets.
 ghost use Rattle.std.specs.Prelude.{option_map};
 ghost use Rattle.mail_lines.specs.Origin.{origin_of};
-ghost use Rattle.mail_lines.specs.Printed.{begun, line_of, members_after};
-ghost use Rattle.mail_lines.specs.Values.{bounds_members, error_value, file_members};
-ghost use Rattle.mail_lines.specs.Values.{origin_members, unread_value};
+ghost use Rattle.mail_lines.specs.Members.{BeginsMembers};
+ghost use Rattle.mail_lines.specs.Printed.{line_of};
+ghost use Rattle.mail_lines.specs.Values.{error_value, file_members, origin_members, unread_value};
 ghost use Rattle.mail_lines.specs.Written.{Writes};
 
-use crate::json_text::{write_name, write_number, write_number_or_null, write_text, write_word};
+use crate::json_text::write_word;
+use crate::members::{
+    add_null, add_number, add_number_or_null, add_optional, add_text, first_key, key,
+};
 use mail_program::Fault;
 use std::io::Write;
 
@@ -24,36 +27,29 @@ pub struct Origin<'n> {
 }
 
 /// Writes the first members of the line of a mail.
-pub(crate) fn write_origin<W: Write>(out: &mut W, origin: &Origin<'_>) -> Result<(), Fault>
-    ensures { Writes (W.contents out.old) (W.contents out.new) result
-        (begun (origin_members (origin_of origin.now))) }
+pub(crate) fn write_origin<W: Write>(
+    alloc: Global,
+    out: &mut W,
+    origin: &Origin<'_>,
+) -> Result<(), Fault>
+    ensures { BeginsMembers (W.contents out.old) (W.contents out.new) result
+        (origin_members (origin_of origin.now)) }
 {
-    write_file(out, origin.file)?;
-    write_word(out, ",\"number\":")?;
-    write_number_or_null(out, origin.number)?;
-    write_bounds(out, origin.start, origin.end)
+    write_file(alloc, out, origin.file)?;
+    add_number_or_null(out, key!("number"), origin.number)?;
+    add_number(out, key!("start"), origin.start)?;
+    add_number(out, key!("end"), origin.end)?;
+    Ok(())
 }
 
 /// Writes the first members of a line: the number of the schema and the name of the file.
-fn write_file<W: Write>(out: &mut W, file: Option<&str>) -> Result<(), Fault>
-    ensures { Writes (W.contents out.old) (W.contents out.new) result
-        (begun (file_members (option_map (λ name. name.now) file.entry))) }
+fn write_file<W: Write>(alloc: Global, out: &mut W, file: Option<&str>) -> Result<(), Fault>
+    ensures { BeginsMembers (W.contents out.old) (W.contents out.new) result
+        (file_members (option_map (λ name. name.now) file.entry)) }
 {
-    write_word(out, "{\"schema\":")?;
-    write_number(out, 4)?;
-    write_word(out, ",\"file\":")?;
-    write_name(out, file)
-}
-
-/// Writes the members of the offsets at which a mail begins and ends.
-fn write_bounds<W: Write>(out: &mut W, start: usize, end: usize) -> Result<(), Fault>
-    ensures { Writes (W.contents out.old) (W.contents out.new) result
-        (members_after (bounds_members start end)) }
-{
-    write_word(out, ",\"start\":")?;
-    write_number(out, start)?;
-    write_word(out, ",\"end\":")?;
-    write_number(out, end)
+    add_number(out, first_key!("schema"), 4)?;
+    add_optional(alloc, out, key!("file"), file)?;
+    Ok(())
 }
 
 /// Writes the line of an error.
@@ -65,9 +61,8 @@ pub(crate) fn write_error<W: Write>(
     ensures { Writes (W.contents out.old) (W.contents out.new) result
         (line_of (error_value (origin_of origin.now) error.now)) }
 {
-    write_origin(out, origin)?;
-    write_word(out, ",\"error\":")?;
-    write_text(out, error)?;
+    write_origin(alloc, out, origin)?;
+    add_text(alloc, out, key!("error"), error)?;
     write_word(out, "}\n")
 }
 
@@ -92,11 +87,10 @@ pub fn write_unread<W: Write>(out: &mut W, file: Option<&str>, error: &str) -> R
     ensures { Writes (W.contents out.old) (W.contents out.new) result
         (line_of (unread_value (option_map (λ name. name.now) file.entry) error.now)) }
 {
-    write_file(out, file)?;
-    write_word(out, ",\"number\":null")?;
-    write_word(out, ",\"start\":null")?;
-    write_word(out, ",\"end\":null")?;
-    write_word(out, ",\"error\":")?;
-    write_text(out, error)?;
+    write_file(alloc, out, file)?;
+    add_null(out, key!("number"))?;
+    add_null(out, key!("start"))?;
+    add_null(out, key!("end"))?;
+    add_text(alloc, out, key!("error"), error)?;
     write_word(out, "}\n")
 }

@@ -1,7 +1,6 @@
 //! The objects of the parts.
 ghost use Rattle.std.specs.Prelude.{◌&&◌, ◌≡◌, length, IfOk, Some, [], map, true, false};
 ghost use Rattle.mailparse.specs.Map.{text_found};
-ghost use Rattle.json.specs.Json.{boolean};
 ghost use Rattle.mailparse.specs.Mail.{root};
 ghost use Rattle.mailparse.specs.Views as views;
 ghost use Rattle.mailparse.specs.Views.{content_type, placements_of, tree_of};
@@ -11,18 +10,18 @@ ghost use Rattle.mail_data.specs.lenient.ContentViews.{content_view};
 ghost use Rattle.mail_data.specs.PlaceViews.{place_view};
 ghost use Rattle.mail_lines.specs.Part.{Lists, hash_of, is_attachment, is_read, place_in};
 ghost use Rattle.mail_lines.specs.Options.{options_of};
-ghost use Rattle.mail_lines.specs.Printed.{comma, list_of, listed, member_text, members_after};
-ghost use Rattle.mail_lines.specs.Printed.{text_of};
+ghost use Rattle.mail_lines.specs.Members.{AddsMembers};
+ghost use Rattle.mail_lines.specs.Printed.{comma, list_of, listed, member_text, object_of, text_of};
 ghost use Rattle.mail_lines.specs.Values.{AreValues, IsPartValue, body_members, damaged_members};
 ghost use Rattle.mail_lines.specs.Values.{disposition_members, header_value, parameter_member};
-ghost use Rattle.mail_lines.specs.Values.{place_members, size_members, type_members};
+ghost use Rattle.mail_lines.specs.Values.{size_members};
 ghost use Rattle.mail_lines.specs.Written.{Writes, WritesOne};
 
 use crate::body::encoding_name;
 use crate::fields::disposition_name;
-use crate::json_text::{
-    Position, refusal_of, write_comma, write_name, write_number, write_number_or_null,
-    write_optional, write_text, write_word,
+use crate::json_text::{Position, refusal_of, write_comma, write_text, write_word};
+use crate::members::{
+    add_flag, add_null, add_number, add_number_or_null, add_optional, add_text, first_key, key,
 };
 use crate::options::LineOptions;
 use mail_data::files::{describes_attachment, is_attachment_disposition, is_leaf, named_file};
@@ -102,26 +101,29 @@ pub(crate) fn write_part<W: Write, K: KnownCharsets>(
         (IsPartValue (options_of (K.known known.now) options) mail_start (place_view place.now)) }
 {
     let part = place.part;
-    write_word(out, "{\"path\":")?;
-    write_text(out, place.path.as_str())?;
-    write_type(out, &part.ctype)?;
+    add_text(alloc, out, first_key!("path"), place.path.as_str())?;
+    add_text(alloc, out, key!("type"), part.ctype.mimetype.as_str())?;
+    add_text(alloc, out, key!("charset"), part.ctype.charset.as_str())?;
+    write_word(out, key!("params"))?;
+    write_params(alloc, out, &part.ctype)?;
     let disposition = part.get_content_disposition_in(alloc, known)?;
     let attached = is_attachment(alloc, part, &disposition)?;
     write_disposition(alloc, out, part, &disposition, attached)?;
     let body = lenient_body(alloc, part)?;
-    write_word(out, ",\"encoding\":\"")?;
-    write_word(out, encoding_name(&body))?;
-    write_word(out, "\"")?;
-    let start = place_in(mail_start, place.byte_range.start);
-    let end = place_in(mail_start, place.byte_range.end);
-    write_place(out, start, end, body.get_raw().len())?;
+    add_text(alloc, out, key!("encoding"), encoding_name(&body))?;
+    add_number_or_null(
+        out,
+        key!("start"),
+        place_in(mail_start, place.byte_range.start),
+    )?;
+    add_number_or_null(out, key!("end"), place_in(mail_start, place.byte_range.end))?;
+    add_number(out, key!("size"), body.get_raw().len())?;
     let content = lenient_content(alloc, &body)?;
     write_decoded_size(alloc, out, &content)?;
     let hashed = is_hashed(options.hashes, attached);
     let hash = hash_of(alloc, content.bytes.as_slice(), hashed)?;
-    write_word(out, ",\"sha256\":")?;
-    write_optional(out, hash)?;
-    write_word(out, ",\"headers\":")?;
+    add_optional(alloc, out, key!("sha256"), hash.as_deref())?;
+    write_word(out, key!("headers"))?;
     write_headers(alloc, out, part.headers.as_slice(), known)?;
     let shown = is_read(part, &disposition);
     write_part_text(alloc, out, &content, part, shown, options, known)?;
@@ -152,36 +154,16 @@ fn is_read(part: &ParsedMail<'_>, disposition: &ParsedContentDisposition) -> boo
         && text_type(part.ctype.mimetype.as_str()).starts_with("text/")
 }
 
-/// Writes the offsets of a part, and the size of its body.
-fn write_place<W: Write>(
+/// Writes the object of the parameters of a type.
+fn write_params<W: Write>(
+    alloc: Global,
     out: &mut W,
-    start: Option<usize>,
-    end: Option<usize>,
-    size: usize,
+    ctype: &ParsedContentType,
 ) -> Result<(), Fault>
-    ensures { Writes (W.contents out.old) (W.contents out.new) result
-        (members_after (place_members start end size)) }
+    ensures { WritesOne (W.contents out.old) (W.contents out.new) result
+        (λ pairs. text_of (object_of (map parameter_member pairs)))
+        (Lists (content_type ctype.now).params) }
 {
-    write_word(out, ",\"start\":")?;
-    write_number_or_null(out, start)?;
-    write_word(out, ",\"end\":")?;
-    write_number_or_null(out, end)?;
-    write_word(out, ",\"size\":")?;
-    write_number(out, size)
-}
-
-/// Writes the type, its charset and its parameters.
-fn write_type<W: Write>(out: &mut W, ctype: &ParsedContentType) -> Result<(), Fault>
-    ensures { let ctype = content_type ctype.now in
-        WritesOne (W.contents out.old) (W.contents out.new) result
-        (λ pairs. members_after (type_members ctype.mimetype ctype.charset pairs))
-        (Lists ctype.params) }
-{
-    write_word(out, ",\"type\":")?;
-    write_text(out, ctype.mimetype.as_str())?;
-    write_word(out, ",\"charset\":")?;
-    write_text(out, ctype.charset.as_str())?;
-    write_word(out, ",\"params\":")?;
     write_word(out, "{")?;
     let mut position = Position::First;
     for (name, value) in &ctype.params {
@@ -226,25 +208,20 @@ fn write_disposition<W: Write>(
     disposition: &ParsedContentDisposition,
     is_attachment: bool,
 ) -> Result<(), Fault>
-    ensures { Writes (W.contents out.old) (W.contents out.new) result
-        (members_after (disposition_members (views.disposition disposition.now)
-        (root (tree_of part.now)) is_attachment)) }
+    ensures { AddsMembers (W.contents out.old) (W.contents out.new) result
+        (disposition_members (views.disposition disposition.now)
+        (root (tree_of part.now)) is_attachment) }
 {
-    write_word(out, ",\"disposition\":")?;
-    write_name(out, disposition_name(part, disposition))?;
-    write_word(out, ",\"file_name\":")?;
     let name = named_file(alloc, disposition, &part.ctype)?;
-    write_optional(out, name)?;
-    write_word(out, ",\"attachment\":")?;
-    write_word(out, flag_text(is_attachment))
-}
-
-/// Returns `true` or `false`.
-#[tactic(auto, unfolding(crate::specs::Printed::text_of))]
-fn flag_text(flag: bool) -> &'static str
-    ensures { result.now ≡ text_of (boolean flag) }
-{
-    if flag { "true" } else { "false" }
+    add_optional(
+        alloc,
+        out,
+        key!("disposition"),
+        disposition_name(part, disposition),
+    )?;
+    add_optional(alloc, out, key!("file_name"), name.as_deref())?;
+    add_flag(out, key!("attachment"), is_attachment)?;
+    Ok(())
 }
 
 /// Writes the size of the decoded body. If it is refused, writes `null` and the reason.
@@ -254,19 +231,16 @@ fn write_decoded_size<W: Write>(
     content: &Content<'_>,
 ) -> Result<(), Fault>
     ensures { let content = content_view content.now in
-        Writes (W.contents out.old) (W.contents out.new) result
-        (members_after (size_members content.fault (length content.bytes))) }
+        AddsMembers (W.contents out.old) (W.contents out.new) result
+        (size_members content.fault (length content.bytes)) }
 {
     match content.fault {
-        None => {
-            write_word(out, ",\"decoded_size\":")?;
-            write_number(out, content.bytes.len())
-        }
+        None => add_number(out, key!("decoded_size"), content.bytes.len()),
         Some(fault) => {
             let text = refusal_of(alloc, &MailParseError::from(fault))?;
-            write_word(out, ",\"decoded_size\":null")?;
-            write_word(out, ",\"error\":")?;
-            write_optional(out, text)
+            add_null(out, key!("decoded_size"))?;
+            add_optional(alloc, out, key!("error"), text.as_deref())?;
+            Ok(())
         }
     }
 }
@@ -293,9 +267,9 @@ fn write_part_text<W: Write, K: KnownCharsets>(
 ) -> Result<(), Fault>
     ensures { let node = root (tree_of part.now) in
         content_view content.now ≡ message_content node →
-        Writes (W.contents out.old) (W.contents out.new) result (members_after
+        AddsMembers (W.contents out.old) (W.contents out.new) result
         (body_members (K.known known.now) options.joins_flowed is_read node.ctype
-        (message_content node))) }
+        (message_content node)) }
 {
     if options.joins_flowed {
         return write_flowed(alloc, out, part, is_read, known);
@@ -311,19 +285,18 @@ fn write_flowed<W: Write, K: KnownCharsets>(
     is_read: bool,
     known: &K,
 ) -> Result<(), Fault>
-    ensures { Writes (W.contents out.old) (W.contents out.new) result (members_after
+    ensures { AddsMembers (W.contents out.old) (W.contents out.new) result
         (body_members (K.known known.now) true is_read (root (tree_of part.now)).ctype
-        (message_content (root (tree_of part.now))))) }
+        (message_content (root (tree_of part.now)))) }
 {
     if !is_read {
-        return write_word(out, ",\"text\":null");
+        return add_null(out, key!("text"));
     }
     let read = flowed_text(alloc, part, known)?;
-    write_word(out, ",\"text\":")?;
-    write_text(out, read.text.as_str())?;
-    write_word(out, ",\"text_charset\":")?;
-    write_text(out, read.charset.as_str())?;
-    write_word(out, damaged_text(read.is_damaged))
+    add_text(alloc, out, key!("text"), read.text.as_str())?;
+    add_text(alloc, out, key!("text_charset"), read.charset.as_str())?;
+    write_damaged(out, read.is_damaged)?;
+    Ok(())
 }
 
 /// Writes the members of the text of a body, or `null` if it is not shown: the text, the charset in
@@ -336,27 +309,35 @@ fn write_body_text<W: Write, K: KnownCharsets>(
     is_read: bool,
     known: &K,
 ) -> Result<(), Fault>
-    ensures { Writes (W.contents out.old) (W.contents out.new) result (members_after
+    ensures { AddsMembers (W.contents out.old) (W.contents out.new) result
         (body_members (K.known known.now) false is_read (content_type ctype.now)
-        (content_view content.now))) }
+        (content_view content.now)) }
 {
     if !is_read {
-        return write_word(out, ",\"text\":null");
+        return add_null(out, key!("text"));
     }
     let bytes = content.bytes.as_slice();
-    write_word(out, ",\"text\":")?;
     let text = lenient_text(alloc, bytes, ctype, known)?;
-    write_text(out, text.as_str())?;
-    write_word(out, ",\"text_charset\":")?;
-    write_text(out, charset_used(bytes, ctype, known))?;
-    write_word(out, damaged_text(content.fault.is_some()))
+    add_text(alloc, out, key!("text"), text.as_str())?;
+    add_text(
+        alloc,
+        out,
+        key!("text_charset"),
+        charset_used(bytes, ctype, known),
+    )?;
+    write_damaged(out, content.fault.is_some())?;
+    Ok(())
 }
 
-/// Returns the member for a damaged body, or nothing if it is not damaged.
-fn damaged_text(is_damaged: bool) -> &'static str
-    ensures { result.now ≡ members_after (damaged_members is_damaged) }
+/// Writes the member for a damaged body, or nothing if it is not damaged.
+fn write_damaged<W: Write>(out: &mut W, is_damaged: bool) -> Result<(), Fault>
+    ensures { AddsMembers (W.contents out.old) (W.contents out.new) result
+        (damaged_members is_damaged) }
 {
-    if is_damaged { ",\"damaged\":true" } else { "" }
+    if !is_damaged {
+        return Ok(());
+    }
+    add_flag(out, key!("damaged"), true)
 }
 
 /// Writes the list of the headers.
@@ -392,8 +373,8 @@ fn write_header<W: Write, K: KnownCharsets>(
     let key = header.get_key_ref(alloc)?;
     let value = header.get_value_in(alloc, known)?;
     write_word(out, "[")?;
-    write_text(out, key.as_str())?;
+    write_text(alloc, out, key.as_str())?;
     write_word(out, ",")?;
-    write_text(out, value.as_str())?;
+    write_text(alloc, out, value.as_str())?;
     write_word(out, "]")
 }

@@ -1,13 +1,13 @@
 //! Delivery reports as JSON.
-ghost use Rattle.std.specs.Prelude.{◌++◌, option_map};
 ghost use Rattle.mailparse.specs.Views.{tree_of};
 ghost use Rattle.mail_data.specs.Bounce.{recipients};
 ghost use Rattle.mail_data.specs.BounceViews.{delivery};
-ghost use Rattle.mail_lines.specs.Printed.{string_or_null, text_of};
+ghost use Rattle.mail_lines.specs.Printed.{text_of};
 ghost use Rattle.mail_lines.specs.Reports.{deliveries_text, delivery_value};
 ghost use Rattle.mail_lines.specs.Written.{Writes};
 
-use crate::json_text::{Position, write_comma, write_name, write_word};
+use crate::json_text::{Position, write_comma, write_word};
+use crate::members::{add_optional, first_key, key};
 use mail_data::bounce::{Recipient, recipients};
 use mail_program::Fault;
 use mailparse::{KnownCharsets, ParsedMail};
@@ -67,23 +67,17 @@ fn write_recipient<W: Write>(out: &mut W, recipient: &Recipient) -> Result<(), F
         (text_of (delivery_value (delivery recipient.now))) }
 {
     let r = recipient;
-    write_field(out, "{\"final_recipient\":", r.final_recipient.as_deref())?;
-    write_field(
+    let final_recipient = r.final_recipient.as_deref();
+    let original_recipient = r.original_recipient.as_deref();
+    add_optional(alloc, out, first_key!("final_recipient"), final_recipient)?;
+    add_optional(alloc, out, key!("original_recipient"), original_recipient)?;
+    add_optional(alloc, out, key!("action"), r.action.as_deref())?;
+    add_optional(alloc, out, key!("status"), r.status.as_deref())?;
+    add_optional(
+        alloc,
         out,
-        ",\"original_recipient\":",
-        r.original_recipient.as_deref(),
+        key!("diagnostic_code"),
+        r.diagnostic_code.as_deref(),
     )?;
-    write_field(out, ",\"action\":", r.action.as_deref())?;
-    write_field(out, ",\"status\":", r.status.as_deref())?;
-    write_field(out, ",\"diagnostic_code\":", r.diagnostic_code.as_deref())?;
     write_word(out, "}")
-}
-
-/// Writes the text `before`, and then the string, or `null` if there is none.
-fn write_field<W: Write>(out: &mut W, before: &str, text: Option<&str>) -> Result<(), Fault>
-    ensures { Writes (W.contents out.old) (W.contents out.new) result
-        (before.now ++ text_of (string_or_null (option_map (λ text. text.now) text.entry))) }
-{
-    write_word(out, before)?;
-    write_name(out, text)
 }

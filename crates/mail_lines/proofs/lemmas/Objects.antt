@@ -4,7 +4,7 @@ use Rattle.std.proofs.KnownBytes.{Appends-trans}
 use Rattle.std.proofs.lemmas.Grind.{flat_map-append}
 use Rattle.std.specs.Prelude.{codes}
 use Rattle.std.specs.Io.KnownBytes.{Appends}
-use Rattle.json.specs.Json.{Json, null, boolean}
+use Rattle.json.specs.Json.{Json}
 use Rattle.json.specs.Value.{items_of}
 use Rattle.mail_program.specs.declared.fault.Fault.{Fault}
 use Rattle.mail_lines.specs.JsonText.{json_text}
@@ -27,7 +27,7 @@ members-append : (ms ns : List Member) → members_after ms ++ members_after ns 
 unfolding members_after
 members-append ms ns = sym (flat_map-append (λ m. codes "," ++ member_text m) ms ns)
 
-begun-one : (name : List ℕ) (v : Json) → are_plain name ≡ true → (123 ∷ 34 ∷ (name ++ (34 ∷ 58 ∷ []))) ++ text_of v ≡ begun (one name v)
+pub begun-one : (name : List ℕ) (v : Json) → are_plain name ≡ true → (123 ∷ 34 ∷ (name ++ (34 ∷ 58 ∷ []))) ++ text_of v ≡ begun (one name v)
 unfolding begun
 begun-one name v plain = ap (λ t. 123 ∷ drop 1 t) (named name v plain)
 
@@ -77,62 +77,13 @@ pub value_as : {X : Type 0} (value : X → Json) (old new : Option (List ℕ)) (
     → Appends old new (text_of (value b))
 value_as value old new a b e p = appends_as old new _ _ (ap (λ x. text_of (value x)) e) p
 
--- one member
-pub member_written : {T : Type 0} (name : List ℕ) (a b c : Option (List ℕ)) (r : Result T Fault) (v : Json) → are_plain name ≡ true
-    → Appends a b (before_value name) → Writes b c r (text_of v) → Writes a c r (members_after (one name v))
-member_written name a b c r v plain p q = writes_as a c r _ _ (named name v plain) (writes_then a b c r _ _ p q)
-
-pub member_appended : (name : List ℕ) (a b c : Option (List ℕ)) (v : Json) → are_plain name ≡ true → Appends a b (before_value name)
-    → Appends b c (text_of v) → Appends a c (members_after (one name v))
-member_appended name a b c v plain p q = appends_as a c _ _ (named name v plain) (Appends-trans a b c _ _ p q)
-
--- one member that was written by one call
-pub named_written : {T : Type 0} (name : List ℕ) (a b : Option (List ℕ)) (r : Result T Fault) (v : Json) → are_plain name ≡ true
-    → Writes a b r (before_value name ++ text_of v) → Writes a b r (members_after (one name v))
-named_written name a b r v plain p = writes_as a b r _ _ (named name v plain) p
-
-pub named_appended : (name : List ℕ) (a b : Option (List ℕ)) (v : Json) → are_plain name ≡ true → Appends a b (before_value name ++ text_of v)
-    → Appends a b (members_after (one name v))
-named_appended name a b v plain p = appends_as a b _ _ (named name v plain) p
-
--- a member that is `null`
-pub null_named : (name : List ℕ) → are_plain name ≡ true → before_value name ++ codes "null" ≡ members_after (one name null)
-unfolding text_of
-null_named name plain = named name null plain
-
--- a member that is `true`
-pub true_named : (name : List ℕ) → are_plain name ≡ true → before_value name ++ codes "true" ≡ members_after (one name (boolean true))
-unfolding text_of
-true_named name plain = named name (boolean true) plain
-
-pub no_members : [] ≡ members_after []
-unfolding members_after
-no_members = refl
-
 -- members after members
-pub members_written : {T : Type 0} (a b c : Option (List ℕ)) (r : Result T Fault) (ms ns : List Member) → Appends a b (members_after ms)
-    → Writes b c r (members_after ns) → Writes a c r (members_after (ms ++ ns))
-members_written a b c r ms ns p q = writes_as a c r _ _ (members-append ms ns) (writes_then a b c r _ _ p q)
-
 pub members_appended : (a b c : Option (List ℕ)) (ms ns : List Member) → Appends a b (members_after ms) → Appends b c (members_after ns)
     → Appends a c (members_after (ms ++ ns))
 members_appended a b c ms ns p q = appends_as a c _ _ (members-append ms ns) (Appends-trans a b c _ _ p q)
 
--- the first member of an object, further ones, and the end
-pub object_begun : (name : List ℕ) (a b c : Option (List ℕ)) (v : Json) → are_plain name ≡ true
-    → Appends a b (123 ∷ 34 ∷ (name ++ (34 ∷ 58 ∷ []))) → Appends b c (text_of v) → Appends a c (begun (one name v))
-object_begun name a b c v plain p q = appends_as a c _ _ (begun-one name v plain) (Appends-trans a b c _ _ p q)
-
-pub object_named : (name : List ℕ) (a b : Option (List ℕ)) (v : Json) → are_plain name ≡ true
-    → Appends a b ((123 ∷ 34 ∷ (name ++ (34 ∷ 58 ∷ []))) ++ text_of v) → Appends a b (begun (one name v))
-object_named name a b v plain p = appends_as a b _ _ (begun-one name v plain) p
-
 pub object_listed : (a b c : Option (List ℕ)) (ms : List Member) → Appends a b (123 ∷ []) → Appends b c (listed member_text [] ms) → Appends a c (begun ms)
 object_listed a b c ms p q = appends_as a c _ _ (begun-listed ms) (Appends-trans a b c _ _ p q)
-
-pub object_more : {T : Type 0} (a b c : Option (List ℕ)) (r : Result T Fault) (m : Member) (ms ns : List Member) → Appends a b (begun (m ∷ ms))
-    → Writes b c r (members_after ns) → Writes a c r (begun ((m ∷ ms) ++ ns))
-object_more a b c r m ms ns p q = writes_as a c r _ _ (begun-more m ms ns) (writes_then a b c r _ _ p q)
 
 pub object_appended : (a b c : Option (List ℕ)) (m : Member) (ms ns : List Member) → Appends a b (begun (m ∷ ms)) → Appends b c (members_after ns)
     → Appends a c (begun ((m ∷ ms) ++ ns))

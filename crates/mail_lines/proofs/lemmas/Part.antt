@@ -12,7 +12,6 @@ use Rattle.std.specs.Map.{keys_of, lookup}
 use Rattle.std.specs.Ordering.{is_eq, nat_cmp}
 use Rattle.std.specs.Str.{bytes_eq}
 use Rattle.std.specs.String.{string_bytes, string_cmp}
-use Rattle.mailparse.specs.Body.{BodyKind, in_base64, in_quoted_printable, in_7bit, in_8bit, in_binary}
 use Rattle.mailparse.specs.Mail.{Node, Tree, root}
 use Rattle.mailparse.specs.Pairs.{text_at}
 use Rattle.mailparse.specs.Views.{content_type, tree_of, tree_step}
@@ -24,18 +23,15 @@ use Rattle.mailparse.specs.ContentType.{ContentType}
 use Rattle.mail_data.specs.Flowed.{flowed_text}
 use Rattle.mail_data.specs.lenient.Content.{Content, message_content}
 use Rattle.mail_data.specs.lenient.Texts.{BodyText, text_read}
-use Rattle.mail_lines.specs.Body.{encoding_text}
 use Rattle.mail_lines.specs.Options.{Options}
 use Rattle.mail_lines.specs.Part.{Lists}
-use Rattle.mail_lines.specs.Printed.{Member, listed, members_after, one, text_of}
+use Rattle.mail_lines.specs.Printed.{Member, listed, one, text_of}
 use Rattle.mail_lines.specs.Values.{AreValues, IsPartValue, body_members, text_members}
 use Rattle.mail_lines.specs.Written.{WritesOne}
 use Rattle.mail_data.specs.PartPlaces.{Place}
 use Rattle.mail_program.specs.declared.fault.Fault.{Fault}
-use Rattle.json.specs.Json.{Json, string}
+use Rattle.json.specs.Json.{Json, null}
 use Rattle.mail_lines.proofs.lemmas.JsonText.{listed-comma}
-use Rattle.mail_lines.proofs.lemmas.Objects.{named, null_named}
-use Rattle.mail_lines.proofs.lemmas.Plain.{json_text-plain}
 
 -- ---- the objects
 
@@ -120,8 +116,8 @@ lists-entries m h = record { ordered = sorted-pairs m.entries h; same = λ name.
 -- ---- the text of a body
 
 pub text-hidden : (known : Charsets) (joins shows : Bool) (ctype : ContentType) (content : Content) → shows ≡ false
-    → codes ",\"text\":null" ≡ members_after (body_members known joins shows ctype content)
-text-hidden known joins shows ctype content e = rw e (null_named (codes "text") refl)
+    → one (codes "text") null ≡ body_members known joins shows ctype content
+text-hidden known joins shows ctype content e = rw e refl
 
 -- the text of a body that is read as it is
 pub text-shown : (known : Charsets) (shows : Bool) (ctype : ContentType) (content : Content) → shows ≡ true
@@ -133,15 +129,3 @@ pub text-flowed : (known : Charsets) (shows : Bool) (node : Node) (read : BodyTe
     → read_members read ≡ body_members known true shows node.ctype (message_content node)
 unfolding flowed_text
 text-flowed known shows node read e is = ap read_members is ∙ rw e refl
-
--- the member of an encoding
-encoding_quoted : (kind : BodyKind) → 34 ∷ (encoding_text kind ++ (34 ∷ [])) ≡ text_of (string (encoding_text kind))
-unfolding text_of
-encoding_quoted in_base64 = sym (json_text-plain (codes "base64") refl)
-encoding_quoted in_quoted_printable = sym (json_text-plain (codes "quoted-printable") refl)
-encoding_quoted in_7bit = sym (json_text-plain (codes "7bit") refl)
-encoding_quoted in_8bit = sym (json_text-plain (codes "8bit") refl)
-encoding_quoted in_binary = sym (json_text-plain (codes "binary") refl)
-
-pub encoding_named : (kind : BodyKind) → (codes ",\"encoding\":\"" ++ encoding_text kind) ++ codes "\"" ≡ members_after (one (codes "encoding") (string (encoding_text kind)))
-encoding_named kind = ap (λ t. codes ",\"encoding\":" ++ t) (encoding_quoted kind) ∙ named (codes "encoding") (string (encoding_text kind)) refl

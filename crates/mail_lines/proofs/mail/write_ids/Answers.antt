@@ -1,10 +1,13 @@
-use Rattle.std.proofs.Common.{refl}
-use Rattle.std.specs.Prelude.{codes}
-use Rattle.mail_lines.proofs.lemmas.Objects.{members_appended, members_written, named_appended, named_written}
+use Rattle.std.proofs.Common.{ℕ, List, String, Global, map, string_bytes, sym, ap, ◌∙◌}
+use Rattle.mail_lines.specs.Printed.{strings}
+use Rattle.mail_lines.proofs.lemmas.Members.{◌⨾◌, value_renamed}
+use Rattle.mail_lines.proofs.lemmas.Fields.{ok_same}
 use Rattle.mail_lines.proofs.mail.write_ids.Goals as goal
 
 pub returns : goal.returns
 returns g c =
-    let one = named_appended (codes "message_id") _ _ _ refl c.in_ok-write_id_list.ensures in
-    let two = members_appended _ _ _ _ _ one (named_appended (codes "in_reply_to") _ _ _ refl c.in_ok-write_id_list-2.ensures) in
-    members_written _ _ _ c.write_id_list-3.result _ _ two (named_written (codes "references") _ _ c.write_id_list-3.result _ refl c.write_id_list-3.ensures)
+    let texts : List (String Global) → List (List ℕ) = map (λ (t : String Global). string_bytes t) in
+    let any = value_renamed strings _ _ c.in_ok-add_texts.ensures (ap texts c.as_slice.ensures.value ∙ sym (ok_same _ _ c.in_ok-any.ensures)) in
+    let answered = value_renamed strings _ _ c.in_ok-add_texts-2.ensures (ap texts c.as_slice-2.ensures.value ∙ sym (ok_same _ _ c.in_ok-answered.ensures)) in
+    let references = value_renamed strings _ _ c.in_ok-add_texts-3.ensures (ap texts c.as_slice-3.ensures.value ∙ sym (ok_same _ _ c.in_ok-references.ensures)) in
+    any ⨾ answered ⨾ references

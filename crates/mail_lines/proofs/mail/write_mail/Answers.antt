@@ -1,6 +1,5 @@
 use Rattle.std.proofs.Common.{◌≡◌, ◌++◌, Some, List, [], map, refl, sym, ap, subst, ◌∙◌}
 use Rattle.std.proofs.KnownBytes.{Appends-trans}
-use Rattle.std.specs.Prelude.{codes}
 use Rattle.mail_lines.specs.Options.{options_of}
 use Rattle.mailparse.specs.Mail.{root}
 use Rattle.mailparse.specs.Views.{tree_of}
@@ -14,7 +13,8 @@ use Rattle.mail_lines.specs.Printed.{list_of, object_of, text_of}
 use Rattle.mail_lines.specs.Values.{AreInsideValues, AreValues, IsMailValue, IsPartValue, inner_value, mail_members}
 use Rattle.mail_lines.proofs.lemmas.Fields.{ok_same}
 use Rattle.mail_lines.proofs.lemmas.Mail.{parts_first}
-use Rattle.mail_lines.proofs.lemmas.Objects.{list_appended, member_appended, object_appended, object_written, value_as}
+use Rattle.mail_lines.proofs.lemmas.Members.{◌⨾◌, closed, valued}
+use Rattle.mail_lines.proofs.lemmas.Objects.{list_appended, value_as}
 use Rattle.mail_lines.proofs.lemmas.Written.{appends_as, writes_one}
 use Rattle.mail_lines.proofs.mail.write_mail.Goals as goal
 
@@ -35,12 +35,10 @@ returns g c =
     let all = appends_as _ _ _ _ (parts_first options (Some origin.start) mail parts.0 others.0 are) (Appends-trans _ _ _ _ _ parts.2 others.2) in
     let list = list_appended _ _ _ _ values c.in_ok-write_word-3.ensures all c.in_ok-write_word-4.ensures in
     let forwarded = value_as (λ (ms : List InnerMail). list_of (map (inner_value origin.start) ms)) _ _ _ _ again c.in_ok-write_forwarded.ensures in
-    let one = object_appended _ _ _ _ _ _ c.in_ok-write_origin.ensures c.in_ok-write_values.ensures in
-    let two = object_appended _ _ _ _ _ _ one (member_appended (codes "raw") _ _ _ _ refl c.in_ok-write_word.ensures c.in_ok-write_raw.ensures) in
-    let three = object_appended _ _ _ _ _ _ two c.in_ok-write_date.ensures in
-    let four = object_appended _ _ _ _ _ _ three c.in_ok-write_ids.ensures in
-    let five = object_appended _ _ _ _ _ _ four (member_appended (codes "parts") _ _ _ _ refl c.in_ok-write_word-2.ensures list) in
-    let six = object_appended _ _ _ _ _ _ five (member_appended (codes "forwarded") _ _ _ _ refl c.in_ok-write_word-5.ensures forwarded) in
+    let own = c.in_ok-write_origin.ensures ⨾ c.in_ok-write_values.ensures ⨾ valued _ _ _ _ _ refl c.in_ok-write_word.ensures c.in_ok-write_raw.ensures in
+    let all_members =
+    own ⨾ c.in_ok-write_date.ensures ⨾ c.in_ok-write_ids.ensures ⨾ valued _ _ _ _ _ refl c.in_ok-write_word-2.ensures list
+    ⨾ valued _ _ _ _ _ refl c.in_ok-write_word-5.ensures forwarded in
     let members = mail_members options.known origin (root mail) (mails_inside options.known mail) values in
     writes_one text_of (IsMailValue options origin mail) _ _ c.write_word-6.result (object_of members) (
       parts.0,
@@ -48,4 +46,4 @@ returns g c =
       are,
       subst (λ (ms : List InnerMail). AreInsideValues options origin.start ms others.0) mails others.1,
       refl,
-    ) (object_written _ _ _ c.write_word-6.result members six c.write_word-6.ensures)
+    ) (closed _ c.write_word-6.result (object_of members) all_members c.write_word-6.ensures refl)

@@ -4,7 +4,7 @@ use Rattle.mail_lines.specs.Printed.{comma, member_text}
 use Rattle.mail_lines.specs.Values.{parameter_member}
 use Rattle.mail_lines.proofs.lemmas.JsonText.{Wrote}
 use Rattle.mail_lines.proofs.lemmas.Part.{pair_of}
-use Rattle.mail_lines.proofs.part.write_type.Given as goal
+use Rattle.mail_lines.proofs.part.write_params.Given as goal
 
 abbrev pub invariant-loop-name : goal.invariant-loop-name
 invariant-loop-name g l =
