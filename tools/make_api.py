@@ -117,7 +117,8 @@ def implemented(item, crate, public):
         for trait, implementer in implementations(other):
             if base(trait if is_trait else implementer) != item.name or base(trait) in GHOST_TRAITS:
                 continue
-            is_private = base(implementer) not in public and defines("struct|enum", base(implementer) or "-", other)
+            own = [("trait", base(trait)), ("struct|enum", base(implementer))]
+            is_private = any(name not in public and defines(kind, name or "-", other) for kind, name in own)
             names += [] if is_private else [implementer if is_trait else trait]
     return list(dict.fromkeys(item.traits + names))
 

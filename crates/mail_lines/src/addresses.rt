@@ -1,5 +1,5 @@
 //! The members of the authors and recipients of a mail.
-ghost use Rattle.std.specs.Prelude.{◌≡◌, map, string_bytes, true};
+ghost use Rattle.std.specs.Prelude.{◌≡◌, string_bytes, true};
 ghost use Rattle.mailparse.specs.Mail.{root};
 ghost use Rattle.mailparse.specs.Map.{text_found};
 ghost use Rattle.mailparse.specs.Views.{tree_of};
@@ -7,12 +7,13 @@ ghost use Rattle.mail_address.specs.AddressViews.{element_view, group_view, mail
 ghost use Rattle.mail_address.specs.AddressViews.{member_view};
 ghost use Rattle.mail_lines.specs.Addresses.{unless_empty};
 ghost use Rattle.mail_lines.specs.Members.{AddsMember, AddsMembers, is_key};
-ghost use Rattle.mail_lines.specs.Printed.{list_of, text_of};
+ghost use Rattle.mail_lines.specs.Printed.{text_of};
 ghost use Rattle.mail_lines.specs.Values.{address_list, addresses_members, element_value};
 ghost use Rattle.mail_lines.specs.Values.{group_value, single_value, unknown_value};
 ghost use Rattle.mail_lines.specs.Written.{Writes};
 
-use crate::json_text::{Position, write_comma, write_word};
+use crate::json_text::write_word;
+use crate::lists::{ListItem, write_list};
 use crate::members::{add_optional, add_text, first_key, key};
 use mail_address::{Address, Group, Mailbox, Member, Unknown, addresses_of};
 use mail_codec::charset::decode_latin1;
@@ -55,44 +56,39 @@ fn add_addresses<W: Write, K: KnownCharsets>(
 {
     let list = addresses_of(alloc, &mail.headers, header)?;
     write_word(out, key)?;
-    write_elements(alloc, out, list.as_slice(), known)
+    write_list(alloc, out, list.as_slice(), known)
 }
 
-/// Writes a list of addresses.
-fn write_elements<W: Write, K: KnownCharsets>(
-    alloc: Global,
-    out: &mut W,
-    elements: &[Address<'_>],
-    known: &K,
-) -> Result<(), Fault>
-    ensures { Writes (W.contents out.old) (W.contents out.new) result
-        (text_of (list_of
-        (map (element_value (K.known known.now)) (map element_view elements.now)))) }
-{
-    write_word(out, "[")?;
-    let mut position = Position::First;
-    for element in elements {
-        write_comma(out, position)?;
-        write_element(alloc, out, element, known)?;
-        position = Position::Later;
+impl ListItem for Address<'_> {
+    ghost value = { λ known element. element_value known (element_view element) };
+
+    fn write_item<W: Write, K: KnownCharsets>(
+        &self,
+        alloc: Global,
+        out: &mut W,
+        known: &K,
+    ) -> Result<(), Fault> {
+        match self {
+            Address::Mailbox(mailbox) => write_mailbox(alloc, out, mailbox, known),
+            Address::Group(group) => write_group(alloc, out, group, known),
+            Address::Unknown(unknown) => write_unknown(alloc, out, unknown),
+        }
     }
-    write_word(out, "]")
 }
 
-/// Writes an element of a list.
-fn write_element<W: Write, K: KnownCharsets>(
-    alloc: Global,
-    out: &mut W,
-    element: &Address<'_>,
-    known: &K,
-) -> Result<(), Fault>
-    ensures { Writes (W.contents out.old) (W.contents out.new) result
-        (text_of (element_value (K.known known.now) (element_view element.now))) }
-{
-    match element {
-        Address::Mailbox(mailbox) => write_mailbox(alloc, out, mailbox, known),
-        Address::Group(group) => write_group(alloc, out, group, known),
-        Address::Unknown(unknown) => write_unknown(alloc, out, unknown),
+impl ListItem for Member<'_> {
+    ghost value = { λ known member. single_value known (member_view member) };
+
+    fn write_item<W: Write, K: KnownCharsets>(
+        &self,
+        alloc: Global,
+        out: &mut W,
+        known: &K,
+    ) -> Result<(), Fault> {
+        match self {
+            Member::Mailbox(mailbox) => write_mailbox(alloc, out, mailbox, known),
+            Member::Unknown(unknown) => write_unknown(alloc, out, unknown),
+        }
     }
 }
 
@@ -109,44 +105,8 @@ fn write_group<W: Write, K: KnownCharsets>(
     let name = group.get_display_name(alloc, known)?;
     add_text(alloc, out, first_key!("group"), name.as_str())?;
     write_word(out, key!("members"))?;
-    write_members(alloc, out, group.members.as_slice(), known)?;
+    write_list(alloc, out, group.members.as_slice(), known)?;
     write_word(out, "}")
-}
-
-/// Writes the list of the members of a group.
-fn write_members<W: Write, K: KnownCharsets>(
-    alloc: Global,
-    out: &mut W,
-    members: &[Member<'_>],
-    known: &K,
-) -> Result<(), Fault>
-    ensures { Writes (W.contents out.old) (W.contents out.new) result
-        (text_of (list_of (map (single_value (K.known known.now)) (map member_view members.now)))) }
-{
-    write_word(out, "[")?;
-    let mut position = Position::First;
-    for member in members {
-        write_comma(out, position)?;
-        write_member(alloc, out, member, known)?;
-        position = Position::Later;
-    }
-    write_word(out, "]")
-}
-
-/// Writes a member of a group.
-fn write_member<W: Write, K: KnownCharsets>(
-    alloc: Global,
-    out: &mut W,
-    member: &Member<'_>,
-    known: &K,
-) -> Result<(), Fault>
-    ensures { Writes (W.contents out.old) (W.contents out.new) result
-        (text_of (single_value (K.known known.now) (member_view member.now))) }
-{
-    match member {
-        Member::Mailbox(mailbox) => write_mailbox(alloc, out, mailbox, known),
-        Member::Unknown(unknown) => write_unknown(alloc, out, unknown),
-    }
 }
 
 /// Writes a mailbox: its name, or `null` if it has none, and its address.

@@ -9,6 +9,7 @@ mod inside;
 mod json_lines;
 mod json_text;
 pub mod laws;
+mod lists;
 mod mail;
 mod members;
 mod options;

@@ -11,7 +11,7 @@ ghost use Rattle.mail_data.specs.PlaceViews.{place_view};
 ghost use Rattle.mail_lines.specs.Part.{Lists, hash_of, is_attachment, is_read, place_in};
 ghost use Rattle.mail_lines.specs.Options.{options_of};
 ghost use Rattle.mail_lines.specs.Members.{AddsMembers};
-ghost use Rattle.mail_lines.specs.Printed.{comma, list_of, listed, member_text, object_of, text_of};
+ghost use Rattle.mail_lines.specs.Printed.{comma, listed, member_text, object_of, text_of};
 ghost use Rattle.mail_lines.specs.Values.{AreValues, IsPartValue, body_members, damaged_members};
 ghost use Rattle.mail_lines.specs.Values.{disposition_members, header_value, parameter_member};
 ghost use Rattle.mail_lines.specs.Values.{size_members};
@@ -20,6 +20,7 @@ ghost use Rattle.mail_lines.specs.Written.{Writes, WritesOne};
 use crate::body::encoding_name;
 use crate::fields::disposition_name;
 use crate::json_text::{Position, refusal_of, write_comma, write_text, write_word};
+use crate::lists::{ListItem, write_list};
 use crate::members::{
     add_flag, add_null, add_number, add_number_or_null, add_optional, add_text, first_key, key,
 };
@@ -124,7 +125,7 @@ pub(crate) fn write_part<W: Write, K: KnownCharsets>(
     let hash = hash_of(alloc, content.bytes.as_slice(), hashed)?;
     add_optional(alloc, out, key!("sha256"), hash.as_deref())?;
     write_word(out, key!("headers"))?;
-    write_headers(alloc, out, part.headers.as_slice(), known)?;
+    write_list(alloc, out, part.headers.as_slice(), known)?;
     let shown = is_read(part, &disposition);
     write_part_text(alloc, out, &content, part, shown, options, known)?;
     write_word(out, "}")
@@ -340,41 +341,22 @@ fn write_damaged<W: Write>(out: &mut W, is_damaged: bool) -> Result<(), Fault>
     add_flag(out, key!("damaged"), true)
 }
 
-/// Writes the list of the headers.
-fn write_headers<W: Write, K: KnownCharsets>(
-    alloc: Global,
-    out: &mut W,
-    headers: &[MailHeader<'_>],
-    known: &K,
-) -> Result<(), Fault>
-    ensures { Writes (W.contents out.old) (W.contents out.new) result
-        (text_of (list_of (map (header_value (K.known known.now)) headers.now))) }
-{
-    write_word(out, "[")?;
-    let mut position = Position::First;
-    for header in headers {
-        write_comma(out, position)?;
-        write_header(alloc, out, header, known)?;
-        position = Position::Later;
-    }
-    write_word(out, "]")
-}
+impl ListItem for MailHeader<'_> {
+    ghost value = { λ known header. header_value known header };
 
-/// Writes a header as a pair of its name and its value.
-fn write_header<W: Write, K: KnownCharsets>(
-    alloc: Global,
-    out: &mut W,
-    header: &MailHeader<'_>,
-    known: &K,
-) -> Result<(), Fault>
-    ensures { Writes (W.contents out.old) (W.contents out.new) result
-        (text_of (header_value (K.known known.now) header.now)) }
-{
-    let key = header.get_key_ref(alloc)?;
-    let value = header.get_value_in(alloc, known)?;
-    write_word(out, "[")?;
-    write_text(alloc, out, key.as_str())?;
-    write_word(out, ",")?;
-    write_text(alloc, out, value.as_str())?;
-    write_word(out, "]")
+    /// Writes the header as a pair of its name and its value.
+    fn write_item<W: Write, K: KnownCharsets>(
+        &self,
+        alloc: Global,
+        out: &mut W,
+        known: &K,
+    ) -> Result<(), Fault> {
+        let key = self.get_key(alloc)?;
+        let value = self.get_value_in(alloc, known)?;
+        write_word(out, "[")?;
+        write_text(alloc, out, key.as_str())?;
+        write_word(out, ",")?;
+        write_text(alloc, out, value.as_str())?;
+        write_word(out, "]")
+    }
 }

@@ -2,11 +2,11 @@
 ghost use Rattle.mailparse.specs.Views.{tree_of};
 ghost use Rattle.mail_data.specs.Bounce.{recipients};
 ghost use Rattle.mail_data.specs.BounceViews.{delivery};
-ghost use Rattle.mail_lines.specs.Printed.{text_of};
 ghost use Rattle.mail_lines.specs.Reports.{deliveries_text, delivery_value};
 ghost use Rattle.mail_lines.specs.Written.{Writes};
 
-use crate::json_text::{Position, write_comma, write_word};
+use crate::json_text::write_word;
+use crate::lists::{ListItem, write_list};
 use crate::members::{add_optional, first_key, key};
 use mail_data::bounce::{Recipient, recipients};
 use mail_program::Fault;
@@ -50,34 +50,31 @@ pub fn write_recipients<W: Write, K: KnownCharsets>(
         (deliveries_text (recipients (K.known known.now) (tree_of mail.now))) }
 {
     let found = recipients(alloc, mail, known)?;
-    write_word(out, "[")?;
-    let mut position = Position::First;
-    for recipient in &found {
-        write_comma(out, position)?;
-        write_recipient(out, recipient)?;
-        position = Position::Later;
-    }
-    write_word(out, "]")?;
+    write_list(alloc, out, found.as_slice(), known)?;
     write_word(out, "\n")
 }
 
-/// Writes the object of a recipient.
-fn write_recipient<W: Write>(out: &mut W, recipient: &Recipient) -> Result<(), Fault>
-    ensures { Writes (W.contents out.old) (W.contents out.new) result
-        (text_of (delivery_value (delivery recipient.now))) }
-{
-    let r = recipient;
-    let final_recipient = r.final_recipient.as_deref();
-    let original_recipient = r.original_recipient.as_deref();
-    add_optional(alloc, out, first_key!("final_recipient"), final_recipient)?;
-    add_optional(alloc, out, key!("original_recipient"), original_recipient)?;
-    add_optional(alloc, out, key!("action"), r.action.as_deref())?;
-    add_optional(alloc, out, key!("status"), r.status.as_deref())?;
-    add_optional(
-        alloc,
-        out,
-        key!("diagnostic_code"),
-        r.diagnostic_code.as_deref(),
-    )?;
-    write_word(out, "}")
+impl ListItem for Recipient {
+    ghost value = { λ known recipient. delivery_value (delivery recipient) };
+
+    fn write_item<W: Write, K: KnownCharsets>(
+        &self,
+        alloc: Global,
+        out: &mut W,
+        _known: &K,
+    ) -> Result<(), Fault> {
+        let final_recipient = self.final_recipient.as_deref();
+        let original_recipient = self.original_recipient.as_deref();
+        add_optional(alloc, out, first_key!("final_recipient"), final_recipient)?;
+        add_optional(alloc, out, key!("original_recipient"), original_recipient)?;
+        add_optional(alloc, out, key!("action"), self.action.as_deref())?;
+        add_optional(alloc, out, key!("status"), self.status.as_deref())?;
+        add_optional(
+            alloc,
+            out,
+            key!("diagnostic_code"),
+            self.diagnostic_code.as_deref(),
+        )?;
+        write_word(out, "}")
+    }
 }

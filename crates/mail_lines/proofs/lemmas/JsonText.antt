@@ -1,5 +1,5 @@
 -- Lemmas on JSON text, and on lists.
-use Rattle.std.proofs.Common.{◌≡◌, ℕ, suc, ◌+◌, ◌<◌, List, [], ◌∷◌, ◌++◌, length, drop, get_or, min, ℤ, pos, negsuc, Option, FitsSigned, w64, decimal, arith, refl, sym, ap, subst, ◌∙◌, append_assoc, add-one, drop-cons}
+use Rattle.std.proofs.Common.{map, ◌≡◌, ℕ, suc, ◌+◌, ◌<◌, true, false, List, [], ◌∷◌, ◌++◌, length, drop, get_or, min, ℤ, pos, negsuc, Option, String, Global, FitsSigned, w64, decimal, arith, string_bytes, refl, sym, ap, subst, ◌∙◌, append_assoc, add-one, drop-cons}
 use Rattle.std.proofs.KnownBytes.{Appends-trans}
 use Rattle.std.proofs.lemmas.List.{append-nil}
 use Rattle.std.specs.Prelude.{◌^◌, ◌-◌, codes}
@@ -45,3 +45,8 @@ pub wrote_all : {A : Type 0} (text : A → List ℕ) (old new : Option (List ℕ
     → Wrote text old new before left all → Appends old new (listed text [] all)
 wrote_all text old new before left all none here =
     subst (Appends old new) (sym (append-nil here.0) ∙ ap (λ xs. here.0 ++ listed text before xs) (sym none) ∙ here.2) here.1
+
+-- a list that is mapped twice
+pub map_twice : {X Y Z : Type 0} (f : Y → Z) (h : X → Y) (xs : List X) → map (λ x. f (h x)) xs ≡ map f (map h xs)
+map_twice f h [] = refl
+map_twice f h (x ∷ xs) = ap (λ zs. f (h x) ∷ zs) (map_twice f h xs)

@@ -41,7 +41,7 @@ returns g c =
     c.as_deref.ensures.value ∙ c.in_ok-hash.ensures ∙ ap (λ is. hash_of is c.as_slice.result.now) c.is_hashed-hashed.ensures
     ∙ ap (λ is. hash_of (c.args.options.hashes && is) c.as_slice.result.now) attached
     ∙ ap (λ (b : List ℕ). hash_of (c.args.options.hashes && is_attachment (tree_of m) (shown_as_in known node)) b) bytes in
-    let list = value_as (λ (hs : List Header). list_of (map (header_value known) hs)) _ _ _ _ (c.as_slice-2.ensures.value ∙ headers-out m) c.in_ok-write_headers.ensures in
+    let list = value_as (λ (hs : List Header). list_of (map (header_value known) hs)) _ _ _ _ (c.as_slice-2.ensures.value ∙ headers-out m) c.in_ok-write_list.ensures in
     let shows = c.is_read-shown.ensures ∙ ap (is_read (tree_of m)) (sym same) in
     let path-is = value_renamed (λ t. string t) _ _ c.in_ok-add_text.ensures c.as_str.ensures.value in
     let type-is = value_renamed (λ t. string t) _ _ c.in_ok-add_text-2.ensures (c.as_str-2.ensures.value ∙ ap (λ (t : ContentType). t.mimetype) (ctype-out m)) in

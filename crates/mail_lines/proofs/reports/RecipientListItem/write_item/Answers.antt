@@ -1,7 +1,7 @@
 use Rattle.std.proofs.Common.{refl}
 use Rattle.mail_lines.specs.Printed.{string_or_null}
 use Rattle.mail_lines.proofs.lemmas.Members.{◌⨾◌, closed, value_renamed}
-use Rattle.mail_lines.proofs.reports.write_recipient.Goals as goal
+use Rattle.mail_lines.proofs.reports.RecipientListItem.write_item.Goals as goal
 
 pub returns : goal.returns
 returns g c =
