@@ -43,9 +43,9 @@ raw_value raw name number = do
 
 -- Under the charsets that are known.
 module _ (known : Charsets) where
-  -- no hashes, and texts as they are
+  -- bodies decoded, no hashes, and texts as they are
   abbrev pub plain_options : Options
-  plain_options = record { known = known; hashes = false; joins_flowed = false }
+  plain_options = record { known = known; decodes_bodies = true; hashes = false; joins_flowed = false }
 
   -- the line of JSON of a mail
   abbrev pub IsJson : List ℕ → Found → Type 0

@@ -30,6 +30,7 @@ pub(crate) fn json<K: KnownCharsets>(
         end: raw.len(),
     };
     let options = LineOptions {
+        decodes_bodies: true,
         hashes: false,
         joins_flowed: false,
     };

@@ -24,6 +24,7 @@ an option says which it is:
                                  N equal parts of the file; their `number` is null
     --hash                       give each file of a mail the SHA-256 of its bytes
     --flowed                     show each paragraph of a text in format=flowed as one line
+    --no-text                    decode no bodies: no texts, decoded sizes and hashes
     --progress                   report on standard error how far a long mailbox is read
     --version, --help            print the version, or this help
     --                           all further arguments are names of files
@@ -35,9 +36,10 @@ could not be read or written, and 2 if the arguments are wrong.
 
 /// What wrong arguments print.
 pub const USAGE: &str =
-    "usage: mail_json [--mail|--mbox|--mbox=rd|--mbox=cl] [--hash] [--flowed] [--progress]
-                 [FILE|DIRECTORY..]
-       mail_json --part K/N [--mbox|--mbox=rd] [--hash] [--flowed] [--progress] FILE..";
+    "usage: mail_json [--mail|--mbox|--mbox=rd|--mbox=cl] [--hash] [--flowed] [--no-text]
+                 [--progress] [FILE|DIRECTORY..]
+       mail_json --part K/N [--mbox|--mbox=rd] [--hash] [--flowed] [--no-text] [--progress]
+                 FILE..";
 
 /// The task of a run.
 #[derive(Clone, Copy, Debug, PartialEq, Eq)]
@@ -134,6 +136,7 @@ impl<'w> Request<'w> {
             "--part" => self.is_part_next = true,
             "--hash" => self.how.options.hashes = true,
             "--flowed" => self.how.options.joins_flowed = true,
+            "--no-text" => self.how.options.decodes_bodies = false,
             "--progress" => self.how.reports_progress = true,
             _ => self.decide(Task::Wrong),
         }

@@ -16,3 +16,4 @@ pub mod JsonLines
 pub mod Stream
 pub mod Range
 pub mod LinesAreJson
+pub mod WithoutText

@@ -1,5 +1,5 @@
 -- Values of headers, under the charsets that are known, and faults of dates; the program's own form.
-use Rattle.std.specs.Prelude.{ℕ, Bool, List, [], Option, option_map, codes}
+use Rattle.std.specs.Prelude.{ℕ, Bool, false, List, [], Option, option_map, codes}
 use Rattle.std.specs.Option.{option_map_or}
 use Rattle.mail_codec.specs.Charset.{Charsets}
 use Rattle.mailparse.specs.Disposition.{Disposition, Kind, inline, attachment, form_data, extension}
@@ -7,6 +7,7 @@ use Rattle.mailparse.specs.Mail.{Node}
 use Rattle.mailparse.specs.Map.{first_value_in, first_with_key}
 use Rattle.mail_data.specs.declared.lenient.date.error.DateError.{DateError}
 use Rattle.mail_data.specs.declared.lenient.date.error.DateError.TheVariants.{Day, Month, Year, Time, Zone, TrailingText}
+use Rattle.mail_data.specs.Archive.{first_id}
 use Rattle.mail_data.specs.lenient.Ids.{found_ids}
 
 -- the name of a disposition
@@ -38,3 +39,7 @@ module _ (known : Charsets) where
   -- the ids in it; only those with an `@`, if one is needed
   abbrev pub ids_of : Bool → List ℕ → Node → List (List ℕ)
   ids_of needs_at key node = option_map_or (found_ids needs_at) (value_of key node) []
+
+  -- the id of a part's content (RFC 2045, section 7): the first one in its header `Content-ID`
+  abbrev pub content_id : Node → Option (List ℕ)
+  content_id node = first_id (ids_of false (codes "Content-ID") node)

@@ -14,4 +14,5 @@ pub mod Selection
 pub mod Stream
 pub mod Range
 pub mod Values
+pub mod WithoutText
 pub mod Reports

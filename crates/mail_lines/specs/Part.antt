@@ -1,5 +1,5 @@
 -- What is shown of each part of a mail; the program's own form.
-use Rattle.std.specs.Prelude.{◌≡◌, ℕ, ◌+◌, ◌^◌, ◌-◌, min, Bool, true, false, not, ◌&&◌, List, map, Option, Some, None, codes}
+use Rattle.std.specs.Prelude.{◌≡◌, ℕ, ◌+◌, ◌^◌, ◌-◌, min, Bool, true, false, not, ◌&&◌, List, map, Option, Some, None, option_map, codes}
 use Rattle.std.specs.Cmp.Lexicographic.{slice_cmp}
 use Rattle.std.specs.List.Sorted.{IsStrictlySortedBy}
 use Rattle.std.specs.Map.{lookup}
@@ -8,11 +8,12 @@ use Rattle.std.specs.Str.{bytes_eq}
 use Rattle.mail_codec.specs.Places.{has_prefix}
 use Rattle.mailparse.specs.ContentType.{ContentType}
 use Rattle.mailparse.specs.Disposition.{Disposition}
-use Rattle.mailparse.specs.Mail.{Tree, root}
+use Rattle.mailparse.specs.Mail.{Node, Tree, root}
 use Rattle.mailparse.specs.Pairs.{Texts}
 use Rattle.mail_data.specs.Files.{describes_attachment, is_attachment_disposition, is_leaf}
 use Rattle.mail_data.specs.Flowed.{unflowed_of}
 use Rattle.mail_data.specs.Texts.{text_type}
+use Rattle.mail_data.specs.lenient.Content.{Content, message_content}
 use Rattle.mail_program.specs.Hash.{hash_text}
 
 -- a sum, or the greatest number of 64 bits, which no file reaches
@@ -39,10 +40,15 @@ abbrev pub place_in : Option ℕ → ℕ → Option ℕ
 place_in (Some start) at = Some (saturating_add start at)
 place_in None at = None
 
--- the hash of bytes, if it is wanted
-abbrev pub hash_of : Bool → List ℕ → Option (List ℕ)
-hash_of true bytes = Some (hash_text bytes)
-hash_of false bytes = None
+-- the content of a body, if bodies are decoded
+abbrev pub content_if : Bool → Node → Option Content
+content_if true node = Some (message_content node)
+content_if false node = None
+
+-- the hash of a content that is decoded, if it is wanted
+abbrev pub hash_of : Bool → Option Content → Option (List ℕ)
+hash_of true content = option_map (λ content. hash_text content.bytes) content
+hash_of false content = None
 
 -- a text of this type as it is shown: with each flowed paragraph as one line, if that is wanted
 abbrev pub text_shown : Bool → ContentType → List ℕ → List ℕ

@@ -13,10 +13,11 @@ use Rattle.mailparse.specs.Map.{first_with_key}
 use Rattle.mailparse.specs.Placement.{placements}
 use Rattle.mailparse.specs.Refusal.{Reads, Refusal}
 use Rattle.mailparse.specs.Value.{lenient_value_in}
+use Rattle.mail_data.specs.Bounce.{original_message_id}
 use Rattle.mail_data.specs.Files.{name_in}
 use Rattle.mail_data.specs.PartPlaces.{Place, places}
 use Rattle.mail_data.specs.lenient.Date.{Dated, Zoned, zoned_date_of}
-use Rattle.mail_data.specs.lenient.Content.{Content, message_content}
+use Rattle.mail_data.specs.lenient.Content.{Content}
 use Rattle.mail_data.specs.lenient.Encoding.{lenient_body_kind}
 use Rattle.mail_data.specs.lenient.Texts.{text_read}
 use Rattle.mail_address.specs.Addresses.{Element, Single, single, group}
@@ -24,11 +25,11 @@ use Rattle.mail_address.specs.Headers.{addresses_of}
 use Rattle.mail_address.specs.Mailbox.{Parts}
 use Rattle.mail_lines.specs.Addresses.{canonical, name_of, unless_empty}
 use Rattle.mail_lines.specs.Body.{encoding_text}
-use Rattle.mail_lines.specs.Fields.{date_fault_text, disposition_name, value_of, ids_of}
+use Rattle.mail_lines.specs.Fields.{content_id, date_fault_text, disposition_name, value_of, ids_of}
 use Rattle.mail_data.specs.InnerMails.{InnerMail}
 use Rattle.mail_lines.specs.Inside.{mails_inside, parts_inside}
 use Rattle.mail_lines.specs.Origin.{Origin}
-use Rattle.mail_lines.specs.Part.{Lists, hash_of, is_attachment, is_read, place_in, text_shown}
+use Rattle.mail_lines.specs.Part.{Lists, content_if, hash_of, is_attachment, is_read, place_in, text_shown}
 use Rattle.mail_lines.specs.Options.{Options}
 use Rattle.mail_lines.specs.JsonText.{refusal_text}
 use Rattle.mail_lines.specs.Printed.{Member, list_of, number_or_null, number_value, object_of, one, seconds_value, string_or_null, strings}
@@ -51,7 +52,7 @@ AreJsonLines text =
 
 -- the members of the number of this schema and of a file's name
 abbrev pub file_members : Option (List ℕ) → List Member
-file_members file = one (codes "schema") (number_value 4) ++ one (codes "file") (string_or_null file)
+file_members file = one (codes "schema") (number_value 5) ++ one (codes "file") (string_or_null file)
 
 -- the members of the offsets at which a mail begins and ends
 abbrev pub bounds_members : ℕ → ℕ → List Member
@@ -79,21 +80,20 @@ abbrev pub type_members : List ℕ → List ℕ → List (List ℕ × List ℕ) 
 type_members mimetype charset pairs =
     one (codes "type") (string mimetype) ++ one (codes "charset") (string charset) ++ one (codes "params") (object_of (map parameter_member pairs))
 
--- the members of a disposition, of a file's name, and of whether the part is an attachment
-abbrev pub disposition_members : Disposition → Node → Bool → List Member
-disposition_members disposition node is_attachment =
-    one (codes "disposition") (string_or_null (disposition_name disposition node))
-    ++ one (codes "file_name") (string_or_null (name_in disposition node.ctype)) ++ one (codes "attachment") (boolean is_attachment)
-
--- the members of the offsets of a part, and of the size of its body
-abbrev pub place_members : Option ℕ → Option ℕ → ℕ → List Member
-place_members start end size =
-    one (codes "start") (number_or_null start) ++ one (codes "end") (number_or_null end) ++ one (codes "size") (number_value size)
+-- the members of the offsets of a part, given those in its mail, and the offset at which that begins
+abbrev pub bounds_in : Option ℕ → ℕ → ℕ → List Member
+bounds_in mail start end =
+    one (codes "start") (number_or_null (place_in mail start)) ++ one (codes "end") (number_or_null (place_in mail end))
 
 -- the member of the size of a decoded body, or of the reason why it is refused
 abbrev pub size_members : Option Refusal → ℕ → List Member
 size_members None size = one (codes "decoded_size") (number_value size)
 size_members (Some refusal) size = one (codes "decoded_size") null ++ one (codes "error") (string (refusal_text refusal))
+
+-- the same of a body that is decoded or not
+abbrev pub decoded_members : Option Content → List Member
+decoded_members (Some content) = size_members content.fault (length content.bytes)
+decoded_members None = one (codes "decoded_size") null
 
 -- the object of a mail inside
 abbrev pub inner_value : ℕ → InnerMail → Json
@@ -149,11 +149,23 @@ module _ (known : Charsets) where
   abbrev pub header_value : Header → Json
   header_value header = list_of (string (key_text header) ∷ string (lenient_value_in known header.value) ∷ [])
 
+  -- the members of a disposition, of a file's name, of the id of the content, and of whether the part is an attachment
+  abbrev pub disposition_members : Disposition → Node → Bool → List Member
+  disposition_members disposition node is_attachment =
+      one (codes "disposition") (string_or_null (disposition_name disposition node))
+      ++ one (codes "file_name") (string_or_null (name_in disposition node.ctype))
+      ++ one (codes "content_id") (string_or_null (content_id known node)) ++ one (codes "attachment") (boolean is_attachment)
+
   -- the members of the text of a body that is shown or not
-  abbrev pub body_members : Bool → Bool → ContentType → Content → List Member
-  body_members joins shows ctype content =
+  abbrev pub shown_members : Bool → Bool → ContentType → Content → List Member
+  shown_members joins shows ctype content =
       let read = text_read known ctype.charset content in
       text_members shows (text_shown joins ctype read.text) read.charset read.is_damaged
+
+  -- the same of a body that is decoded or not
+  abbrev pub body_members : Bool → Bool → ContentType → Option Content → List Member
+  body_members joins shows ctype (Some content) = shown_members joins shows ctype content
+  body_members joins shows ctype None = one (codes "text") null
 
   -- the value of the first header with a name; the ids in it
   abbrev pub value_or_null : List ℕ → Node → Json
@@ -203,53 +215,56 @@ module _ (known : Charsets) where
       ++ one (codes "references") (id_list true (codes "References") node)
 
   -- the members of a mail with this origin and these mails inside, whose parts have these values
-  abbrev pub mail_members : Origin → Node → List InnerMail → List Json → List Member
-  mail_members origin node inside parts =
+  abbrev pub mail_members : Origin → Tree → List InnerMail → List Json → List Member
+  mail_members origin mail inside parts =
+      let node = root mail in
       origin_members origin ++ values_members node ++ one (codes "raw") (raw_values node)
-      ++ date_members (option_map zoned_date_of (value_of known (codes "Date") node)) ++ ids_members node ++ one (codes "parts") (list_of parts)
+      ++ date_members (option_map zoned_date_of (value_of known (codes "Date") node)) ++ ids_members node
+      ++ one (codes "bounced_id") (string_or_null (original_message_id known mail)) ++ one (codes "parts") (list_of parts)
       ++ one (codes "forwarded") (list_of (map (inner_value origin.start) inside))
 
 -- Under these options.
 module _ (options : Options) where
-  -- the members of a part of a mail that begins at this offset, whose type has these parameters: those before its size
-  -- when it is decoded, and all of them
-  abbrev pub front_members : Option ℕ → Place → List (List ℕ × List ℕ) → List Member
-  front_members start place pairs =
+  -- the members of a part of a mail that is in the part with the path `inside`, or in none, and that begins at this
+  -- offset; the type of the part has these parameters: those before its size when it is decoded, and all of them
+  abbrev pub front_members : Option (List ℕ) → Option ℕ → Place → List (List ℕ × List ℕ) → List Member
+  front_members inside start place pairs =
       let node = root place.part in
       let disposition = shown_as_in options.known node in
-      one (codes "path") (string place.path) ++ type_members node.ctype.mimetype node.ctype.charset pairs
-      ++ disposition_members disposition node (is_attachment place.part disposition)
+      one (codes "path") (string place.path) ++ one (codes "inside") (string_or_null inside)
+      ++ type_members node.ctype.mimetype node.ctype.charset pairs
+      ++ disposition_members options.known disposition node (is_attachment place.part disposition)
       ++ one (codes "encoding") (string (encoding_text (lenient_body_kind node)))
-      ++ place_members (place_in start place.placement.whole.start) (place_in start place.placement.whole.end) (length node.body)
+      ++ bounds_in start place.placement.whole.start place.placement.whole.end ++ one (codes "size") (number_value (length node.body))
 
-  abbrev pub part_members : Option ℕ → Place → List (List ℕ × List ℕ) → List Member
-  part_members start place pairs =
+  abbrev pub part_members : Option (List ℕ) → Option ℕ → Place → List (List ℕ × List ℕ) → List Member
+  part_members inside start place pairs =
       let node = root place.part in
-      let content = message_content node in
+      let content = content_if options.decodes_bodies node in
       let disposition = shown_as_in options.known node in
-      front_members start place pairs ++ size_members content.fault (length content.bytes)
-      ++ one (codes "sha256") (string_or_null (hash_of (options.hashes && is_attachment place.part disposition) content.bytes))
+      front_members inside start place pairs ++ decoded_members content
+      ++ one (codes "sha256") (string_or_null (hash_of (options.hashes && is_attachment place.part disposition) content))
       ++ one (codes "headers") (list_of (map (header_value options.known) node.headers))
       ++ body_members options.known options.joins_flowed (is_read place.part disposition) node.ctype content
 
-  -- a value is the object of a part of a mail that begins at this offset
-  abbrev pub IsPartValue : Option ℕ → Place → Json → Type 0
-  IsPartValue start place value =
-      (pairs : List (List ℕ × List ℕ)) × Lists (root place.part).ctype.params pairs × (value ≡ object_of (part_members start place pairs))
+  -- a value is the object of a part of a mail that is in this part, or in none, and that begins at this offset
+  abbrev pub IsPartValue : Option (List ℕ) → Option ℕ → Place → Json → Type 0
+  IsPartValue inside start place value =
+      (pairs : List (List ℕ × List ℕ)) × Lists (root place.part).ctype.params pairs × (value ≡ object_of (part_members inside start place pairs))
 
   -- values are the objects of the parts of mails inside
   abbrev pub AreInsideValues : ℕ → List InnerMail → List Json → Type 0
   AreInsideValues start [] values = values ≡ []
   AreInsideValues start (inner ∷ mails) values =
-      (first : List Json) × (others : List Json) × AreValues (IsPartValue (place_in inner.start start)) (parts_inside options.known inner) first
+      (first : List Json) × (others : List Json) × AreValues (IsPartValue (Some inner.path) (place_in inner.start start)) (parts_inside options.known inner) first
       × AreInsideValues start mails others × (values ≡ first ++ others)
 
   -- a value is the object of a mail with this origin: with its own parts, and then those of the mails inside
   abbrev pub IsMailValue : Origin → Tree → Json → Type 0
   IsMailValue origin mail value =
-      (parts : List Json) × (others : List Json) × AreValues (IsPartValue (Some origin.start)) (places mail (placements 0 mail)) parts
+      (parts : List Json) × (others : List Json) × AreValues (IsPartValue None (Some origin.start)) (places mail (placements 0 mail)) parts
       × AreInsideValues origin.start (mails_inside options.known mail) others
-      × (value ≡ object_of (mail_members options.known origin (root mail) (mails_inside options.known mail) (parts ++ others)))
+      × (value ≡ object_of (mail_members options.known origin mail (mails_inside options.known mail) (parts ++ others)))
 
   -- a value is that of the line of a mail with this origin, or of its refusal
   abbrev pub IsLineValue : Origin → Reads Tree → Json → Type 0

@@ -6,7 +6,8 @@ ghost use Rattle.mailparse.specs.Outcome.{AnswersOrMemory, GivesTexts};
 ghost use Rattle.mailparse.specs.Views as views;
 ghost use Rattle.mailparse.specs.Views.{kind, tree_of};
 ghost use Rattle.mail_data.specs.lenient.IdViews.{needs_at};
-ghost use Rattle.mail_lines.specs.Fields.{disposition_name, ids_of, kind_text, value_of};
+ghost use Rattle.mail_lines.specs.Fields.{content_id, disposition_name, ids_of, kind_text};
+ghost use Rattle.mail_lines.specs.Fields.{value_of};
 
 use mail_data::lenient::{IdRule, find_ids};
 use mailparse::{
@@ -43,6 +44,20 @@ pub(crate) fn ids_of<K: KnownCharsets>(
         Some(value) => Ok(find_ids(alloc, value.as_str(), rule)?),
         None => Ok(Vec::new(alloc)),
     }
+}
+
+/// Returns the id of the content of a part: the first one in its header `Content-ID` (RFC 2045,
+/// section 7).
+pub(crate) fn content_id<K: KnownCharsets>(
+    alloc: Global,
+    part: &ParsedMail<'_>,
+    known: &K,
+) -> Result<Option<String>, MailParseError>
+    ensures { AnswersOrMemory text_found result
+        (Ok (content_id (K.known known.now) (root (tree_of part.now)))) }
+{
+    let ids = ids_of(alloc, part, "Content-ID", IdRule::Any, known)?;
+    Ok(ids.into_iter().next())
 }
 
 /// Returns the name of the disposition of a part, or `None` if the part has no such header.

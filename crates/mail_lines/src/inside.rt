@@ -14,7 +14,7 @@ ghost use Rattle.mail_lines.specs.Written.{Writes, WritesOne};
 use crate::json_text::{Position, refusal_of, write_comma, write_word};
 use crate::members::{add_number_or_null, add_optional, add_text, first_key, key};
 use crate::options::LineOptions;
-use crate::part::{place_in, write_found};
+use crate::part::{Form, place_in, write_found};
 use mail_data::inner_mails::{InnerMail, places_under};
 use mail_program::Fault;
 use mailparse::{KnownCharsets, MailParseError, parse_mail_in};
@@ -53,22 +53,20 @@ fn write_inner_parts<W: Write, K: KnownCharsets>(
 ) -> Result<(), Fault>
     ensures { WritesOne (W.contents out.old) (W.contents out.new) result
         (after_commas text_of) (AreValues
-        (IsPartValue (options_of (K.known known.now) options) (place_in inner.now.start start))
+        (IsPartValue (options_of (K.known known.now) options)
+        (Some (inner_view inner.now).path) (place_in inner.now.start start))
         (parts_inside (K.known known.now) (inner_view inner.now))) }
 {
     match parse_mail_in(alloc, inner.bytes.as_slice(), known) {
         Ok(mail) => {
-            let start = place_in(inner.start, start);
-            let found = places_under(alloc, &mail, inner.path.as_str())?;
-            write_found(
-                alloc,
-                out,
-                found.as_slice(),
-                Position::Later,
-                start,
+            let form = Form {
+                inside: Some(inner.path.as_str()),
+                start: place_in(inner.start, start),
                 options,
                 known,
-            )
+            };
+            let found = places_under(alloc, &mail, inner.path.as_str())?;
+            write_found(alloc, out, found.as_slice(), Position::Later, form)
         }
         Err(error) => {
             refused(&error)?;

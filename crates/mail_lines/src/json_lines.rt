@@ -40,7 +40,7 @@ use std::io::Write;
 /// let options = LineOptions::new();
 /// let written = write_single(alloc, &mut out, b" refused", None, options, &())?;
 /// assert_eq!(rt; written, Written::WithErrors);
-/// let line = b"{\"schema\":4,\"file\":null,\"number\":null,\"start\":0,\"end\":8,\"error\":";
+/// let line = b"{\"schema\":5,\"file\":null,\"number\":null,\"start\":0,\"end\":8,\"error\":";
 /// assert!(rt; out.as_slice().starts_with(line));
 /// let written = write_single(alloc, &mut out, b"Subject: Hi\n\nHello\n", None, options, &())?;
 /// assert_eq!(rt; written, Written::Clean);

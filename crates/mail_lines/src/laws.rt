@@ -1,7 +1,7 @@
-//! Laws: each string is written character by character, each line is JSON, and the lines of all
-//! parts of an input are those of the whole.
+//! Laws: each line is JSON, a line without texts is the whole line without them, and the lines of
+//! all parts of an input are those of the whole.
 ghost use Rattle.std.specs.Prelude.{◌++◌, ◌<◌, ◌≡◌, ◌≤◌, Bool, List, Option, codes, drop, length};
-ghost use Rattle.std.specs.Prelude.{encode_utf8_all, true, ℕ};
+ghost use Rattle.std.specs.Prelude.{false, true, ℕ};
 ghost use Rattle.std.specs.List.{flat_map, list_all};
 ghost use Rattle.json.specs.Json.{Json};
 ghost use Rattle.mail_codec.specs.Places.{values_below};
@@ -10,13 +10,14 @@ ghost use Rattle.mailparse.specs.Mail.{Tree};
 ghost use Rattle.mailparse.specs.Refusal.{Reads};
 ghost use Rattle.mail_lines.specs.JsonText.{character_text, json_text};
 ghost use Rattle.mail_lines.specs.JsonLines.{AreMailboxLines, IsLineOf, format_of};
-ghost use Rattle.mail_lines.specs.Options.{Options};
+ghost use Rattle.mail_lines.specs.Options.{Options, decoding};
 ghost use Rattle.mail_lines.specs.Origin.{Origin};
 ghost use Rattle.mail_lines.specs.Printed.{line_of};
 ghost use Rattle.mail_lines.specs.Range.{ArePartLines, AreRangeLines, AreRangeLinesAt};
 ghost use Rattle.mail_lines.specs.Range.{AreUnnumberedLines, has_parts, reading_start};
 ghost use Rattle.mail_lines.specs.declared.options.InputKind.{InputKind};
 ghost use Rattle.mail_lines.specs.Values.{AreJsonLines, IsJsonLine, IsLineValue, unread_value};
+ghost use Rattle.mail_lines.specs.WithoutText.{without_text};
 
 /// A string in UTF-8 is written character by character, between quotation marks.
 #[tactic(auto, using(crate::proofs::lemmas::Characters::json_text_characters))]
@@ -43,6 +44,14 @@ pub fn lines_are_json()
     ensures unread { (file : Option (List ℕ)) (text : List ℕ) → (object : List ℕ)
         × IsJsonLine (unread_value file text) object
         × (line_of (unread_value file text) ≡ object ++ codes "\n") }
+{}
+
+/// If bodies are not decoded, the line of a mail is its whole line without what needs that.
+pub fn text_is_left_out()
+    ensures { (options : Options) (origin : Origin) (mail : Reads Tree) (value : Json) →
+        IsLineValue (decoding false options) origin mail value →
+        (whole : Json) × IsLineValue (decoding true options) origin mail whole
+        × (value ≡ without_text whole) }
 {}
 
 /// The lines of equal parts of an input, one after another, are those of the whole without the

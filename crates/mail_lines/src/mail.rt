@@ -23,8 +23,9 @@ use crate::members::{
 };
 use crate::options::LineOptions;
 use crate::origin::{Origin, write_origin};
-use crate::part::write_parts;
+use crate::part::{Form, write_parts};
 use mail_codec::charset::decode_latin1;
+use mail_data::bounce::original_message_id;
 use mail_data::inner_mails::inner_mails;
 use mail_data::lenient::{DateError, IdRule, zoned_date_of};
 use mail_program::Fault;
@@ -49,7 +50,7 @@ use std::io::Write;
 /// let origin = Origin { file: None, number: None, start: 0, end: 19 };
 /// let mut out = Vec::new(alloc);
 /// write_mail(alloc, &mut out, &mail, &origin, LineOptions::new(), &())?;
-/// assert!(rt; out.as_slice().starts_with(b"{\"schema\":4,\"file\":null,"));
+/// assert!(rt; out.as_slice().starts_with(b"{\"schema\":5,\"file\":null,"));
 /// ```
 pub fn write_mail<W: Write, K: KnownCharsets>(
     alloc: Global,
@@ -70,10 +71,18 @@ pub fn write_mail<W: Write, K: KnownCharsets>(
     write_raw(alloc, out, mail)?;
     write_date(alloc, out, mail, known)?;
     write_ids(alloc, out, mail, known)?;
+    let bounced = original_message_id(alloc, mail, known)?;
+    add_optional(alloc, out, key!("bounced_id"), bounced.as_deref())?;
     let inside = inner_mails(alloc, mail, known)?;
+    let form = Form {
+        inside: None,
+        start: Some(origin.start),
+        options,
+        known,
+    };
     write_word(out, key!("parts"))?;
     write_word(out, "[")?;
-    write_parts(alloc, out, mail, origin.start, options, known)?;
+    write_parts(alloc, out, mail, form)?;
     write_inside(alloc, out, inside.as_slice(), origin.start, options, known)?;
     write_word(out, "]")?;
     write_word(out, key!("forwarded"))?;

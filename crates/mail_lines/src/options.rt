@@ -1,5 +1,5 @@
 //! What an input is, and how its mails are read and shown.
-ghost use Rattle.std.specs.Prelude.{◌≡◌, false};
+ghost use Rattle.std.specs.Prelude.{◌≡◌, false, true};
 ghost use Rattle.mail_lines.specs.JsonLines.{format_of};
 
 use mail_data::mailbox::Format;
@@ -30,6 +30,9 @@ impl InputKind {
 /// How mails are read and shown.
 #[derive(Clone, Copy, Debug)]
 pub struct LineOptions {
+    /// Whether bodies are decoded. If they are not, what needs that is `null` or absent: the texts,
+    /// the decoded sizes and the hashes.
+    pub decodes_bodies: bool,
     /// Whether files have their SHA-256.
     pub hashes: bool,
     /// Whether each paragraph of a flowed text is one line (RFC 3676).
@@ -37,7 +40,7 @@ pub struct LineOptions {
 }
 
 impl LineOptions {
-    /// Returns options that show no hashes, and texts as they are.
+    /// Returns options that decode bodies, show no hashes, and show texts as they are.
     ///
     /// # Examples
     ///
@@ -47,10 +50,12 @@ impl LineOptions {
     /// assert!(rt; !LineOptions::new().hashes);
     /// ```
     pub fn new() -> LineOptions
+        ensures decodes_bodies { result.decodes_bodies ≡ true }
         ensures hashes { result.hashes ≡ false }
         ensures joins_flowed { result.joins_flowed ≡ false }
     {
         LineOptions {
+            decodes_bodies: true,
             hashes: false,
             joins_flowed: false,
         }

@@ -47,7 +47,7 @@ fn write_file<W: Write>(alloc: Global, out: &mut W, file: Option<&str>) -> Resul
     ensures { BeginsMembers (W.contents out.old) (W.contents out.new) result
         (file_members (option_map (λ name. name.now) file.entry)) }
 {
-    add_number(out, first_key!("schema"), 4)?;
+    add_number(out, first_key!("schema"), 5)?;
     add_optional(alloc, out, key!("file"), file)?;
     Ok(())
 }
@@ -78,8 +78,8 @@ pub(crate) fn write_error<W: Write>(
 /// use mail_lines::write_unread;
 ///
 /// let mut out = Vec::new(alloc);
-/// write_unread(&mut out, Some("in.eml"), "it is a directory")?;
-/// let text = "{\"schema\":4,\"file\":\"in.eml\",\"number\":null,\"start\":null,\"end\":null,";
+/// write_unread(alloc, &mut out, Some("in.eml"), "it is a directory")?;
+/// let text = "{\"schema\":5,\"file\":\"in.eml\",\"number\":null,\"start\":null,\"end\":null,";
 /// assert!(rt; out.as_slice().starts_with(text.as_bytes()));
 /// assert!(rt; out.as_slice().ends_with(b"\"error\":\"it is a directory\"}\n"));
 /// ```

@@ -1,24 +1,30 @@
 //! The objects of the parts.
-ghost use Rattle.std.specs.Prelude.{◌&&◌, ◌≡◌, length, IfOk, Some, [], map, true, false};
+ghost use Rattle.std.specs.Prelude.{◌&&◌, ◌≡◌, length, IfErr, IfOk, [], map, option_map};
+ghost use Rattle.std.specs.Prelude.{true, false};
 ghost use Rattle.mailparse.specs.Map.{text_found};
-ghost use Rattle.mailparse.specs.Mail.{root};
+ghost use Rattle.mailparse.specs.BodyViews.{IsBody, content_of};
+ghost use Rattle.mailparse.specs.Mail.{Tree, root};
+ghost use Rattle.mailparse.specs.Outcome.{IsMemory};
 ghost use Rattle.mailparse.specs.Views as views;
 ghost use Rattle.mailparse.specs.Views.{content_type, placements_of, tree_of};
 ghost use Rattle.mail_data.specs.PartPlaces.{places};
 ghost use Rattle.mail_data.specs.lenient.Content.{message_content};
 ghost use Rattle.mail_data.specs.lenient.ContentViews.{content_view};
+ghost use Rattle.mail_data.specs.lenient.Encoding.{lenient_body_kind};
 ghost use Rattle.mail_data.specs.PlaceViews.{place_view};
-ghost use Rattle.mail_lines.specs.Part.{Lists, hash_of, is_attachment, is_read, place_in};
+ghost use Rattle.mail_lines.specs.Part.{Lists, content_if, hash_of, is_attachment, is_read};
+ghost use Rattle.mail_lines.specs.Part.{place_in};
 ghost use Rattle.mail_lines.specs.Options.{options_of};
 ghost use Rattle.mail_lines.specs.Members.{AddsMembers};
 ghost use Rattle.mail_lines.specs.Printed.{comma, listed, member_text, object_of, text_of};
-ghost use Rattle.mail_lines.specs.Values.{AreValues, IsPartValue, body_members, damaged_members};
+ghost use Rattle.mail_lines.specs.Values.{AreValues, IsPartValue, body_members, bounds_in};
+ghost use Rattle.mail_lines.specs.Values.{damaged_members, decoded_members, shown_members};
 ghost use Rattle.mail_lines.specs.Values.{disposition_members, header_value, parameter_member};
 ghost use Rattle.mail_lines.specs.Values.{size_members};
 ghost use Rattle.mail_lines.specs.Written.{Writes, WritesOne};
 
 use crate::body::encoding_name;
-use crate::fields::disposition_name;
+use crate::fields::{content_id, disposition_name};
 use crate::json_text::{Position, refusal_of, write_comma, write_text, write_word};
 use crate::lists::{ListItem, write_list};
 use crate::members::{
@@ -31,6 +37,7 @@ use mail_data::lenient::{Content, charset_used, lenient_body, lenient_content, l
 use mail_data::places::{Place, places};
 use mail_data::texts::text_type;
 use mail_program::{Fault, sha256_text};
+use mailparse::body::Body;
 use mailparse::{
     KnownCharsets, MailHeader, MailParseError, ParsedContentDisposition, ParsedContentType,
     ParsedMail,
@@ -38,97 +45,128 @@ use mailparse::{
 use std::alloc::{AllocError, Global};
 use std::io::Write;
 
-/// Writes the objects of a mail that begins at this offset of the input and of its parts, separated
-/// by commas, without those of the mails inside it.
+/// The mail to which parts belong, and how they are shown.
+#[derive_where(Clone, Copy)]
+pub(crate) struct Form<'f, K> {
+    /// The path of the part that contains the mail, or `None` for the mail itself.
+    pub inside: Option<&'f str>,
+    /// The offset in the input at which the mail begins, or `None` if it is encoded.
+    pub start: Option<usize>,
+    /// How its parts are shown.
+    pub options: LineOptions,
+    /// The charsets in which they are read.
+    pub known: &'f K,
+}
+
+/// Writes the objects of a mail and of its parts, separated by commas, without those of the mails
+/// inside it.
 pub(crate) fn write_parts<W: Write, K: KnownCharsets>(
     alloc: Global,
     out: &mut W,
     mail: &ParsedMail<'_>,
-    start: usize,
-    options: LineOptions,
-    known: &K,
+    form: Form<'_, K>,
 ) -> Result<(), Fault>
     ensures { WritesOne (W.contents out.old) (W.contents out.new) result (listed text_of [])
-        (AreValues (IsPartValue (options_of (K.known known.now) options) (Some start))
+        (AreValues (IsPartValue (options_of (K.known form.entry.known.now) form.entry.options)
+        (option_map (λ path. path.now) form.entry.inside) form.entry.start)
         (places (tree_of mail.now) (placements_of mail.now))) }
 {
     let found = places(alloc, mail)?;
-    write_found(
-        alloc,
-        out,
-        found.as_slice(),
-        Position::First,
-        Some(start),
-        options,
-        known,
-    )
+    write_found(alloc, out, found.as_slice(), Position::First, form)
 }
 
-/// Writes the objects of parts of a mail that begins at this offset of the input, the first one of
-/// which comes at this position of the list of all objects.
+/// Writes the objects of parts of a mail, the first one of which comes at this position of the list
+/// of all objects.
 pub(crate) fn write_found<W: Write, K: KnownCharsets>(
     alloc: Global,
     out: &mut W,
     found: &[Place<'_, '_>],
     first: Position,
-    start: Option<usize>,
-    options: LineOptions,
-    known: &K,
+    form: Form<'_, K>,
 ) -> Result<(), Fault>
     ensures { WritesOne (W.contents out.old) (W.contents out.new) result
         (listed text_of (comma first)) (AreValues
-        (IsPartValue (options_of (K.known known.now) options) start) (map place_view found.now)) }
+        (IsPartValue (options_of (K.known form.entry.known.now) form.entry.options)
+        (option_map (λ path. path.now) form.entry.inside) form.entry.start)
+        (map place_view found.now)) }
 {
     let mut position = first;
     for place in found {
         write_comma(out, position)?;
-        write_part(alloc, out, place, start, options, known)?;
+        write_part(alloc, out, place, form)?;
         position = Position::Later;
     }
     Ok(())
 }
 
-/// Writes the object of a part, without its parts. The mail begins at the offset `mail_start` of
-/// the input, or is encoded.
+/// Writes the object of a part, without its parts.
 pub(crate) fn write_part<W: Write, K: KnownCharsets>(
     alloc: Global,
     out: &mut W,
     place: &Place<'_, '_>,
-    mail_start: Option<usize>,
-    options: LineOptions,
-    known: &K,
+    form: Form<'_, K>,
 ) -> Result<(), Fault>
     ensures { WritesOne (W.contents out.old) (W.contents out.new) result text_of
-        (IsPartValue (options_of (K.known known.now) options) mail_start (place_view place.now)) }
+        (IsPartValue (options_of (K.known form.entry.known.now) form.entry.options)
+        (option_map (λ path. path.now) form.entry.inside) form.entry.start
+        (place_view place.now)) }
 {
     let part = place.part;
+    let (options, known) = (form.options, form.known);
     add_text(alloc, out, first_key!("path"), place.path.as_str())?;
+    add_optional(alloc, out, key!("inside"), form.inside)?;
     add_text(alloc, out, key!("type"), part.ctype.mimetype.as_str())?;
     add_text(alloc, out, key!("charset"), part.ctype.charset.as_str())?;
     write_word(out, key!("params"))?;
     write_params(alloc, out, &part.ctype)?;
     let disposition = part.get_content_disposition_in(alloc, known)?;
     let attached = is_attachment(alloc, part, &disposition)?;
-    write_disposition(alloc, out, part, &disposition, attached)?;
+    write_disposition(alloc, out, part, &disposition, attached, known)?;
     let body = lenient_body(alloc, part)?;
     add_text(alloc, out, key!("encoding"), encoding_name(&body))?;
-    add_number_or_null(
-        out,
-        key!("start"),
-        place_in(mail_start, place.byte_range.start),
-    )?;
-    add_number_or_null(out, key!("end"), place_in(mail_start, place.byte_range.end))?;
+    write_bounds(out, place, form.start)?;
     add_number(out, key!("size"), body.get_raw().len())?;
-    let content = lenient_content(alloc, &body)?;
+    let content = content_if(alloc, &body, options.decodes_bodies)?;
     write_decoded_size(alloc, out, &content)?;
-    let hashed = is_hashed(options.hashes, attached);
-    let hash = hash_of(alloc, content.bytes.as_slice(), hashed)?;
+    let hash = hash_of(alloc, &content, is_hashed(options.hashes, attached))?;
     add_optional(alloc, out, key!("sha256"), hash.as_deref())?;
     write_word(out, key!("headers"))?;
     write_list(alloc, out, part.headers.as_slice(), known)?;
     let shown = is_read(part, &disposition);
     write_part_text(alloc, out, &content, part, shown, options, known)?;
     write_word(out, "}")
+}
+
+/// Writes the offsets of a part of a mail that begins at this offset, or is encoded.
+fn write_bounds<W: Write>(
+    out: &mut W,
+    place: &Place<'_, '_>,
+    start: Option<usize>,
+) -> Result<(), Fault>
+    ensures { let whole = (place_view place.now).placement.whole in
+        AddsMembers (W.contents out.old) (W.contents out.new) result
+        (bounds_in start whole.start whole.end) }
+{
+    add_number_or_null(out, key!("start"), place_in(start, place.byte_range.start))?;
+    add_number_or_null(out, key!("end"), place_in(start, place.byte_range.end))?;
+    Ok(())
+}
+
+/// Returns the content of a body, or `None` if bodies are not decoded.
+fn content_if<'b>(
+    alloc: Global,
+    body: &Body<'b>,
+    decodes_bodies: bool,
+) -> Result<Option<Content<'b>>, MailParseError>
+    ensures read { (part : Tree) → IsBody (lenient_body_kind (root part)) (content_of (root part))
+        body.now → IfOk result (λ content.
+        option_map content_view content ≡ content_if decodes_bodies (root part)) }
+    ensures only_memory { IfErr result IsMemory }
+{
+    if !decodes_bodies {
+        return Ok(None);
+    }
+    Ok(Some(lenient_content(alloc, body)?))
 }
 
 /// Returns whether a part has its hash: an attachment has, if hashes are asked for.
@@ -201,19 +239,22 @@ fn is_attachment(
     describes_attachment(alloc, disposition, &part.ctype)
 }
 
-/// Writes the disposition, the name of the file, and whether the part is an attachment.
-fn write_disposition<W: Write>(
+/// Writes the disposition, the name of the file, the id of the content, and whether the part is an
+/// attachment.
+fn write_disposition<W: Write, K: KnownCharsets>(
     alloc: Global,
     out: &mut W,
     part: &ParsedMail<'_>,
     disposition: &ParsedContentDisposition,
     is_attachment: bool,
+    known: &K,
 ) -> Result<(), Fault>
     ensures { AddsMembers (W.contents out.old) (W.contents out.new) result
-        (disposition_members (views.disposition disposition.now)
+        (disposition_members (K.known known.now) (views.disposition disposition.now)
         (root (tree_of part.now)) is_attachment) }
 {
     let name = named_file(alloc, disposition, &part.ctype)?;
+    let id = content_id(alloc, part, known)?;
     add_optional(
         alloc,
         out,
@@ -221,16 +262,29 @@ fn write_disposition<W: Write>(
         disposition_name(part, disposition),
     )?;
     add_optional(alloc, out, key!("file_name"), name.as_deref())?;
+    add_optional(alloc, out, key!("content_id"), id.as_deref())?;
     add_flag(out, key!("attachment"), is_attachment)?;
     Ok(())
 }
 
-/// Writes the size of the decoded body. If it is refused, writes `null` and the reason.
+/// Writes the size of the decoded body. If it is refused, writes `null` and the reason; if it is
+/// not decoded, writes `null`.
 fn write_decoded_size<W: Write>(
     alloc: Global,
     out: &mut W,
-    content: &Content<'_>,
+    content: &Option<Content<'_>>,
 ) -> Result<(), Fault>
+    ensures { AddsMembers (W.contents out.old) (W.contents out.new) result
+        (decoded_members (option_map content_view content.now)) }
+{
+    match content {
+        None => add_null(out, key!("decoded_size")),
+        Some(content) => write_size(alloc, out, content),
+    }
+}
+
+/// Writes the size of the decoded body. If it is refused, writes `null` and the reason.
+fn write_size<W: Write>(alloc: Global, out: &mut W, content: &Content<'_>) -> Result<(), Fault>
     ensures { let content = content_view content.now in
         AddsMembers (W.contents out.old) (W.contents out.new) result
         (size_members content.fault (length content.bytes)) }
@@ -246,32 +300,43 @@ fn write_decoded_size<W: Write>(
     }
 }
 
-/// Returns the hash of bytes, or `None` if it is not wanted.
-fn hash_of(alloc: Global, bytes: &[u8], is_wanted: bool) -> Result<Option<String>, AllocError>
-    ensures { IfOk result (λ hash. text_found hash ≡ hash_of is_wanted bytes.now) }
+/// Returns the hash of a content, or `None` if it is not wanted or not decoded.
+fn hash_of(
+    alloc: Global,
+    content: &Option<Content<'_>>,
+    is_wanted: bool,
+) -> Result<Option<String>, AllocError>
+    ensures { IfOk result (λ hash.
+        text_found hash ≡ hash_of is_wanted (option_map content_view content.now)) }
 {
     if !is_wanted {
         return Ok(None);
     }
-    Ok(Some(sha256_text(alloc, bytes)?))
+    match content {
+        None => Ok(None),
+        Some(content) => Ok(Some(sha256_text(alloc, content.bytes.as_slice())?)),
+    }
 }
 
-/// Writes the members of the text of a part, or `null` if it is not shown.
+/// Writes the members of the text of a part, or `null` if it is not shown or not decoded.
 fn write_part_text<W: Write, K: KnownCharsets>(
     alloc: Global,
     out: &mut W,
-    content: &Content<'_>,
+    content: &Option<Content<'_>>,
     part: &ParsedMail<'_>,
     is_read: bool,
     options: LineOptions,
     known: &K,
 ) -> Result<(), Fault>
     ensures { let node = root (tree_of part.now) in
-        content_view content.now ≡ message_content node →
+        option_map content_view content.now ≡ content_if options.decodes_bodies node →
         AddsMembers (W.contents out.old) (W.contents out.new) result
         (body_members (K.known known.now) options.joins_flowed is_read node.ctype
-        (message_content node)) }
+        (content_if options.decodes_bodies node)) }
 {
+    let Some(content) = content else {
+        return add_null(out, key!("text"));
+    };
     if options.joins_flowed {
         return write_flowed(alloc, out, part, is_read, known);
     }
@@ -287,7 +352,7 @@ fn write_flowed<W: Write, K: KnownCharsets>(
     known: &K,
 ) -> Result<(), Fault>
     ensures { AddsMembers (W.contents out.old) (W.contents out.new) result
-        (body_members (K.known known.now) true is_read (root (tree_of part.now)).ctype
+        (shown_members (K.known known.now) true is_read (root (tree_of part.now)).ctype
         (message_content (root (tree_of part.now)))) }
 {
     if !is_read {
@@ -311,7 +376,7 @@ fn write_body_text<W: Write, K: KnownCharsets>(
     known: &K,
 ) -> Result<(), Fault>
     ensures { AddsMembers (W.contents out.old) (W.contents out.new) result
-        (body_members (K.known known.now) false is_read (content_type ctype.now)
+        (shown_members (K.known known.now) false is_read (content_type ctype.now)
         (content_view content.now)) }
 {
     if !is_read {

@@ -1,5 +1,5 @@
 -- Lemmas on the parts of mails inside.
-use Rattle.std.proofs.Common.{◌≡◌, ℕ, List, [], ◌∷◌, ◌++◌, Ok, Err, refl, sym, ap, subst, ◌∙◌, append_assoc, append-nil}
+use Rattle.std.proofs.Common.{◌≡◌, ℕ, List, [], ◌∷◌, ◌++◌, Ok, Err, refl, sym, ap, subst, ◌∙◌, append_assoc, append-nil, Some}
 use Rattle.std.proofs.lemmas.Grind.{flat_map-append}
 use Rattle.std.specs.Prelude.{codes}
 use Rattle.json.specs.Json.{Json}
@@ -17,7 +17,7 @@ use Rattle.mail_lines.proofs.lemmas.Part.{Completes}
 -- the parts of one mail more
 pub insides_more : (options : Options) (start : ℕ) (All : List Json → Type 0) (text_all : List Json → List ℕ) (x : InnerMail) (left rest : List InnerMail) (done : List ℕ) (values : List Json)
     → left ≡ x ∷ rest → Completes (AreInsideValues options start left) (after_commas text_of) All text_all done
-    → AreValues (IsPartValue options (place_in x.start start)) (parts_inside options.known x) values
+    → AreValues (IsPartValue options (Some x.path) (place_in x.start start)) (parts_inside options.known x) values
     → Completes (AreInsideValues options start rest) (after_commas text_of) All text_all (done ++ after_commas text_of values)
 insides_more options start All text_all x left rest done values e here is = λ others h.
     let all = here (values ++ others) (subst (λ (xs : List InnerMail). AreInsideValues options start xs (values ++ others)) (sym e) (values, others, is, h, refl)) in (

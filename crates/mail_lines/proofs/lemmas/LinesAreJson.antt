@@ -9,18 +9,20 @@ use Rattle.std.specs.Ordering.{nat_cmp}
 use Rattle.json.specs.Json.{Json, string}
 use Rattle.json.specs.Strict.{keys}
 use Rattle.mail_codec.specs.Charset.{Charsets}
+use Rattle.mailparse.specs.ContentType.{ContentType}
 use Rattle.mailparse.specs.Header.{Header, key_text}
 use Rattle.mailparse.specs.Mail.{Node, Tree, root, shown_as_in, read_mail_in}
 use Rattle.mailparse.specs.Placement.{placements}
 use Rattle.mailparse.specs.Refusal.{Reads, Refusal}
 use Rattle.mailparse.specs.Value.{lenient_value_in}
+use Rattle.mail_data.specs.Bounce.{original_message_id}
 use Rattle.mail_data.specs.Mailbox.{front_length}
 use Rattle.mail_data.specs.MailboxFormats.{entries_in, mail_in}
 use Rattle.mail_data.specs.MailboxParts.{Placed, in_range, part_start, placed_from}
 use Rattle.mail_data.specs.PartPlaces.{Place, places}
 use Rattle.mail_data.specs.declared.mailbox.formats.Format.{Format}
 use Rattle.mail_data.specs.lenient.Date.{Dated, Zoned, zoned_date_of}
-use Rattle.mail_data.specs.lenient.Content.{message_content}
+use Rattle.mail_data.specs.lenient.Content.{Content}
 use Rattle.mail_data.specs.lenient.Texts.{text_read}
 use Rattle.mail_address.specs.Addresses.{Element, single, group}
 use Rattle.mail_address.specs.Headers.{addresses_of}
@@ -36,9 +38,9 @@ use Rattle.mail_lines.specs.declared.options.InputKind.{InputKind}
 use Rattle.mail_lines.specs.Inside.{mails_inside, parts_inside}
 use Rattle.mail_lines.specs.JsonText.{refusal_text}
 use Rattle.mail_lines.specs.Origin.{Origin}
-use Rattle.mail_lines.specs.Part.{hash_of, is_attachment, is_read, place_in, text_shown}
+use Rattle.mail_lines.specs.Part.{content_if, hash_of, is_attachment, is_read, place_in, text_shown}
 use Rattle.mail_lines.specs.Printed.{line_of, list_of, members_of, object_of, one, seconds_value, string_or_null, text_of}
-use Rattle.mail_lines.specs.Values.{address_list, AreInsideValues, AreJsonLines, AreValues, IsJsonLine, IsLineValue, IsMailValue, IsPartValue, date_members, element_value, error_value, front_members, header_value, id_list, ids_members, inner_value, origin_members, parameter_member, part_members, raw_values, single_or_unknown_value, single_value, size_members, text_members, unread_value, values_members, zone_members}
+use Rattle.mail_lines.specs.Values.{address_list, AreInsideValues, AreJsonLines, AreValues, IsJsonLine, IsLineValue, IsMailValue, IsPartValue, body_members, date_members, decoded_members, element_value, error_value, front_members, header_value, id_list, ids_members, inner_value, origin_members, parameter_member, part_members, raw_values, single_or_unknown_value, single_value, size_members, text_members, unread_value, values_members, zone_members}
 use Rattle.mail_lines.proofs.lemmas.Values.{AreGood, IsGood, all_distinct, all_then, flag_good, json_line, list_good, mapped_good, members_then, named_good, null_good, number_good, number_or_null_good, object_good, optional_good, seconds_good, sorted_names, string_good}
 
 -- ---- the object of a part
@@ -70,55 +72,70 @@ text_good d true text charset true = (string_good d text, (string_good d charset
 header_good : (known : Charsets) (d : ℕ) (header : Header) → IsGood (suc d) (header_value known header)
 header_good known d header = list_good d (string (key_text header) ∷ string (lenient_value_in known header.value) ∷ []) (string_good d _, (string_good d _, tt))
 
+decoded_good : (d : ℕ) (content : Option Content) → AreGood d (decoded_members content)
+decoded_good d (Some content) = size_good d content.fault (length content.bytes)
+decoded_good d None = (null_good d, tt)
+
+body_good : (d : ℕ) (known : Charsets) (joins shows : Bool) (ctype : ContentType) (content : Option Content) → AreGood d (body_members known joins shows ctype content)
+body_good d known joins shows ctype (Some content) =
+    let read = text_read known ctype.charset content in text_good d shows (text_shown joins ctype read.text) read.charset read.is_damaged
+body_good d known joins shows ctype None = (null_good d, tt)
+
 module _ (options : Options) where
   -- no name occurs twice, whether the size is known or not, and whatever the members of the text are
-  part_distinct : (start : Option ℕ) (place : Place) (pairs : List (List ℕ × List ℕ)) (fault : Option Refusal) (size : ℕ) (hash headers : Json) (shows : Bool)
+  shown_distinct : (inside : Option (List ℕ)) (start : Option ℕ) (place : Place) (pairs : List (List ℕ × List ℕ)) (fault : Option Refusal) (size : ℕ) (hash headers : Json) (shows : Bool)
       (text charset : List ℕ) (is_damaged : Bool)
-      → all_distinct (keys (members_of (front_members options start place pairs ++ size_members fault size ++ one (codes "sha256") hash ++ one (codes "headers") headers
+      → all_distinct (keys (members_of (front_members options inside start place pairs ++ size_members fault size ++ one (codes "sha256") hash ++ one (codes "headers") headers
       ++ text_members shows text charset is_damaged))) ≡ true
-  part_distinct start place pairs None size hash headers false text charset is_damaged = refl
-  part_distinct start place pairs None size hash headers true text charset true = refl
-  part_distinct start place pairs None size hash headers true text charset false = refl
-  part_distinct start place pairs (Some refusal) size hash headers false text charset is_damaged = refl
-  part_distinct start place pairs (Some refusal) size hash headers true text charset true = refl
-  part_distinct start place pairs (Some refusal) size hash headers true text charset false = refl
+  shown_distinct inside start place pairs None size hash headers false text charset is_damaged = refl
+  shown_distinct inside start place pairs None size hash headers true text charset true = refl
+  shown_distinct inside start place pairs None size hash headers true text charset false = refl
+  shown_distinct inside start place pairs (Some refusal) size hash headers false text charset is_damaged = refl
+  shown_distinct inside start place pairs (Some refusal) size hash headers true text charset true = refl
+  shown_distinct inside start place pairs (Some refusal) size hash headers true text charset false = refl
 
-  part_good : (start : Option ℕ) (place : Place) (pairs : List (List ℕ × List ℕ)) → IsStrictlySortedBy (slice_cmp nat_cmp) (map (λ p. p.0) pairs)
-      → IsGood 3 (object_of (part_members options start place pairs))
-  part_good start place pairs ordered =
+  part_distinct : (inside : Option (List ℕ)) (start : Option ℕ) (place : Place) (pairs : List (List ℕ × List ℕ)) (content : Option Content) (hash headers : Json) (shows : Bool)
+      → all_distinct (keys (members_of (front_members options inside start place pairs ++ decoded_members content ++ one (codes "sha256") hash ++ one (codes "headers") headers
+      ++ body_members options.known options.joins_flowed shows (root place.part).ctype content))) ≡ true
+  part_distinct inside start place pairs None hash headers shows = refl
+  part_distinct inside start place pairs (Some content) hash headers shows =
+      let read = text_read options.known (root place.part).ctype.charset content in
+      shown_distinct inside start place pairs content.fault (length content.bytes) hash headers shows (text_shown options.joins_flowed (root place.part).ctype read.text) read.charset read.is_damaged
+
+  part_good : (inside : Option (List ℕ)) (start : Option ℕ) (place : Place) (pairs : List (List ℕ × List ℕ)) → IsStrictlySortedBy (slice_cmp nat_cmp) (map (λ p. p.0) pairs)
+      → IsGood 3 (object_of (part_members options inside start place pairs))
+  part_good inside start place pairs ordered =
       let node = root place.part in
-      let content = message_content node in
+      let content = content_if options.decodes_bodies node in
       let disposition = shown_as_in options.known node in
-      let read = text_read options.known node.ctype.charset content in
-      let text = text_shown options.joins_flowed node.ctype read.text in
       let shows = is_read place.part disposition in
       let attached = is_attachment place.part disposition in
-      let size = size_members content.fault (length content.bytes) in
-      let hash = string_or_null (hash_of (options.hashes && attached) content.bytes) in
+      let size = decoded_members content in
+      let hash = string_or_null (hash_of (options.hashes && attached) content) in
       let headers = list_of (map (header_value options.known) node.headers) in
-      let sized : AreGood 2 (size ++ one (codes "sha256") hash) = members_then 2 size (one (codes "sha256") hash)
-      (size_good 2 content.fault (length content.bytes)) (optional_good 2 _, tt) in
+      let text = body_members options.known options.joins_flowed shows node.ctype content in
+      let sized : AreGood 2 (size ++ one (codes "sha256") hash) = members_then 2 size (one (codes "sha256") hash) (decoded_good 2 content) (optional_good 2 _, tt) in
       let listed : AreGood 2 (size ++ one (codes "sha256") hash ++ one (codes "headers") headers) =
       members_then 2 (size ++ one (codes "sha256") hash) (one (codes "headers") headers) sized
       (mapped_good 1 (header_value options.known) (header_good options.known 0) node.headers, tt) in
-      let rest : AreGood 2 (size ++ one (codes "sha256") hash ++ one (codes "headers") headers ++ text_members shows text read.charset read.is_damaged) =
-      members_then 2 (size ++ one (codes "sha256") hash ++ one (codes "headers") headers)
-      (text_members shows text read.charset read.is_damaged) listed (text_good 2 shows text read.charset read.is_damaged) in
-      named_good
-      (part_distinct start place pairs content.fault (length content.bytes) hash headers shows text read.charset read.is_damaged) (string_good 2 place.path, (string_good 2 node.ctype.mimetype, (string_good 2 node.ctype.charset, (params_good 1 pairs ordered, (optional_good 2 _, (optional_good 2 _, (flag_good 2 attached, (string_good 2 _, (number_or_null_good 2 _, (number_or_null_good 2 _, (number_good 2 (length node.body), rest)))))))))))
+      let rest : AreGood 2 (size ++ one (codes "sha256") hash ++ one (codes "headers") headers ++ text) =
+      members_then 2 (size ++ one (codes "sha256") hash ++ one (codes "headers") headers) text listed (body_good 2 options.known options.joins_flowed shows node.ctype content) in
+      named_good (part_distinct inside start place pairs content hash headers shows)
+      (string_good 2 place.path, (optional_good 2 inside, (string_good 2 node.ctype.mimetype, (string_good 2 node.ctype.charset, (params_good 1 pairs ordered, (optional_good 2 _, (optional_good 2 _, (optional_good 2 _, (flag_good 2 attached, (string_good 2 _, (number_or_null_good 2 _, (number_or_null_good 2 _, (number_good 2 (length node.body), rest)))))))))))))
 
-  parts_good : (start : Option ℕ) (all : List Place) (values : List Json) → AreValues (IsPartValue options start) all values → AllByRecursion (IsGood 3) values
-  parts_good start [] values is = subst (AllByRecursion (IsGood 3)) (sym is) tt
-  parts_good start (place ∷ others) values is =
+  parts_good : (inside : Option (List ℕ)) (start : Option ℕ) (all : List Place) (values : List Json) → AreValues (IsPartValue options inside start) all values
+      → AllByRecursion (IsGood 3) values
+  parts_good inside start [] values is = subst (AllByRecursion (IsGood 3)) (sym is) tt
+  parts_good inside start (place ∷ others) values is =
       let part = is.2 in
-      let first = subst (IsGood 3) (sym part.2) (part_good start place part.0 part.1.ordered) in
-      subst (AllByRecursion (IsGood 3)) (sym is.4) (first, parts_good start others is.1 is.3)
+      let first = subst (IsGood 3) (sym part.2) (part_good inside start place part.0 part.1.ordered) in
+      subst (AllByRecursion (IsGood 3)) (sym is.4) (first, parts_good inside start others is.1 is.3)
 
   inside_good : (start : ℕ) (mails : List InnerMail) (values : List Json) → AreInsideValues options start mails values → AllByRecursion (IsGood 3) values
   inside_good start [] values is = subst (AllByRecursion (IsGood 3)) (sym is) tt
   inside_good start (inner ∷ mails) values is =
       subst (AllByRecursion (IsGood 3)) (sym is.4)
-      (all_then (IsGood 3) is.0 is.1 (parts_good (place_in inner.start start) (parts_inside options.known inner) is.0 is.2) (inside_good start mails is.1 is.3))
+      (all_then (IsGood 3) is.0 is.1 (parts_good (Some inner.path) (place_in inner.start start) (parts_inside options.known inner) is.0 is.2) (inside_good start mails is.1 is.3))
 
 -- ---- the object of a mail
 
@@ -140,20 +157,20 @@ module _ (known : Charsets) where
   id_list_good needs_at key node = mapped_good 3 (λ text. string text) (string_good 3) (ids_of known needs_at key node)
 
   -- no name occurs twice, whether the zone of a date is known or not
-  zone_distinct : (origin : Origin) (node : Node) (parts inside : Json) (seconds : ℤ) (is_known : Bool)
+  zone_distinct : (origin : Origin) (node : Node) (bounced parts inside : Json) (seconds : ℤ) (is_known : Bool)
       → all_distinct (keys (members_of (origin_members origin ++ values_members known node ++ one (codes "raw") (raw_values node)
-      ++ (one (codes "date") (seconds_value seconds) ++ zone_members is_known) ++ ids_members known node ++ one (codes "parts") parts
-      ++ one (codes "forwarded") inside))) ≡ true
-  zone_distinct origin node parts inside seconds true = refl
-  zone_distinct origin node parts inside seconds false = refl
+      ++ (one (codes "date") (seconds_value seconds) ++ zone_members is_known) ++ ids_members known node ++ one (codes "bounced_id") bounced
+      ++ one (codes "parts") parts ++ one (codes "forwarded") inside))) ≡ true
+  zone_distinct origin node bounced parts inside seconds true = refl
+  zone_distinct origin node bounced parts inside seconds false = refl
 
   -- nor whether there is a date or not
-  mail_distinct : (origin : Origin) (node : Node) (parts inside : Json) (date : Option (Dated Zoned))
+  mail_distinct : (origin : Origin) (node : Node) (bounced parts inside : Json) (date : Option (Dated Zoned))
       → all_distinct (keys (members_of (origin_members origin ++ values_members known node ++ one (codes "raw") (raw_values node) ++ date_members date
-      ++ ids_members known node ++ one (codes "parts") parts ++ one (codes "forwarded") inside))) ≡ true
-  mail_distinct origin node parts inside None = refl
-  mail_distinct origin node parts inside (Some (Ok date)) = zone_distinct origin node parts inside date.0 date.1
-  mail_distinct origin node parts inside (Some (Err fault)) = refl
+      ++ ids_members known node ++ one (codes "bounced_id") bounced ++ one (codes "parts") parts ++ one (codes "forwarded") inside))) ≡ true
+  mail_distinct origin node bounced parts inside None = refl
+  mail_distinct origin node bounced parts inside (Some (Ok date)) = zone_distinct origin node bounced parts inside date.0 date.1
+  mail_distinct origin node bounced parts inside (Some (Err fault)) = refl
 
 raw_good : (d : ℕ) (node : Node) → IsGood (suc d) (raw_values node)
 raw_good d node =
@@ -183,28 +200,30 @@ mail_good options origin mail value is =
     let dated : AreGood 4 (date ++ ids) =
     members_then 4 date ids (date_good 4 _)
     (id_list_good known false (codes "Message-ID") node, (id_list_good known true (codes "In-Reply-To") node, (id_list_good known true (codes "References") node, tt))) in
-    let listed : AreGood 4 (date ++ ids ++ one (codes "parts") parts) =
-    members_then 4 (date ++ ids) (one (codes "parts") parts) dated (
-      list_good 3 (is.0 ++ is.1) (all_then (IsGood 3) is.0 is.1 (parts_good options (Some origin.start) (places mail (placements 0 mail)) is.0 is.2)
+    let bounced = string_or_null (original_message_id known mail) in
+    let noted : AreGood 4 (date ++ ids ++ one (codes "bounced_id") bounced) = members_then 4 (date ++ ids) (one (codes "bounced_id") bounced) dated (optional_good 4 _, tt) in
+    let listed : AreGood 4 (date ++ ids ++ one (codes "bounced_id") bounced ++ one (codes "parts") parts) =
+    members_then 4 (date ++ ids ++ one (codes "bounced_id") bounced) (one (codes "parts") parts) noted (
+      list_good 3 (is.0 ++ is.1) (all_then (IsGood 3) is.0 is.1 (parts_good options None (Some origin.start) (places mail (placements 0 mail)) is.0 is.2)
           (inside_good options origin.start (mails_inside known mail) is.1 is.3)),
       tt,
     ) in
-    let rest : AreGood 4 (date ++ ids ++ one (codes "parts") parts ++ one (codes "forwarded") inside) =
-    members_then 4 (date ++ ids ++ one (codes "parts") parts) (one (codes "forwarded") inside) listed
+    let rest : AreGood 4 (date ++ ids ++ one (codes "bounced_id") bounced ++ one (codes "parts") parts ++ one (codes "forwarded") inside) =
+    members_then 4 (date ++ ids ++ one (codes "bounced_id") bounced ++ one (codes "parts") parts) (one (codes "forwarded") inside) listed
     (mapped_good 3 (inner_value origin.start) (inner_good 2 origin.start) (mails_inside known mail), tt) in
     subst (IsGood 5) (sym is.4)
-    (named_good (mail_distinct known origin node parts inside _) (number_good 4 4, (optional_good 4 origin.file, (number_or_null_good 4 origin.number, (number_good 4 origin.start, (number_good 4 origin.end, (optional_good 4 _, (address_list_good known (codes "From") node, (address_list_good known (codes "To") node, (address_list_good known (codes "Cc") node, (address_list_good known (codes "Bcc") node, (address_list_good known (codes "Reply-To") node, (address_list_good known (codes "Sender") node, (raw_good 3 node, rest))))))))))))))
+    (named_good (mail_distinct known origin node bounced parts inside _) (number_good 4 5, (optional_good 4 origin.file, (number_or_null_good 4 origin.number, (number_good 4 origin.start, (number_good 4 origin.end, (optional_good 4 _, (address_list_good known (codes "From") node, (address_list_good known (codes "To") node, (address_list_good known (codes "Cc") node, (address_list_good known (codes "Bcc") node, (address_list_good known (codes "Reply-To") node, (address_list_good known (codes "Sender") node, (raw_good 3 node, rest))))))))))))))
 
 -- ---- lines
 
 error_is_json : (origin : Origin) (text : List ℕ) → IsJsonLine (error_value origin text) (text_of (error_value origin text))
 error_is_json origin text =
-    json_line 1 (error_value origin text) (omega arith) (named_good refl (number_good 0 4, (optional_good 0 origin.file, (number_or_null_good 0 origin.number, (number_good 0 origin.start, (number_good 0 origin.end, (string_good 0 text, tt)))))))
+    json_line 1 (error_value origin text) (omega arith) (named_good refl (number_good 0 5, (optional_good 0 origin.file, (number_or_null_good 0 origin.number, (number_good 0 origin.start, (number_good 0 origin.end, (string_good 0 text, tt)))))))
 
 pub unread_is_json : (file : Option (List ℕ)) (text : List ℕ)
     → (object : List ℕ) × IsJsonLine (unread_value file text) object × (line_of (unread_value file text) ≡ object ++ codes "\n")
 unread_is_json file text =
-    let good : IsGood 1 (unread_value file text) = named_good refl (number_good 0 4, (optional_good 0 file, (null_good 0, (null_good 0, (null_good 0, (string_good 0 text, tt)))))) in
+    let good : IsGood 1 (unread_value file text) = named_good refl (number_good 0 5, (optional_good 0 file, (null_good 0, (null_good 0, (null_good 0, (string_good 0 text, tt)))))) in
     (text_of (unread_value file text), json_line 1 (unread_value file text) (omega arith) good, refl)
 
 pub line_is_json : (options : Options) (origin : Origin) (mail : Reads Tree) (is_clean : Bool) (text : List ℕ) → IsLineOf options origin mail is_clean text

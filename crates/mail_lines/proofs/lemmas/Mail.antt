@@ -24,9 +24,9 @@ pub date_read : (found : Option (List ℕ)) (date : List ℕ) (read : Zoned) →
 date_read found date read e f = ap (λ (o : Option (List ℕ)). date_members (option_map zoned_date_of o)) e ∙ ap (λ (d : Dated Zoned). date_members (Some d)) f
 
 -- the list of the first parts, of which there is one, and of others
-pub parts_first : (options : Options) (start : Option ℕ) (mail : Tree) (parts others : List Json) → AreValues (IsPartValue options start) (places mail (placements 0 mail)) parts
+pub parts_first : (options : Options) (inside : Option (List ℕ)) (start : Option ℕ) (mail : Tree) (parts others : List Json) → AreValues (IsPartValue options inside start) (places mail (placements 0 mail)) parts
     → listed text_of [] parts ++ after_commas text_of others ≡ listed text_of [] (parts ++ others)
-parts_first options start (tree node forest) parts others is =
+parts_first options inside start (tree node forest) parts others is =
     subst (λ ps. listed text_of [] ps ++ after_commas text_of others ≡ listed text_of [] (ps ++ others)) (sym is.4)
     (append_assoc (text_of is.0) (after_commas text_of is.1) (after_commas text_of others)
     ∙ ap (λ t. text_of is.0 ++ t) (sym (flat_map-append (λ (j : Json). codes "," ++ text_of j) is.1 others)))

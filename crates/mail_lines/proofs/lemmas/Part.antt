@@ -24,9 +24,9 @@ use Rattle.mail_data.specs.Flowed.{flowed_text}
 use Rattle.mail_data.specs.lenient.Content.{Content, message_content}
 use Rattle.mail_data.specs.lenient.Texts.{BodyText, text_read}
 use Rattle.mail_lines.specs.Options.{Options}
-use Rattle.mail_lines.specs.Part.{Lists}
+use Rattle.mail_lines.specs.Part.{Lists, content_if}
 use Rattle.mail_lines.specs.Printed.{Member, listed, one, text_of}
-use Rattle.mail_lines.specs.Values.{AreValues, IsPartValue, body_members, text_members}
+use Rattle.mail_lines.specs.Values.{AreValues, IsPartValue, shown_members, text_members}
 use Rattle.mail_lines.specs.Written.{WritesOne}
 use Rattle.mail_data.specs.PartPlaces.{Place}
 use Rattle.mail_program.specs.declared.fault.Fault.{Fault}
@@ -60,11 +60,11 @@ items_end {A = A} Is All text_all before left done e here =
     (all.0, all.1, sym (append-nil done) ∙ all.2)
 
 -- the same parts at the same offset by other names
-pub found_as : {T : Type 0} (options : Options) (text : List Json → List ℕ) (s t : Option ℕ) (xs ys : List Place) (old new : Option (List ℕ)) (r : Result T Fault) → s ≡ t
-    → xs ≡ ys → WritesOne old new r text (AreValues (IsPartValue options s) xs) → WritesOne old new r text (AreValues (IsPartValue options t) ys)
-found_as options text s t xs ys old new r e f h =
-    subst (λ (z : Option ℕ). WritesOne old new r text (AreValues (IsPartValue options z) ys)) e
-    (subst (λ (zs : List Place). WritesOne old new r text (AreValues (IsPartValue options s) zs)) f h)
+pub found_as : {T : Type 0} (options : Options) (inside : Option (List ℕ)) (text : List Json → List ℕ) (s t : Option ℕ) (xs ys : List Place) (old new : Option (List ℕ)) (r : Result T Fault) → s ≡ t
+    → xs ≡ ys → WritesOne old new r text (AreValues (IsPartValue options inside s) xs) → WritesOne old new r text (AreValues (IsPartValue options inside t) ys)
+found_as options inside text s t xs ys old new r e f h =
+    subst (λ (z : Option ℕ). WritesOne old new r text (AreValues (IsPartValue options inside z) ys)) e
+    (subst (λ (zs : List Place). WritesOne old new r text (AreValues (IsPartValue options inside s) zs)) f h)
 
 -- the members of a text that was read
 abbrev pub read_members : BodyText → List Member
@@ -115,17 +115,23 @@ lists-entries m h = record { ordered = sorted-pairs m.entries h; same = λ name.
 
 -- ---- the text of a body
 
+-- a body that is decoded
+pub content_some : (decodes : Bool) (node : Node) (content : Content) → content_if decodes node ≡ Some content
+    → (content ≡ message_content node) × (content_if decodes node ≡ Some (message_content node))
+content_some true node content e = (cc, refl)
+content_some false node content e = absurd (cc)
+
 pub text-hidden : (known : Charsets) (joins shows : Bool) (ctype : ContentType) (content : Content) → shows ≡ false
-    → one (codes "text") null ≡ body_members known joins shows ctype content
+    → one (codes "text") null ≡ shown_members known joins shows ctype content
 text-hidden known joins shows ctype content e = rw e refl
 
 -- the text of a body that is read as it is
 pub text-shown : (known : Charsets) (shows : Bool) (ctype : ContentType) (content : Content) → shows ≡ true
-    → read_members (text_read known ctype.charset content) ≡ body_members known false shows ctype content
+    → read_members (text_read known ctype.charset content) ≡ shown_members known false shows ctype content
 text-shown known shows ctype content e = rw e refl
 
 -- the text of one whose paragraphs flow
 pub text-flowed : (known : Charsets) (shows : Bool) (node : Node) (read : BodyText) → shows ≡ true → read ≡ flowed_text known node
-    → read_members read ≡ body_members known true shows node.ctype (message_content node)
+    → read_members read ≡ shown_members known true shows node.ctype (message_content node)
 unfolding flowed_text
 text-flowed known shows node read e is = ap read_members is ∙ rw e refl

@@ -1,7 +1,6 @@
-use Rattle.std.proofs.Common.{◌≡◌, ◌++◌, Some, List, [], map, refl, sym, ap, subst, ◌∙◌}
+use Rattle.std.proofs.Common.{◌≡◌, ◌++◌, None, Some, List, [], map, refl, sym, ap, subst, ◌∙◌}
 use Rattle.std.proofs.KnownBytes.{Appends-trans}
 use Rattle.mail_lines.specs.Options.{options_of}
-use Rattle.mailparse.specs.Mail.{root}
 use Rattle.mailparse.specs.Views.{tree_of}
 use Rattle.mail_data.specs.InnerMails.{InnerMail, inner_mails}
 use Rattle.mail_data.specs.InnerMailViews.{inner_view}
@@ -9,11 +8,11 @@ use Rattle.mail_lines.specs.Inside.{mails_inside}
 use Rattle.mail_lines.specs.Origin.{origin_of}
 use Rattle.mailparse.specs.Placement.{Placement}
 use Rattle.mail_data.specs.PartPlaces.{places}
-use Rattle.mail_lines.specs.Printed.{list_of, object_of, text_of}
+use Rattle.mail_lines.specs.Printed.{list_of, object_of, string_or_null, text_of}
 use Rattle.mail_lines.specs.Values.{AreInsideValues, AreValues, IsMailValue, IsPartValue, inner_value, mail_members}
 use Rattle.mail_lines.proofs.lemmas.Fields.{ok_same}
 use Rattle.mail_lines.proofs.lemmas.Mail.{parts_first}
-use Rattle.mail_lines.proofs.lemmas.Members.{◌⨾◌, closed, valued}
+use Rattle.mail_lines.proofs.lemmas.Members.{◌⨾◌, closed, value_renamed, valued}
 use Rattle.mail_lines.proofs.lemmas.Objects.{list_appended, value_as}
 use Rattle.mail_lines.proofs.lemmas.Written.{appends_as, writes_one}
 use Rattle.mail_lines.proofs.mail.write_mail.Goals as goal
@@ -31,15 +30,16 @@ returns g c =
     let parts = c.in_ok-write_parts.ensures in
     let others = c.in_ok-write_inside.ensures in
     let values = parts.0 ++ others.0 in
-    let are = subst (λ (found : List Placement). AreValues (IsPartValue options (Some origin.start)) (places mail found) parts.0) c.requires.placed parts.1 in
-    let all = appends_as _ _ _ _ (parts_first options (Some origin.start) mail parts.0 others.0 are) (Appends-trans _ _ _ _ _ parts.2 others.2) in
+    let are = subst (λ (found : List Placement). AreValues (IsPartValue options None (Some origin.start)) (places mail found) parts.0) c.requires.placed parts.1 in
+    let all = appends_as _ _ _ _ (parts_first options None (Some origin.start) mail parts.0 others.0 are) (Appends-trans _ _ _ _ _ parts.2 others.2) in
     let list = list_appended _ _ _ _ values c.in_ok-write_word-3.ensures all c.in_ok-write_word-4.ensures in
     let forwarded = value_as (λ (ms : List InnerMail). list_of (map (inner_value origin.start) ms)) _ _ _ _ again c.in_ok-write_forwarded.ensures in
+    let bounced = value_renamed string_or_null _ _ c.in_ok-add_optional.ensures (c.as_deref.ensures.value ∙ sym (ok_same _ _ c.in_ok-bounced.ensures)) in
     let own = c.in_ok-write_origin.ensures ⨾ c.in_ok-write_values.ensures ⨾ valued _ _ _ _ _ refl c.in_ok-write_word.ensures c.in_ok-write_raw.ensures in
     let all_members =
-    own ⨾ c.in_ok-write_date.ensures ⨾ c.in_ok-write_ids.ensures ⨾ valued _ _ _ _ _ refl c.in_ok-write_word-2.ensures list
+    own ⨾ c.in_ok-write_date.ensures ⨾ c.in_ok-write_ids.ensures ⨾ bounced ⨾ valued _ _ _ _ _ refl c.in_ok-write_word-2.ensures list
     ⨾ valued _ _ _ _ _ refl c.in_ok-write_word-5.ensures forwarded in
-    let members = mail_members options.known origin (root mail) (mails_inside options.known mail) values in
+    let members = mail_members options.known origin mail (mails_inside options.known mail) values in
     writes_one text_of (IsMailValue options origin mail) _ _ c.write_word-6.result (object_of members) (
       parts.0,
       others.0,

@@ -1,7 +1,8 @@
-use Rattle.std.proofs.Common.{ap, ◌∙◌}
+use Rattle.std.proofs.Common.{sym, ap, ◌∙◌}
 use Rattle.mailparse.specs.Views.{disposition}
 use Rattle.mail_data.specs.Files.{name_in}
 use Rattle.mail_lines.specs.Printed.{string_or_null}
+use Rattle.mail_lines.proofs.lemmas.Fields.{ok_same}
 use Rattle.mail_lines.proofs.lemmas.Members.{◌⨾◌, value_renamed}
 use Rattle.mail_lines.proofs.lemmas.Part.{ctype-out}
 use Rattle.mail_lines.proofs.part.write_disposition.Goals as goal
@@ -10,4 +11,5 @@ pub returns : goal.returns
 returns g c =
     let kind = value_renamed string_or_null _ _ c.in_ok-add_optional.ensures c.disposition_name.ensures in
     let name = value_renamed string_or_null _ _ c.in_ok-add_optional-2.ensures (c.as_deref.ensures.value ∙ c.in_ok-name.ensures ∙ ap (name_in (disposition c.args.disposition.now)) (ctype-out c.args.part.now)) in
-    kind ⨾ name ⨾ c.in_ok-add_flag.ensures
+    let id = value_renamed string_or_null _ _ c.in_ok-add_optional-3.ensures (c.as_deref-2.ensures.value ∙ sym (ok_same _ _ c.in_ok-id.ensures)) in
+    kind ⨾ name ⨾ id ⨾ c.in_ok-add_flag.ensures
