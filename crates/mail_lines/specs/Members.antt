@@ -1,9 +1,10 @@
 -- Members of an object that are written one after another; the program's own form.
-use Rattle.std.specs.Prelude.{ℕ, ◌-◌, Bool, not, ◌&&◌, ◌||◌, ◌==◌, nat_le, nat_lt, List, ◌++◌, length, take, drop, slice_index, Option, Result, Ok, Err, codes, if◌then◌else◌}
+use Rattle.std.specs.Prelude.{ℕ, ◌-◌, Bool, not, ◌&&◌, ◌||◌, ◌==◌, List, ◌++◌, length, take, drop, slice_index, Option, Result, Ok, Err, codes, if◌then◌else◌}
 use Rattle.std.specs.Io.KnownBytes.{Appends}
 use Rattle.std.specs.List.{list_all}
 use Rattle.std.specs.Str.{bytes_eq}
 use Rattle.json.specs.Json.{Json}
+use Rattle.mail_codec.specs.Escapes.{may_need_escape}
 use Rattle.mail_program.specs.declared.fault.Fault.{Fault}
 use Rattle.mail_lines.specs.Printed.{Member, begun, members_after, one}
 use Rattle.mail_lines.specs.Written.{IsEnd}
@@ -12,7 +13,7 @@ use Rattle.mail_lines.specs.declared.json_text.Position.TheVariants.{First, Late
 
 -- a byte that needs no escape in a string
 abbrev pub is_plain_byte : ℕ → Bool
-is_plain_byte c = nat_le 32 c && nat_lt c 127 && (not (c == 34) && not (c == 92))
+is_plain_byte c = not (may_need_escape c)
 
 -- the name in a key, which is the text before the value of a member: `{"name":` for the first one, and then `,"name":`
 abbrev pub name_in : List ℕ → List ℕ

@@ -103,7 +103,7 @@ fn write_group<W: Write, K: KnownCharsets>(
         (K.known known.now) group.now.display_name.now (group_view group.now).members)) }
 {
     let name = group.get_display_name(alloc, known)?;
-    add_text(alloc, out, first_key!("group"), name.as_str())?;
+    add_text(out, first_key!("group"), name.as_str())?;
     write_word(out, key!("members"))?;
     write_list(alloc, out, group.members.as_slice(), known)?;
     write_word(out, "}")
@@ -121,8 +121,8 @@ fn write_mailbox<W: Write, K: KnownCharsets>(
 {
     let name = unless_empty(mailbox.get_display_name(alloc, known)?);
     let address = mailbox.get_address(alloc)?;
-    add_optional(alloc, out, first_key!("name"), name.as_deref())?;
-    add_text(alloc, out, key!("address"), address.as_str())?;
+    add_optional(out, first_key!("name"), name.as_deref())?;
+    add_text(out, key!("address"), address.as_str())?;
     write_word(out, "}")
 }
 
@@ -139,6 +139,6 @@ fn write_unknown<W: Write>(alloc: Global, out: &mut W, unknown: &Unknown<'_>) ->
         (text_of (unknown_value unknown.now.text.now)) }
 {
     let text = decode_latin1(alloc, unknown.text)?;
-    add_text(alloc, out, first_key!("unknown"), text.as_str())?;
+    add_text(out, first_key!("unknown"), text.as_str())?;
     write_word(out, "}")
 }

@@ -115,7 +115,7 @@ fn write_inner<W: Write>(
     ensures { Writes (W.contents out.old) (W.contents out.new) result
         (text_of (inner_value start (inner_view inner.now))) }
 {
-    add_text(alloc, out, first_key!("path"), inner.path.as_str())?;
+    add_text(out, first_key!("path"), inner.path.as_str())?;
     add_number_or_null(out, key!("start"), place_in(inner.start, start))?;
     add_refusal(alloc, out, key!("error"), &inner.error)?;
     write_word(out, "}")
@@ -136,5 +136,5 @@ fn add_refusal<W: Write>(
         Some(error) => refusal_of(alloc, error)?,
         None => None,
     };
-    add_optional(alloc, out, key, text.as_deref())
+    add_optional(out, key, text.as_deref())
 }

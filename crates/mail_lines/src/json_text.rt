@@ -36,11 +36,7 @@ pub(crate) fn write_text<W: Write>(out: &mut W, text: &str) -> Result<(), Fault>
 
 /// Writes a string, or `null` for `None`.
 #[tactic(auto, unfolding(crate::specs::Printed::text_of))]
-pub(crate) fn write_name<W: Write>(
-    alloc: Global,
-    out: &mut W,
-    name: Option<&str>,
-) -> Result<(), Fault>
+pub(crate) fn write_name<W: Write>(out: &mut W, name: Option<&str>) -> Result<(), Fault>
     ensures { Writes (W.contents out.old) (W.contents out.new) result
         (text_of (string_or_null (option_map (λ text. text.now) name.entry))) }
 {

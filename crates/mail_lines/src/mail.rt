@@ -72,7 +72,7 @@ pub fn write_mail<W: Write, K: KnownCharsets>(
     write_date(alloc, out, mail, known)?;
     write_ids(alloc, out, mail, known)?;
     let bounced = original_message_id(alloc, mail, known)?;
-    add_optional(alloc, out, key!("bounced_id"), bounced.as_deref())?;
+    add_optional(out, key!("bounced_id"), bounced.as_deref())?;
     let inside = inner_mails(alloc, mail, known)?;
     let form = Form {
         inside: None,
@@ -119,7 +119,7 @@ fn add_value<W: Write, K: KnownCharsets>(
         (value_or_null (K.known known.now) header.now (root (tree_of mail.now))) }
 {
     let value = value_of(alloc, mail, header, known)?;
-    add_optional(alloc, out, key, value.as_deref())
+    add_optional(out, key, value.as_deref())
 }
 
 /// Writes the object of the raw values of addresses.
@@ -152,7 +152,7 @@ fn add_raw<W: Write>(
     match mail.headers.get_first_header(header) {
         Some(header) => {
             let text = decode_latin1(alloc, header.get_value_raw())?;
-            add_text(alloc, out, key, text.as_str())
+            add_text(out, key, text.as_str())
         }
         None => add_null(out, key),
     }
@@ -169,11 +169,11 @@ fn write_ids<W: Write, K: KnownCharsets>(
         (ids_members (K.known known.now) (root (tree_of mail.now))) }
 {
     let any = ids_of(alloc, mail, "Message-ID", IdRule::Any, known)?;
-    add_texts(alloc, out, key!("message_id"), any.as_slice())?;
+    add_texts(out, key!("message_id"), any.as_slice())?;
     let answered = ids_of(alloc, mail, "In-Reply-To", IdRule::WithAt, known)?;
-    add_texts(alloc, out, key!("in_reply_to"), answered.as_slice())?;
+    add_texts(out, key!("in_reply_to"), answered.as_slice())?;
     let references = ids_of(alloc, mail, "References", IdRule::WithAt, known)?;
-    add_texts(alloc, out, key!("references"), references.as_slice())?;
+    add_texts(out, key!("references"), references.as_slice())?;
     Ok(())
 }
 
@@ -200,7 +200,7 @@ fn write_date<W: Write, K: KnownCharsets>(
         }
         Err(error) => {
             add_null(out, key!("date"))?;
-            add_text(alloc, out, key!("date_error"), date_fault(error))?;
+            add_text(out, key!("date_error"), date_fault(error))?;
             Ok(())
         }
     }

@@ -35,24 +35,18 @@ pub(crate) use key;
 
 /// Adds a member that is a string.
 #[tactic(auto, using(crate::proofs::lemmas::Members::member))]
-pub(crate) fn add_text<W: Write>(
-    alloc: Global,
-    out: &mut W,
-    key: &str,
-    text: &str,
-) -> Result<(), Fault>
+pub(crate) fn add_text<W: Write>(out: &mut W, key: &str, text: &str) -> Result<(), Fault>
     requires { is_key key.now ≡ true }
     ensures { AddsMember (W.contents out.old) (W.contents out.new) result key.now
         (string text.now) }
 {
     write_word(out, key)?;
-    write_text(alloc, out, text)
+    write_text(out, text)
 }
 
 /// Adds a member that is a string, or `null` for `None`.
 #[tactic(auto, using(crate::proofs::lemmas::Members::member))]
 pub(crate) fn add_optional<W: Write>(
-    alloc: Global,
     out: &mut W,
     key: &str,
     text: Option<&str>,
@@ -62,23 +56,18 @@ pub(crate) fn add_optional<W: Write>(
         (string_or_null (option_map (λ text. text.now) text.entry)) }
 {
     write_word(out, key)?;
-    write_name(alloc, out, text)
+    write_name(out, text)
 }
 
 /// Adds a member that is a list of strings.
 #[tactic(auto, using(crate::proofs::lemmas::Members::member))]
-pub(crate) fn add_texts<W: Write>(
-    alloc: Global,
-    out: &mut W,
-    key: &str,
-    texts: &[String],
-) -> Result<(), Fault>
+pub(crate) fn add_texts<W: Write>(out: &mut W, key: &str, texts: &[String]) -> Result<(), Fault>
     requires { is_key key.now ≡ true }
     ensures { AddsMember (W.contents out.old) (W.contents out.new) result key.now
         (strings (map (λ t. string_bytes t) texts.now)) }
 {
     write_word(out, key)?;
-    write_texts(alloc, out, texts)
+    write_texts(out, texts)
 }
 
 /// Adds a member that is a number.

@@ -27,15 +27,11 @@ pub struct Origin<'n> {
 }
 
 /// Writes the first members of the line of a mail.
-pub(crate) fn write_origin<W: Write>(
-    alloc: Global,
-    out: &mut W,
-    origin: &Origin<'_>,
-) -> Result<(), Fault>
+pub(crate) fn write_origin<W: Write>(out: &mut W, origin: &Origin<'_>) -> Result<(), Fault>
     ensures { BeginsMembers (W.contents out.old) (W.contents out.new) result
         (origin_members (origin_of origin.now)) }
 {
-    write_file(alloc, out, origin.file)?;
+    write_file(out, origin.file)?;
     add_number_or_null(out, key!("number"), origin.number)?;
     add_number(out, key!("start"), origin.start)?;
     add_number(out, key!("end"), origin.end)?;
@@ -43,12 +39,12 @@ pub(crate) fn write_origin<W: Write>(
 }
 
 /// Writes the first members of a line: the number of the schema and the name of the file.
-fn write_file<W: Write>(alloc: Global, out: &mut W, file: Option<&str>) -> Result<(), Fault>
+fn write_file<W: Write>(out: &mut W, file: Option<&str>) -> Result<(), Fault>
     ensures { BeginsMembers (W.contents out.old) (W.contents out.new) result
         (file_members (option_map (λ name. name.now) file.entry)) }
 {
     add_number(out, first_key!("schema"), 5)?;
-    add_optional(alloc, out, key!("file"), file)?;
+    add_optional(out, key!("file"), file)?;
     Ok(())
 }
 
@@ -61,8 +57,8 @@ pub(crate) fn write_error<W: Write>(
     ensures { Writes (W.contents out.old) (W.contents out.new) result
         (line_of (error_value (origin_of origin.now) error.now)) }
 {
-    write_origin(alloc, out, origin)?;
-    add_text(alloc, out, key!("error"), error)?;
+    write_origin(out, origin)?;
+    add_text(out, key!("error"), error)?;
     write_word(out, "}\n")
 }
 
@@ -78,7 +74,7 @@ pub(crate) fn write_error<W: Write>(
 /// use mail_lines::write_unread;
 ///
 /// let mut out = Vec::new(alloc);
-/// write_unread(alloc, &mut out, Some("in.eml"), "it is a directory")?;
+/// write_unread(&mut out, Some("in.eml"), "it is a directory")?;
 /// let text = "{\"schema\":5,\"file\":\"in.eml\",\"number\":null,\"start\":null,\"end\":null,";
 /// assert!(rt; out.as_slice().starts_with(text.as_bytes()));
 /// assert!(rt; out.as_slice().ends_with(b"\"error\":\"it is a directory\"}\n"));
@@ -87,10 +83,10 @@ pub fn write_unread<W: Write>(out: &mut W, file: Option<&str>, error: &str) -> R
     ensures { Writes (W.contents out.old) (W.contents out.new) result
         (line_of (unread_value (option_map (λ name. name.now) file.entry) error.now)) }
 {
-    write_file(alloc, out, file)?;
+    write_file(out, file)?;
     add_null(out, key!("number"))?;
     add_null(out, key!("start"))?;
     add_null(out, key!("end"))?;
-    add_text(alloc, out, key!("error"), error)?;
+    add_text(out, key!("error"), error)?;
     write_word(out, "}\n")
 }

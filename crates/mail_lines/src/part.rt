@@ -113,23 +113,23 @@ pub(crate) fn write_part<W: Write, K: KnownCharsets>(
 {
     let part = place.part;
     let (options, known) = (form.options, form.known);
-    add_text(alloc, out, first_key!("path"), place.path.as_str())?;
-    add_optional(alloc, out, key!("inside"), form.inside)?;
-    add_text(alloc, out, key!("type"), part.ctype.mimetype.as_str())?;
-    add_text(alloc, out, key!("charset"), part.ctype.charset.as_str())?;
+    add_text(out, first_key!("path"), place.path.as_str())?;
+    add_optional(out, key!("inside"), form.inside)?;
+    add_text(out, key!("type"), part.ctype.mimetype.as_str())?;
+    add_text(out, key!("charset"), part.ctype.charset.as_str())?;
     write_word(out, key!("params"))?;
-    write_params(alloc, out, &part.ctype)?;
+    write_params(out, &part.ctype)?;
     let disposition = part.get_content_disposition_in(alloc, known)?;
     let attached = is_attachment(alloc, part, &disposition)?;
     write_disposition(alloc, out, part, &disposition, attached, known)?;
     let body = lenient_body(alloc, part)?;
-    add_text(alloc, out, key!("encoding"), encoding_name(&body))?;
+    add_text(out, key!("encoding"), encoding_name(&body))?;
     write_bounds(out, place, form.start)?;
     add_number(out, key!("size"), body.get_raw().len())?;
     let content = content_if(alloc, &body, options.decodes_bodies)?;
     write_decoded_size(alloc, out, &content)?;
     let hash = hash_of(alloc, &content, is_hashed(options.hashes, attached))?;
-    add_optional(alloc, out, key!("sha256"), hash.as_deref())?;
+    add_optional(out, key!("sha256"), hash.as_deref())?;
     write_word(out, key!("headers"))?;
     write_list(alloc, out, part.headers.as_slice(), known)?;
     let shown = is_read(part, &disposition);
@@ -194,11 +194,7 @@ fn is_read(part: &ParsedMail<'_>, disposition: &ParsedContentDisposition) -> boo
 }
 
 /// Writes the object of the parameters of a type.
-fn write_params<W: Write>(
-    alloc: Global,
-    out: &mut W,
-    ctype: &ParsedContentType,
-) -> Result<(), Fault>
+fn write_params<W: Write>(out: &mut W, ctype: &ParsedContentType) -> Result<(), Fault>
     ensures { WritesOne (W.contents out.old) (W.contents out.new) result
         (λ pairs. text_of (object_of (map parameter_member pairs)))
         (Lists (content_type ctype.now).params) }
@@ -256,13 +252,12 @@ fn write_disposition<W: Write, K: KnownCharsets>(
     let name = named_file(alloc, disposition, &part.ctype)?;
     let id = content_id(alloc, part, known)?;
     add_optional(
-        alloc,
         out,
         key!("disposition"),
         disposition_name(part, disposition),
     )?;
-    add_optional(alloc, out, key!("file_name"), name.as_deref())?;
-    add_optional(alloc, out, key!("content_id"), id.as_deref())?;
+    add_optional(out, key!("file_name"), name.as_deref())?;
+    add_optional(out, key!("content_id"), id.as_deref())?;
     add_flag(out, key!("attachment"), is_attachment)?;
     Ok(())
 }
@@ -294,7 +289,7 @@ fn write_size<W: Write>(alloc: Global, out: &mut W, content: &Content<'_>) -> Re
         Some(fault) => {
             let text = refusal_of(alloc, &MailParseError::from(fault))?;
             add_null(out, key!("decoded_size"))?;
-            add_optional(alloc, out, key!("error"), text.as_deref())?;
+            add_optional(out, key!("error"), text.as_deref())?;
             Ok(())
         }
     }
@@ -359,8 +354,8 @@ fn write_flowed<W: Write, K: KnownCharsets>(
         return add_null(out, key!("text"));
     }
     let read = flowed_text(alloc, part, known)?;
-    add_text(alloc, out, key!("text"), read.text.as_str())?;
-    add_text(alloc, out, key!("text_charset"), read.charset.as_str())?;
+    add_text(out, key!("text"), read.text.as_str())?;
+    add_text(out, key!("text_charset"), read.charset.as_str())?;
     write_damaged(out, read.is_damaged)?;
     Ok(())
 }
@@ -384,13 +379,8 @@ fn write_body_text<W: Write, K: KnownCharsets>(
     }
     let bytes = content.bytes.as_slice();
     let text = lenient_text(alloc, bytes, ctype, known)?;
-    add_text(alloc, out, key!("text"), text.as_str())?;
-    add_text(
-        alloc,
-        out,
-        key!("text_charset"),
-        charset_used(bytes, ctype, known),
-    )?;
+    add_text(out, key!("text"), text.as_str())?;
+    add_text(out, key!("text_charset"), charset_used(bytes, ctype, known))?;
     write_damaged(out, content.fault.is_some())?;
     Ok(())
 }
@@ -419,9 +409,9 @@ impl ListItem for MailHeader<'_> {
         let key = self.get_key(alloc)?;
         let value = self.get_value_in(alloc, known)?;
         write_word(out, "[")?;
-        write_text(alloc, out, key.as_str())?;
+        write_text(out, key.as_str())?;
         write_word(out, ",")?;
-        write_text(alloc, out, value.as_str())?;
+        write_text(out, value.as_str())?;
         write_word(out, "]")
     }
 }

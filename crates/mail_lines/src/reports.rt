@@ -65,12 +65,11 @@ impl ListItem for Recipient {
     ) -> Result<(), Fault> {
         let final_recipient = self.final_recipient.as_deref();
         let original_recipient = self.original_recipient.as_deref();
-        add_optional(alloc, out, first_key!("final_recipient"), final_recipient)?;
-        add_optional(alloc, out, key!("original_recipient"), original_recipient)?;
-        add_optional(alloc, out, key!("action"), self.action.as_deref())?;
-        add_optional(alloc, out, key!("status"), self.status.as_deref())?;
+        add_optional(out, first_key!("final_recipient"), final_recipient)?;
+        add_optional(out, key!("original_recipient"), original_recipient)?;
+        add_optional(out, key!("action"), self.action.as_deref())?;
+        add_optional(out, key!("status"), self.status.as_deref())?;
         add_optional(
-            alloc,
             out,
             key!("diagnostic_code"),
             self.diagnostic_code.as_deref(),

@@ -2,16 +2,14 @@
 use Rattle.std.proofs.Common.{◌≡◌, ℕ, Bool, true, not, List, [], ◌∷◌, ◌++◌, refl, ap, ap₂, ◌∙◌}
 use Rattle.std.proofs.lemmas.Bool.{and_parts, not-true}
 use Rattle.std.specs.List.{list_all}
-use Rattle.std.specs.Str.{is_utf8}
-use Rattle.json.proofs.Printed.Strings.{escape_byte_plain}
-use Rattle.json.specs.Print.{escape, quoted}
+use Rattle.mail_codec.specs.Escapes.{may_need_escape}
+use Rattle.mail_lines.specs.JsonText.{escaped, escaped_after, json_text}
 use Rattle.mail_lines.specs.Members.{is_plain_byte}
-use Rattle.mail_lines.specs.JsonText.{is_hidden, character_text, escaped, json_text, utf8_text}
-use Rattle.mail_lines.proofs.lemmas.JsonText.{character_plain}
+use Rattle.mail_lines.proofs.lemmas.Escaped.{plain_text}
 
 -- no byte of a name needs an escape
 abbrev pub are_plain : List ℕ → Bool
-are_plain name = list_all (λ b. not (may_need_escape b)) name
+are_plain name = list_all is_plain_byte name
 
 escaped_plain : (name : List ℕ) → are_plain name ≡ true → escaped name ≡ name
 unfolding escaped_after
