@@ -1,0 +1,66 @@
+-- What is shown of a mail; the program's own form.
+use Rattle.std.specs.Prelude.{ℕ, List, [], ◌∷◌, ◌++◌, Option, Some, None, is_some, length, flat_map, map, codes, if◌then◌else◌}
+use Rattle.std.specs.Str.Lines.{lines}
+use Rattle.mail_codec.specs.Charset.{Charsets}
+use Rattle.mailparse.specs.Mail.{Node, Tree, root}
+use Rattle.mailparse.specs.Map.{all_values_in}
+use Rattle.mailparse.specs.Placement.{placements}
+use Rattle.mail_data.specs.Files.{file_name, is_leaf}
+use Rattle.mail_data.specs.PartPlaces.{Place, places}
+use Rattle.mail_data.specs.Texts.{text_part}
+use Rattle.mail_data.specs.lenient.Content.{message_content}
+use Rattle.mail_data.specs.lenient.Texts.{body_text}
+use Rattle.mail_view.specs.Addresses.{address_lines}
+use Rattle.mail_view.specs.Line.{Line, empty, line, lines_text}
+use Rattle.mail_view.specs.Row.{row, size_text}
+use Rattle.mail_view.specs.declared.line.Prefix.{Prefix}
+use Rattle.mail_view.specs.declared.line.Prefix.TheVariants.{From, ReplyTo, To, Cc, Date, Subject, Text, Part}
+
+-- a line of the text of a mail
+abbrev pub text_line : List ℕ → Line
+text_line [] = empty
+text_line (b ∷ bs) = line Text (b ∷ bs)
+
+-- the size of the decoded body of a part, and whether it is damaged
+abbrev pub part_size : Node → List ℕ
+part_size node = let content = message_content node in size_text (length content.bytes) (is_some content.fault)
+
+-- Under the charsets that are known.
+module _ (known : Charsets) where
+  -- a line for the value of each header with this name
+  abbrev pub value_lines : Prefix → List ℕ → Node → List Line
+  value_lines prefix key node = map (line prefix) (all_values_in known key node.headers)
+
+  -- the lines of the headers
+  abbrev pub header_lines : Node → List Line
+  header_lines node =
+      address_lines known From (codes "From") node
+      ++ (address_lines known ReplyTo (codes "Reply-To") node
+      ++ (address_lines known To (codes "To") node
+      ++ (address_lines known Cc (codes "Cc") node
+      ++ (value_lines Date (codes "Date") node ++ value_lines Subject (codes "Subject") node))))
+
+  -- the lines of the text in a part, after an empty line
+  abbrev pub body_lines : Option Tree → List Line
+  body_lines None = []
+  body_lines (Some part) = empty ∷ map text_line (lines (body_text known (root part)).text)
+
+  -- the description of a part
+  abbrev pub part_text : Place → List ℕ
+  part_text place =
+      let node = root place.part in
+      row place.path node.ctype.mimetype (part_size node) (file_name known node)
+
+  -- the line of a part, if it has no parts of its own
+  abbrev pub part_lines : Place → List Line
+  part_lines place = if is_leaf place.part then line Part (part_text place) ∷ [] else []
+
+  -- the lines of a mail: its headers, its text, and its parts
+  abbrev pub view_lines : Tree → List Line
+  view_lines mail =
+      header_lines (root mail) ++ (body_lines (text_part known mail)
+      ++ (empty ∷ flat_map part_lines (places mail (placements 0 mail))))
+
+  -- the text of a mail as it is shown
+  unfoldable pub view_text : Tree → List ℕ
+  view_text mail = lines_text (view_lines mail)

@@ -1,0 +1,62 @@
+//! The headers that are shown.
+ghost use Rattle.std.specs.Prelude.{◌≡◌, ◌++◌, map, string_bytes, IfErr, OnOk};
+ghost use Rattle.mailparse.specs.Mail.{root};
+ghost use Rattle.mailparse.specs.Outcome.{IsMemory};
+ghost use Rattle.mailparse.specs.Views.{tree_of};
+ghost use Rattle.mail_view.specs.Line.{line, lines_text};
+ghost use Rattle.mail_view.specs.View.{header_lines, value_lines};
+
+use crate::addresses::push_addresses;
+use crate::line::{Prefix, push_line};
+use mailparse::{KnownCharsets, MailHeaderMap, MailParseError, ParsedMail};
+use std::alloc::{AllocError, Global};
+
+/// Appends the lines of the headers.
+#[tactic(auto, using(crate::proofs::lemmas::Lines::lines_append))]
+pub(crate) fn push_headers<K: KnownCharsets>(
+    alloc: Global,
+    shown: &mut String,
+    mail: &ParsedMail<'_>,
+    known: &K,
+) -> Result<(), MailParseError>
+    ensures written { OnOk result (string_bytes shown.new ≡ string_bytes shown.old
+        ++ lines_text (header_lines (K.known known.now) (root (tree_of mail.now)))) }
+    ensures only_memory { IfErr result IsMemory }
+{
+    push_addresses(alloc, shown, Prefix::From, mail, "From", known)?;
+    push_addresses(alloc, shown, Prefix::ReplyTo, mail, "Reply-To", known)?;
+    push_addresses(alloc, shown, Prefix::To, mail, "To", known)?;
+    push_addresses(alloc, shown, Prefix::Cc, mail, "Cc", known)?;
+    push_values_of(alloc, shown, Prefix::Date, mail, "Date", known)?;
+    push_values_of(alloc, shown, Prefix::Subject, mail, "Subject", known)?;
+    Ok(())
+}
+
+/// Appends a line for each header with this name.
+fn push_values_of<K: KnownCharsets>(
+    alloc: Global,
+    shown: &mut String,
+    prefix: Prefix,
+    mail: &ParsedMail<'_>,
+    key: &str,
+    known: &K,
+) -> Result<(), MailParseError>
+    ensures written { OnOk result (string_bytes shown.new ≡ string_bytes shown.old
+        ++ lines_text (value_lines (K.known known.now) prefix key.now (root (tree_of mail.now)))) }
+    ensures only_memory { IfErr result IsMemory }
+{
+    let values = mail.headers.get_all_values_in(alloc, key, known)?;
+    push_values(shown, prefix, values.as_slice())?;
+    Ok(())
+}
+
+/// Appends a line for each value.
+fn push_values(shown: &mut String, prefix: Prefix, values: &[String]) -> Result<(), AllocError>
+    ensures { OnOk result (string_bytes shown.new ≡ string_bytes shown.old
+        ++ lines_text (map (line prefix) (map (λ v. string_bytes v) values.now))) }
+{
+    for value in values {
+        push_line(shown, prefix, value.as_str())?;
+    }
+    Ok(())
+}
