@@ -1,0 +1,159 @@
+"""What `rocktray show` writes, beside what Python's email package reads of the same mails.
+
+The mails are those of samples/, made ones whose values try to move the cursor, to end a line or to look like another
+line, and hostile ones. Which characters are hidden is taken from Python's unicodedata.
+"""
+import email
+import re
+import unicodedata
+
+import pytest
+
+from support import FROM, SAMPLES, multipart, program, run
+
+from by_email import addresses_of, body_of, file_name, has_parts, parts_of, text_of, value_of
+
+ADDRESSES = {"from": "From:     ", "reply-to": "Reply-To: ", "to": "To:       ", "cc": "Cc:       "}
+VALUES = {"date": "Date:     ", "subject": "Subject:  "}
+PREFIXES = (*ADDRESSES.values(), *VALUES.values(), "Part:     ", "Refused:  ", "-- ", "  ")
+SPECIALS = re.compile(r'[()<>\[\]:;@\\,"]')
+DIRECTIONS = {"LRE", "RLE", "LRO", "RLO", "PDF", "LRI", "RLI", "FSI", "PDI"}
+# the marks, which have the class of a letter or a number
+MARKS = {"ARABIC LETTER MARK", "LEFT-TO-RIGHT MARK", "RIGHT-TO-LEFT MARK"}
+SPACE = "Header cannot start with a space; it is likely an overhanging line from a previous header"
+
+
+def is_hidden(character):
+    """Whether a character is not shown as itself."""
+    return (
+        unicodedata.category(character) in ("Cc", "Zl", "Zp")
+        or unicodedata.bidirectional(character) in DIRECTIONS
+        or unicodedata.name(character, "") in MARKS
+    )
+
+
+def shown(text):
+    """A text as it is shown."""
+    return "".join("    " if c == "\t" else "\ufffd" if is_hidden(c) else c for c in text)
+
+
+def name_text(name):
+    """A name, in quotes if it has one of the specials."""
+    return '"' + re.sub(r'(["\\])', r"\\\1", name) + '"' if SPECIALS.search(name) else name
+
+
+def address_text(found):
+    """The texts of an element of a list of addresses."""
+    if "group" in found:
+        return [name_text(found["group"]) + ":"] + [text for member in found["members"] for text in address_text(member)]
+    if "unknown" in found:
+        return [name_text(found["unknown"])]
+    return [f"{name_text(found['name'])} <{found['address']}>" if found["name"] else found["address"]]
+
+
+def read_text(mail):
+    """The text of a mail: the first plain text that is no file, otherwise the first HTML text, or None."""
+    for kind in ("text/plain", "text/html"):
+        for may_have_name in (False, True):
+            for _, part in parts_of(mail):
+                named = file_name(part) is not None and not may_have_name
+                if part.get_content_type() == kind and not named and part.get_content_disposition() != "attachment":
+                    return text_of(part, body_of(part))["text"]
+    return None
+
+
+def view(raw):
+    """What is shown of a mail."""
+    mail = email.message_from_bytes(raw)
+    lines = []
+    for key, prefix in ADDRESSES.items():
+        lines += [prefix + shown(text) for found in addresses_of(mail, key) for text in address_text(found)]
+    lines += [prefix + shown(value_of(mail, key)) for key, prefix in VALUES.items() if mail[key] is not None]
+    text = read_text(mail)
+    if text is not None:
+        body = text.removesuffix("\n").split("\n") if text else []
+        lines += [""] + ["  " + shown(line.removesuffix("\r")) if line.removesuffix("\r") else "" for line in body]
+    lines.append("")
+    for path, part in parts_of(mail):
+        if not has_parts(part):
+            size, name = f"{len(body_of(part))} bytes", file_name(part)
+            row = f"{path:4}  {part.get_content_type():24}  {size}"
+            lines.append("Part:     " + (shown(f"{row:46}  {name}") if name else row))
+    return "".join(line + "\n" for line in lines)
+
+
+def show(*words, data=b""):
+    """The exit status and the output of the program."""
+    ended = run([program("rocktray"), "show", *words], data)
+    return ended.returncode, ended.stdout.decode("utf-8")
+
+
+def is_safe(output):
+    """Whether no character is hidden, and each line begins as one of the program does."""
+    lines = output.removesuffix("\n").split("\n")
+    return not any(is_hidden(c) for line in lines for c in line) and all(not it or it.startswith(PREFIXES) for it in lines)
+
+
+@pytest.mark.parametrize("path", [path for path in SAMPLES if path.stem not in ("bounce", "digest", "parts")], ids=lambda it: it.stem)
+def test_samples(path):
+    """Each sample that Python reads as this project does: it enters forwarded mails and keeps text around parts."""
+    assert show(path) == (0, view(path.read_bytes()))
+
+
+# a value that would clear the screen, forge a line, and turn the direction of writing
+EVIL = "a\x1b[2J\x9b1m\x00\r\n\x7f\u2028From: b\u202egnp.exe\u2066\u061c\u200f\x85\tc"
+
+
+def encoded(text):
+    """A text as an encoded word."""
+    return f"=?utf-8?q?{''.join(f'={byte:02X}' for byte in text.encode())}?="
+
+
+# Python accepts no line end in a name
+NAME = encoded(EVIL.replace("\r\n", ""))
+TEXT = f"Subject: forged\n\n{EVIL}\n-- mail 2 --\nPart:     9\n\nend"
+MADE = {
+    "values": f"From: {NAME} <a@example.org>\nTo: {NAME}: b@example.org;\nSubject: {encoded(EVIL)}\n\n".encode(),
+    "text": b"Content-Type: text/plain; charset=utf-8\nContent-Transfer-Encoding: 8bit\n\n" + TEXT.encode(),
+    "name that is an address": b"From: =?utf-8?q?Boss_=3Cboss=40example.org=3E?= <eve@example.org>\n\n",
+    "two senders": b"From: a@example.org\nFrom: b@example.org\nReply-To: c@example.org\nCc: d@example.org\n\nHi\n",
+    "file name": multipart(
+        b"b", b"Content-Disposition: attachment; filename*=utf-8''a%0APart%3A%1B%E2%80%AEgnp.exe\n\nx", b"\nHi"
+    ),
+}
+
+
+@pytest.mark.parametrize("name", MADE)
+def test_made(name):
+    """Values that try to move the cursor or to forge a line."""
+    status, output = show("-", data=MADE[name])
+    assert status == 0 and is_safe(output) and output == view(MADE[name])
+
+
+def test_hostile(hostile):
+    """No mail moves the cursor or forges a line, whatever it contains."""
+    for paths in (hostile[at : at + 500] for at in range(0, len(hostile), 500)):
+        status, output = show(*paths)
+        assert status in (0, 3) and is_safe(output)
+
+
+def test_refused():
+    """Why a mail is refused is in the output, and the status says so."""
+    assert show("-", data=b" x") == (3, f"Refused:  {SPACE}\n")
+
+
+def test_mailbox():
+    """The mails of a mailbox, each after its number; one that is refused is reported."""
+    one = b"Subject: one\n\n-- mail 3 --\n"
+    status, output = show("-", data=FROM + one + b"\n" + FROM + b" x\n")
+    assert (status, output) == (3, f"-- mail 1 --\n{view(one)}\n-- mail 2 --\nRefused:  {SPACE}\n\n")
+
+
+def test_files(tmp_path):
+    """Several files, each after its name, which is escaped too."""
+    names = ["a.eml", "b\x1b[2J\n-- mail 1 --.eml"]
+    for name in names:
+        (tmp_path / name).write_bytes(b"Subject: x\n\nHi\n")
+    status, output = show(*(tmp_path / name for name in names))
+    titles = [f"-- {shown(str(tmp_path / name))} --\n" for name in names]
+    assert status == 0 and is_safe(output) and re.findall("(?m)^-- .* --\n", output) == titles
