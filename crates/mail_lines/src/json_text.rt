@@ -105,12 +105,25 @@ pub(crate) fn write_number<W: Write>(out: &mut W, number: usize) -> Result<(), F
 }
 
 /// Returns why something is refused, as `Display` shows it, or `None` for an error that refuses
-/// nothing. Fails if it runs out of memory, and for `MailParseError::Memory`.
+/// nothing.
+///
+/// Allocates the text.
+///
+/// # Errors
+///
+/// If it runs out of memory, and for `MailParseError::Memory`.
+///
+/// # Examples
+///
+/// ```rust
+/// use mail_lines::refusal_of;
+/// use mailparse::MailParseError;
+///
+/// let text = refusal_of(alloc, &MailParseError::Generic("no mail"))?;
+/// assert_eq!(rt; text.as_deref(), Some("no mail"));
+/// ```
 #[tactic(auto, unfolding(crate::specs::JsonText::refusal_text))]
-pub(crate) fn refusal_of(
-    alloc: Global,
-    error: &MailParseError,
-) -> Result<Option<String>, AllocError>
+pub fn refusal_of(alloc: Global, error: &MailParseError) -> Result<Option<String>, AllocError>
     ensures read { IfOk result (λ text.
         text_found text ≡ option_map refusal_text (refusal_of error.now)) }
     ensures passed_on { IfOk result (λ text. IsMemory error.now → ⊥) }

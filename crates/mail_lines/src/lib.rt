@@ -22,10 +22,11 @@ mod stream;
 mod written;
 
 pub use json_lines::write_single;
+pub use json_text::refusal_of;
 pub use mail::write_mail;
 pub use options::{InputKind, LineOptions, Source};
 pub use origin::{Origin, write_unread};
 pub use reports::write_recipients;
 pub use selection::{NextMail, Selection};
-pub use stream::{Unwatched, Watch, write_input};
+pub use stream::{Unwatched, Wanted, Watch, first_wanted, is_mailbox, read_until, write_input};
 pub use written::Written;

@@ -17,7 +17,18 @@ pub enum InputKind {
 
 impl InputKind {
     /// Returns the format in which an input of this kind is read if it is a mailbox.
-    pub(crate) fn format(self) -> Format
+    ///
+    /// Does not allocate.
+    ///
+    /// # Examples
+    ///
+    /// ```rust
+    /// use mail_data::mailbox::Format;
+    /// use mail_lines::InputKind;
+    ///
+    /// assert!(rt; matches!(InputKind::Either.format(), Format::Plain));
+    /// ```
+    pub fn format(self) -> Format
         ensures { result ≡ format_of self }
     {
         match self {

@@ -22,8 +22,8 @@ use std::alloc::Global;
 use std::io::{self, ErrorKind, Read, Write};
 
 /// How much of an input is read before lines are written.
-#[derive(Clone, Copy)]
-pub(crate) enum Wanted {
+#[derive(Clone, Copy, Debug)]
+pub enum Wanted {
     /// Its first line, which shows whether it is a mailbox.
     FirstLine,
     /// The text before the first separator of a mailbox.
@@ -162,8 +162,20 @@ fn write_whole<W: Write, K: KnownCharsets>(
     }
 }
 
-/// Returns whether an input of this kind that begins with these bytes is a mailbox.
-pub(crate) fn is_mailbox(kind: InputKind, input: &[u8]) -> bool
+/// Returns whether an input of this kind that begins with these bytes is a mailbox (RFC 4155,
+/// appendix A).
+///
+/// Does not allocate.
+///
+/// # Examples
+///
+/// ```rust
+/// use mail_lines::{InputKind, is_mailbox};
+///
+/// assert!(rt; is_mailbox(InputKind::Either, b"From a Fri Jul  8 12:08:34 2011\n\none\n"));
+/// assert!(rt; !is_mailbox(InputKind::Mail, b"From a Fri Jul  8 12:08:34 2011\n\none\n"));
+/// ```
+pub fn is_mailbox(kind: InputKind, input: &[u8]) -> bool
     ensures { result ≡ is_mailbox kind input.now }
 {
     match kind {
@@ -173,8 +185,19 @@ pub(crate) fn is_mailbox(kind: InputKind, input: &[u8]) -> bool
     }
 }
 
-/// Returns how much of an input of this kind is read before lines are written.
-fn first_wanted(kind: InputKind) -> Wanted
+/// Returns how much of an input of this kind is read before lines are written: what shows whether
+/// it is a mailbox, and then the text before the first separator.
+///
+/// Does not allocate.
+///
+/// # Examples
+///
+/// ```rust
+/// use mail_lines::{InputKind, Wanted, first_wanted};
+///
+/// assert!(rt; matches!(first_wanted(InputKind::Either), Wanted::FirstLine));
+/// ```
+pub fn first_wanted(kind: InputKind) -> Wanted
     ensures { result ≡ first_wanted kind }
 {
     match kind {
@@ -187,7 +210,26 @@ fn first_wanted(kind: InputKind) -> Wanted
 /// Appends what the reader has left until the bytes contain what is wanted, or to its end. Returns
 /// whether it is at its end. The bytes are doubled from one look to the next, so the time is
 /// linear.
-pub(crate) fn read_until<R: Read>(
+///
+/// Allocates the bytes.
+///
+/// # Errors
+///
+/// `Fault::Input` if a read fails, and `Fault::Mail` with `MailParseError::Memory` if it runs out
+/// of memory.
+///
+/// # Examples
+///
+/// ```rust
+/// use mail_lines::{Wanted, read_until};
+///
+/// let mut reader = b"Subject: Hi\n\nHello\n".as_slice();
+/// let mut bytes = Vec::new(alloc);
+/// assert!(rt; !read_until(alloc, &mut bytes, &mut reader, Wanted::FirstLine)?);
+/// assert!(rt; read_until(alloc, &mut bytes, &mut reader, Wanted::End)?);
+/// assert_eq!(rt; bytes.as_slice(), b"Subject: Hi\n\nHello\n".as_slice());
+/// ```
+pub fn read_until<R: Read>(
     alloc: Global,
     bytes: &mut Vec<u8>,
     reader: &mut R,
