@@ -1,4 +1,4 @@
-"""The files that mail_extract saves, and its lines, beside what Python's email and hashlib make of the mails.
+"""The files that `rocktray extract` saves, and its lines, beside what Python's email and hashlib make of the mails.
 
 The mails are those of samples/, except parts.eml, whose line `--bX` is no delimiter for Python, and made ones.
 """
@@ -25,6 +25,11 @@ TYPES = (
     "application/zip", "audio/mpeg", "image/gif", "image/jpeg", "image/png", "image/svg+xml", "image/tiff", "text/csv",
     "text/html", "text/plain", "text/x-unknown", "video/mp4",
 )
+
+
+def extract():
+    """The command that saves files."""
+    return [program("rocktray"), "extract"]
 
 
 def sized():
@@ -93,7 +98,7 @@ def saved(mails, tmp_path_factory):
     """The directory into which all mails are saved, twice, and for each run its options and lines."""
     into, runs = tmp_path_factory.mktemp("saved"), []
     for options in (["--hash"], []):
-        ended = run([program("mail_extract"), "--into", into, *options, *mails])
+        ended = run([*extract(), "--into", into, *options, *mails])
         assert (ended.returncode, ended.stderr) == (0, b"")
         runs.append((options, [json.loads(line) for line in ended.stdout.splitlines()]))
     return into, runs
@@ -147,10 +152,75 @@ def test_files_of_one_name(tmp_path):
         b'Content-Type: message/rfc822\nContent-Disposition: attachment; filename=".b"\n\n'
         b"Content-Type: image/png\n\nthree",
     ))
-    lines = [json.loads(line) for line in run([program("mail_extract"), "--into", into, "--hash", mail]).stdout.splitlines()]
+    lines = [json.loads(line) for line in run([*extract(), "--into", into, "--hash", mail]).stdout.splitlines()]
     found = [(line["path"], line["saved"], (into / line["saved"]).read_bytes(), line["error"] is not None) for line in lines]
     assert found == [
         ("1", "_.._a.txt", b"one", False), ("2", "_.._a-2.txt", b"two", True),
         ("3", "_.b", b"Content-Type: image/png\n\nthree", False), ("3.1", "unnamed.png", b"three", False),
     ]
     assert [line["sha256"] for line in lines] == [hashlib.sha256(body).hexdigest() for _, _, body, _ in found]
+
+
+def parted():
+    """A mail with files of several types and names, two of which have the same bytes."""
+    return multipart(
+        b"b", b"\nText", b"Content-Type: image/png; name=A.PNG\n\npng", b"Content-Type: image/jpeg; name=b.jpg\n\njpeg",
+        b"Content-Type: application/pdf; name=report.pdf\n\npdf", b"Content-Type: application/pdf; name=report.pdf.exe\n\npng",
+        b"Content-Type: message/rfc822\n\nContent-Type: image/png; name=inner.png\n\npng",
+    )
+
+
+# options, and the paths that they keep: those that fnmatch, without its brackets and question marks, keeps
+CHOICES = (
+    ([], ["2", "3", "4", "5", "6", "6.1"]),
+    (["--only", "3"], ["3"]),
+    (["--only", "6.1"], ["6.1"]),
+    (["--only", "1"], []),
+    (["--type", "image/*"], ["2", "3", "6.1"]),
+    (["--type", "IMAGE/PNG"], ["2", "6.1"]),
+    (["--type", "image"], []),
+    (["--name", "*.png"], ["2", "6.1"]),
+    (["--name", "*.pdf"], ["4"]),
+    (["--name", "report*"], ["4", "5"]),
+    (["--name", "*p*o*t*.*"], ["4", "5"]),
+    (["--name", "*"], ["2", "3", "4", "5", "6", "6.1"]),
+    (["--name", "?.png"], []),
+    (["--name", "[a].png"], []),
+    (["--type", "image/*", "--name", "*.png"], ["2", "6.1"]),
+    (["--type", "image/*", "--name", "*.png", "--only", "2"], ["2"]),
+)
+
+
+@pytest.mark.parametrize(("options", "paths"), CHOICES, ids=lambda value: " ".join(value) or "none")
+def test_choices(options, paths, tmp_path):
+    """A choice keeps those of the files that agree with it, in order, and they are saved as without it."""
+    mail = tmp_path / "parted.eml"
+    mail.write_bytes(parted())
+    bodies = dict(saved_files(parted()))
+    into = tmp_path / "into"
+    into.mkdir()
+    ended = run([*extract(), "--into", into, *options, mail])
+    lines = [json.loads(line) for line in ended.stdout.splitlines()]
+    assert (ended.returncode, [line["path"] for line in lines]) == (0, paths)
+    assert [(into / line["saved"]).read_bytes() for line in lines] == [bodies[path] for path in paths]
+    assert len(list(into.iterdir())) == len(paths)
+
+
+def test_names_by_hash(tmp_path):
+    """Each content is saved once under its SHA-256, in two runs as well, unless that name has other bytes."""
+    mail, into = tmp_path / "parted.eml", tmp_path / "into"
+    mail.write_bytes(parted())
+    into.mkdir()
+    taken = hashlib.sha256(b"jpeg").hexdigest()
+    (into / taken).write_bytes(b"other bytes")
+    bodies = dict(saved_files(parted()))
+    names = {path: hashlib.sha256(body).hexdigest() for path, body in bodies.items()}
+    for number in (2, 3):
+        ended = run([*extract(), "--into", into, "--by-hash", mail])
+        lines = [json.loads(line) for line in ended.stdout.splitlines()]
+        assert (ended.returncode, [line["path"] for line in lines]) == (0, list(bodies))
+        for line in lines:
+            name = names[line["path"]]
+            assert line["saved"] == (name if name != taken else f"{name}-{number}")
+            assert (into / line["saved"]).read_bytes() == bodies[line["path"]]
+    assert (into / taken).read_bytes() == b"other bytes"

@@ -1,3 +1,5 @@
 pub mod Endings
+pub mod Fits
+pub mod Input
 pub mod Names
 pub mod Save

@@ -1,5 +1,5 @@
 -- What creating a file does to a directory; the program's own words.
-use Rattle.std.specs.Prelude.{◌≡◌, ℕ, Bool, true, false, List, [], ◌∷◌, ◌++◌, Option, Some}
+use Rattle.std.specs.Prelude.{◌≡◌, ℕ, Bool, true, false, ◌&&◌, List, [], ◌∷◌, ◌++◌, Option, Some}
 use Rattle.std.specs.List.{list_any}
 use Rattle.std.specs.Str.{bytes_eq}
 use Rattle.mail_extract.specs.declared.directory.Created.{Created}
@@ -12,6 +12,10 @@ File = List ℕ × List ℕ
 -- a file with that name is among them
 abbrev pub has_file : List ℕ → List File → Bool
 has_file name files = list_any (λ file. bytes_eq file.0 name) files
+
+-- a file with that name and these bytes is among them
+abbrev pub has_copy : (name bytes : List ℕ) → List File → Bool
+has_copy name bytes files = list_any (λ file. bytes_eq file.0 name && bytes_eq file.1 bytes) files
 
 -- The directory has these files, and a file with this name and these bytes is to be created.
 module _ (files : List File) (name bytes : List ℕ) where

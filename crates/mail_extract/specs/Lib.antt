@@ -3,7 +3,12 @@ pub mod Names
 pub mod Directory
 pub mod Hash
 pub mod Content
+pub mod Choice
+pub mod Naming
+pub mod ChoiceViews
 pub mod Save
 pub mod SaveViews
 pub mod Report
 pub mod ReportViews
+pub mod Input
+pub mod private

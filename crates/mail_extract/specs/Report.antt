@@ -1,12 +1,14 @@
 -- The lines that report what was saved; the program's own form.
-use Rattle.std.specs.Prelude.{ℕ, List, [], ◌∷◌, ◌++◌, Option, Result, Ok, Err, codes, decimal}
+use Rattle.std.specs.Prelude.{◌≡◌, ℕ, not, ◌&&◌, List, [], ◌∷◌, ◌++◌, flat_map, Option, is_some, Result, Ok, Err, codes, decimal, if◌then◌else◌}
 use Rattle.std.specs.Io.KnownBytes.{Appends}
 use Rattle.std.specs.Option.{option_map_or}
 use Rattle.json.specs.Print.{print}
 use Rattle.json.specs.Token.{Token, begin_object, end_object, key, string, number, null}
-use Rattle.mailparse.specs.Outcome.{IsMemory}
+use Rattle.mail_lines.specs.Written.{IsEnd}
+use Rattle.mail_program.specs.Outcome.{worse}
 use Rattle.mail_program.specs.declared.fault.Fault.{Fault}
-use Rattle.mail_program.specs.declared.fault.Fault.TheVariants.{Input, Mail, Output}
+use Rattle.mail_program.specs.declared.outcome.Outcome.{Outcome}
+use Rattle.mail_program.specs.declared.outcome.Outcome.TheVariants.{Clean, Refused, Failed}
 
 -- a member whose value is a string or `null`
 abbrev pub text_member : List ℕ → Option (List ℕ) → List Token
@@ -39,9 +41,20 @@ line_tokens line =
 abbrev pub line_text : Line → List ℕ
 line_text line = print (line_tokens line) ++ codes "\n"
 
--- the text was written and nothing else; otherwise memory ran out or a write failed
-abbrev pub Writes : Option (List ℕ) → Option (List ℕ) → Result Unit Fault → List ℕ → Type 0
-Writes old new (Ok done) text = Appends old new text
-Writes old new (Err (Mail e)) text = IsMemory e
-Writes old new (Err (Input e)) text = ⊥
-Writes old new (Err (Output e)) text = Unit {0}
+-- the text of lines
+abbrev pub lines_text : List Line → List ℕ
+lines_text lines = flat_map line_text lines
+
+-- the outcome that a line reports: no error; something could not be saved; or it was refused or is damaged
+abbrev pub judged : Line → Outcome
+judged line = if is_some line.error then (if is_some line.size && not (is_some line.saved) then Failed else Refused) else Clean
+
+-- the worst outcome that lines report
+abbrev pub worst : List Line → Outcome
+worst [] = Clean
+worst (line ∷ lines) = worse (judged line) (worst lines)
+
+-- lines were written and nothing else, and the outcome is the worst of theirs; otherwise memory ran out or a write failed
+abbrev pub WritesAll : Option (List ℕ) → Option (List ℕ) → Result Outcome Fault → List Line → Type 0
+WritesAll old new (Ok outcome) lines = Appends old new (lines_text lines) × (outcome ≡ worst lines)
+WritesAll old new (Err fault) lines = IsEnd fault

@@ -1,5 +1,5 @@
 -- What saving the files of a mail does to a directory; the program's own rule.
-use Rattle.std.specs.Prelude.{◌≡◌, ℕ, ◌+◌, ◌-◌, ◌^◌, ◌<◌, ◌≤◌, ◌⊎◌, Bool, true, false, List, [], ◌∷◌, ◌++◌, length, filter, flat_map, map, Option, Some, None, is_some, option_and_then}
+use Rattle.std.specs.Prelude.{◌≡◌, ℕ, ◌+◌, ◌-◌, ◌^◌, ◌<◌, ◌≤◌, ◌⊎◌, Bool, true, false, not, ◌||◌, List, [], ◌∷◌, ◌++◌, length, filter, flat_map, map, Option, Some, None, is_some, option_and_then}
 use Rattle.std.specs.Option.{option_map_or}
 use Rattle.std.specs.Result.{result_ok}
 use Rattle.mail_codec.specs.Charset.{Charsets}
@@ -9,27 +9,31 @@ use Rattle.mail_data.specs.Files.{file_name, is_extracted}
 use Rattle.mail_data.specs.InnerMails.{InnerMail, inner_mails, places_under}
 use Rattle.mail_data.specs.PartPlaces.{Place, places}
 use Rattle.mail_data.specs.lenient.Content.{Content}
+use Rattle.mail_extract.specs.Choice.{Choice, keeps}
 use Rattle.mail_extract.specs.Content.{content}
 use Rattle.mail_extract.specs.Endings.{ending_of}
-use Rattle.mail_extract.specs.Directory.{File, has_file}
+use Rattle.mail_extract.specs.Directory.{File, has_copy, has_file}
 use Rattle.mail_extract.specs.Hash.{wanted_hash}
-use Rattle.mail_extract.specs.declared.hash.Hashing.{Hashing}
 use Rattle.mail_extract.specs.Names.{IsNumbered, wanted_name}
+use Rattle.mail_extract.specs.Naming.{Options, target}
+use Rattle.mail_extract.specs.declared.options.Naming.{Naming}
+use Rattle.mail_extract.specs.declared.options.Naming.TheVariants.{BySender, ByHash}
 
--- a file that is to be saved: the path of its part, the wanted name, and its content
+-- a file of a mail: the path of its part, the type, the wanted name, and its content
 pub record Wanted : Type 0 where
   pub path : List ℕ
+  pub mimetype : List ℕ
   pub name : List ℕ
   pub content : Content
 
--- the outcome: the path, the name under which it was saved, if it was, the number of its bytes, their SHA-256, if it is hashed, and whether there is
--- an error
+-- the outcome: the path, the name under which it was saved, if it was, the number of its bytes, their SHA-256, if it is hashed, and the error, if
+-- there is one
 pub record Outcome : Type 0 where
   pub path : List ℕ
   pub saved : Option (List ℕ)
   pub size : ℕ
   pub sha256 : Option (List ℕ)
-  pub has_error : Bool
+  pub error : Option (List ℕ)
 
 -- For a directory that may fail or not, and the wanted name of a file.
 module _ (can_fail : Bool) (name : List ℕ) where
@@ -37,31 +41,39 @@ module _ (can_fail : Bool) (name : List ℕ) where
   abbrev pub AreTaken : List File → ℕ → ℕ → Type 0
   AreTaken files from bound = (n : ℕ) → from ≤ n → n < bound → (text : List ℕ) × IsNumbered name n text × (has_file text files ≡ true)
 
-  -- a file was saved under the name with the least free number from `from` onwards; or it was not, since the directory failed or no number below
-  -- 2^64 - 1 is free. The next number is the one after it
+  -- a file was saved under the name with the least free number from `from` onwards, and the next number is the one after it; or the directory failed,
+  -- and the next number is the one after that which was tried; or no number below 2^64 - 1 is free
   abbrev pub IsKeptNumbered : List File → List ℕ → ℕ → Option (List ℕ) → ℕ → List File → Type 0
   IsKeptNumbered files bytes from (Some text) next now =
       (n : ℕ) × (next ≡ n + 1) × (from ≤ n) × AreTaken files from n × IsNumbered name n text × (has_file text files ≡ false)
       × (now ≡ files ++ (text, bytes) ∷ [])
-  IsKeptNumbered files bytes from None next now = (now ≡ files) × ((can_fail ≡ true) ⊎ AreTaken files from (2 ^ 64 - 1))
+  IsKeptNumbered files bytes from None next now =
+      (now ≡ files)
+      × (((can_fail ≡ true) × (n : ℕ) × (next ≡ n + 1) × (from ≤ n) × AreTaken files from n) ⊎ ((2 ^ 64 - 1 ≤ next) × AreTaken files from (2 ^ 64 - 1)))
 
   -- the same, but under the name itself if that is free
   abbrev pub IsKept : List File → List ℕ → ℕ → Option (List ℕ) → ℕ → List File → Type 0
   IsKept files bytes from saved next now =
       ((has_file name files ≡ false) × (saved ≡ Some name) × (next ≡ from) × (now ≡ files ++ (name, bytes) ∷ []))
       ⊎ ((has_file name files ≡ true) × IsKeptNumbered files bytes from saved next now)
-      ⊎ ((can_fail ≡ true) × (saved ≡ None) × (now ≡ files))
+      ⊎ ((can_fail ≡ true) × (saved ≡ None) × (next ≡ from) × (now ≡ files))
 
--- For a directory that may fail or not, and files that are hashed or not.
-module _ (can_fail : Bool) (hashing : Hashing) where
-  -- a file was saved with this outcome
+  -- the same, but if the name is the hash of the bytes and a file with this name has them already, nothing is written
+  abbrev pub IsPut : Naming → List File → List ℕ → ℕ → Option (List ℕ) → ℕ → List File → Type 0
+  IsPut BySender files bytes from saved next now = IsKept files bytes from saved next now
+  IsPut ByHash files bytes from saved next now =
+      ((has_copy name bytes files ≡ true) × (saved ≡ Some name) × (next ≡ from) × (now ≡ files))
+      ⊎ ((has_copy name bytes files ≡ false) × IsKept files bytes from saved next now)
+
+-- For a directory that may fail or not, under these options.
+module _ (can_fail : Bool) (options : Options) where
+  -- a file was saved with this outcome; it has an error exactly if it was not saved or its content is damaged
   pub record IsSaved (files : List File) (wanted : Wanted) (from : ℕ) (outcome : Outcome) (next : ℕ) (now : List File) : Type 0 where
-    pub kept : IsKept can_fail wanted.name files wanted.content.bytes from outcome.saved next now
+    pub kept : IsPut can_fail (target options.naming wanted.name wanted.content.bytes) options.naming files wanted.content.bytes from outcome.saved next now
     pub path : outcome.path ≡ wanted.path
     pub size : outcome.size ≡ length wanted.content.bytes
-    pub hash : outcome.sha256 ≡ option_and_then (λ name. wanted_hash hashing wanted.content.bytes) outcome.saved
-    pub damaged : is_some wanted.content.fault ≡ true → outcome.has_error ≡ true
-    pub failed : outcome.saved ≡ None → outcome.has_error ≡ true
+    pub hash : outcome.sha256 ≡ option_and_then (λ name. wanted_hash options.hashing wanted.content.bytes) outcome.saved
+    pub error : is_some outcome.error ≡ (is_some wanted.content.fault || not (is_some outcome.saved))
 
   -- files were saved one after another
   abbrev pub AreSaved : List File → List Wanted → ℕ → List Outcome → ℕ → List File → Type 0
@@ -70,17 +82,23 @@ module _ (can_fail : Bool) (hashing : Hashing) where
       (mid : List File) × (number : ℕ) × IsSaved files wanted from outcome number mid × AreSaved mid others number outcomes next now
   AreSaved files _ from _ next now = ⊥
 
+  -- files were saved one after another in a directory that had some files and now has others, and their outcomes follow those of earlier ones
+  abbrev pub AreAdded : (held_old held_new : Option (List File)) → List Wanted → ℕ → (before after : List Outcome) → ℕ → Type 0
+  AreAdded held_old held_new wanted from before after next =
+      (files : List File) → held_old ≡ Some files → (now : List File) × (held_new ≡ Some now) × (outcomes : List Outcome)
+      × (after ≡ before ++ outcomes) × AreSaved files wanted from outcomes next now
+
+-- a part as it is to be saved under a name
+abbrev pub wanted_as : Place → List ℕ → Wanted
+wanted_as place name = record { path = place.path; mimetype = (root place.part).ctype.mimetype; name = name; content = content (root place.part) }
+
 -- Under the known charsets.
 module _ (known : Charsets) where
   -- a part as it is to be saved
   abbrev pub wanted : Place → Wanted
-  wanted place = record {
-    path = place.path;
-    name = wanted_name (file_name known (root place.part)) (ending_of (root place.part));
-    content = content (root place.part);
-  }
+  wanted place = wanted_as place (wanted_name (file_name known (root place.part)) (ending_of (root place.part)))
 
-  -- the files among some parts as they are to be saved
+  -- the files among some parts
   abbrev pub wanted_among : List Place → List Wanted
   wanted_among found = map wanted (filter (λ place. is_extracted known place.part) found)
 
@@ -89,6 +107,10 @@ module _ (known : Charsets) where
   wanted_inside inner =
       option_map_or (λ t. wanted_among (places_under inner.path t (placements 0 t))) (result_ok (read_mail_in known 100 inner.bytes)) []
 
-  -- the files of a mail whose parts have these placements, and then those of the mails inside it, as they are to be saved
+  -- the files of a mail whose parts have these placements, and then those of the mails inside it
   abbrev pub wanted_files : Tree → List Placement → List Wanted
   wanted_files t found = wanted_among (places t found) ++ flat_map wanted_inside (inner_mails known 100 [] (Some 0) t found)
+
+-- those files that the choice keeps, in order
+abbrev pub chosen : Choice → List Wanted → List Wanted
+chosen choice files = filter (λ file. keeps choice file.path file.mimetype file.name) files

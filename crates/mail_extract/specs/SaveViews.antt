@@ -1,5 +1,5 @@
 -- What a contract sees of a file that was saved or was not.
-use Rattle.std.specs.Prelude.{ℕ, List, Option, Some, None, is_some, string_bytes}
+use Rattle.std.specs.Prelude.{ℕ, List, Option, Some, None, string_bytes}
 use Rattle.mailparse.specs.Map.{text_found}
 use Rattle.mail_extract.specs.Save.{Outcome}
 use Rattle.mail_extract.specs.declared.save.Kept.{Kept}
@@ -18,5 +18,5 @@ outcome saved = record {
   saved = text_found saved.name;
   size = saved.size;
   sha256 = text_found saved.sha256;
-  has_error = is_some saved.error;
+  error = text_found saved.error;
 }

@@ -1,6 +1,6 @@
 //! A directory in which files are saved.
 ghost use Rattle.std.specs.Prelude.{◌≡◌, Bool, List, Option, Some, IfOk};
-ghost use Rattle.mail_extract.specs.Directory.{Creates, File};
+ghost use Rattle.mail_extract.specs.Directory.{Creates, File, has_copy};
 
 use std::alloc::AllocError;
 use std::io;
@@ -31,4 +31,14 @@ pub trait Directory {
     fn create(&mut self, name: &str, bytes: &[u8]) -> Result<Created, AllocError>
         ensures { (files : List File) → held self.old ≡ Some files → IfOk result
             (Creates files name.now bytes.now can_fail (held self.new)) };
+
+    /// Returns whether a file with this name has exactly these bytes. If it cannot be read, it has
+    /// not.
+    ///
+    /// # Errors
+    ///
+    /// If it runs out of memory.
+    fn has(&self, name: &str, bytes: &[u8]) -> Result<bool, AllocError>
+        ensures { (files : List File) → held self.now ≡ Some files → IfOk result
+            (λ is. is ≡ has_copy name.now bytes.now files) };
 }

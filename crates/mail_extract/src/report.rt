@@ -1,10 +1,11 @@
 //! The lines of JSON that report what was saved (RFC 8259).
 ghost use Rattle.std.specs.Prelude.{◌≡◌, ◌++◌, ◌∷◌, [], option_map, IfOk, OnOk};
-ghost use Rattle.mail_extract.specs.Report.{Writes, line_text, number_member, text_member};
+ghost use Rattle.mail_extract.specs.Report.{WritesAll, judged, line_text, number_member};
+ghost use Rattle.mail_extract.specs.Report.{text_member};
 ghost use Rattle.mail_extract.specs.ReportViews.{line_view};
 
 use json::Writer;
-use mail_program::Fault;
+use mail_program::{Fault, Outcome};
 use std::alloc::{AllocError, Global};
 use std::io::Write;
 
@@ -27,18 +28,52 @@ pub struct Line<'l> {
     pub error: Option<&'l str>,
 }
 
-/// Writes a line.
+/// Writes a line, and returns the outcome that it reports: it failed if a file could not be saved.
+///
+/// Allocates the text of the line.
 ///
 /// # Errors
 ///
 /// `Fault::Output` if a write fails, and `Fault::Mail` with `MailParseError::Memory` if it runs out
 /// of memory.
-pub fn write_line<W: Write>(alloc: Global, out: &mut W, line: &Line<'_>) -> Result<(), Fault>
-    ensures { Writes (W.contents out.old) (W.contents out.new) result (line_text (line_view line.now)) }
+///
+/// # Examples
+///
+/// ```rust
+/// use mail_extract::{Line, write_line};
+/// use mail_program::Outcome;
+///
+/// let mut out = Vec::new(alloc);
+/// let line = Line {
+///     file: Some("a.eml"),
+///     number: None,
+///     path: None,
+///     saved: None,
+///     size: None,
+///     sha256: None,
+///     error: Some("no mail"),
+/// };
+/// assert!(rt; write_line(alloc, &mut out, &line)? == Outcome::Refused);
+/// assert!(rt; out.as_slice().ends_with(b"\"error\":\"no mail\"}\n"));
+/// ```
+pub fn write_line<W: Write>(alloc: Global, out: &mut W, line: &Line<'_>) -> Result<Outcome, Fault>
+    ensures { WritesAll (W.contents out.old) (W.contents out.new) result
+        (line_view line.now ∷ []) }
 {
     let text = line_text(alloc, line)?;
     out.write_all(text.as_slice())?;
-    Ok(())
+    Ok(outcome_of(line))
+}
+
+/// Returns the outcome that a line reports.
+fn outcome_of(line: &Line<'_>) -> Outcome
+    ensures { result ≡ judged (line_view line.now) }
+{
+    match (line.error, line.size, line.saved) {
+        (None, _, _) => Outcome::Clean,
+        (Some(_), Some(_), None) => Outcome::Failed,
+        (Some(_), _, _) => Outcome::Refused,
+    }
 }
 
 /// Returns the text of a line.

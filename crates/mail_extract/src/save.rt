@@ -1,24 +1,34 @@
 //! Saving the files of a mail in a directory.
-ghost use Rattle.std.specs.Prelude.{◌≡◌, ◌++◌, [], List, Some, is_some, map, option_map, string_bytes, All, IfErr, IfOk, IfSome, OnOk};
+ghost use Rattle.std.specs.Prelude.{◌≡◌, ◌∷◌, [], List, Some, is_some, map, option_map};
+ghost use Rattle.std.specs.Prelude.{string_bytes};
+ghost use Rattle.std.specs.Prelude.{All, IfErr, IfOk, IfSome, OnOk};
 ghost use Rattle.std.specs.Result.{result_ok};
-ghost use Rattle.mailparse.specs.Mail.{read_mail_in};
+ghost use Rattle.mailparse.specs.Mail.{read_mail_in, root};
 ghost use Rattle.mailparse.specs.Outcome.{IsMemory};
 ghost use Rattle.mailparse.specs.Placement.{placements};
 ghost use Rattle.mailparse.specs.Views.{placements_of, tree_of};
 ghost use Rattle.mail_data.specs.FileNames.{IsSafeName};
+ghost use Rattle.mail_data.specs.Files.{file_name};
 ghost use Rattle.mail_data.specs.InnerMails.{inner_mails};
 ghost use Rattle.mail_data.specs.InnerMailViews.{inner_view};
 ghost use Rattle.mail_data.specs.PlaceViews.{place_view};
+ghost use Rattle.mail_extract.specs.ChoiceViews.{options_view};
 ghost use Rattle.mail_extract.specs.Directory.{File};
-ghost use Rattle.mail_extract.specs.Save.{AreSaved, IsKept, IsKeptNumbered, IsSaved, Outcome};
-ghost use Rattle.mail_extract.specs.Save.{wanted, wanted_among, wanted_files, wanted_inside};
+ghost use Rattle.mail_extract.specs.Endings.{ending_of};
+ghost use Rattle.mail_extract.specs.Names.{wanted_name};
+ghost use Rattle.mail_extract.specs.Naming.{target};
+ghost use Rattle.mail_extract.specs.Save.{AreAdded, AreSaved, IsKept, IsKeptNumbered, IsPut};
+ghost use Rattle.mail_extract.specs.Save.{IsSaved};
+ghost use Rattle.mail_extract.specs.Save.{chosen, wanted, wanted_among, wanted_as, wanted_files};
+ghost use Rattle.mail_extract.specs.Save.{wanted_inside};
 ghost use Rattle.mail_extract.specs.SaveViews.{kept_name, outcome};
 
 use crate::content::content_of;
 use crate::directory::{Created, Directory};
 use crate::endings::ending_of;
-use crate::hash::{Hashing, wanted_hash};
+use crate::hash::wanted_hash;
 use crate::names::{numbered, wanted_name};
+use crate::options::{Naming, SaveOptions, target};
 use mail_data::files::{file_name, is_extracted};
 use mail_data::inner_mails::{InnerMail, inner_mails, places_under};
 use mail_data::lenient::ContentFault;
@@ -60,25 +70,47 @@ enum Kept {
     Nowhere(io::Error),
 }
 
-/// Saves the files of a mail and of the mails inside it in a directory. File names are decoded
-/// under the known charsets. If a name is taken, a number is added to it; `number` is the next to
-/// be tried.
+/// Saves those files of a mail and of the mails inside it that are chosen, in a directory. File
+/// names are decoded under the known charsets. If a name is taken, a number is added to it;
+/// `number` is the next to be tried, and afterwards the next one after all that were.
+///
+/// Allocates the list, the mails inside, and each decoded file in turn.
 ///
 /// # Errors
 ///
 /// `MailParseError::Memory` if it runs out of memory.
+///
+/// # Examples
+///
+/// ```rust
+/// use mail_extract::{Choice, Disk, Hashing, Naming, SaveOptions, save_files};
+/// use mailparse::parse_mail;
+///
+/// let mail = parse_mail(alloc, b"Subject: Hi\n\nNo file\n")?;
+/// let mut disk = Disk { rt: &rt, path: "." };
+/// let mut number = 2u64;
+/// let options = SaveOptions {
+///     hashing: Hashing::Off,
+///     naming: Naming::BySender,
+///     choice: Choice { path: None, mimetype: None, name: None },
+/// };
+/// let extracted = save_files(alloc, &mut disk, &mut number, &mail, options, &())?;
+/// assert!(rt; extracted.saved.is_empty());
+/// ```
 pub fn save_files<D: Directory, K: KnownCharsets>(
     alloc: Global,
     directory: &mut D,
     number: &mut u64,
     mail: &ParsedMail<'_>,
-    hashing: Hashing,
+    options: SaveOptions<'_>,
     known: &K,
 ) -> Result<Extracted, MailParseError>
-    ensures saved { IfOk result (λ extracted. (files : List File) → D.held directory.old ≡ Some files →
+    ensures saved { IfOk result (λ extracted.
+        (files : List File) → D.held directory.old ≡ Some files →
         (now : List File) × (D.held directory.new ≡ Some now)
-        × AreSaved D.can_fail hashing files
-        (wanted_files (K.known known.now) (tree_of mail.now) (placements_of mail.now))
+        × AreSaved D.can_fail (options_view options.entry) files
+        (chosen (options_view options.entry).choice
+        (wanted_files (K.known known.now) (tree_of mail.now) (placements_of mail.now)))
         number.old (map outcome extracted.saved.items) number.new now) }
     ensures inside { IfOk result (λ extracted. map inner_view extracted.inside.items
         ≡ inner_mails (K.known known.now) 100 [] (Some 0) (tree_of mail.now)
@@ -97,32 +129,30 @@ pub fn save_files<D: Directory, K: KnownCharsets>(
         number,
         &mut saved,
         found.as_slice(),
-        hashing,
+        options,
         known,
     )?;
     for inner in &inside {
-        save_inner(alloc, directory, number, &mut saved, inner, hashing, known)?;
+        save_inner(alloc, directory, number, &mut saved, inner, options, known)?;
     }
     Ok(Extracted { saved, inside })
 }
 
-/// Saves the files of a mail inside a mail, unless it is refused, and adds them to `saved`.
+/// Saves the chosen files of a mail inside a mail, unless it is refused, and adds them to `saved`.
 fn save_inner<D: Directory, K: KnownCharsets>(
     alloc: Global,
     directory: &mut D,
     number: &mut u64,
     saved: &mut Vec<Saved>,
     inner: &InnerMail,
-    hashing: Hashing,
+    options: SaveOptions<'_>,
     known: &K,
 ) -> Result<(), MailParseError>
-    ensures saved { OnOk result ((files : List File) → D.held directory.old ≡ Some files →
-        (now : List File) × (D.held directory.new ≡ Some now)
-        × (outcomes : List Outcome)
-        × (map outcome saved.new.items ≡ map outcome saved.old.items ++ outcomes)
-        × AreSaved D.can_fail hashing files
-        (wanted_inside (K.known known.now) (inner_view inner.now))
-        number.old outcomes number.new now) }
+    ensures saved { OnOk result (AreAdded D.can_fail (options_view options.entry)
+        (D.held directory.old) (D.held directory.new)
+        (chosen (options_view options.entry).choice
+        (wanted_inside (K.known known.now) (inner_view inner.now))) number.old
+        (map outcome saved.old.items) (map outcome saved.new.items) number.new) }
     ensures safe { All (λ file. IfSome file.name (λ name. IsSafeName (string_bytes name)))
         saved.old.items → OnOk result
         (All (λ file. IfSome file.name (λ name. IsSafeName (string_bytes name)))
@@ -138,7 +168,7 @@ fn save_inner<D: Directory, K: KnownCharsets>(
                 number,
                 saved,
                 found.as_slice(),
-                hashing,
+                options,
                 known,
             )?;
             Ok(())
@@ -166,23 +196,21 @@ fn mail_of<'i, K: KnownCharsets>(
     }
 }
 
-/// Saves the files among some parts and adds them to `saved`.
+/// Saves the chosen files among some parts and adds them to `saved`.
 fn save_places<D: Directory, K: KnownCharsets>(
     alloc: Global,
     directory: &mut D,
     number: &mut u64,
     saved: &mut Vec<Saved>,
     places: &[Place<'_, '_>],
-    hashing: Hashing,
+    options: SaveOptions<'_>,
     known: &K,
 ) -> Result<(), MailParseError>
-    ensures saved { OnOk result ((files : List File) → D.held directory.old ≡ Some files →
-        (now : List File) × (D.held directory.new ≡ Some now)
-        × (outcomes : List Outcome)
-        × (map outcome saved.new.items ≡ map outcome saved.old.items ++ outcomes)
-        × AreSaved D.can_fail hashing files
-        (wanted_among (K.known known.now) (map place_view places.now))
-        number.old outcomes number.new now) }
+    ensures saved { OnOk result (AreAdded D.can_fail (options_view options.entry)
+        (D.held directory.old) (D.held directory.new)
+        (chosen (options_view options.entry).choice
+        (wanted_among (K.known known.now) (map place_view places.now))) number.old
+        (map outcome saved.old.items) (map outcome saved.new.items) number.new) }
     ensures safe { All (λ file. IfSome file.name (λ name. IsSafeName (string_bytes name)))
         saved.old.items → OnOk result
         (All (λ file. IfSome file.name (λ name. IsSafeName (string_bytes name)))
@@ -190,36 +218,94 @@ fn save_places<D: Directory, K: KnownCharsets>(
     ensures only_memory { IfErr result IsMemory }
 {
     for place in places {
-        if is_extracted(alloc, place.part, known)? {
-            saved.push(save_file(alloc, directory, number, place, hashing, known)?)?;
-        }
+        save_place(alloc, directory, number, saved, place, options, known)?;
     }
     Ok(())
 }
 
-/// Saves a file.
-fn save_file<D: Directory, K: KnownCharsets>(
+/// Saves a part if it is a chosen file, and adds it to `saved`.
+fn save_place<D: Directory, K: KnownCharsets>(
+    alloc: Global,
+    directory: &mut D,
+    number: &mut u64,
+    saved: &mut Vec<Saved>,
+    place: &Place<'_, '_>,
+    options: SaveOptions<'_>,
+    known: &K,
+) -> Result<(), MailParseError>
+    ensures saved { OnOk result (AreAdded D.can_fail (options_view options.entry)
+        (D.held directory.old) (D.held directory.new)
+        (chosen (options_view options.entry).choice
+        (wanted_among (K.known known.now) (place_view place.now ∷ []))) number.old
+        (map outcome saved.old.items) (map outcome saved.new.items) number.new) }
+    ensures safe { All (λ file. IfSome file.name (λ name. IsSafeName (string_bytes name)))
+        saved.old.items → OnOk result
+        (All (λ file. IfSome file.name (λ name. IsSafeName (string_bytes name)))
+        saved.new.items) }
+    ensures only_memory { IfErr result IsMemory }
+{
+    if !is_extracted(alloc, place.part, known)? {
+        return Ok(());
+    }
+    let name = name_of(alloc, place.part, known)?;
+    let mimetype = type_of(place.part);
+    if !options
+        .choice
+        .keeps(alloc, place.path.as_str(), mimetype, name.as_str())?
+    {
+        return Ok(());
+    }
+    saved.push(save_file(alloc, directory, number, place, name, options)?)?;
+    Ok(())
+}
+
+/// Returns the type of a part.
+fn type_of<'p>(part: &'p ParsedMail<'_>) -> &'p str
+    ensures { result.now ≡ (root (tree_of part.now)).ctype.mimetype }
+{
+    part.ctype.mimetype.as_str()
+}
+
+/// Returns the wanted name of the file that a part is.
+fn name_of<K: KnownCharsets>(
+    alloc: Global,
+    part: &ParsedMail<'_>,
+    known: &K,
+) -> Result<String, MailParseError>
+    ensures read { IfOk result (λ text. string_bytes text
+        ≡ wanted_name (file_name (K.known known.now) (root (tree_of part.now)))
+        (ending_of (root (tree_of part.now)))) }
+    ensures safe { IfOk result (λ text. IsSafeName (string_bytes text)) }
+    ensures only_memory { IfErr result IsMemory }
+{
+    let name = file_name(alloc, part, known)?;
+    Ok(wanted_name(alloc, name, ending_of(part))?)
+}
+
+/// Saves a file with this wanted name.
+fn save_file<D: Directory>(
     alloc: Global,
     directory: &mut D,
     number: &mut u64,
     place: &Place<'_, '_>,
-    hashing: Hashing,
-    known: &K,
+    name: String,
+    options: SaveOptions<'_>,
 ) -> Result<Saved, MailParseError>
+    requires { IsSafeName (string_bytes name) }
     ensures saved { IfOk result (λ saved. (files : List File) → D.held directory.old ≡ Some files →
         (now : List File) × (D.held directory.new ≡ Some now)
-        × IsSaved D.can_fail hashing files (wanted (K.known known.now) (place_view place.now))
+        × IsSaved D.can_fail (options_view options.entry) files
+        (wanted_as (place_view place.now) (string_bytes name))
         number.old (outcome saved) number.new now) }
     ensures safe { IfOk result (λ saved.
         IfSome saved.name (λ name. IsSafeName (string_bytes name))) }
     ensures only_memory { IfErr result IsMemory }
 {
     let content = content_of(alloc, place.part)?;
-    let name = file_name(alloc, place.part, known)?;
-    let wanted = wanted_name(alloc, name, ending_of(place.part))?;
     let bytes = content.bytes.as_slice();
-    let sha256 = wanted_hash(alloc, bytes, hashing)?;
-    let kept = keep(alloc, directory, number, wanted, bytes)?;
+    let name = target(alloc, name, bytes, options.naming)?;
+    let sha256 = wanted_hash(alloc, bytes, options.hashing)?;
+    let kept = put(alloc, directory, number, name, bytes, options.naming)?;
     let path = String::from_str(alloc, place.path.as_str())?;
     let size = bytes.len();
     match kept {
@@ -256,6 +342,33 @@ fn text_of(alloc: Global, fault: Option<ContentFault>) -> Result<Option<String>,
             Ok(Some(format!(in alloc; "{error}")?))
         }
         None => Ok(None),
+    }
+}
+
+/// Creates a file, unless the name is the hash of its bytes and a file with that name has them.
+fn put<D: Directory>(
+    alloc: Global,
+    directory: &mut D,
+    number: &mut u64,
+    name: String,
+    bytes: &[u8],
+    naming: Naming,
+) -> Result<Kept, AllocError>
+    requires { IsSafeName (string_bytes name) }
+    ensures kept { IfOk result (λ kept. (files : List File) → D.held directory.old ≡ Some files →
+        (now : List File) × (D.held directory.new ≡ Some now)
+        × IsPut D.can_fail (string_bytes name) naming files bytes.now number.old
+        (kept_name kept) number.new now) }
+    ensures safe { IfOk result (λ kept. IfSome (kept_name kept) IsSafeName) }
+{
+    match naming {
+        Naming::BySender => keep(alloc, directory, number, name, bytes),
+        Naming::ByHash => {
+            if directory.has(name.as_str(), bytes)? {
+                return Ok(Kept::As(name));
+            }
+            keep(alloc, directory, number, name, bytes)
+        }
     }
 }
 

@@ -1,0 +1,53 @@
+//! How files are saved.
+ghost use Rattle.std.specs.Prelude.{◌≡◌, IfOk, string_bytes};
+ghost use Rattle.mail_data.specs.FileNames.{IsSafeName};
+ghost use Rattle.mail_extract.specs.Naming.{target};
+
+use crate::choice::Choice;
+use crate::hash::Hashing;
+use mail_data::files::safe_file_name;
+use mail_program::sha256_text;
+use std::alloc::{AllocError, Global};
+
+/// What names a saved file.
+#[derive(Clone, Copy, Debug, PartialEq, Eq)]
+pub enum Naming {
+    /// Its sender.
+    BySender,
+    /// The SHA-256 of its bytes: files with the same bytes are saved once.
+    ByHash,
+}
+
+/// How files are saved, and which.
+#[derive(Clone, Copy, Debug)]
+pub struct SaveOptions<'c> {
+    /// Whether saved files are hashed.
+    pub hashing: Hashing,
+    /// What names them.
+    pub naming: Naming,
+    /// Which files are saved.
+    pub choice: Choice<'c>,
+}
+
+/// Returns the name under which bytes are saved if it is free, given the sender's.
+#[tactic(auto, unfolding(crate::specs::Naming::target))]
+pub(crate) fn target(
+    alloc: Global,
+    name: String,
+    bytes: &[u8],
+    naming: Naming,
+) -> Result<String, AllocError>
+    requires { IsSafeName (string_bytes name) }
+    ensures read { IfOk result (λ text.
+        string_bytes text ≡ target naming (string_bytes name) bytes.now) }
+    ensures safe { IfOk result (λ text. IsSafeName (string_bytes text)) }
+{
+    match naming {
+        Naming::BySender => Ok(name),
+        Naming::ByHash => {
+            let hash = sha256_text(alloc, bytes)?;
+            let safe = safe_file_name(alloc, hash.as_str())?;
+            Ok(safe)
+        }
+    }
+}
