@@ -117,10 +117,11 @@ def mails_inside(mail, path):
 
 
 def all_parts(mail):
-    """The parts of a mail, and then those of the mails inside it, with their paths."""
-    yield from parts_of(mail)
+    """The parts of a mail, and then those of the mails inside it, with their paths, and before these the path of the
+    part that contains the mail, or None."""
+    yield from ((None, *found) for found in parts_of(mail))
     for path, inner in mails_inside(mail, "" if has_parts(mail) else "1"):
-        yield from walk(inner, path if has_parts(inner) else f"{path}.1")
+        yield from ((path, *found) for found in walk(inner, path if has_parts(inner) else f"{path}.1"))
 
 
 def charset_of(part):
@@ -169,19 +170,28 @@ def is_utf8(body):
     return True
 
 
-def part_object(path, part):
-    """The object of a part."""
+def content_id(part):
+    """The first id in the first Content-ID of a part, which needs no `@`, or None."""
+    return next(iter(ids(raw_value(part, "content-id"), False)), None)
+
+
+def part_object(inside, path, part, report):
+    """The object of a part, of which a report was read."""
     body = body_of(part)
     return {
         "path": path,
+        "inside": inside,
         "type": part.get_content_type(),
         "charset": charset_of(part),
         "params": params_of(part),
         "disposition": part.get_content_disposition(),
         "file_name": file_name(part),
+        "content_id": content_id(part),
         "attachment": is_file(part),
+        "extracted": is_saved(part),
         "encoding": (part.get("content-transfer-encoding") or "7bit").lower(),
         "decoded_size": len(body),
+        "report": report,
         "headers": [[name, shown(value)] for name, value in part.raw_items()],
         **text_of(part, body),
     }
@@ -204,7 +214,13 @@ def mail_object(data):
     found.update(date_of(mail))
     for name in ("message_id", "in_reply_to", "references"):
         found[name] = ids(raw_value(mail, name.replace("_", "-")), name != "message_id")
-    found["parts"] = [part_object(path, part) for path, part in all_parts(mail)]
+    anywhere = list(parts_anywhere(data))
+    found["bounced_id"] = bounced_id(anywhere[0][2])
+    found["recipients"] = recipients(mail, [part for _inside, _path, part in anywhere])
+    reports = {(inside, path): report_of(part) for inside, path, part in anywhere}
+    found["parts"] = [
+        part_object(inside, path, part, reports.get((inside, path))) for inside, path, part in all_parts(mail)
+    ]
     return found
 
 
@@ -265,15 +281,87 @@ def bytes_of(part):
     return opened(body_of(part))
 
 
-def saved_files(data, path=""):
-    """The paths and the bytes of what is saved of the mail in the part with this path, then of the mails inside
-    it."""
+def parts_anywhere(data, inside=None):
+    """The parts of a closed mail, which the part with this path contains, and then those of the mails inside it, encoded
+    ones too: as `all_parts` has them."""
     mail = email.message_from_bytes(closed(data))
-    parts = list(walk(mail, path if has_parts(mail) else f"{path}.1" if path else "1"))
-    yield from ((place, bytes_of(part)) for place, part in parts if is_saved(part))
-    for place, part in parts:
+    parts = list(walk(mail, (inside or "") if has_parts(mail) else f"{inside}.1" if inside else "1"))
+    yield from ((inside, path, part) for path, part in parts)
+    for path, part in parts:
         if kind_of(part) in ("message/rfc822", "message/global"):
-            yield from saved_files(bytes_of(part), place)
+            yield from parts_anywhere(bytes_of(part), path)
+
+
+def saved_files(data):
+    """The paths and the bytes of what is saved of a mail, then of the mails inside it."""
+    return ((path, bytes_of(part)) for _inside, path, part in parts_anywhere(data) if is_saved(part))
+
+
+STATUSES = ("message/delivery-status", "message/global-delivery-status")
+REPORTS = (*STATUSES, "message/feedback-report", "message/disposition-notification")
+ORIGINALS = ("message/rfc822", "text/rfc822-headers", "message/global", "message/global-headers")
+FIELDS = ("final_recipient", "original_recipient", "action", "status", "diagnostic_code")
+
+
+def blocks_of(body):
+    """The blocks of a report, as mails without a body: what is between its empty lines."""
+    return [email.message_from_bytes(block) for block in re.split(rb"(?m)^\r?\n", body) if block]
+
+
+def report_of(part):
+    """The blocks of a report, lists of pairs of a name and a value, or None for another part of a closed mail."""
+    if kind_of(part) not in REPORTS:
+        return None
+    return [[[name, shown(value).strip()] for name, value in block.raw_items()] for block in blocks_of(bytes_of(part))]
+
+
+def without_comments(text):
+    """A text without its comments (RFC 5322, section 3.2.2), of which a quoted string has none."""
+    kept, depth, is_quoted, is_escaped = "", 0, False, False
+    for character in text:
+        is_kept = depth == 0
+        if is_escaped:
+            is_escaped = False
+        elif character == "\\" and (depth or is_quoted):
+            is_escaped = True
+        elif character == '"' and depth == 0:
+            is_quoted = not is_quoted
+        elif character == "(" and not is_quoted:
+            depth, is_kept = depth + 1, False
+        elif character == ")" and depth:
+            depth -= 1
+        kept += character * is_kept
+    return kept
+
+
+def field_of(block, name):
+    """A field on a recipient, or None: without comments, but for what the other mail system replied, and without the
+    type that is before a semicolon, if the field has one."""
+    text = value_of(block, name.replace("_", "-"))
+    if text is None:
+        return None
+    text = text if name == "diagnostic_code" else without_comments(text)
+    return (text if name in ("action", "status") else text.split(";", 1)[-1]).strip()
+
+
+def recipients(mail, parts):
+    """The recipients that the delivery reports among some closed parts are about, and those in X-Failed-Recipients."""
+    bodies = [bytes_of(part) for part in parts if kind_of(part) in STATUSES]
+    blocks = [block for body in bodies for block in blocks_of(body) if "final-recipient" in block]
+    found = [{name: field_of(block, name) for name in FIELDS} for block in blocks]
+    for key, value in mail.raw_items():
+        if key.lower() == "x-failed-recipients":
+            addresses = filter(None, (piece.strip() for piece in shown(value).split(",")))
+            found += [{**dict.fromkeys(FIELDS), "final_recipient": address} for address in addresses]
+    return found
+
+
+def bounced_id(mail):
+    """The id of the mail that a delivery report, a closed mail, returns whole or by its headers, or None."""
+    own = mail.get_payload() if has_parts(mail) and mail.get_content_type() == "multipart/report" else []
+    originals = [email.message_from_bytes(bytes_of(part)) for part in own if kind_of(part) in ORIGINALS]
+    found = ids(raw_value(originals[0], "message-id"), False) if originals else []
+    return found[0] if found else None
 
 
 def main():

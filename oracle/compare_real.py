@@ -171,7 +171,8 @@ def own_id(mail):
 
 def texts(mail):
     """The texts of a mail with the paths of their parts."""
-    found = ((path, text_of(part, body_of(part))["text"]) for path, part in all_parts(mail) if not part.is_multipart())
+    parts = [(path, part) for _inside, path, part in all_parts(mail) if not part.is_multipart()]
+    found = ((path, text_of(part, body_of(part))["text"]) for path, part in parts)
     return [(path, text) for path, text in found if text is not None]
 
 

@@ -9,6 +9,7 @@ import email
 import hashlib
 import json
 import os
+import quopri
 import random
 import re
 import select
@@ -20,16 +21,17 @@ import jsonschema
 
 from support import FROM, SAMPLES, TOP, multipart, program
 
-from by_email import all_parts, mail_object, part_object
+from by_email import all_parts, mail_object, parts_anywhere, report_of, saved_files
 
 ORIGIN = ["schema", "file", "number", "start", "end"]
 MEMBERS = ORIGIN + [
     "subject", "from", "to", "cc", "bcc", "reply_to", "sender", "raw", "date", "date_zone_unknown", "date_error",
-    "message_id", "in_reply_to", "references", "parts", "forwarded",
+    "message_id", "in_reply_to", "references", "bounced_id", "recipients", "parts", "forwarded",
 ]
 PART_MEMBERS = [
-    "path", "type", "charset", "params", "disposition", "file_name", "attachment", "encoding", "start", "end",
-    "size", "decoded_size", "error", "sha256", "headers", "text", "text_charset", "damaged",
+    "path", "inside", "type", "charset", "params", "disposition", "file_name", "content_id", "attachment", "extracted",
+    "encoding", "start", "end", "size", "decoded_size", "error", "sha256", "report", "headers", "text", "text_charset",
+    "damaged",
 ]
 # texts in the charsets of several bytes
 TEXTS = {
@@ -81,10 +83,9 @@ def objects(words, data, status, what):
     return lines(ended.stdout, what)
 
 
-def compare_part(found, path, part, data, what):
+def compare_part(found, part, wanted, data, what):
     """Compares the object of a part with what Python reads of it; of a forwarded mail Python decodes no body."""
-    what = f"{what}, part {path!r}"
-    wanted = part_object(path, part)
+    what = f"{what}, part {wanted['path']!r}"
     if part.is_multipart():
         del wanted["decoded_size"], wanted["text"]
         wanted.pop("text_charset", None)
@@ -100,15 +101,15 @@ def compare(data, what):
     found = objects([], data, 0, what)
     assert len(found) == 1, f"{what}: the number of lines"
     found = found[0]
-    assert [found[name] for name in ORIGIN] == [4, None, None, 0, len(data)], f"{what}: where it is from"
+    assert [found[name] for name in ORIGIN] == [5, None, None, 0, len(data)], f"{what}: where it is from"
     wanted = mail_object(data)
-    parts = list(all_parts(email.message_from_bytes(data)))
-    del wanted["parts"]
+    parts = [part for _inside, _path, part in all_parts(email.message_from_bytes(data))]
+    wanted_parts = wanted.pop("parts")
     for name, value in wanted.items():
         assert found[name] == value, f"{what}: {name}"
     assert len(found["parts"]) == len(parts), f"{what}: the number of parts"
-    for object_, (path, part) in zip(found["parts"], parts):
-        compare_part(object_, path, part, data, what)
+    for object_, part, wanted_part in zip(found["parts"], parts, wanted_parts):
+        compare_part(object_, part, wanted_part, data, what)
 
 
 def test_samples():
@@ -220,6 +221,8 @@ def test_forwarded():
     assert [(mail["path"], mail["start"], mail["error"]) for mail in found["forwarded"]] == wanted, "mails inside"
     paths = ["", "1", "2", "3", "4", "1", "1.1", "1.2", "2", "2.1", "2.2", "4.1"]
     assert [part_["path"] for part_ in found["parts"]] == paths, "parts of mails inside"
+    inside = [None] * 5 + ["1"] * 3 + ["2"] * 3 + ["4"]
+    assert [part_["inside"] for part_ in found["parts"]] == inside, "what contains the mails inside"
     for path, text, object_ in zip(paths[5:], [None, "text", None, None, "text", None, "body"], found["parts"][5:]):
         assert (object_["text"], object_["attachment"]) == (text, path in ("1.2", "2.2")), f"a part of a mail inside, {path}"
         assert (object_["start"] is None) == path.startswith("2"), f"the range of a part of a mail inside, {path}"
@@ -228,6 +231,185 @@ def test_forwarded():
     deep = b"Content-Type: message/rfc822\n\n" * 120 + b"Subject: end\n\n"
     found = objects([], deep, 0, "mails inside one another")[0]
     assert (len(found["forwarded"]), found["parts"][-1]["path"]) == (99, ".".join(["1"] * 100)), "mails inside one another"
+    paths = [part_["path"] for part_ in found["parts"]]
+    assert [part_["inside"] for part_ in found["parts"]] == [None, *paths[:-1]], "what contains mails inside one another"
+
+
+def block(*lines_):
+    """A block of a report, and the pairs in it."""
+    return "".join(f"{line}\n" for line in lines_), [re.sub(r"\n\s*", " ", line).split(": ", 1) for line in lines_]
+
+
+# the reports in RFC 3464, appendix E.2, in RFC 5965, appendix B.2, and in RFC 8098, section 9
+STATUS = [
+    block("Reporting-MTA: dns; cs.utk.edu"),
+    block(
+        "Original-Recipient: rfc822;arathib@vnet.ibm.com", "Final-Recipient: rfc822;arathib@vnet.ibm.com", "Action: failed",
+        "Status: 5.0.0 (permanent failure)",
+        "Diagnostic-Code: smtp;  550 'arathib@vnet.IBM.COM' is not a\n registered gateway user", "Remote-MTA: dns; vnet.ibm.com",
+    ),
+    block(
+        "Original-Recipient: rfc822;johnh@hpnjld.njd.hp.com", "Final-Recipient: rfc822;johnh@hpnjld.njd.hp.com",
+        "Action: delayed", "Status: 4.0.0 (hpnjld.njd.jp.com: host name lookup failure)",
+    ),
+]
+FEEDBACK = [
+    block(
+        "Feedback-Type: abuse", "User-Agent: SomeGenerator/1.0", "Version: 1", "Original-Mail-From: <somespammer@example.net>",
+        "Original-Rcpt-To: <user@example.com>", "Received-Date: Thu, 8 Mar 2005 14:00:00 EDT", "Source-IP: 192.0.2.1",
+    )
+]
+DISPOSITION = [
+    block(
+        "Reporting-UA: joes-pc.cs.example.com; Foomail 97.1", "Original-Recipient: rfc822;Joe_Recipient@example.com",
+        "Final-Recipient: rfc822;Joe_Recipient@example.com", "Original-Message-ID: <199509192301.23456@example.org>",
+        "Disposition: manual-action/MDN-sent-manually; displayed",
+    )
+]
+RECIPIENTS = [
+    ("arathib@vnet.ibm.com", "arathib@vnet.ibm.com", "failed", "5.0.0", "550 'arathib@vnet.IBM.COM' is not a registered gateway user"),
+    ("johnh@hpnjld.njd.hp.com", "johnh@hpnjld.njd.hp.com", "delayed", "4.0.0", None),
+]
+
+
+def report_part(kind, blocks, encoding=b"7bit", end=b"\n"):
+    """A part of this type that has these blocks."""
+    body = b"\n".join(text.encode() for text, _pairs in blocks).replace(b"\n", end)
+    body = {b"base64": base64.encodebytes, b"quoted-printable": quopri.encodestring}.get(encoding, bytes)(body)
+    return b"Content-Type: message/%b\nContent-Transfer-Encoding: %b\n\n%b" % (kind, encoding, body)
+
+
+def recipients(found):
+    """The values of the recipients of a mail."""
+    return [tuple(one.values()) for one in found["recipients"]]
+
+
+def reports(found):
+    """The reports among the parts of a mail."""
+    return [part["report"] for part in found["parts"] if part["report"] is not None]
+
+
+def test_reports():
+    """Reports of each kind, in any encoding and anywhere in a mail."""
+    for kind, blocks, wanted in (
+        (b"delivery-status", STATUS, RECIPIENTS), (b"global-delivery-status", STATUS, RECIPIENTS),
+        (b"feedback-report", FEEDBACK, []), (b"disposition-notification", DISPOSITION, []),
+        (b"delivery-status", DISPOSITION, [("Joe_Recipient@example.com",) * 2 + (None,) * 3]),
+    ):
+        pairs = [pairs_ for _text, pairs_ in blocks]
+        for encoding in (b"7bit", b"base64", b"quoted-printable"):
+            for end in (b"\n", b"\r\n"):
+                part = report_part(kind, blocks, encoding, end)
+                deep = multipart(b"o", b"\nfirst\n", multipart(b"i", part))
+                forwarded = b"Content-Type: message/rfc822\n\n" + multipart(b"f", part, kind=b"report")
+                encoded = b"Content-Type: message/rfc822\nContent-Transfer-Encoding: base64\n\n" + base64.encodebytes(deep)
+                for data in (part, multipart(b"b", b"\nfirst\n", part, kind=b"report"), deep, forwarded, multipart(b"b", encoded)):
+                    found = objects([], data, 0, repr(data))[0]
+                    assert (reports(found), recipients(found)) == ([pairs], wanted), repr(data)
+                    anywhere = [report_of(part_) for _inside, _path, part_ in parts_anywhere(data)]
+                    assert [part_["report"] for part_ in found["parts"]] == anywhere, repr(data)
+                compare(multipart(b"b", b"\nfirst\n", part, kind=b"report"), f"{kind} in {encoding}")
+    two = multipart(b"b", report_part(b"delivery-status", STATUS), report_part(b"delivery-status", STATUS[::-1]))
+    assert recipients(objects([], two, 0, "two reports")[0]) == [*RECIPIENTS, *RECIPIENTS[::-1]], "two reports"
+    for body, wanted in (
+        (b"", []), (b"\n\r\n\n", []), (b"\n\nA: b\n\n\n\nC:d", [[["A", "b"]], [["C", "d"]]]),
+        (b"A: b\n \nC: d\n", [[["A", "b"], ["C", "d"]]]), (b"A:  =?utf-8?q?=C3=A9?=  \nA: \xc3\xa9\n", [[["A", "é"], ["A", "é"]]]),
+        (b"A: b\n\n C: d\n\nE: f", [[["A", "b"]], [], [["E", "f"]]]),
+    ):
+        found = objects([], b"Content-Type: message/feedback-report\n\n" + body, 0, repr(body))[0]
+        assert reports(found) == [wanted], repr(body)
+    for part in (b"Content-Type: text/plain\n\n" + STATUS[1][0].encode(), report_part(b"tracking-status", STATUS)):
+        found = objects([], part, 0, repr(part))[0]
+        assert (reports(found), recipients(found)) == ([], []), repr(part)
+
+
+def test_failed_recipients():
+    """The header X-Failed-Recipients, whose recipients follow those of reports."""
+    head = b"X-Failed-Recipients: a@b,\n  c@d ,, e f\nx-failed-recipients: g@h\nX-Failed-Recipients: ,\n"
+    named = [(address, None, None, None, None) for address in ("a@b", "c@d", "e f", "g@h")]
+    for data, wanted in (
+        (head + b"\n", named), (b"X-Failed-Recipients:\n\n", []),
+        (head + multipart(b"b", report_part(b"delivery-status", STATUS)), [*RECIPIENTS, *named]),
+        (multipart(b"b", head + b"\n"), []),
+    ):
+        found = objects([], data, 0, repr(data))[0]
+        assert recipients(found) == wanted, repr(data)
+        assert found["recipients"] == mail_object(data)["recipients"], repr(data)
+
+
+def test_bounced_id():
+    """The id of the mail that a delivery report returns."""
+    returned = b"Content-Type: %b\n\nSubject: a\nMessage-ID: <1@a> <2@a>\n\n"
+    other = b"Content-Type: message/rfc822\n\nMessage-ID: <3@a>\n\n"
+    for data, wanted in (
+        *((multipart(b"b", b"\nx\n", returned % kind, other, kind=b"report"), "1@a") for kind in (
+            b"message/rfc822", b"text/rfc822-headers", b"message/global", b"message/global-headers")),
+        (multipart(b"b", returned % b"text/plain", other, kind=b"report"), "3@a"),
+        (multipart(b"b", b"Content-Type: message/rfc822\n\nSubject: a\n\n", other, kind=b"report"), None),
+        (multipart(b"b", other, kind=b"mixed"), None), (other, None), (multipart(b"b", multipart(b"i", other), kind=b"report"), None),
+    ):
+        assert objects([], data, 0, repr(data))[0]["bounced_id"] == wanted == mail_object(data)["bounced_id"], repr(data)
+
+
+def test_content_ids():
+    """The id of a part."""
+    for head, wanted in (
+        (b"", None), (b"Content-ID: <a@b>", "a@b"), (b"content-id: (x) <one> <a@b>", "one"), (b"Content-ID: a@b", None),
+        (b"Content-ID: a@b\nContent-ID: <a@b>", None), (b"Content-ID:\n <a@b>", "a@b"), (b"Content-ID: <>", None),
+    ):
+        assert objects([], head + b"\n\n", 0, repr(head))[0]["parts"][0]["content_id"] == wanted, repr(head)
+
+
+def test_extracted():
+    """What is saved, and has a hash: by its headers, and as Python finds it in the samples and in a mail inside a mail."""
+    for head, wanted in (
+        (b"", False), (b"Content-Type: text", False), (b"Content-Type: text/html", False), (b"Content-Type: Text/Plain; charset=x", False),
+        (b"Content-Type: text/html; name=a", True), (b"Content-Disposition: attachment", True), (b"Content-Disposition: inline", False),
+        (b"Content-Disposition: inline; filename=a", True), (b"Content-Type: text/calendar", True), (b"Content-Type: image/png", True),
+        (b"Content-Type: message/rfc822", True), (b"Content-Type: message/delivery-status", True), (b"Content-Type: x", True),
+        (b"Content-Type: multipart/mixed; boundary=b", True), (b"Content-Type: multipart/mixed", True),
+    ):
+        part = objects([], head + b"\n\nx\n", 0, repr(head))[0]["parts"][0]
+        assert part["extracted"] == wanted, repr(head)
+    samples = [path.read_bytes() for path in SAMPLES if path.name != "parts.eml"]
+    samples.append(multipart(b"o", *(b"Content-Type: message/rfc822\n\n" + data for data in samples)))
+    for data in samples:
+        found = objects(["--hash"], data, 0, repr(data))[0]["parts"]
+        wanted = {path: hashlib.sha256(body).hexdigest() for path, body in saved_files(data)}
+        assert {part["path"]: part["sha256"] for part in found if part["extracted"]} == wanted, repr(data)
+        assert all(part["sha256"] is None for part in found if not part["extracted"]), repr(data)
+
+
+def without_text(line):
+    """A line without what needs a body."""
+    value = json.loads(line)
+    if "parts" in value:
+        value["recipients"] = None
+        for part in value["parts"]:
+            part.update(text=None, decoded_size=None, sha256=None, report=None)
+            for name in ("error", "text_charset", "damaged"):
+                part.pop(name, None)
+    return list(value.items())
+
+
+def test_no_text(hostile):
+    """With --no-text a line is the whole line, but for what needs a body."""
+    head = b"Content-Type: multipart/mixed; boundary=b\n\n--b\n"
+    damaged = head + b"Content-Transfer-Encoding: base64\n\nZm9v*\n--b\n" + report_part(b"delivery-status", STATUS) + b"--b--\n"
+    inside = b"Content-Type: message/rfc822\nContent-Transfer-Encoding: base64\n\n" + base64.encodebytes(damaged)
+    for data, status in (
+        (b"", 0), (b" x", 3), (damaged, 0), (inside, 0), (b"X-Failed-Recipients: a@b\n\n", 0),
+        (FROM + damaged + b"\n" + FROM + b" x\n\n" + FROM + inside, 3),
+    ):
+        found = [list(value.items()) for value in objects(["--no-text"], data, status, repr(data))]
+        assert found == [without_text(line) for line in run([], data).stdout.splitlines()], repr(data)
+    paths = [*SAMPLES, *hostile[:4000]]
+    for at in range(0, len(paths), 500):
+        batch = paths[at : at + 500]
+        found, whole = run(["--no-text", "--mail", *batch]), run(["--mail", *batch])
+        assert (found.returncode, found.stderr) == (whole.returncode, whole.stderr)
+        values = [list(value.items()) for value in lines(found.stdout, "--no-text")]
+        assert values == [without_text(line) for line in whole.stdout.splitlines()]
 
 
 def test_options():
@@ -317,7 +499,7 @@ def test_places():
         front = FROM + b"Subject: 1\n\none\n\n" + FROM
         found = objects(["--mbox"], front + raw + b"\n\n", 0, f"places {turn} in a mailbox")
         place = [found[1][name] for name in ORIGIN]
-        assert place == [4, None, 2, len(front), len(front + raw) + 1], f"places {turn} in a mailbox"
+        assert place == [5, None, 2, len(front), len(front + raw) + 1], f"places {turn} in a mailbox"
         starts = [part["start"] for part in found[1]["parts"]]
         assert starts == [len(front) + at for _path, _part, at in places], f"places {turn} in a mailbox"
 
@@ -488,7 +670,7 @@ def test_calls():
     ended = run([names[0], "/no/such/file", names[1]])
     found = lines(ended.stdout, "a file that is missing")
     assert (ended.returncode, len(found)) == (1, 3), "a file that is missing"
-    assert [found[1][name] for name in ORIGIN] == [4, "/no/such/file", None, None, None], "a file that is missing"
+    assert [found[1][name] for name in ORIGIN] == [5, "/no/such/file", None, None, None], "a file that is missing"
     assert b"/no/such/file" in ended.stderr, "a file that is missing is named"
     with open("/dev/full", "wb") as full:
         ended = run(names, stdout=full, stderr=subprocess.PIPE)
