@@ -282,8 +282,8 @@ def bytes_of(part):
 
 
 def parts_anywhere(data, inside=None):
-    """The parts of a closed mail, which the part with this path contains, and then those of the mails inside it, encoded
-    ones too: as `all_parts` has them."""
+    """The parts of a closed mail, which the part with this path contains, and then those of the mails inside it: as
+    `all_parts` has them, but those of encoded mails too."""
     mail = email.message_from_bytes(closed(data))
     parts = list(walk(mail, (inside or "") if has_parts(mail) else f"{inside}.1" if inside else "1"))
     yield from ((inside, path, part) for path, part in parts)

@@ -57,7 +57,7 @@ def as_json(line, path):
     refused = re.fullmatch(r"refused (\d+) (.*)", line)
     if not refused:
         return json.loads(line) | {"file": path}
-    return {"schema": 4, "file": path, "number": None, "start": 0, "end": int(refused[1]), "error": refused[2]}
+    return {"schema": 5, "file": path, "number": None, "start": 0, "end": int(refused[1]), "error": refused[2]}
 
 
 def test_lines(check, hostile):

@@ -136,14 +136,15 @@ def json_line():
     """The line of mail_json."""
     size = len(LONG)
     part = {
-        "path": "1", "type": "text/plain", "charset": "us-ascii", "params": {}, "disposition": None, "file_name": None,
-        "attachment": False, "encoding": "7bit", "start": 0, "end": size, "size": 4, "decoded_size": 4,
-        "sha256": None, "headers": [["Subject", SUBJECT]] * COUNT, "text": "body", "text_charset": "utf-8",
+        "path": "1", "inside": None, "type": "text/plain", "charset": "us-ascii", "params": {}, "disposition": None,
+        "file_name": None, "content_id": None, "attachment": False, "extracted": False, "encoding": "7bit", "start": 0,
+        "end": size, "size": 4, "decoded_size": 4, "sha256": None, "report": None, "headers": [["Subject", SUBJECT]] * COUNT,
+        "text": "body", "text_charset": "utf-8",
     }
     lists = ("from", "to", "cc", "bcc", "reply_to", "sender")
-    mail = {"schema": 4, "file": None, "number": None, "start": 0, "end": size, "subject": SUBJECT}
+    mail = {"schema": 5, "file": None, "number": None, "start": 0, "end": size, "subject": SUBJECT}
     mail.update({name: [] for name in lists}, raw={name: None for name in lists}, date=None, message_id=[])
-    mail.update(in_reply_to=[], references=[], parts=[part], forwarded=[])
+    mail.update(in_reply_to=[], references=[], bounced_id=None, recipients=[], parts=[part], forwarded=[])
     return json.dumps(mail, ensure_ascii=False, separators=(",", ":")) + "\n"
 
 
