@@ -10,19 +10,23 @@ Everything is safe to use from several threads at once, and Python's lock is not
 
 from . import _library
 from ._library import Refused
-from ._mail import Address, Header, Mail, Part, Recipient, parse
+from ._mail import Mail, parse
 from ._mailbox import Mailbox, open_mailbox
-from ._values import read_date, read_ids
+from ._maildir import Maildir, open_maildir
+from ._part import Header, Part
+from ._values import Address, Recipient, read_date, read_ids
 
 __all__ = [
     "Address",
     "Header",
     "Mail",
     "Mailbox",
+    "Maildir",
     "Part",
     "Recipient",
     "Refused",
     "open_mailbox",
+    "open_maildir",
     "parse",
     "read_date",
     "read_ids",

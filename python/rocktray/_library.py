@@ -11,20 +11,24 @@ from typing import Any, Iterator, Optional, Tuple
 
 DONE, TOO_SHORT, NO_MEMORY, ABSENT = range(4)
 NOT_BASE64 = 19
+DATE_YEAR = 34
 # the greatest capacity of a buffer that is kept for the next call
 KEPT = 1 << 20
 
 
 class Refused(ValueError):
-    """The library refuses the input. The text says why, and `number` is the code of the reason (rocktray.h)."""
+    """The library refuses the input. The `text` says why, `number` is the code of the reason (rocktray.h), and `place` is
+    where the mail begins and ends in its mailbox, or `None` outside of one.
+    """
 
-    def __init__(self, text: str, number: int = 0) -> None:
-        super().__init__(text, number)
+    def __init__(self, text: str, number: int = 0, place: Optional[Tuple[int, int]] = None) -> None:
+        super().__init__(text, number, place)
         self.text = text
         self.number = number
+        self.place = place
 
     def __str__(self) -> str:
-        return self.text
+        return self.text if self.place is None else f"{self.text} (the mail at {self.place[0]} of its mailbox)"
 
 
 def _found() -> str:
@@ -153,6 +157,17 @@ def content(part: bytes) -> bytes:
 def text(part: bytes) -> str:
     """The text of the body of a part."""
     return _result(_text, (part, len(part)), 2 * len(part)).decode()
+
+
+# a charset that reads each byte as another character, and those of them that are not the byte's number
+_EACH_BYTE = b"Content-Type: text/plain; charset=windows-1252\nContent-Transfer-Encoding: base64\n\n"
+_NUMBERS = {ord(bytes((n,)).decode("cp1252")): n for n in range(128, 160) if n not in (0x81, 0x8D, 0x8F, 0x90, 0x9D)}
+
+
+def base64_front(body: bytes) -> bytes:
+    """The bytes of a body in Base64 up to the damage, which `rocktray_text` alone of all calls returns."""
+    # the group before it keeps its first bytes from being a byte order mark
+    return text(_EACH_BYTE + b"AAAA" + body).translate(_NUMBERS).encode("latin-1")[3:]
 
 
 def header(part: bytes, name: str, number: int = 0) -> Optional[str]:

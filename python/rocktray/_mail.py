@@ -1,246 +1,56 @@
-"""Mails and their parts."""
+"""Mails."""
 
 from __future__ import annotations
 
 import email.message
 import email.policy
 import json
-import re
-from datetime import datetime, timedelta, timezone
-from typing import Any, Dict, Iterator, List, NamedTuple, Optional, Tuple, Union, cast
+from datetime import datetime
+from typing import Any, Dict, Iterator, List, Optional, Tuple, TypeVar, Union, cast, overload
 
 from . import _library
 from ._library import Refused
+from ._part import Header, Part, values_of
+from ._values import Address, Recipient, addresses_of, time_of
 
 Bytes = Union[bytes, bytearray, memoryview]
-_EPOCH = datetime(1970, 1, 1, tzinfo=timezone.utc)
+Default = TypeVar("Default")
 _FORWARDING = ("message/rfc822", "message/global")
-
-
-class Address(NamedTuple):
-    """A mailbox: its display name and its address. Text that is no address is a name with an empty address."""
-
-    name: str
-    address: str
-
-
-class Recipient(NamedTuple):
-    """A recipient of a delivery report (RFC 3464). A missing field is `None`."""
-
-    final_recipient: Optional[str]
-    original_recipient: Optional[str]
-    action: Optional[str]
-    status: Optional[str]
-    diagnostic_code: Optional[str]
-
-
-def _addresses(value: Any) -> List[Address]:
-    """The mailboxes in a member of the JSON, including those of groups."""
-    found: List[Address] = []
-    for item in value:
-        if "members" in item:
-            found += _addresses(item["members"])
-        elif "address" in item:
-            found.append(Address(item["name"] or "", item["address"]))
-        else:
-            found.append(Address(item["unknown"], ""))
-    return found
+_Tree = Tuple[List[Optional[int]], List[List[int]]]
 
 
 def _own_parts(value: Dict[str, Any]) -> List[Dict[str, Any]]:
-    """The objects of the mail and of its parts. Those of the mails inside it come after them: the first has the path of a
-    part that contains a mail, or one directly below it.
-    """
+    """The objects of the mail and of its parts. Those of the mails inside it come after them."""
     parts = cast("List[Dict[str, Any]]", value["parts"])
-    containers = {inside["path"] for inside in value["forwarded"]}
-    if containers:
-        seen = set()
+    if value["forwarded"]:
         for index, part in enumerate(parts):
-            path = part["path"]
-            if path in seen or path.rpartition(".")[0] in containers:
+            if part["inside"] is not None:
                 return parts[:index]
-            seen.add(path)
     return parts
 
 
-# a line end that ends a header: no blank follows it
-_HEADER_END = re.compile(rb"\n(?![ \t])")
-
-
-def _raw_values(mail: bytes, start: int, end: int, count: int) -> List[bytes]:
-    """The raw values of the first headers of the part at these offsets (docs/RULES.md, "Header lines")."""
-    found = []
-    for _ in range(count):
-        line_end = mail.find(b"\n", start, end)
-        colon = mail.find(b":", start, end if line_end < 0 else line_end)
-        if colon < 0:
-            found.append(b"")
-            start = end if line_end < 0 else line_end + 1
-            continue
-        header_end = _HEADER_END.search(mail, colon, end)
-        value_end, start = header_end.span() if header_end else (end, end)
-        found.append(mail[colon + 1 : value_end].lstrip(b" ").rstrip(b"\r\n"))
-    return found
-
-
-class _RawValues:
-    """The raw values of the headers of a part: all are read when the first is used."""
-
-    __slots__ = ("_place", "_values")
-
-    def __init__(self, mail: bytes, start: int, end: int, count: int) -> None:
-        self._place = (mail, start, end, count)
-        self._values: Optional[List[bytes]] = None
-
-    def __getitem__(self, index: int) -> bytes:
-        values = self._values
-        if values is None:
-            values = self._values = _raw_values(*self._place)
-        return values[index]
-
-
-class Header:
-    """A header of a part: its `name`, its decoded `value`, and its `raw` value.
-
-    >>> mail = parse(b"Subject: =?utf-8?q?caf=C3=A9?=\\r\\n at noon\\r\\n\\r\\n")
-    >>> mail.headers[0].name, mail.headers[0].value, mail.headers[0].raw
-    ('Subject', 'café at noon', b'=?utf-8?q?caf=C3=A9?=\\r\\n at noon')
+def _tree_of(parts: List[Dict[str, Any]]) -> _Tree:
+    """For each part the index of the one that contains it, and the indexes of those that it contains. The first part of a
+    forwarded mail is in the part that forwards it.
     """
-
-    __slots__ = ("name", "value", "_raw_values", "_index")
-
-    def __init__(self, name: str, value: str, raw_values: Union[_RawValues, Tuple[bytes]], index: int = 0) -> None:
-        self.name = name
-        self.value = value
-        self._raw_values = raw_values
-        self._index = index
-
-    @property
-    def raw(self) -> bytes:
-        """The raw value, without decoding. The first use reads those of all headers of the part, in linear time."""
-        return self._raw_values[self._index]
-
-    def __eq__(self, other: object) -> bool:
-        return isinstance(other, Header) and (self.name, self.value, self.raw) == (other.name, other.value, other.raw)
-
-    def __hash__(self) -> int:
-        return hash((self.name, self.value))
-
-    def __reduce__(self) -> Tuple[Any, ...]:
-        return Header, (self.name, self.value, (self.raw,))
-
-    def __repr__(self) -> str:
-        return f"Header({self.name!r}, {self.value!r})"
-
-
-# the encodings that leave the bytes of a body as they are
-_IDENTITY = ("7bit", "8bit", "binary")
-
-
-class Part:
-    """A part of a mail, or the mail itself: the members of its object in the JSON, and its bytes.
-
-    >>> mail = parse(b"Content-Type: text/html; charset=iso-8859-2\\n\\n<p>\\xb9</p>")
-    >>> part = next(mail.walk())
-    >>> part.content_type, part.charset, part.content, part.text
-    ('text/html', 'iso-8859-2', b'<p>\\xb9</p>', '<p>š</p>')
-    """
-
-    __slots__ = ("_mail", "_object", "_index")
-
-    def __init__(self, mail: "Mail", value: Dict[str, Any], index: int) -> None:
-        self._mail = mail
-        self._object = value
-        self._index = index
-
-    @property
-    def path(self) -> str:
-        """The path, as IMAP numbers parts: '' for a mail with parts, '1' for one without, and then for example '2.1'."""
-        return cast(str, self._object["path"])
-
-    @property
-    def content_type(self) -> str:
-        """The type in lower case, such as 'text/plain'."""
-        return cast(str, self._object["type"])
-
-    @property
-    def params(self) -> Dict[str, str]:
-        """The parameters of the type, by their names in lower case."""
-        return cast("Dict[str, str]", self._object["params"])
-
-    @property
-    def charset(self) -> str:
-        """The label of the charset, or 'us-ascii' if none is given. `text_charset` is the one that was used."""
-        return cast(str, self._object["charset"])
-
-    @property
-    def disposition(self) -> Optional[str]:
-        """The disposition in lower case, such as 'attachment', or `None` without that header."""
-        return cast("Optional[str]", self._object["disposition"])
-
-    @property
-    def file_name(self) -> Optional[str]:
-        """The name of the file as the sender wrote it, or `None`. It may contain slashes: never open it as it is."""
-        return cast("Optional[str]", self._object["file_name"])
-
-    @property
-    def is_attachment(self) -> bool:
-        """Whether the part is an attachment."""
-        return cast(bool, self._object["attachment"])
-
-    @property
-    def encoding(self) -> str:
-        """The transfer encoding of the body, such as 'base64'."""
-        return cast(str, self._object["encoding"])
-
-    @property
-    def headers(self) -> List[Header]:
-        """The headers, in order."""
-        found, start, end = self._object["headers"], self._object["start"], self._object["end"]
-        raw_values = _RawValues(self._mail.raw, start, end, len(found))
-        return [Header(name, value, raw_values, index) for index, (name, value) in enumerate(found)]
-
-    @property
-    def raw(self) -> bytes:
-        """The part's own bytes, headers and body."""
-        return self._mail._bytes_of(self._object)
-
-    @property
-    def content(self) -> bytes:
-        """The decoded bytes of the body, without its transfer encoding. Raises `Refused` if it is not valid Base64."""
-        value = self._object
-        if "error" in value:
-            raise Refused(value["error"], _library.NOT_BASE64)
-        if value["encoding"] in _IDENTITY and not value["type"].startswith("multipart"):
-            return self._mail.raw[value["end"] - value["size"] : value["end"]]
-        return _library.content(self.raw)
-
-    @property
-    def text(self) -> Optional[str]:
-        """The text, if the part is a text and no attachment; otherwise `None`. A damaged text is read up to the damage."""
-        return cast("Optional[str]", self._object["text"])
-
-    @property
-    def text_charset(self) -> Optional[str]:
-        """The charset in which the text was read, or `None` if there is no text."""
-        return cast("Optional[str]", self._object.get("text_charset"))
-
-    @property
-    def is_damaged(self) -> bool:
-        """Whether the body is damaged Base64, so that the text is incomplete."""
-        return cast(bool, self._object.get("damaged", False))
-
-    def __eq__(self, other: object) -> bool:
-        return isinstance(other, Part) and self._mail == other._mail and self._index == other._index
-
-    def __hash__(self) -> int:
-        return hash((self._mail, self._index))
-
-    def __reduce__(self) -> Tuple[Any, ...]:
-        return _part_of, (self._mail, self._index)
-
-    def __repr__(self) -> str:
-        return f"<rocktray.Part {self.path!r} {self.content_type}>"
+    parents: List[Optional[int]] = []
+    children: List[List[int]] = [[] for _ in parts]
+    own: Dict[str, int] = {}
+    forwarding: Dict[str, int] = {}
+    for index, part in enumerate(parts):
+        path, inside = part["path"], part["inside"]
+        if index == 0 or inside != parts[index - 1]["inside"]:
+            own = {}
+            parent = None if inside is None else forwarding[inside]
+        else:
+            parent = own[path.rpartition(".")[0]]
+        own[path] = index
+        if part["type"] in _FORWARDING:
+            forwarding[path] = index
+        parents.append(parent)
+        if parent is not None:
+            children[parent].append(index)
+    return parents, children
 
 
 def _as_bytes(raw: Any) -> bytes:
@@ -266,18 +76,22 @@ class Mail:
     ('Hi', '1997-11-21T15:55:06+00:00', 'Hello\\n')
     """
 
-    __slots__ = ("raw", "place", "_read")
+    __slots__ = ("raw", "place", "_read", "_parts_tree", "_encoded")
 
     raw: bytes
     """The bytes of the mail."""
     place: Optional[Tuple[int, int]]
     """The offsets at which it begins and ends in its mailbox, or `None` outside of one."""
     _read: Union[None, Dict[str, Any], Refused]
+    _parts_tree: Optional[_Tree]
+    _encoded: Dict[int, "Mail"]
 
     def __init__(self, raw: Bytes, place: Optional[Tuple[int, int]] = None) -> None:
         self.raw = raw if isinstance(raw, bytes) else _as_bytes(raw)
         self.place = place
         self._read = None
+        self._parts_tree = None
+        self._encoded = {}
 
     @property
     def _object(self) -> Dict[str, Any]:
@@ -290,12 +104,17 @@ class Mail:
                 read = error
             self._read = read
         if isinstance(read, Refused):
-            raise Refused(read.text, read.number)
+            raise Refused(read.text, read.number, self.place)
         return cast("Dict[str, Any]", read)
 
     @property
     def error(self) -> Optional[str]:
-        """Why the mail is refused, or `None`. Everything else about a refused mail raises `Refused`."""
+        """Why the mail is refused, or `None`. Everything else about a refused mail raises `Refused`, but for its bytes and
+        `header`, which reads the headers alone.
+
+        >>> [mail.error or mail.subject for mail in (Mail(b"Subject: Hi\\n\\n"), Mail(b"A: b\\n\\rx"))]
+        ['Hi', 'Headers were followed by an unexpected lone CR character!']
+        """
         try:
             self._object
         except Refused as error:
@@ -304,8 +123,11 @@ class Mail:
 
     @property
     def json(self) -> Dict[str, Any]:
-        """The object that the program `mail_json` writes for the mail (docs/mail_json.schema.json)."""
-        return self._object
+        """The object that the program `rocktray json` writes for the mail (docs/mail_json.schema.json). It is read anew each
+        time, and yours to change.
+        """
+        self._object
+        return cast("Dict[str, Any]", json.loads(_library.json_line(self.raw)))
 
     @property
     def subject(self) -> Optional[str]:
@@ -319,48 +141,52 @@ class Mail:
         >>> parse(b"From: =?utf-8?q?Doe=2C_Jos=C3=A9?= <j@example.org>\\n\\n").from_
         [Address(name='Doe, José', address='j@example.org')]
         """
-        return _addresses(self._object["from"])
+        return addresses_of(self._object["from"])
 
     @property
     def to(self) -> List[Address]:
         """The mailboxes in To."""
-        return _addresses(self._object["to"])
+        return addresses_of(self._object["to"])
 
     @property
     def cc(self) -> List[Address]:
         """The mailboxes in Cc."""
-        return _addresses(self._object["cc"])
+        return addresses_of(self._object["cc"])
 
     @property
     def bcc(self) -> List[Address]:
         """The mailboxes in Bcc."""
-        return _addresses(self._object["bcc"])
+        return addresses_of(self._object["bcc"])
 
     @property
     def sender(self) -> List[Address]:
         """The mailbox in Sender: who sent the mail, if that is not its only author."""
-        return _addresses(self._object["sender"])
+        return addresses_of(self._object["sender"])
 
     @property
     def reply_to(self) -> List[Address]:
         """The mailboxes in Reply-To."""
-        return _addresses(self._object["reply_to"])
+        return addresses_of(self._object["reply_to"])
+
+    def _date(self) -> Tuple[Optional[datetime], Optional[str]]:
+        """The time in the first Date, and what is wrong in it."""
+        seconds = self._object["date"]
+        if seconds is None:
+            return None, self._object.get("date_error")
+        try:
+            return time_of(seconds), None
+        except Refused as error:
+            return None, error.text
 
     @property
     def date(self) -> Optional[datetime]:
         """The time in the first Date, in UTC, or `None` if it is missing or cannot be read: `date_error` says why."""
-        seconds = self._object["date"]
-        if seconds is None:
-            return None
-        try:
-            return _EPOCH + timedelta(seconds=seconds)
-        except OverflowError:
-            return None
+        return self._date()[0]
 
     @property
     def date_error(self) -> Optional[str]:
         """What is missing or wrong in the first Date; otherwise `None`."""
-        return cast("Optional[str]", self._object.get("date_error"))
+        return self._date()[1]
 
     @property
     def is_date_zone_known(self) -> bool:
@@ -376,12 +202,26 @@ class Mail:
     @property
     def in_reply_to(self) -> List[str]:
         """The ids in In-Reply-To."""
-        return cast("List[str]", self._object["in_reply_to"])
+        return list(self._object["in_reply_to"])
 
     @property
     def references(self) -> List[str]:
         """The ids in References, in order."""
-        return cast("List[str]", self._object["references"])
+        return list(self._object["references"])
+
+    @property
+    def bounced_id(self) -> Optional[str]:
+        """The id of the mail that a delivery report is about, or `None`."""
+        return cast("Optional[str]", self._object["bounced_id"])
+
+    @property
+    def recipients(self) -> List[Recipient]:
+        """The recipients that delivery reports anywhere in the mail are about, and those in X-Failed-Recipients.
+
+        >>> parse(b"X-Failed-Recipients: a@b\\n\\n").recipients[0].final_recipient
+        'a@b'
+        """
+        return [Recipient(**value) for value in self._object["recipients"]]
 
     @property
     def headers(self) -> List[Header]:
@@ -396,9 +236,52 @@ class Mail:
         """
         return _library.header(self.raw, name, number)
 
-    def _bytes_of(self, value: Dict[str, Any]) -> bytes:
-        """The bytes of the part with this object."""
-        return self.raw[value["start"] : value["end"]]
+    def __getitem__(self, name: str) -> Optional[str]:
+        """The value of the first header with this name, or `None`, as in `email`."""
+        if not isinstance(name, str):
+            raise TypeError(f"the name of a header is text, not {type(name).__name__}")
+        return self.header(name)
+
+    def __contains__(self, name: object) -> bool:
+        return isinstance(name, str) and self.header(name) is not None
+
+    @overload
+    def get_all(self, name: str) -> Optional[List[str]]: ...
+
+    @overload
+    def get_all(self, name: str, failobj: Default) -> Union[List[str], Default]: ...
+
+    def get_all(self, name: str, failobj: Any = None) -> Any:
+        """The values of all headers with this name, or `failobj` if there are none, as in `email`.
+
+        >>> mail = parse(b"Received: one\\nSubject: Hi\\nReceived: two\\n\\n")
+        >>> mail["subject"], mail["Date"], mail.get_all("received"), mail.get_all("Date", [])
+        ('Hi', None, ['one', 'two'], [])
+        """
+        return values_of(self._object["parts"][0]["headers"], name) or failobj
+
+    @property
+    def _tree(self) -> _Tree:
+        """Which part contains which."""
+        tree = self._parts_tree
+        if tree is None:
+            tree = self._parts_tree = _tree_of(self._object["parts"])
+        return tree
+
+    def _part(self, index: int) -> Part:
+        """The part with this index, which counts those of the mails inside too."""
+        return Part(self, self._object["parts"][index], index)
+
+    def _encoded_mail(self, index: int) -> Tuple["Mail", int]:
+        """The mail inside an encoded part to which the part with this index belongs, and its index in that mail."""
+        parents, parts = self._tree[0], self._object["parts"]
+        first, container = index, parents[index]
+        while container is not None and parts[container]["inside"] == parts[index]["inside"]:
+            first, container = container, parents[container]
+        assert container is not None
+        if container not in self._encoded:
+            self._encoded[container] = Mail(self._part(container).extracted_content())
+        return self._encoded[container], index - first
 
     def walk(self) -> Iterator[Part]:
         """The mail itself and then its parts, each before its own parts. `forwarded` has the mails inside it.
@@ -410,8 +293,19 @@ class Mail:
         for index, value in enumerate(_own_parts(self._object)):
             yield Part(self, value, index)
 
+    def files(self) -> List[Part]:
+        """The parts that the program `rocktray extract` saves: the attachments, and all else that is not shown as the text of
+        the mail: images without a name, forwarded mails, reports. After the mail's own come those of the forwarded mails.
+
+        >>> raw = b"Content-Type: multipart/mixed; boundary=b\\n\\n--b\\n\\ntext\\n--b\\nContent-Type: image/png\\n\\n.\\n--b--\\n"
+        >>> mail = parse(raw)
+        >>> [(file.path, file.extracted_content()) for file in mail.files()], mail.attachments()
+        ([('2', b'.')], [])
+        """
+        return [Part(self, value, index) for index, value in enumerate(self._object["parts"]) if value["extracted"]]
+
     def attachments(self) -> List[Part]:
-        """The parts that are attachments.
+        """The mail's own parts whose disposition is 'attachment' or that have a file name. `files` has more.
 
         >>> raw = b'Content-Disposition: attachment; filename="a.txt"\\n\\ntext'
         >>> [(file.file_name, file.content) for file in parse(raw).attachments()]
@@ -477,11 +371,6 @@ class Mail:
 def _text_type(content_type: str) -> str:
     """The type of a text: `text` without a subtype is plain."""
     return "text/plain" if content_type == "text" else content_type
-
-
-def _part_of(mail: Mail, index: int) -> Part:
-    """A part of a mail, by its index."""
-    return Part(mail, mail._object["parts"][index], index)
 
 
 def parse(raw: Bytes) -> Mail:

@@ -2,6 +2,7 @@
 
 from __future__ import annotations
 
+import io
 import os
 import re
 import stat
@@ -46,13 +47,13 @@ class _File:
 
     def __init__(self, file: Any, size: int) -> None:
         self._file = file
-        self._size = size
+        self.size = size
 
     def read_on(self, left: bytes, start: int) -> Tuple[bytes, bool]:
         """The bytes from `start`: those that are left, and at least as many more if the file has them. Also whether
         the file ends there.
         """
-        count = min(max(BLOCK, 2 * len(left)), self._size - start)
+        count = min(max(BLOCK, 2 * len(left)), self.size - start)
         # what is left is read again, which is faster than copying all; one call reads less than 2 GiB
         kept = left if len(left) > 1 << 30 else b""
         data = kept + os.pread(self._file.fileno(), count - len(kept), start + len(kept))
@@ -60,8 +61,8 @@ class _File:
             from mailbox import ExternalClashError  # here, since it imports much
 
             name, size = self._file.name, os.fstat(self._file.fileno()).st_size
-            raise ExternalClashError(f"{name!r} was shortened while it was read: from {self._size} bytes to {size}")
-        return data, start + len(data) == self._size
+            raise ExternalClashError(f"{name!r} was shortened while it was read: from {self.size} bytes to {size}")
+        return data, start + len(data) == self.size
 
 
 class _Stream:
@@ -108,29 +109,43 @@ class _Window(NamedTuple):
 class Mailbox:
     """The mails of a mailbox, as `open_mailbox` returns it: an iterator, and a context manager that closes the file.
 
-    Several threads may iterate over it: each mail goes to one of them.
+    As with a file, a second loop goes on where the first ended, and `rewind` begins again. `len` counts all mails. Both
+    need a file, and raise an error for a pipe or a file object. Several threads may iterate over it: each mail goes to one
+    of them.
     """
 
     def __init__(self, path: Union[str, "os.PathLike[str]", Readable], format: str = "mbox") -> None:
         if format not in FORMATS:
             raise ValueError(f"{format!r} is none of {', '.join(FORMATS)}")
+        self._format = format
         self._is_counted = format == "mboxcl"
         self._is_quoted = format == "mboxrd"
         # reentrant, for the handler of a signal that closes the mailbox
         self._lock = threading.RLock()
         # mails that were found: the bytes with the mail, the offset of these, and where in them it begins and ends
         self._found: Deque[Tuple[bytes, int, int, int]] = deque()
-        self._window: Optional[_Window] = _Window(0, b"", 0, -1)
+        # the path of a regular file
+        self._path: Any = None
         self._file: Any = None
-        self._reader: Union[_File, _Stream]
         if hasattr(path, "read"):
-            self._reader = _Stream(path)
+            self._name = getattr(path, "name", None)
+            self._begin(_Stream(path))
         else:
             self._file = open(path, "rb", buffering=0)
-            self._reader = _reader_of(self._file)
+            self._name = self._file.name
+            if stat.S_ISREG(os.fstat(self._file.fileno()).st_mode):
+                self._path = os.path.abspath(self._name)
+            self._begin(_reader_of(self._file))
+
+    def _begin(self, reader: Union[_File, _Stream]) -> None:
+        """Begins to read. Raises `ValueError` if the input is no mailbox."""
+        self._reader = reader
+        self._found.clear()
+        self._seen = 0
+        self._count: Optional[int] = None
+        self._window: Optional[_Window] = _Window(0, b"", 0, -1)
         try:
-            name = getattr(self._file or path, "name", None)
-            self._check(repr(name) if isinstance(name, (str, bytes)) else "the input")
+            self._check(repr(self._name) if isinstance(self._name, (str, bytes)) else "the input")
         except BaseException:
             self.close()
             raise
@@ -149,6 +164,7 @@ class Mailbox:
             self._read_on()
         if first is None:
             _check_front(name, window.data)
+            self._count = 0
 
     def _open_window(self) -> _Window:
         """What was read. Raises `ValueError` if the mailbox is closed."""
@@ -158,9 +174,7 @@ class Mailbox:
 
     def _read_on(self) -> _Window:
         """Reads on: at least as many bytes as are left, so that all calls together take linear time."""
-        start, data, at, _ = self._open_window()
-        data, is_last = self._reader.read_on(data[at:], start + at)
-        window = _Window(start + at, data, 0, len(data) if is_last else data.rfind(b"\n", 0, -1))
+        window = _next_window(self._open_window(), self._reader)
         self._open_window()  # the handler of a signal may have closed it
         self._window = window
         return window
@@ -177,8 +191,11 @@ class Mailbox:
                 window = window._replace(at=places[-1][2])
                 self._open_window()
                 self._window = window
+                self._seen += len(found)
                 self._found.extend(found)
             elif window.last == len(window.data):
+                if isinstance(self._reader, _File):
+                    self._count = self._seen
                 self._release(_Window(window.start + window.at, b"", 0, 0))
                 return False
             else:
@@ -203,6 +220,53 @@ class Mailbox:
             raw = _QUOTED.sub(rb"\1", raw)
         return Mail(raw, (offset + start, offset + end))
 
+    def __len__(self) -> int:
+        """The number of all mails: the first call reads the file, and later ones do not. Raises `TypeError` for a pipe and a
+        file object.
+        """
+        with self._lock:
+            if self._count is not None:
+                return self._count
+            self._open_window()
+            if not isinstance(self._reader, _File):
+                raise TypeError("the mails of a pipe or a file object cannot be counted before they are read")
+            reader = self._reader
+            file = os.fdopen(os.dup(self._file.fileno()), "rb", buffering=0)
+        with file:
+            # another program may have shortened it, or made it longer
+            size = min(reader.size, os.fstat(file.fileno()).st_size)
+            count = _count(_File(file, size), self._is_counted) if size > 0 else 0
+        with self._lock:
+            if self._reader is reader:
+                self._count = count
+        return count
+
+    def __bool__(self) -> bool:
+        return True
+
+    def rewind(self) -> None:
+        """Opens the file again, so that the next mail is the first. Raises `io.UnsupportedOperation` for a pipe and a file
+        object, and otherwise what `open_mailbox` raises.
+
+        >>> import os, tempfile
+        >>> with tempfile.NamedTemporaryFile(delete=False) as file:
+        ...     _ = file.write(b"From a Fri Jul  8 12:08:34 2011\\nSubject: 1\\n\\n")
+        >>> box = open_mailbox(file.name)
+        >>> first = [mail.subject for mail in box]
+        >>> box.rewind()
+        >>> len(box), first == [mail.subject for mail in box]
+        (1, True)
+        >>> os.unlink(file.name)
+        """
+        with self._lock:
+            self._open_window()
+            if self._path is None:
+                raise io.UnsupportedOperation("a pipe or a file object cannot be read again: open another mailbox")
+            file = open(self._path, "rb", buffering=0)
+            self._file.close()
+            self._file = file
+            self._begin(_reader_of(file))
+
     def _release(self, window: Optional[_Window]) -> None:
         """Closes the file that was opened for the mailbox, and leaves this window."""
         self._window = window
@@ -219,6 +283,10 @@ class Mailbox:
         if getattr(self, "_file", None) is not None:
             self._file.close()
 
+    def __repr__(self) -> str:
+        name = repr(self._name) if isinstance(self._name, (str, bytes)) else "of a file object"
+        return f"<rocktray.Mailbox {name} {self._format}{' closed' if self._window is None else ''}>"
+
     def __enter__(self) -> "Mailbox":
         return self
 
@@ -234,6 +302,24 @@ def _check_front(name: str, data: bytes) -> None:
         raise ValueError(f"{name} is a single mail and no mailbox: use parse(pathlib.Path(..).read_bytes())")
     if data.strip() and not data.startswith(b"From ") and b"\nFrom " not in data:
         raise ValueError(f"{name} is no mailbox: it has no line that begins with 'From '")
+
+
+def _next_window(window: _Window, reader: Union[_File, _Stream]) -> _Window:
+    """The bytes from the next mail on, and at least as many more."""
+    start = window.start + window.at
+    data, is_last = reader.read_on(window.data[window.at :], start)
+    return _Window(start, data, 0, len(data) if is_last else data.rfind(b"\n", 0, -1))
+
+
+def _count(reader: _File, is_counted: bool) -> int:
+    """The number of mails of a file."""
+    window, count = _Window(0, b"", 0, -1), 0
+    while window.last < len(window.data):
+        window = _next_window(window, reader)
+        while places := _settled(window, is_counted):
+            count += len(places)
+            window = window._replace(at=places[-1][2])
+    return count
 
 
 def _settled(window: _Window, is_counted: bool) -> List[Tuple[int, int, int]]:
@@ -265,7 +351,7 @@ def open_mailbox(path: Union[str, "os.PathLike[str]", Readable], format: str = "
     `path` may also be that of a pipe, or a file object open for reading bytes, such as `gzip.open(path)`. It is read in
     blocks, so that only the largest mail has to fit into memory. `format` is 'mbox' (RFC 4155), 'mboxrd', or 'mboxcl'
     for a mailbox whose mails have a Content-Length. A mail that is refused is there too: its `error` says why, and
-    everything else about it raises `Refused`.
+    everything else about it raises `Refused`, so a loop begins with `if mail.error: continue`.
 
     Raises `ValueError` if the input is compressed, a single mail or no mailbox at all, and `OSError` if it cannot be
     read. If another program shortens the file meanwhile, the mails up to there are returned, and then

@@ -2,14 +2,72 @@
 
 from __future__ import annotations
 
+import re
 from datetime import datetime, timedelta, timezone
-from typing import List
+from typing import Any, List, NamedTuple, Optional
 
 from . import _library
+from ._library import Refused
+
+_EPOCH = datetime(1970, 1, 1, tzinfo=timezone.utc)
+
+# what needs quotes in a display name, and what could begin a line or move a terminal
+_SPECIAL = re.compile(r'[][()<>@,:;".\\]')
+_CONTROL = re.compile("[\x00-\x1f\x7f-\x9f\u2028\u2029]")
+
+
+class Address(NamedTuple):
+    """A mailbox: its display name and its address. Text that is no address is a name with an empty address. `str` writes it
+    as a mail does, with U+FFFD for control characters.
+
+    >>> str(Address("Ana Lima", "ana@example.org")), str(Address("Lima, Ana", "ana@example.org")), str(Address("", "a@b"))
+    ('Ana Lima <ana@example.org>', '"Lima, Ana" <ana@example.org>', 'a@b')
+    """
+
+    name: str
+    address: str
+
+    def __str__(self) -> str:
+        text = self.name or self.address
+        if self.name and self.address:
+            name = '"' + re.sub(r'(["\\])', r"\\\1", self.name) + '"' if _SPECIAL.search(self.name) else self.name
+            text = f"{name} <{self.address}>"
+        return _CONTROL.sub("\ufffd", text)
+
+
+class Recipient(NamedTuple):
+    """A recipient of a delivery report (RFC 3464). A missing field is `None`."""
+
+    final_recipient: Optional[str]
+    original_recipient: Optional[str]
+    action: Optional[str]
+    status: Optional[str]
+    diagnostic_code: Optional[str]
+
+
+def addresses_of(value: Any) -> List[Address]:
+    """The mailboxes in a member of the JSON, including those of groups."""
+    found: List[Address] = []
+    for item in value:
+        if "members" in item:
+            found += addresses_of(item["members"])
+        elif "address" in item:
+            found.append(Address(item["name"] or "", item["address"]))
+        else:
+            found.append(Address(item["unknown"], ""))
+    return found
+
+
+def time_of(seconds: int) -> datetime:
+    """The time that many seconds after 1970. Raises `Refused` if it is after the last year that Python's `datetime` has."""
+    try:
+        return _EPOCH + timedelta(seconds=seconds)
+    except OverflowError:
+        raise Refused("the date is after the year 9999", _library.DATE_YEAR) from None
 
 
 def read_date(text: str) -> datetime:
-    """The time in the value of a Date header, in UTC. Raises `Refused` if there is none.
+    """The time in the value of a Date header, in UTC. Raises `Refused` if there is none, or if it is after the year 9999.
 
     >>> read_date("Fri, 21 Nov 1997 09:55:06 -0600").isoformat()
     '1997-11-21T15:55:06+00:00'
@@ -18,8 +76,9 @@ def read_date(text: str) -> datetime:
         ...
     rocktray.Refused: no month
     """
+    _check_text(text, "a date")
     seconds, _ = _library.date(text)
-    return datetime(1970, 1, 1, tzinfo=timezone.utc) + timedelta(seconds=seconds)
+    return time_of(seconds)
 
 
 def read_ids(text: str, needs_at: bool = True) -> List[str]:
@@ -28,4 +87,11 @@ def read_ids(text: str, needs_at: bool = True) -> List[str]:
     >>> read_ids("Your mail <one@example.org> of <yesterday>")
     ['one@example.org']
     """
+    _check_text(text, "a list of ids")
     return _library.ids(text, needs_at)
+
+
+def _check_text(text: str, what: str) -> None:
+    """Raises `TypeError` if this is no text."""
+    if not isinstance(text, str):
+        raise TypeError(f"{what} is text, not {type(text).__name__}")
