@@ -17,8 +17,8 @@ KEPT = 1 << 20
 
 
 class Refused(ValueError):
-    """The library refuses the input. The `text` says why, `number` is the code of the reason (rocktray.h), and `place` is
-    where the mail begins and ends in its mailbox, or `None` outside of one.
+    """The library refuses the input. The `text` says why, `number` is the code of the reason (rocktray.h), and `place`
+    is where the mail begins and ends in its mailbox, or `None` outside of one.
     """
 
     def __init__(self, text: str, number: int = 0, place: Optional[Tuple[int, int]] = None) -> None:
@@ -159,7 +159,7 @@ def text(part: bytes) -> str:
     return _result(_text, (part, len(part)), 2 * len(part)).decode()
 
 
-# a charset that reads each byte as another character, and those of them that are not the byte's number
+# a part whose charset reads each byte as a different character, and the bytes of those that are not of their number
 _EACH_BYTE = b"Content-Type: text/plain; charset=windows-1252\nContent-Transfer-Encoding: base64\n\n"
 _NUMBERS = {ord(bytes((n,)).decode("cp1252")): n for n in range(128, 160) if n not in (0x81, 0x8D, 0x8F, 0x90, 0x9D)}
 

@@ -30,8 +30,8 @@ def _own_parts(value: Dict[str, Any]) -> List[Dict[str, Any]]:
 
 
 def _tree_of(parts: List[Dict[str, Any]]) -> _Tree:
-    """For each part the index of the one that contains it, and the indexes of those that it contains. The first part of a
-    forwarded mail is in the part that forwards it.
+    """For each part the index of the one that contains it, and the indexes of those that it contains: its own parts, or
+    the first one of the mail that it forwards.
     """
     parents: List[Optional[int]] = []
     children: List[List[int]] = [[] for _ in parts]
@@ -109,8 +109,8 @@ class Mail:
 
     @property
     def error(self) -> Optional[str]:
-        """Why the mail is refused, or `None`. Everything else about a refused mail raises `Refused`, but for its bytes and
-        `header`, which reads the headers alone.
+        """Why the mail is refused, or `None`. Everything else about a refused mail raises `Refused`, but for its bytes
+        and `header`, which reads the headers alone.
 
         >>> [mail.error or mail.subject for mail in (Mail(b"Subject: Hi\\n\\n"), Mail(b"A: b\\n\\rx"))]
         ['Hi', 'Headers were followed by an unexpected lone CR character!']
@@ -123,8 +123,8 @@ class Mail:
 
     @property
     def json(self) -> Dict[str, Any]:
-        """The object that the program `rocktray json` writes for the mail (docs/mail_json.schema.json). It is read anew each
-        time, and yours to change.
+        """The object that the program `rocktray json` writes for the mail (docs/mail_json.schema.json). It is read anew
+        each time, and yours to change.
         """
         self._object
         return cast("Dict[str, Any]", json.loads(_library.json_line(self.raw)))
@@ -294,13 +294,12 @@ class Mail:
             yield Part(self, value, index)
 
     def files(self) -> List[Part]:
-        """The parts that the program `rocktray extract` saves: the attachments, and all else that is not shown as the text of
-        the mail: images without a name, forwarded mails, reports. After the mail's own come those of the forwarded mails.
+        """The parts that the program `rocktray extract` saves: the attachments, and all else that is not shown as text,
+        such as images without a name, forwarded mails and reports. Those of the forwarded mails follow.
 
-        >>> raw = b"Content-Type: multipart/mixed; boundary=b\\n\\n--b\\n\\ntext\\n--b\\nContent-Type: image/png\\n\\n.\\n--b--\\n"
-        >>> mail = parse(raw)
+        >>> mail = parse(b"Content-Type: application/pdf\\n\\n%PDF")
         >>> [(file.path, file.extracted_content()) for file in mail.files()], mail.attachments()
-        ([('2', b'.')], [])
+        ([('1', b'%PDF')], [])
         """
         return [Part(self, value, index) for index, value in enumerate(self._object["parts"]) if value["extracted"]]
 

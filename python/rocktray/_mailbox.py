@@ -110,8 +110,7 @@ class Mailbox:
     """The mails of a mailbox, as `open_mailbox` returns it: an iterator, and a context manager that closes the file.
 
     As with a file, a second loop goes on where the first ended, and `rewind` begins again. `len` counts all mails. Both
-    need a file, and raise an error for a pipe or a file object. Several threads may iterate over it: each mail goes to one
-    of them.
+    raise an error for a pipe and a file object. Several threads may iterate over it: each mail goes to one of them.
     """
 
     def __init__(self, path: Union[str, "os.PathLike[str]", Readable], format: str = "mbox") -> None:
@@ -221,8 +220,8 @@ class Mailbox:
         return Mail(raw, (offset + start, offset + end))
 
     def __len__(self) -> int:
-        """The number of all mails: the first call reads the file, and later ones do not. Raises `TypeError` for a pipe and a
-        file object.
+        """The number of all mails: the first call reads the file, and later ones do not. Raises `TypeError` for a pipe
+        and a file object.
         """
         with self._lock:
             if self._count is not None:
@@ -245,8 +244,8 @@ class Mailbox:
         return True
 
     def rewind(self) -> None:
-        """Opens the file again, so that the next mail is the first. Raises `io.UnsupportedOperation` for a pipe and a file
-        object, and otherwise what `open_mailbox` raises.
+        """Opens the file again, so that the next mail is the first. Raises `io.UnsupportedOperation` for a pipe and a
+        file object, and otherwise what `open_mailbox` raises.
 
         >>> import os, tempfile
         >>> with tempfile.NamedTemporaryFile(delete=False) as file:

@@ -32,8 +32,8 @@ class Maildir:
         return sorted(found, key=os.fsencode)
 
     def items(self) -> Iterator[Tuple[str, Mail]]:
-        """The mails with their paths. One that another program moves meanwhile is read where it is then, and one that is
-        removed is left out.
+        """The mails with their paths. One that another program moves meanwhile is read where it is then, and one that
+        is removed is left out.
         """
         for path in self.paths():
             found: Optional[str] = path

@@ -16,8 +16,8 @@ _HEADER_END = re.compile(rb"\n(?![ \t])")
 
 
 def _read_block(mail: bytes, start: int, end: int, count: int) -> Tuple[List[bytes], int]:
-    """The raw values of the headers of the part at these offsets, which are this many, and the offset after the empty line
-    that follows them (docs/RULES.md, "Header lines").
+    """The raw values of the `count` headers of the part at these offsets, and the offset at which its body begins
+    (docs/RULES.md, "Header lines").
     """
     found = []
     for _ in range(count):
@@ -117,23 +117,23 @@ class Part:
 
     @property
     def path(self) -> str:
-        """The path, as IMAP numbers parts: '' for a mail with parts, '1' for one without, and then for example '2.1'."""
+        """The path, as IMAP numbers parts: '' for a mail with parts, '1' for one without, and then '2.1' and so on."""
         return cast(str, self._object["path"])
 
     @property
     def inside(self) -> Optional[str]:
-        """The path of the part with the forwarded mail to which this part belongs, or `None` if it is the mail's own."""
+        """The path of the part with the forwarded mail that this part belongs to, or `None` for the mail's own parts."""
         return cast("Optional[str]", self._object["inside"])
 
     @property
     def parent(self) -> Optional["Part"]:
-        """The part that contains this one, or `None` for the mail itself. That of a forwarded mail contains this mail."""
+        """The part that contains this one: a multipart, or the part with a forwarded mail. `None` for the mail itself."""
         index = self._mail._tree[0][self._index]
         return None if index is None else self._mail._part(index)
 
     @property
     def children(self) -> List["Part"]:
-        """The parts of this part, in order; of a part that forwards a mail, that mail.
+        """The parts that this one contains, in order: its own, or the mail that it forwards.
 
         >>> raw = b"Content-Type: multipart/mixed; boundary=b\\n\\n--b\\nContent-Type: message/rfc822\\n\\nSubject: in\\n\\n--b--\\n"
         >>> forwarding = next(parse(raw).walk()).children[0]
@@ -216,7 +216,7 @@ class Part:
     def header(self, name: str, number: int = 0) -> Optional[str]:
         """The value of the header with this name and number, counting from 0, or `None`."""
         found = values_of(self._object["headers"], name)
-        return found[number] if number < len(found) else None
+        return found[number] if 0 <= number < len(found) else None
 
     def _location(self) -> Tuple[bytes, int, int]:
         """The bytes of a mail and the offsets at which the part begins and ends in them: those of this mail, or of an
@@ -252,8 +252,8 @@ class Part:
         return _library.content(raw[start:end])
 
     def extracted_content(self) -> bytes:
-        """The bytes that `rocktray extract` saves: the content, or the bytes of damaged Base64 up to the damage, or if the
-        body is empty all bytes after the headers, as of a multipart without parts.
+        """The bytes that `rocktray extract` saves: the content, or of damaged Base64 the bytes before the damage. If the
+        body is empty, as that of a multipart without parts, they are all bytes after the headers.
 
         >>> part = next(parse(b"Content-Type: image/png\\nContent-Transfer-Encoding: base64\\n\\niVBORw0K*").walk())
         >>> part.is_damaged, part.extracted_content()
@@ -268,8 +268,8 @@ class Part:
 
     @property
     def report(self) -> Optional[List[List[Tuple[str, str]]]]:
-        """The blocks of a delivery status (RFC 3464), a feedback report (RFC 5965) or a disposition notification (RFC 8098):
-        the names and values of their fields. `None` for another part.
+        """The blocks of a delivery status (RFC 3464), feedback report (RFC 5965) or disposition notification (RFC 8098),
+        as the names and values of their fields. `None` for any other part.
 
         >>> part = next(parse(b"Content-Type: message/feedback-report\\n\\nFeedback-Type: abuse\\nVersion: 1\\n").walk())
         >>> [dict(block) for block in part.report]
@@ -280,7 +280,7 @@ class Part:
 
     @property
     def text(self) -> Optional[str]:
-        """The text, if the part is a text and no attachment; otherwise `None`. A damaged text is read up to the damage."""
+        """The text, if the part is a text and no attachment, otherwise `None`. Of damaged Base64 it is the front."""
         return cast("Optional[str]", self._object["text"])
 
     @property

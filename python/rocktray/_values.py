@@ -17,11 +17,11 @@ _CONTROL = re.compile("[\x00-\x1f\x7f-\x9f\u2028\u2029]")
 
 
 class Address(NamedTuple):
-    """A mailbox: its display name and its address. Text that is no address is a name with an empty address. `str` writes it
-    as a mail does, with U+FFFD for control characters.
+    """A mailbox: its display name and its address. Text that is no address is a name with an empty address. `str`
+    writes it as a mail does, with U+FFFD for control characters.
 
-    >>> str(Address("Ana Lima", "ana@example.org")), str(Address("Lima, Ana", "ana@example.org")), str(Address("", "a@b"))
-    ('Ana Lima <ana@example.org>', '"Lima, Ana" <ana@example.org>', 'a@b')
+    >>> str(Address("Ana Lima", "ana@example.org")), str(Address("Lima, Ana", "a@b")), str(Address("", "a@b"))
+    ('Ana Lima <ana@example.org>', '"Lima, Ana" <a@b>', 'a@b')
     """
 
     name: str
@@ -59,7 +59,7 @@ def addresses_of(value: Any) -> List[Address]:
 
 
 def time_of(seconds: int) -> datetime:
-    """The time that many seconds after 1970. Raises `Refused` if it is after the last year that Python's `datetime` has."""
+    """The time of a date that is read. Raises `Refused` if it is after the last year of Python's `datetime`."""
     try:
         return _EPOCH + timedelta(seconds=seconds)
     except OverflowError:
@@ -67,7 +67,7 @@ def time_of(seconds: int) -> datetime:
 
 
 def read_date(text: str) -> datetime:
-    """The time in the value of a Date header, in UTC. Raises `Refused` if there is none, or if it is after the year 9999.
+    """The time in the value of a Date header, in UTC. Raises `Refused` if there is none, or none before the year 10000.
 
     >>> read_date("Fri, 21 Nov 1997 09:55:06 -0600").isoformat()
     '1997-11-21T15:55:06+00:00'
