@@ -324,8 +324,8 @@ def test_changed(runs):
 def test_lists(runs):
     """A line whose addresses are lists, with the hash of a file."""
     people = [{"name": "Ana Lima", "address": "ana@example.net"}, {"group": "all", "members": [{"name": None, "address": "bo@example.net"}]}]
-    file = {"path": "1", "type": "text/plain", "attachment": True, "file_name": "a", "text": None, "sha256": "0123abcd"}
-    line = {"from": people, "to": [{"unknown": "cai"}], "cc": [], "subject": "Lists", "date": None, "parts": [file]}
+    file = {"path": "1", "type": "text/plain", "extracted": True, "file_name": "a", "text": None, "sha256": "0123abcd"}
+    line = {"schema": 5, "from": people, "to": [{"unknown": "cai"}], "cc": [], "subject": "Lists", "date": None, "parts": [file]}
     line.update({name: [] for name in ("message_id", "in_reply_to", "references")}, file="x", start=0, end=1)
     write(runs.path("lists/a.jsonl"), json.dumps(line).encode() + b"\n")
     write(runs.path("lists/MANIFEST"), b'{"shard": "a.jsonl"}\n')
@@ -334,6 +334,10 @@ def test_lists(runs):
         ended = runs.call("search.py", "lists.db", *words)
         wanted = "-\tAna Lima <ana@example.net>, bo@example.net\tLists\ta\tx:0-1\n"
         assert ended.stdout.decode() == wanted, f"addresses in lists: {words}"
+    write(runs.path("old/a.jsonl"), json.dumps({**line, "schema": 4}).encode() + b"\n")
+    write(runs.path("old/MANIFEST"), b'{"shard": "a.jsonl"}\n')
+    ended = runs.call("load_sqlite.py", "old", "old.db")
+    assert ended.returncode == 1 and b"has lines of schema 4, not 5: repeat index_archive.py" in ended.stderr, "older lines"
 
 
 def test_parallel(runs):

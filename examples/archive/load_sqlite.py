@@ -9,7 +9,7 @@ be continued. The tables of a slice:
   mails        each mail, which is in `file` from `start` to `end`, and each that was refused, with the `error`
   texts        the words of subject, sender and body
   links        the ids in References and In-Reply-To
-  attachments  the files of the mails, each with its SHA-256 if the lines have it
+  attachments  the files of the mails, as `rocktray extract` saves them, each with its SHA-256 if the lines have it
   shards       the loaded shards
 """
 import argparse
@@ -44,6 +44,8 @@ create virtual table if not exists texts using fts5(subject, sender, body, conte
 """
 # the number of bytes of words that are sorted in memory
 BUFFER = "insert into texts(texts, rank) values('hashsize', 100000000)"
+# the number of the form of the lines
+LINES = 5
 TAGS = re.compile(r"<(style|script)\b.*?</\1|<[^>]*>", re.DOTALL | re.IGNORECASE)
 
 
@@ -83,7 +85,7 @@ def link_rows(number, line):
 def attachment_rows(number, line):
     """Returns the rows of the files of a mail."""
     members = ("path", "file_name", "type", "decoded_size", "start", "end", "sha256")
-    return [(number, *map(part.get, members)) for part in line["parts"] if part["attachment"]]
+    return [(number, *map(part.get, members)) for part in line["parts"] if part["extracted"]]
 
 
 def remove(db, name):
@@ -103,6 +105,8 @@ def insert(db, name, path):
     mails, links, attachments = [], [], []
     with open(path, "rb") as lines:
         for number, line in enumerate(map(json.loads, lines), first):
+            if line["schema"] != LINES:
+                raise ValueError(f"{path} has lines of schema {line['schema']}, not {LINES}: repeat index_archive.py")
             mails.append(mail_row(number, line))
             if "error" not in line:
                 links += link_rows(number, line)
