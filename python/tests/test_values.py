@@ -22,8 +22,8 @@ def test_addresses_as_text():
 
 
 def test_addresses_forge_no_line():
-    mail = rocktray.parse(b"From: =?utf-8?q?a=0ABcc=3A_=1Bx=C2=85=E2=80=A8?= <a@b>\n\n")
-    assert str(mail.from_[0]) == '"a\ufffdBcc: \ufffdx\ufffd\ufffd" <a@b>'
+    mail = rocktray.parse(b"From: =?utf-8?q?a=0ABcc=3A_=1Bx=C2=85=E2=80=A8y?= <a@b>\n\n")
+    assert str(mail.from_[0]) == '"a\ufffdBcc: \ufffdx\ufffd\ufffdy" <a@b>'
 
 
 def test_headers_by_name(samples):
