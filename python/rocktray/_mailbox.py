@@ -49,6 +49,10 @@ class _File:
         self._file = file
         self.size = size
 
+    def is_shortened(self) -> bool:
+        """Whether another program has shortened the file."""
+        return os.fstat(self._file.fileno()).st_size < self.size
+
     def read_on(self, left: bytes, start: int) -> Tuple[bytes, bool]:
         """The bytes from `start`: those that are left, and at least as many more if the file has them. Also whether
         the file ends there.
@@ -109,8 +113,9 @@ class _Window(NamedTuple):
 class Mailbox:
     """The mails of a mailbox, as `open_mailbox` returns it: an iterator, and a context manager that closes the file.
 
-    As with a file, a second loop goes on where the first ended, and `rewind` begins again. `len` counts all mails. Both
-    raise an error for a pipe and a file object. Several threads may iterate over it: each mail goes to one of them.
+    As with a file, a second loop goes on where the first ended, and `rewind` begins again. `len` counts the mails that a
+    loop would return. Both raise an error for a pipe and a file object. Several threads may iterate over it: each mail
+    goes to one of them.
     """
 
     def __init__(self, path: Union[str, "os.PathLike[str]", Readable], format: str = "mbox") -> None:
@@ -140,8 +145,9 @@ class Mailbox:
         """Begins to read. Raises `ValueError` if the input is no mailbox."""
         self._reader = reader
         self._found.clear()
+        # the number of mails that were found, and of all if it is known
         self._seen = 0
-        self._count: Optional[int] = None
+        self._total: Optional[int] = None
         self._window: Optional[_Window] = _Window(0, b"", 0, -1)
         try:
             self._check(repr(self._name) if isinstance(self._name, (str, bytes)) else "the input")
@@ -163,7 +169,7 @@ class Mailbox:
             self._read_on()
         if first is None:
             _check_front(name, window.data)
-            self._count = 0
+            self._total = 0
 
     def _open_window(self) -> _Window:
         """What was read. Raises `ValueError` if the mailbox is closed."""
@@ -193,8 +199,7 @@ class Mailbox:
                 self._seen += len(found)
                 self._found.extend(found)
             elif window.last == len(window.data):
-                if isinstance(self._reader, _File):
-                    self._count = self._seen
+                self._total = self._seen
                 self._release(_Window(window.start + window.at, b"", 0, 0))
                 return False
             else:
@@ -220,25 +225,24 @@ class Mailbox:
         return Mail(raw, (offset + start, offset + end))
 
     def __len__(self) -> int:
-        """The number of all mails: the first call reads the file, and later ones do not. Raises `TypeError` for a pipe
-        and a file object.
+        """The number of mails that a loop would return now: at first all. It is found by reading the file, once. Raises
+        `TypeError` for a pipe and a file object.
         """
+        file, size = None, 0
         with self._lock:
-            if self._count is not None:
-                return self._count
-            self._open_window()
-            if not isinstance(self._reader, _File):
-                raise TypeError("the mails of a pipe or a file object cannot be counted before they are read")
-            reader = self._reader
-            file = os.fdopen(os.dup(self._file.fileno()), "rb", buffering=0)
-        with file:
-            # another program may have shortened it, or made it longer
-            size = min(reader.size, os.fstat(file.fileno()).st_size)
-            count = _count(_File(file, size), self._is_counted) if size > 0 else 0
+            window, reader, seen = self._open_window(), self._reader, self._seen
+            if self._total is None:
+                if not isinstance(reader, _File):
+                    raise TypeError("the mails of a pipe or a file object cannot be counted before they are read")
+                file, size = os.fdopen(os.dup(self._file.fileno()), "rb", buffering=0), reader.size
+        total = None
+        if file is not None:
+            with file:
+                total = seen + _count(window, _File(file, size), self._is_counted)
         with self._lock:
-            if self._reader is reader:
-                self._count = count
-        return count
+            if total is not None and self._reader is reader:
+                self._total = total
+            return max(0, (self._total or 0) - self._seen + len(self._found))
 
     def __bool__(self) -> bool:
         return True
@@ -310,15 +314,16 @@ def _next_window(window: _Window, reader: Union[_File, _Stream]) -> _Window:
     return _Window(start, data, 0, len(data) if is_last else data.rfind(b"\n", 0, -1))
 
 
-def _count(reader: _File, is_counted: bool) -> int:
-    """The number of mails of a file."""
-    window, count = _Window(0, b"", 0, -1), 0
-    while window.last < len(window.data):
-        window = _next_window(window, reader)
+def _count(window: _Window, reader: _File, is_counted: bool) -> int:
+    """The number of the next mails of a file: all, or if another program shortened it, those that were read."""
+    count = 0
+    while True:
         while places := _settled(window, is_counted):
             count += len(places)
             window = window._replace(at=places[-1][2])
-    return count
+        if window.last == len(window.data) or reader.is_shortened():
+            return count
+        window = _next_window(window, reader)
 
 
 def _settled(window: _Window, is_counted: bool) -> List[Tuple[int, int, int]]:
