@@ -372,7 +372,7 @@ def test_extracted():
         part = objects([], head + b"\n\nx\n", 0, repr(head))[0]["parts"][0]
         assert part["extracted"] == wanted, repr(head)
     samples = [path.read_bytes() for path in SAMPLES if path.name != "parts.eml"]
-    samples.append(multipart(b"o", *(b"Content-Type: message/rfc822\n\n" + data for data in samples)))
+    samples.append(multipart(b"whole", *(b"Content-Type: message/rfc822\n\n" + data for data in samples)))
     for data in samples:
         found = objects(["--hash"], data, 0, repr(data))[0]["parts"]
         wanted = {path: hashlib.sha256(body).hexdigest() for path, body in saved_files(data)}
