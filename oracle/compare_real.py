@@ -1,12 +1,12 @@
 #!/usr/bin/env python3
 """Compares what mail_json, mail_jobs and mail_extract make of real mails with what Python's email package does.
 
-Each PATH is a mail, a mailbox (a file that begins with `From `) or a directory of such files. The mails are read
-for five jobs: the index (subject, the addresses of from, to and cc, date, id), the texts of parts and the attachments
+Each PATH is a mail, a mailbox (a file that begins with `From `) or a directory of such files. The mails are read for
+five jobs: the index (subject, the addresses of from, to and cc, date, id), the texts of parts and the attachments
 (names and sizes), both those of forwarded mails too, the bytes that mail_extract saves, and whether these have all that
-`iter_attachments` gives, the recipients that a delivery report says were not reached, and the threads (the ids of the
-mails before it). Both sides read the same mailbox, into which all are put; so a line that begins with `From ` begins
-with `>From ` there.
+`iter_attachments` gives, the recipients that a delivery report says were not reached, the reports themselves, the ids
+of parts, and the threads (the ids of the mails before it). Both sides read the same mailbox, into which all are put; so
+a line that begins with `From ` begins with `>From ` there.
 bench/fetch_real.sh fetches mails to compare. The programs must be built (tools/program.sh NAME).
 
 For each item it prints in how many mails it differs, in how many of these it is refused here and in how many
@@ -26,15 +26,16 @@ import sys
 import tempfile
 
 from by_email import (
-    addresses_of, all_parts, body_of, bytes_of, closed, ids, is_file, kind_of, mails_of, parts_of, raw_value,
-    saved_files, seconds, shown, text_of, value_of,
+    addresses_of, all_parts, body_of, bounced_id, bytes_of, closed, content_id, ids, is_file, is_saved, kind_of,
+    mails_of, parts_anywhere, parts_of, raw_value, recipients, report_of, saved_files, seconds, shown, text_of,
+    value_of,
 )
 from suite import TOP
 
 BATCH = 1000
 ITEMS = (
     "mail", "subject", "from", "to", "cc", "date", "id", "texts", "attachments", "bytes", "iter_attachments",
-    "not reached", "parents",
+    "not reached", "parents", "parts", "reports", "recipients", "bounced id",
 )
 ESCAPE = re.compile(r"\\(u\{([0-9a-f]+)\}|.)")
 FILE = re.compile(r'^file ([0-9.]*): ".*", ([0-9]+) bytes', re.M)
@@ -135,6 +136,10 @@ def said_here(line, job, saved):
         "iter_attachments": set(saved.values()),
         "not reached": [unescaped(text) for text in missed],
         "parents": once(mail["references"] + mail["in_reply_to"]),
+        "parts": [(part["inside"], part["path"], part["content_id"], part["extracted"]) for part in mail["parts"]],
+        "reports": [part["report"] for part in mail["parts"] if part["report"] is not None],
+        "recipients": mail["recipients"],
+        "bounced id": mail["bounced_id"],
     }
 
 
@@ -187,6 +192,32 @@ def attachments(data):
     return {body_of(part) for part in mail.iter_attachments() if not part.is_multipart()}
 
 
+def parts(data):
+    """The parts of a mail and of the mails inside it: where they are, their ids, and whether they are saved."""
+    return [(inside, path, content_id(part), is_saved(part)) for inside, path, part in parts_anywhere(data)]
+
+
+def reports(data):
+    """The reports in a mail and in the mails inside it."""
+    found = (report_of(part) for _inside, _path, part in parts_anywhere(data))
+    return [report for report in found if report is not None]
+
+
+def failed(data):
+    """The recipients that the reports are about."""
+    return recipients(email.message_from_bytes(data), [part for _inside, _path, part in parts_anywhere(data)])
+
+
+# what is read of the bytes of a mail, and what of the mail that Python makes of them
+READERS_OF_BYTES = {
+    "attachments": sizes,
+    "bytes": contents,
+    "iter_attachments": attachments,
+    "parts": parts,
+    "reports": reports,
+    "recipients": failed,
+    "bounced id": lambda data: bounced_id(email.message_from_bytes(closed(data))),
+}
 READERS = {
     "subject": lambda mail: value_of(mail, "subject"),
     "from": lambda mail: addresses_of(mail, "from"),
@@ -208,7 +239,7 @@ def said_there(data):
             said[item] = reader(email.message_from_bytes(data))
         except Exception as error:  # what the package raises is not said anywhere
             said[item] = Refused(f"{type(error).__name__}: {error}")
-    for item, reader in (("attachments", sizes), ("bytes", contents), ("iter_attachments", attachments)):
+    for item, reader in READERS_OF_BYTES.items():
         try:
             said[item] = reader(data)
         except Exception as error:  # as above

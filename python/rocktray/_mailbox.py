@@ -137,7 +137,7 @@ class Mailbox:
         else:
             self._file = open(path, "rb", buffering=0)
             self._name = self._file.name
-            if stat.S_ISREG(os.fstat(self._file.fileno()).st_mode):
+            if isinstance(self._name, (str, bytes)) and stat.S_ISREG(os.fstat(self._file.fileno()).st_mode):
                 self._path = os.path.abspath(self._name)
             self._begin(_reader_of(self._file))
 
