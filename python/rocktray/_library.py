@@ -2,6 +2,7 @@
 
 from __future__ import annotations
 
+import codecs
 import ctypes
 import ctypes.util
 import mmap
@@ -159,15 +160,16 @@ def text(part: bytes) -> str:
     return _result(_text, (part, len(part)), 2 * len(part)).decode()
 
 
-# a part whose charset reads each byte as a different character, and the bytes of those that are not of their number
+# the headers of a text whose charset reads each byte as a different character, and these characters
 _EACH_BYTE = b"Content-Type: text/plain; charset=windows-1252\nContent-Transfer-Encoding: base64\n\n"
-_NUMBERS = {ord(bytes((n,)).decode("cp1252")): n for n in range(128, 160) if n not in (0x81, 0x8D, 0x8F, 0x90, 0x9D)}
+_CHARACTERS = codecs.charmap_build("".join(bytes((n,)).decode("cp1252", "ignore") or chr(n) for n in range(256)))
 
 
 def base64_front(body: bytes) -> bytes:
-    """The bytes of a body in Base64 up to the damage, which `rocktray_text` alone of all calls returns."""
+    """The bytes of a body in Base64 up to the damage. Of all calls `rocktray_text` alone returns them, as a text."""
     # the group before it keeps its first bytes from being a byte order mark
-    return text(_EACH_BYTE + b"AAAA" + body).translate(_NUMBERS).encode("latin-1")[3:]
+    characters = text(_EACH_BYTE + b"AAAA" + body)[3:]
+    return codecs.charmap_encode(characters, "strict", _CHARACTERS)[0]
 
 
 def header(part: bytes, name: str, number: int = 0) -> Optional[str]:
