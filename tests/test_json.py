@@ -240,7 +240,7 @@ def block(*lines_):
     return "".join(f"{line}\n" for line in lines_), [re.sub(r"\n\s*", " ", line).split(": ", 1) for line in lines_]
 
 
-# the reports in RFC 3464, appendix E.2, in RFC 5965, appendix B.2, and in RFC 8098, section 9
+# after the examples of RFC 3464, appendix E.2, RFC 5965, appendix B.2, and RFC 8098, section 9
 STATUS = [
     block("Reporting-MTA: dns; cs.utk.edu"),
     block(
