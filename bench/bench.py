@@ -284,11 +284,11 @@ def table(asked, work):
 
 # by case: a program and its options, the input at a scale, and the options of by_email.py or None
 PROGRAMS = {
-    "json-attachment": ("mail_json", [], "attachment", 1, []),
-    "json-small": ("mail_json", [], "small", 1, []),
-    "json-headers": ("mail_json", [], "headers", 1, []),
-    "json-mailbox": ("mail_json", ["--mbox"], "mailbox", 10, ["--mbox"]),
-    "json-gigabytes": ("mail_json", ["--mbox"], "mailbox", 400, None),
+    "json-attachment": ("rocktray", ["json"], "attachment", 1, []),
+    "json-small": ("rocktray", ["json"], "small", 1, []),
+    "json-headers": ("rocktray", ["json"], "headers", 1, []),
+    "json-mailbox": ("rocktray", ["json", "--mbox"], "mailbox", 10, ["--mbox"]),
+    "json-gigabytes": ("rocktray", ["json", "--mbox"], "mailbox", 400, None),
     "show-gigabyte": ("mail_show", [], "attachment", 50, None),
 }
 
@@ -318,7 +318,7 @@ def program_table(asked, work):
         by_email = [sys.executable, os.path.join(TOP, "oracle", "by_email.py")]
         theirs = min(ran([*by_email, *beside], data)[0] for _ in range(2)) if beside is not None else None
         said = f"{theirs:.2f}" if theirs else ""
-        print(f"| {crate} on {kind}, {os.path.getsize(data) / 1e6:.0f} MB | {seconds:.3f} | {memory:.0f} | {said} |", flush=True)
+        print(f"| {' '.join([crate, *options[:1]])} on {kind}, {os.path.getsize(data) / 1e6:.0f} MB | {seconds:.3f} | {memory:.0f} | {said} |", flush=True)
         yield name, {"seconds": seconds, "megabytes": memory, "email": theirs}
 
 

@@ -3,7 +3,7 @@
  *   check cases           every code of every call, buffers of every capacity around the right one, empty inputs, null
  *                         pointers with length 0, and each allocation refused in turn
  *   check threads FILE..  eight threads, each over all cases and files, with the results of one
- *   check lines FILE..    the line of each mail, or that of its refusal, as mail_json --mail writes it
+ *   check lines FILE..    the line of each mail, or that of its refusal, as rocktray json --mail writes it
  *
  * The first two end in `N passed, N failed`.
  */

@@ -67,7 +67,7 @@ enum rocktray_code {
 /* Returns the version of the library, as ROCKTRAY_VERSION_NUMBER is that of the header. */
 uint32_t rocktray_version(void);
 
-/* Writes a mail as one line of JSON, LF included, as the program mail_json does: headers, dates, ids, and all parts
+/* Writes a mail as one line of JSON, LF included, as `rocktray json` does: headers, dates, ids, and all parts
  * with their types, texts and offsets (docs/mail_json.schema.json). The bytes of a part are mail[start] to
  * mail[end - 1], by the members `start` and `end` of its object. Both are null for parts of a forwarded mail that is
  * encoded: decode that mail by rocktray_content first. Refuses with ROCKTRAY_LEADING_SPACE, _LONE_CARRIAGE_RETURN or
@@ -116,7 +116,7 @@ uint32_t rocktray_next_mail(const uint8_t *mailbox, size_t mailbox_length, bool 
  * empty if the mail is no such report. Refuses as rocktray_json does. */
 uint32_t rocktray_recipients(const uint8_t *mail, size_t mail_length, uint8_t *buffer, size_t capacity, size_t *needed);
 
-/* Writes the text of a code, in English. For a refused mail it is the text in the line of mail_json. */
+/* Writes the text of a code, in English. For a refused mail it is the text in the line of rocktray json. */
 uint32_t rocktray_reason(uint32_t code, uint8_t *buffer, size_t capacity, size_t *needed);
 
 #ifdef __cplusplus

@@ -1,7 +1,7 @@
 #!/usr/bin/env python3
 """Writes what Python's email package reads of mails as JSON, one object to a line.
 
-The members are those that mail_json writes, but for `start`, `end` and `size`, which the package does not
+The members are those that rocktray json writes, but for `start`, `end` and `size`, which the package does not
 know. Each FILE is a mail, and with --mbox a mailbox; without a FILE the one on standard input is read. A mail
 that the package fails on is an object with the one member `error`.
 """

@@ -1,5 +1,5 @@
 #!/usr/bin/env python3
-"""Compares what mail_json, mail_jobs and mail_extract make of real mails with what Python's email package does.
+"""Compares what rocktray json, mail_jobs and mail_extract make of real mails with what Python's email package does.
 
 Each PATH is a mail, a mailbox (a file that begins with `From `) or a directory of such files. The mails are read for
 five jobs: the index (subject, the addresses of from, to and cc, date, id), the texts of parts and the attachments
@@ -112,7 +112,7 @@ def unescaped(text):
 
 
 def said_here(line, job, saved):
-    """What is said here of each item of a mail: its line of mail_json, its lines of mail_jobs, and the bytes that
+    """What is said here of each item of a mail: its line of rocktray json, its lines of mail_jobs, and the bytes that
     mail_extract saved, by their paths."""
     mail = json.loads(line)
     if "error" in mail:
@@ -301,10 +301,10 @@ class Counts:
 def compare(batch, programs, counts):
     """Compares a batch of mails."""
     mailbox = b"".join(b"From a Thu Jan  1 00:00:00 1970\n" + mail + b"\n" for _name, mail in batch)
-    lines = ran([programs["mail_json"], "--mbox"], mailbox).split("\n")[:-1]
+    lines = ran([programs["rocktray"], "json", "--mbox"], mailbox).split("\n")[:-1]
     jobs = list(records(ran([programs["mail_jobs"]], mailbox)))
     if not len(lines) == len(jobs) == len(batch):
-        sys.exit(f"{len(batch)} mails are {len(lines)} lines of mail_json and {len(jobs)} records of mail_jobs")
+        sys.exit(f"{len(batch)} mails are {len(lines)} lines of rocktray json and {len(jobs)} records of mail_jobs")
     saved = saved_by(programs["mail_extract"], mailbox)
     for number, ((name, mail), line, job) in enumerate(zip(batch, lines, jobs), 1):
         counts.add(name, said_here(line, job, saved[number]), said_there(mail))
@@ -319,7 +319,7 @@ def main():
     missing = [path for path in asked.paths if not os.path.exists(path)]
     if missing:
         parser.error(f"{missing[0]} is not there")
-    programs = {name: f"{TOP}/crates/{name}/out/{name}" for name in ("mail_json", "mail_jobs", "mail_extract")}
+    programs = {name: f"{TOP}/crates/{name}/out/{name}" for name in ("rocktray", "mail_jobs", "mail_extract")}
     counts = Counts(asked.show)
     batch = []
     for name, mail in mails_at(asked.paths):

@@ -10,6 +10,7 @@ import pytest
 
 TOP = Path(__file__).resolve().parent.parent
 SAMPLES = sorted((TOP / "samples").glob("*.eml"))
+SUBCOMMANDS = ("json",)
 FROM = b"From a@b Thu Jan  1 00:00:00 1970\n"
 sys.path[:0] = [str(TOP / "oracle"), str(TOP / "bench"), str(TOP / "tools")]
 
@@ -31,6 +32,11 @@ def program(name):
     if not path.is_file():
         missing(f"{name} is not built: run tools/program.sh {name}")
     return str(path)
+
+
+def command(name):
+    """The words that start a subcommand of rocktray, or another program."""
+    return [program("rocktray"), name] if name in SUBCOMMANDS else [program(name)]
 
 
 def run(command, data=b"", **options):

@@ -1,7 +1,7 @@
-"""The programs of examples/archive on this machine, with a scheduler and workers of dask and the built mail_json.
+"""The programs of examples/archive on this machine, with a scheduler and workers of dask and the built rocktray.
 
 The archive is a mailbox of 60 MB, a small one, a mail and a Maildir. After each complete run the shards, in the order of
-MANIFEST, are byte for byte what mail_json writes in one process. The tests run in this order: a worker is killed in the
+MANIFEST, are byte for byte what rocktray json writes in one process. The tests run in this order: a worker is killed in the
 middle of a part; a run is killed, and continued; a part kills every worker that reads it, and a file cannot be read, and
 the next run completes it; the shards are loaded and searched, before and after the small mailbox changed; and the
 commands of docs/SCRIPTS.md for GNU parallel run unchanged. It takes about 30 s.
@@ -9,6 +9,7 @@ commands of docs/SCRIPTS.md for GNU parallel run unchanged. It takes about 30 s.
 
 import contextlib
 import glob
+import gzip
 import importlib.util
 import json
 import os
@@ -31,11 +32,11 @@ EXAMPLES = os.path.join(TOP, "examples", "archive")
 SCALE = 6
 MAILS = 2000 * SCALE
 PART = "all.mbox (--part 9/30)"
-# as mail_json, but that a part may kill its worker, once or always, and that each run may take longer
+# as rocktray, but that a part may kill its worker, once or always, and that each run may take longer
 STAND_IN = """#!/bin/sh
 [ ! -e '{directory}/slow' ] || sleep 0.1
 case $* in
-    '--part 9/30 '*)
+    'json --part 9/30 '*)
         if [ -e '{directory}/deadly' ]; then
             [ -e '{directory}/always' ] || rm '{directory}/deadly'
             '{json}' "$@" | head -c 100000
@@ -72,7 +73,7 @@ def write(path, data=b""):
 
 
 def make_archive(directory):
-    """Makes the archive; returns the calls of mail_json that read it."""
+    """Makes the archive; returns the calls of rocktray json that read it."""
     mails = os.path.join(directory, "mails")
     write(f"{mails}/all.mbox", mailbox(SCALE))
     write(f"{mails}/one.eml", b"Subject: one\nMessage-ID: <one>\n\nunique\n")
@@ -128,7 +129,7 @@ class Runs:
 
     def __init__(self, directory, scheduler):
         self.directory = directory
-        self.words = [os.path.join(directory, "mails"), "--program", os.path.join(directory, "mail_json"), "--bytes", "2000000"]
+        self.words = [os.path.join(directory, "mails"), "--program", os.path.join(directory, "rocktray"), "--bytes", "2000000"]
         self.scheduler = scheduler
 
     def start(self, name, *words):
@@ -176,10 +177,10 @@ def stack():
 def wanted(directory):
     """The lines of one process over the archive."""
     calls = make_archive(directory)
-    lines = b"".join(run([program("mail_json"), *words]).stdout for words in calls)
+    lines = b"".join(run([program("rocktray"), "json", *words]).stdout for words in calls)
     assert lines.count(b"\n") == MAILS + 10
-    write(os.path.join(directory, "mail_json"), STAND_IN.format(directory=directory, json=program("mail_json")).encode())
-    os.chmod(os.path.join(directory, "mail_json"), 0o755)
+    write(os.path.join(directory, "rocktray"), STAND_IN.format(directory=directory, json=program("rocktray")).encode())
+    os.chmod(os.path.join(directory, "rocktray"), 0o755)
     return lines
 
 
@@ -249,7 +250,7 @@ def test_faults(runs, wanted):
     """A part that kills each worker that reads it, and a file that cannot be read."""
     out = runs.path("faults")
     for name in ("deadly", "always", *UNREAD):
-        write(runs.path(name))
+        write(runs.path(name), gzip.compress(b"Subject: 1\n"))
     status, told = runs.index("faults")
     named = [line for line in told.splitlines() if line.startswith("index_archive.py: ")]
     assert status == 1 and any(PART in line and "KilledWorker" in line for line in named), f"a part kills its workers: {told}"
@@ -351,6 +352,6 @@ def test_parallel(runs):
     ended = subprocess.run(["bash", "-ec", "\n".join(commands)], cwd=place, env={**os.environ, "BUILT": "only"}, check=False)
     assert (ended.returncode, len(commands)) == (0, 2), "GNU parallel"
     if ended.returncode == 0:
-        wanted = subprocess.run([program("mail_json"), "--part", "1/1", "all.mbox"], cwd=place, stdout=subprocess.PIPE, check=False).stdout
+        wanted = subprocess.run([program("rocktray"), "json", "--part", "1/1", "all.mbox"], cwd=place, stdout=subprocess.PIPE, check=False).stdout
         with open(os.path.join(place, "mails.json"), "rb") as found:
             assert found.read() == wanted, "GNU parallel: the lines"

@@ -1,4 +1,4 @@
-"""The C library: check.c under sanitizers, its exports and needs, its header, its lines beside those of mail_json, and
+"""The C library: check.c under sanitizers, its exports and needs, its header, its lines beside those of rocktray json, and
 the example of docs/C.md."""
 
 import json
@@ -8,7 +8,7 @@ import subprocess
 
 import pytest
 
-from support import SAMPLES, TOP, program, run
+from support import SAMPLES, TOP, command, run
 
 STRICT = ["-std=c11", "-Wall", "-Wextra", "-Werror"]
 
@@ -53,7 +53,7 @@ def test_threads(check, hostile):
 
 
 def as_json(line, path):
-    """The line of check.c, with a refused mail as mail_json writes it."""
+    """The line of check.c, with a refused mail as rocktray writes it."""
     refused = re.fullmatch(r"refused (\d+) (.*)", line)
     if not refused:
         return json.loads(line) | {"file": path}
@@ -61,13 +61,13 @@ def as_json(line, path):
 
 
 def test_lines(check, hostile):
-    """Of the samples and of 20,000 made mails the library writes what mail_json writes."""
+    """Of the samples and of 20,000 made mails the library writes what rocktray json writes."""
     paths = [str(path) for path in [*SAMPLES, *hostile]]
     for first in range(0, len(paths), 1000):
         batch = paths[first : first + 1000]
         ours = run_check(check, "lines", *batch)
         assert (ours.returncode, ours.stderr) == (0, b"")
-        wanted = run([program("mail_json"), "--mail", *batch]).stdout.decode().split("\n")
+        wanted = run([*command("json"), "--mail", *batch]).stdout.decode().split("\n")
         found = ours.stdout.decode().split("\n")
         assert len(found) == len(wanted) == len(batch) + 1
         for path, line, line_of_json in zip(batch, found, wanted):
@@ -94,7 +94,7 @@ def test_header_as_cpp():
 
 def test_version(c_library):
     """The header, the pkg-config file and the programs have one version."""
-    version = run([program("mail_json"), "--version"]).stdout.decode().split()[1]
+    version = run([*command("json")[:1], "--version"]).stdout.decode().split()[1]
     assert f'#define ROCKTRAY_VERSION "{version}"\n' in (TOP / "c" / "rocktray.h").read_text()
     assert f"Version: {version}\n" in (c_library / "lib" / "pkgconfig" / "rocktray.pc").read_text()
 

@@ -30,7 +30,7 @@ from dataclasses import dataclass
 
 import pytest
 
-from support import FROM, TOP, missing, program, run
+from support import FROM, TOP, command, missing, program, run
 
 ADDRESS = "a@example.org"
 ENDINGS = (".pdf", ".tar.gz", "-1.doc", "_v2.txt", "")
@@ -240,7 +240,7 @@ def test_mails(name, known, seed, tmp_path):
     mails = [mail_of(rng, known[name]) for _ in range(2100)]
     path = tmp_path / "mails.mbox"
     path.write_bytes(b"".join(FROM + data + b"\n" for data, _ in mails))
-    ended = run([program("mail_json"), "--mbox", path])
+    ended = run([*command("json"), "--mbox", path])
     lines = ended.stdout.decode().split("\n")[:-1]
     assert (ended.returncode, len(lines)) == (0, len(mails))
     for number, (line, (_, wanted)) in enumerate(zip(lines, mails), 1):

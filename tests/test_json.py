@@ -1,4 +1,4 @@
-"""The JSON of mail_json beside what Python's email package reads of the same mails.
+"""The JSON of rocktray beside what Python's email package reads of the same mails.
 
 The mails are those of samples/, and made ones: with control characters, with surrogates in UTF-8, with a refused body,
 of 100 levels and of 101, of 100,000 parts, of parts at known offsets, and mailboxes, which are also read in parts.
@@ -19,7 +19,7 @@ import tempfile
 
 import jsonschema
 
-from support import FROM, SAMPLES, TOP, multipart, program
+from support import FROM, SAMPLES, TOP, command, multipart, program
 
 from by_email import all_parts, mail_object, parts_anywhere, report_of, saved_files
 
@@ -49,7 +49,7 @@ SCHEMA = jsonschema.Draft202012Validator(json.loads((TOP / "docs" / "mail_json.s
 
 def run(words, data=b"", **streams):
     """Runs the program on the bytes."""
-    return subprocess.run([program("mail_json"), *words], input=data, capture_output=not streams, timeout=60, **streams)
+    return subprocess.run([*command("json"), *words], input=data, capture_output=not streams, timeout=60, **streams)
 
 
 def is_ordered(value, members):
@@ -541,7 +541,7 @@ def test_mailboxes():
 def in_pieces(data, size):
     """What the program writes of bytes that come in pieces of this size."""
     with tempfile.TemporaryFile() as out:
-        with subprocess.Popen([program("mail_json")], stdin=subprocess.PIPE, stdout=out, bufsize=0) as process:
+        with subprocess.Popen(command("json"), stdin=subprocess.PIPE, stdout=out, bufsize=0) as process:
             for at in range(0, len(data), size):
                 process.stdin.write(data[at : at + size])
         out.seek(0)
@@ -566,9 +566,9 @@ def test_pieces():
         assert in_pieces(data, size) == found, f"{len(data)} bytes in pieces of {size}"
     assert subjects([], b"".join(mails), 0, "30 mails") == [str(n) for n in range(30)], "30 mails"
     ended = run(["--progress"], b"".join(mails) * (80_000_000 // len(b"".join(mails)) + 1))
-    told = re.fullmatch(rb"mail_json: standard input: (\d+) bytes, \d+ mails\n", ended.stderr)
+    told = re.fullmatch(rb"rocktray: standard input: (\d+) bytes, \d+ mails\n", ended.stderr)
     assert told and 2**26 <= int(told[1]) < 2**26 + 2**20, "how far a run is"
-    with subprocess.Popen([program("mail_json")], stdin=subprocess.PIPE, stdout=subprocess.PIPE, bufsize=0) as process:
+    with subprocess.Popen(command("json"), stdin=subprocess.PIPE, stdout=subprocess.PIPE, bufsize=0) as process:
         process.stdin.write(mails[0] + mails[1][:100])
         assert select.select([process.stdout], [], [], 10)[0] != [], "the first line before the end"
         process.stdin.close()
@@ -634,7 +634,7 @@ def test_parts():
         with open(name, "wb") as file:
             file.write(long_ * (80_000_000 // len(long_) + 1))
         ended = run(["--progress", "--part", "1/1", name])
-        told = re.fullmatch(rb"mail_json: .*/file: (\d+) bytes\n", ended.stderr)
+        told = re.fullmatch(rb"rocktray: .*/file: (\d+) bytes\n", ended.stderr)
         assert told and 2**26 <= int(told[1]) < 2**26 + 2**20, "how far a part is"
         assert run(["--progress", "--part", "2/2", name]).stderr == b"", "how far a short part is"
         os.mkfifo(os.path.join(directory, "pipe"))
@@ -656,7 +656,7 @@ def test_calls():
     ended = run(["--mbox", "--help"])
     assert ended.returncode == 0 and b"--mbox" in ended.stdout and not ended.stderr, "--help"
     ended = run(["--version"])
-    assert ended.returncode == 0 and ended.stdout.startswith(b"mail_json ") and not ended.stderr, "--version"
+    assert ended.returncode == 0 and ended.stdout.startswith(b"rocktray json ") and not ended.stderr, "--version"
     for words in (["--no-such-option"], ["-x"], ["--mbox", "--mboxes"], ["--mbox=x"], [""]):
         ended = run(words)
         assert ended.returncode == 2 and not ended.stdout and ended.stderr, f"{words} is refused"
@@ -680,16 +680,16 @@ def test_calls():
 
 def check_directories(names, both):
     """A closed pipe, directories, and names that are not UTF-8."""
-    launcher = os.path.join(TOP, "mail_json")
+    launcher = os.path.join(TOP, "rocktray")
     with tempfile.TemporaryDirectory() as directory:
         many = os.path.join(directory, "many.mbox")
         with open(many, "wb") as file:
             file.write((FROM + b"Subject: 1\n\none\n\n") * 20_000)
-        ended = subprocess.run(f"'{program('mail_json')}' '{many}' | head -n 1 | wc -l", shell=True, capture_output=True, timeout=60)
+        ended = subprocess.run(f"'{program('rocktray')}' json '{many}' | head -n 1 | wc -l", shell=True, capture_output=True, timeout=60)
         assert (ended.stdout.strip(), ended.stderr) == (b"1", b""), "a pipe that is closed"
         link = os.path.join(directory, "link")
         os.symlink(launcher, link)
-        ended = subprocess.run([link, *names], capture_output=True, cwd=directory, timeout=60)
+        ended = subprocess.run([link, "json", *names], capture_output=True, cwd=directory, timeout=60)
         assert ended.stdout == both, "through a symbolic link"
         for name in ("cur", "new", "tmp"):
             os.makedirs(os.path.join(directory, "maildir", name))
@@ -705,7 +705,7 @@ def check_directories(names, both):
         ended = run([os.path.join(directory, "mail.gz")])
         assert ended.returncode == 1 and b"compressed" in ended.stderr, "a compressed file"
         bad = os.path.join(os.fsencode(directory), b"caf\xe9.eml")
-        ended = subprocess.run([launcher, names[0], bad, names[1]], capture_output=True, timeout=60)
+        ended = run([names[0], bad, names[1]])
         found = [value["file"] for value in lines(ended.stdout, "a name that is not UTF-8")]
-        wanted = [names[0], f"{directory}/caf\ufffd.eml (a name that is not UTF-8)", names[1]]
+        wanted = [names[0], f"{directory}/caf\\xE9.eml", names[1]]
         assert (ended.returncode, found) == (1, wanted), "a name that is not UTF-8"

@@ -1,7 +1,7 @@
 """The programs and the suite when memory is refused or limited.
 
 Each allocation of a run is refused in turn, alone or with all that follow. The run then gives what it gives with ample
-memory, or ends with exit status 1 and reports only that memory ran out. The lines that mail_json and mail_extract have
+memory, or ends with exit status 1 and reports only that memory ran out. The lines that rocktray json and mail_extract have
 written by then are the front of what they write with ample memory, and each saved file is complete; mail_show has
 written nothing. A run that met a refusal ends in the second way.
 """
@@ -17,7 +17,7 @@ import subprocess
 
 import pytest
 
-from support import SAMPLES, TOP, program
+from support import SAMPLES, TOP, command, program
 
 from suite import rows_in
 
@@ -28,8 +28,8 @@ REFUSED = {
     "part_with_space": b"Content-Type: multipart/mixed; boundary=b\n\n--b\n x\n--b\n\rz\n--b--\n",
 }
 MAILS = {path.stem: path.read_bytes() for path in SAMPLES} | REFUSED
-RUNS = [(name, [], mail) for name in ("mail_show", "mail_json") for mail in MAILS]
-RUNS += [("mail_json", ["--mbox"], "mail_json"), ("mail_extract", ["--hash", "--into", "into"], "mail_extract")]
+RUNS = [(name, [], mail) for name in ("mail_show", "json") for mail in MAILS]
+RUNS += [("json", ["--mbox"], "rocktray"), ("mail_extract", ["--hash", "--into", "into"], "mail_extract")]
 
 
 class Refused:
@@ -37,7 +37,7 @@ class Refused:
 
     def __init__(self, library, name, words, mail, directory):
         self.library, self.name, self.directory = library, name, directory
-        self.command = [program(name), *words]
+        self.command = [*command(name), *words]
         data = MAILS[mail] if mail in MAILS else (TOP / "crates" / mail / "stdin").read_bytes()
         (directory / "mail").write_bytes(data)
         (directory / "into").mkdir()
@@ -133,7 +133,7 @@ FILE = b"a line of the file\n" * 95_000
 
 
 def json_line():
-    """The line of mail_json."""
+    """The line of rocktray json."""
     size = len(LONG)
     part = {
         "path": "1", "inside": None, "type": "text/plain", "charset": "us-ascii", "params": {}, "disposition": None,
@@ -157,7 +157,7 @@ def extract_line():
 
 LIMITED = {
     "mail_show": (LONG, lambda: f"part 0: text/plain, {COUNT} headers, 4 body bytes\n" + f"  Subject: {SUBJECT}\n" * COUNT),
-    "mail_json": (LONG, json_line),
+    "json": (LONG, json_line),
     "mail_extract": (
         b"Content-Disposition: attachment; filename=file\nContent-Transfer-Encoding: base64\n\n" + base64.encodebytes(FILE),
         extract_line,
@@ -178,10 +178,10 @@ def run_limited(command, mail, directory, limit):
 def test_limits(name, tmp_path):
     """Smaller and smaller limits on memory, from 32 MB down to where the loader cannot start the program."""
     mail, wanted = LIMITED[name][0], LIMITED[name][1]().encode()
-    command = [program(name), *(["--hash", "--into", "."] if name == "mail_extract" else [])]
+    words = [*command(name), *(["--hash", "--into", "."] if name == "mail_extract" else [])]
     right = short = 0
     for limit in range(32_000, 0, -250):
-        ended = run_limited(command, mail, tmp_path, limit)
+        ended = run_limited(words, mail, tmp_path, limit)
         if b"error while loading shared libraries" in ended.stderr:
             break
         if name == "mail_extract":
@@ -191,7 +191,7 @@ def test_limits(name, tmp_path):
             assert (ended.stdout, ended.stderr) == (wanted, b""), f"{limit} KB"
             right += 1
         else:
-            assert ended.returncode == 1 and re.fullmatch(rb"%b: .*out of memory\n" % name.encode(), ended.stderr), f"{limit} KB"
-            assert wanted.startswith(ended.stdout) if name == "mail_json" else not ended.stdout, f"{limit} KB"
+            assert ended.returncode == 1 and re.fullmatch(rb"\w+: .*out of memory\n", ended.stderr), f"{limit} KB"
+            assert wanted.startswith(ended.stdout) if name == "json" else not ended.stdout, f"{limit} KB"
             short += 1
     assert right > 0 and short > 0

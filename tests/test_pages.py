@@ -132,6 +132,6 @@ def commands(page):
 @pytest.mark.parametrize("command, wanted", list(commands(text_of("docs/SCRIPTS.md"))))
 def test_commands(command, wanted):
     """A command of docs/SCRIPTS.md that begins with `$ ` writes what the page shows."""
-    program("mail_json")
+    program("rocktray")
     ended = run(["bash", "-c", command], cwd=TOP)
     assert ended.stdout.decode() == wanted, ended.stderr.decode()

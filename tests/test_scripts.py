@@ -11,13 +11,13 @@ import subprocess
 
 import pytest
 
-from support import TOP, program, run
+from support import TOP, program, run, text_of
 
 SCRIPTS = sorted(
     path for pattern in ("tools/*", "bench/*", "oracle/*", "examples/archive/*.py")
     for path in TOP.glob(pattern) if path.is_file() and os.access(path, os.X_OK)
 )
-LAUNCHERS = ("mail_show", "mail_json", "mail_extract")
+LAUNCHERS = ("mail_show", "rocktray", "mail_extract")
 MAIL = (TOP / "samples" / "attachment.eml").read_bytes()
 
 
@@ -71,8 +71,8 @@ def test_launcher(link):
 
 @pytest.mark.quick
 @pytest.mark.parametrize("command", [
-    ["./mail_json", "samples/plain.eml"], ["./mail_extract", "samples/plain.eml"], ["./mail_show", "samples/plain.eml"],
-    ["tools/program.sh", "mail_json"], ["tools/make_c_library.sh", "/tmp/rocktray"], ["tools/make_wheel.py", "/tmp/wheels"],
+    ["./mail_extract", "samples/plain.eml"], ["./mail_show", "samples/plain.eml"], ["tools/program.sh", "rocktray"],
+    ["tools/make_c_library.sh", "/tmp/rocktray"], ["tools/make_wheel.py", "/tmp/wheels"],
     ["./test"],
 ])
 def test_without_the_kit(command, tmp_path):
@@ -83,6 +83,19 @@ def test_without_the_kit(command, tmp_path):
                            env={"PATH": "/usr/bin:/bin"})
     assert (ended.returncode, ended.stdout) == (2, "")
     assert re.fullmatch(r"\w[\w.]*: this needs the Rattle kit, whose command is rt\n", ended.stderr)
+
+
+@pytest.mark.quick
+def test_rocktray_is_not_built(tmp_path):
+    """Without the program ./rocktray prints the help of the program, or one line that says how to build it."""
+    copy = tmp_path / "copy"
+    shutil.copytree(TOP, copy, ignore=shutil.ignore_patterns("out", ".git", "data"), symlinks=True)
+    for words in (["--help"], ["-h"], ["help"]):
+        ended = run(["./rocktray", *words], cwd=copy)
+        assert (ended.returncode, ended.stdout.decode(), ended.stderr) == (0, text_of("docs/usage.txt"), b"")
+    ended = run(["./rocktray", "json", "samples/plain.eml"], cwd=copy)
+    why = b"rocktray: the program is not built; to prove and build it: tools/program.sh rocktray\n"
+    assert (ended.returncode, ended.stdout, ended.stderr) == (2, b"", why)
 
 
 @pytest.mark.quick
@@ -100,7 +113,7 @@ def outputs(command, directory):
         into = directory / "into"
         subprocess.run(["rm", "-rf", into], check=True)
         into.mkdir()
-        options = ["--into", "into"] if command.name == "mail_extract" else []
+        options = {"mail_extract": ["--into", "into"], "rocktray": ["json"]}.get(command.name, [])
         found.append(run([command, *options, *words], data, cwd=directory).stdout)
     return found
 
@@ -111,8 +124,9 @@ def test_program(link, tmp_path):
     (tmp_path / "mail").write_bytes(MAIL)
     ends([built, "--help"], 0, "stdout")
     ends([built, "--no-such-option"], 2, "stderr")
-    ends([built, "no/such/argument", "-h"], 0, "stdout")
-    ends([built, "mail", ""], 2, "stderr", cwd=tmp_path)
+    words = ["json"] if link.name == "rocktray" else []
+    ends([built, *words, "no/such/argument", "-h"], 0, "stdout")
+    ends([built, *words, "mail", ""], 2, "stderr", cwd=tmp_path)
     found = outputs(link, tmp_path)
     assert found == outputs(type(link)(built), tmp_path)
     assert found[0] and found[1]

@@ -13,7 +13,7 @@ import subprocess
 
 import pytest
 
-from support import FROM, TOP, program
+from support import FROM, SUBCOMMANDS, TOP, command, program
 
 CLOSED = "Bad file descriptor (os error 9)"
 DIRECTORY = "Is a directory (os error 21)"
@@ -21,9 +21,9 @@ MISSING = "No such file or directory (os error 2)"
 FULL = "No space left on device (os error 28)"
 LARGE = "File too large (os error 27)"
 MAIL = TOP / "samples" / "attachment.eml"
-PROGRAMS = ("mail_show", "mail_json", "mail_extract")
+PROGRAMS = ("mail_show", "json", "mail_extract")
 # the exit status of a refused mail
-REFUSED = {"mail_show": 1, "mail_json": 3, "mail_extract": 3}
+REFUSED = {"mail_show": 1, "json": 3, "mail_extract": 3}
 
 
 class Runner:
@@ -31,7 +31,9 @@ class Runner:
 
     def __init__(self, name, directory):
         self.name, self.directory = name, directory
-        self.words = [program(name)]
+        self.words = command(name)
+        self.program = os.path.basename(self.words[0])
+        self.input = "standard input" if name in SUBCOMMANDS else "input failed"
         if name == "mail_extract":
             self.words += ["--into", str(self.into())]
 
@@ -63,12 +65,12 @@ def runner(request, tmp_path):
 ])
 def test_input(runner, redirection, why):
     """Standard input that cannot be read."""
-    assert runner.run(redirection) == (1, f"{runner.name}: input failed: {why}\n")
+    assert runner.run(redirection) == (1, f"{runner.program}: {runner.input}: {why}\n")
 
 
 def test_missing_file(runner):
     """A file that does not exist."""
-    assert runner.run("", "no/such/file") == (1, f"{runner.name}: no/such/file: {MISSING}\n")
+    assert runner.run("", "no/such/file") == (1, f"{runner.program}: no/such/file: {MISSING}\n")
 
 
 @pytest.mark.parametrize("redirection, arguments, why", [
@@ -77,7 +79,7 @@ def test_missing_file(runner):
 ])
 def test_output(runner, redirection, arguments, why):
     """Standard output that cannot be written."""
-    assert runner.run(redirection, *arguments) == (1, f"{runner.name}: output failed: {why}\n")
+    assert runner.run(redirection, *arguments) == (1, f"{runner.program}: output failed: {why}\n")
 
 
 @pytest.mark.parametrize("count", [0, 10])

@@ -1,5 +1,5 @@
 #!/usr/bin/env python3
-"""Reads the mailboxes and Maildirs of shared directories on many machines, with dask.distributed and mail_json.
+"""Reads the mailboxes and Maildirs of shared directories on many machines, with dask.distributed and rocktray.
 
 Every machine sees the directories, OUT and the program under the same paths. A large mailbox is read in equal parts,
 and small files are read together. The lines of each part go to a file in OUT, a shard, which gets its name when it is
@@ -21,7 +21,7 @@ import zlib
 
 OURS = re.compile(r"[0-9a-f]{32}\.jsonl|\.part-[0-9a-f]{32}")
 NO_TEXT = re.compile("[\udc80-\udcff]")
-PROGRAM = os.path.join(os.path.dirname(os.path.abspath(__file__)), "../../crates/mail_json/out/mail_json")
+PROGRAM = os.path.join(os.path.dirname(os.path.abspath(__file__)), "../../crates/rocktray/out/rocktray")
 
 
 def state(path):
@@ -29,12 +29,12 @@ def state(path):
     try:
         found = os.stat(path)
         return path, found.st_size, found.st_mtime_ns
-    except OSError:  # mail_json says why
+    except OSError:  # rocktray says why
         return path, 0, None
 
 
 def visit(directory, options, out, faults):
-    """Yields the files of a directory and of those inside it, with the options for mail_json."""
+    """Yields the files of a directory and of those inside it, with the options for rocktray json."""
     try:
         entries = sorted(os.scandir(directory), key=lambda entry: entry.name)
     except OSError as fault:
@@ -69,7 +69,7 @@ def batches(files, most):
 
 
 def parts(options, files, most):
-    """Yields the options and the files of each run of mail_json. A part of a mailbox is a run of its own."""
+    """Yields the options and the files of each run of rocktray json. A part of a mailbox is a run of its own."""
     for batch in batches(files, most):
         count = max(1, -(-sum(size for _, size, _ in batch) // most))
         for number in [1] if options else range(1, count + 1):
@@ -86,7 +86,7 @@ def read(name, options, files, out, program):
     unfinished = os.path.join(out, f".part-{uuid.uuid4().hex}")
     try:
         with open(unfinished, "xb") as shard:
-            command = [program, *options, *(path for path, _, _ in files)]
+            command = [program, "json", *options, *(path for path, _, _ in files)]
             ended = subprocess.run(command, stdin=subprocess.DEVNULL, stdout=shard, stderr=subprocess.PIPE, check=False)
             os.fsync(shard.fileno())
         if ended.returncode not in (0, 3):
@@ -121,12 +121,12 @@ def main():
     parser.add_argument("out", metavar="OUT", type=os.path.abspath)
     parser.add_argument("paths", metavar="PATH", nargs="+", type=os.path.abspath, help="a directory or a mailbox")
     parser.add_argument("--scheduler", metavar="ADDRESS", help="by default, a worker for each processor is started here")
-    parser.add_argument("--program", metavar="MAIL_JSON", type=os.path.abspath, default=PROGRAM)
+    parser.add_argument("--program", metavar="ROCKTRAY", type=os.path.abspath, default=PROGRAM)
     parser.add_argument("--hash", action="store_true", help="write the SHA-256 of each attachment")
     parser.add_argument("--bytes", type=int, default=32 << 20, help="the greatest size of a part; 32 MiB by default")
     given = parser.parse_args()
     if not os.path.isfile(given.program):
-        parser.error(f"{given.program} is missing: build it by tools/program.sh mail_json")
+        parser.error(f"{given.program} is missing: build it by tools/program.sh rocktray")
     program = hashlib.sha256(pathlib.Path(given.program).read_bytes()).hexdigest()
     os.makedirs(given.out, exist_ok=True)
     faults, wanted = [], {}

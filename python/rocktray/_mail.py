@@ -123,7 +123,7 @@ class Mail:
 
     @property
     def json(self) -> Dict[str, Any]:
-        """The object that the program `rocktray json` writes for the mail (docs/mail_json.schema.json). It is read anew
+        """The object that `rocktray json` writes for the mail (docs/mail_json.schema.json). It is read anew
         each time, and yours to change.
         """
         self._object

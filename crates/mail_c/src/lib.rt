@@ -40,7 +40,7 @@ pub extern "C" fn rocktray_version() -> u32
     100
 }
 
-/// Writes a mail as a line of JSON, as the program `mail_json` does.
+/// Writes a mail as a line of JSON, as `rocktray json` does.
 #[unsafe(no_mangle)]
 pub extern "C" fn rocktray_json(
     alloc: Global,

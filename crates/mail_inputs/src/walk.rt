@@ -6,7 +6,7 @@ use crate::escape::shown;
 use crate::names::Name;
 use crate::open::read_front;
 use mail_program::{Fault, Outcome};
-use std::alloc::AllocError;
+use std::alloc::{AllocError, Global};
 use std::fs;
 use std::io::{self, Cursor, Read};
 use std::rt::Files;
@@ -31,8 +31,9 @@ pub trait Consumer {
     ///
     /// `Fault::Input` if a read fails, which ends this input alone, and any other fault, which ends
     /// the run.
-    fn read<I: Read>(
+    fn read<R: Eprint + AllocGlobal, I: Read>(
         &mut self,
+        rt: &R,
         reader: &mut I,
         name: Option<&str>,
         content: Content,
@@ -43,7 +44,7 @@ pub trait Consumer {
     /// # Errors
     ///
     /// A fault that ends the run.
-    fn report(&mut self, name: Option<&str>, why: &str) -> Result<(), Fault>;
+    fn report(&mut self, alloc: Global, name: Option<&str>, why: &str) -> Result<(), Fault>;
 }
 
 /// Which directories in a directory are read.
@@ -57,21 +58,21 @@ pub enum Subdirectories {
 
 /// The inputs of a run.
 #[derive(Clone, Copy, Debug)]
-pub struct Inputs<'n> {
+pub struct Inputs<'n, 'a> {
     /// Their names. Without any, standard input is read.
-    pub names: &'n [Name<'n>],
+    pub names: &'n [Name<'a>],
     /// The name of standard input in the output.
-    pub label: Option<&'n str>,
+    pub label: Option<&'a str>,
     /// Which directories in a directory are read.
     pub subdirectories: Subdirectories,
 }
 
 /// A run over inputs.
 #[derive(Drop)]
-struct Walk<'w, 'n, R, C> {
+struct Walk<'w, 'n, 'a, R, C> {
     rt: &'w R,
     consumer: &'w mut C,
-    inputs: Inputs<'n>,
+    inputs: Inputs<'n, 'a>,
     /// The directories that are still to be read, the next one last.
     pending: Vec<String>,
     /// The directories that were found in the one that is read.
@@ -101,13 +102,15 @@ struct Walk<'w, 'n, R, C> {
 /// ```rust
 /// use mail_inputs::{Consumer, Content, Inputs, Name, Subdirectories, read_inputs};
 /// use mail_program::{Fault, Outcome};
+/// use std::alloc::Global;
 /// use std::io::Read;
 ///
 /// struct Count(usize);
 ///
 /// impl Consumer for Count {
-///     fn read<I: Read>(
+///     fn read<R: Eprint + AllocGlobal, I: Read>(
 ///         &mut self,
+///         _rt: &R,
 ///         _reader: &mut I,
 ///         _name: Option<&str>,
 ///         _content: Content,
@@ -115,7 +118,12 @@ struct Walk<'w, 'n, R, C> {
 ///         Ok(Outcome::Clean)
 ///     }
 ///
-///     fn report(&mut self, _name: Option<&str>, _why: &str) -> Result<(), Fault> {
+///     fn report(
+///         &mut self,
+///         _alloc: Global,
+///         _name: Option<&str>,
+///         _why: &str,
+///     ) -> Result<(), Fault> {
 ///         self.0 = self.0.saturating_add(1);
 ///         Ok(())
 ///     }
@@ -133,7 +141,7 @@ struct Walk<'w, 'n, R, C> {
 pub fn read_inputs<'w, R: Files + Input + Eprint + AllocGlobal, C: Consumer>(
     rt: &'w R,
     consumer: &'w mut C,
-    inputs: Inputs<'_>,
+    inputs: Inputs<'_, '_>,
 ) -> Result<Outcome, Fault> {
     let mut walk = Walk {
         rt,
@@ -167,13 +175,15 @@ pub fn read_inputs<'w, R: Files + Input + Eprint + AllocGlobal, C: Consumer>(
 /// ```rust
 /// use mail_inputs::{Consumer, Content, fail};
 /// use mail_program::{Fault, Outcome};
+/// use std::alloc::Global;
 /// use std::io::{Error, ErrorKind, Read};
 ///
 /// struct Silent;
 ///
 /// impl Consumer for Silent {
-///     fn read<I: Read>(
+///     fn read<R: Eprint + AllocGlobal, I: Read>(
 ///         &mut self,
+///         _rt: &R,
 ///         _reader: &mut I,
 ///         _name: Option<&str>,
 ///         _content: Content,
@@ -181,7 +191,12 @@ pub fn read_inputs<'w, R: Files + Input + Eprint + AllocGlobal, C: Consumer>(
 ///         Ok(Outcome::Clean)
 ///     }
 ///
-///     fn report(&mut self, _name: Option<&str>, _why: &str) -> Result<(), Fault> {
+///     fn report(
+///         &mut self,
+///         _alloc: Global,
+///         _name: Option<&str>,
+///         _why: &str,
+///     ) -> Result<(), Fault> {
 ///         Ok(())
 ///     }
 /// }
@@ -198,11 +213,11 @@ pub fn fail<R: Eprint + AllocGlobal, C: Consumer>(
     let why = format!(in rt.alloc(); "{error}")?;
     let shown = shown(rt.alloc(), name.unwrap_or("standard input"))?;
     let _ = eprintln!(rt; "{PROGRAM}: {shown}: {why}");
-    consumer.report(name, why.as_str())?;
+    consumer.report(rt.alloc(), name, why.as_str())?;
     Ok(Outcome::Failed)
 }
 
-impl<'w, 'n, R: Files + Input + Eprint + AllocGlobal, C: Consumer> Walk<'w, 'n, R, C> {
+impl<'w, 'n, 'a, R: Files + Input + Eprint + AllocGlobal, C: Consumer> Walk<'w, 'n, 'a, R, C> {
     /// Reads the input with this name.
     fn read_name(&mut self, name: Name<'_>) -> Result<Outcome, Fault> {
         match name {
@@ -386,7 +401,7 @@ fn is_folder(rt: &impl Files, path: &str) -> bool {
 
 /// Gives the consumer the bytes of a reader, unless the first ones are of a format that is not
 /// mail, which is a fault of the input.
-fn consume<R: AllocGlobal, C: Consumer, I: Read>(
+fn consume<R: Eprint + AllocGlobal, C: Consumer, I: Read>(
     rt: &R,
     consumer: &mut C,
     reader: &mut I,
@@ -394,5 +409,5 @@ fn consume<R: AllocGlobal, C: Consumer, I: Read>(
     content: Content,
 ) -> Result<Outcome, Fault> {
     let front = read_front(rt.alloc(), reader)?;
-    consumer.read(&mut Cursor::new(front).chain(reader), name, content)
+    consumer.read(rt, &mut Cursor::new(front).chain(reader), name, content)
 }

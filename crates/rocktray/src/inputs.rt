@@ -1,0 +1,51 @@
+//! The inputs that the arguments of a subcommand name, and how they are read.
+
+use crate::Terminals;
+use crate::options::ids;
+use clap::ArgMatches;
+use mail_data::mailbox::Format;
+use mail_inputs::{Inputs, Name, Progress, Subdirectories};
+use mail_lines::InputKind;
+use std::alloc::{AllocError, Global};
+
+/// Returns the names of the inputs.
+pub fn names_of<'a>(alloc: Global, matches: &ArgMatches<'a>) -> Result<Vec<Name<'a>>, AllocError> {
+    let mut names = Vec::new(alloc);
+    for argument in matches.get_strs(ids::INPUTS).unwrap_or(&[]) {
+        names.push(Name::new(argument))?;
+    }
+    Ok(names)
+}
+
+/// Returns the inputs with these names.
+pub fn inputs_of<'n, 'a>(matches: &ArgMatches<'a>, names: &'n [Name<'a>]) -> Inputs<'n, 'a> {
+    Inputs {
+        names,
+        label: matches.get_str(ids::LABEL),
+        subdirectories: if matches.get_flag(ids::RECURSIVE) {
+            Subdirectories::Read
+        } else {
+            Subdirectories::Skipped
+        },
+    }
+}
+
+/// Returns what the options say that each input is.
+pub fn kind_of(matches: &ArgMatches<'_>) -> InputKind {
+    match matches.get_str(ids::MBOX) {
+        Some("rd") => InputKind::Mailbox(Format::Quoted),
+        Some("cl") => InputKind::Mailbox(Format::Counted),
+        Some(_) => InputKind::Mailbox(Format::Plain),
+        None if matches.get_flag(ids::MAIL) => InputKind::Mail,
+        None => InputKind::Either,
+    }
+}
+
+/// Returns whether progress is reported: if an option says so, or standard error is a terminal.
+pub fn progress_of(matches: &ArgMatches<'_>, terminals: Terminals) -> Progress {
+    if matches.get_flag(ids::PROGRESS) || terminals.error {
+        Progress::Reported
+    } else {
+        Progress::Silent
+    }
+}

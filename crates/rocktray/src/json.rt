@@ -1,0 +1,273 @@
+//! The subcommand that writes mails as lines of JSON.
+
+use crate::inputs::{inputs_of, kind_of, names_of, progress_of};
+use crate::options::ids;
+use crate::{Terminals, wrong};
+use clap::ArgMatches;
+use mail_charsets::AllCharsets;
+use mail_data::mailbox::Format;
+use mail_inputs::{
+    Consumer, Content, Meter, NOT_UTF8, Name, Progress, fail, open_regular, read_inputs, shown,
+};
+use mail_lines::range::{FilePart, reading_start, shows_mailbox, write_first_part, write_range};
+use mail_lines::{
+    InputKind, LineOptions, NextMail, Source, Watch, Written, write_input, write_unread,
+};
+use mail_program::{Fault, Outcome};
+use std::alloc::Global;
+use std::fs::{self, OpenFile};
+use std::io::{self, BufWriter, Read, Seek, SeekFrom, Write};
+use std::process::ExitCode;
+use std::rt::Files;
+
+/// How the inputs are read.
+#[derive(Clone, Copy, Debug)]
+struct How {
+    /// What each input is.
+    kind: InputKind,
+    /// How mails are shown.
+    options: LineOptions,
+    /// Whether a long run reports its progress.
+    progress: Progress,
+}
+
+/// Writes the lines of inputs.
+#[derive(Drop)]
+struct Lines<W> {
+    out: W,
+    how: How,
+}
+
+/// The meter as a watch of mails.
+#[derive(Drop)]
+struct MailMeter<'r, R>(Meter<'r, R>);
+
+impl<'r, R: Eprint + AllocGlobal> Watch for MailMeter<'r, R> {
+    fn note(&mut self, next: NextMail) {
+        let mails = match next.number() {
+            Some(number) => Some(number.saturating_sub(1)),
+            None => None,
+        };
+        self.0.note(next.at, mails);
+    }
+}
+
+impl<W: Write> Consumer for Lines<W> {
+    fn read<R: Eprint + AllocGlobal, I: Read>(
+        &mut self,
+        rt: &R,
+        reader: &mut I,
+        name: Option<&str>,
+        content: Content,
+    ) -> Result<Outcome, Fault> {
+        let mut meter = MailMeter(Meter::new(rt, name, self.how.progress, 0));
+        let known = &AllCharsets::standard();
+        let mut source = self.how.source(name, known);
+        if content == Content::Mail {
+            source.kind = InputKind::Mail;
+        }
+        let written = write_input(rt.alloc(), &mut self.out, reader, source, &mut meter)?;
+        Ok(outcome_of(written))
+    }
+
+    fn report(&mut self, alloc: Global, name: Option<&str>, why: &str) -> Result<(), Fault> {
+        write_unread(alloc, &mut self.out, name, why)
+    }
+}
+
+impl How {
+    /// Returns an input that is read in this way.
+    fn source<'s, K>(self, file: Option<&'s str>, known: &'s K) -> Source<'s, K> {
+        Source {
+            kind: self.kind,
+            file,
+            options: self.options,
+            known,
+        }
+    }
+}
+
+/// Returns the outcome of writing lines.
+fn outcome_of(written: Written) -> Outcome {
+    match written {
+        Written::Clean => Outcome::Clean,
+        Written::WithErrors => Outcome::Refused,
+    }
+}
+
+/// Writes the lines of the inputs that the arguments name, and returns the exit status.
+///
+/// # Errors
+///
+/// A fault that ends the run.
+pub fn run<R: Files + Input + Print + Eprint + AllocGlobal>(
+    rt: &R,
+    matches: &ArgMatches<'_>,
+    terminals: Terminals,
+) -> Result<ExitCode, Fault> {
+    let names = names_of(rt.alloc(), matches)?;
+    if names.is_empty() && terminals.input {
+        return wrong(rt, "no input was given, and standard input is a terminal");
+    }
+    let mut lines = Lines {
+        out: BufWriter::new(rt.alloc(), io::writer(rt))?,
+        how: how_of(matches, terminals),
+    };
+    let outcome = match matches.get_str(ids::PART) {
+        Some(text) => {
+            let Some(part) = part_of(text) else {
+                return wrong_part(rt, text);
+            };
+            if let Some(why) = why_no_parts(rt, names.as_slice(), lines.how.kind) {
+                return wrong(rt, why);
+            }
+            read_parts(rt, &mut lines, names.as_slice(), part)?
+        }
+        None => read_inputs(rt, &mut lines, inputs_of(matches, names.as_slice()))?,
+    };
+    lines.out.flush()?;
+    Ok(outcome.status())
+}
+
+/// Returns how the options say that inputs are read.
+fn how_of(matches: &ArgMatches<'_>, terminals: Terminals) -> How {
+    let mut options = LineOptions::new();
+    options.hashes = matches.get_flag(ids::HASH);
+    options.joins_flowed = matches.get_flag(ids::FLOWED);
+    How {
+        kind: kind_of(matches),
+        options,
+        progress: progress_of(matches, terminals),
+    }
+}
+
+/// Returns the part that a text `K/N` names, or `None` if it names no part.
+fn part_of(text: &str) -> Option<FilePart> {
+    let (number, count) = text.split_once('/')?;
+    let part = FilePart {
+        number: number_of(number)?,
+        count: number_of(count)?,
+    };
+    if 1 <= part.number && part.number <= part.count {
+        Some(part)
+    } else {
+        None
+    }
+}
+
+/// Returns the number that these digits write, or `None` if there is no such number.
+fn number_of(digits: &str) -> Option<usize> {
+    if digits.starts_with('+') {
+        return None;
+    }
+    digits.parse::<usize>().ok()
+}
+
+/// Returns why parts of these inputs cannot be read, or `None` if they can: they are files, and no
+/// mail gives its length.
+fn why_no_parts(rt: &impl Files, names: &[Name<'_>], kind: InputKind) -> Option<&'static str> {
+    if kind == InputKind::Mailbox(Format::Counted) {
+        return Some("--part cannot be used with --mbox=cl, whose mails give their lengths");
+    }
+    if names.is_empty() || names.iter().any(|name| *name == Name::Standard) {
+        return Some("--part reads files, and not standard input");
+    }
+    if names.iter().any(|name| is_no_file(rt, *name)) {
+        return Some("--part reads files, and no directories, pipes or devices");
+    }
+    None
+}
+
+/// Returns whether something that is no file has this name.
+fn is_no_file(rt: &impl Files, name: Name<'_>) -> bool {
+    match name {
+        Name::Path(path) => match fs::metadata(rt, path) {
+            Ok(found) => !found.is_file(),
+            Err(_) => false,
+        },
+        Name::Standard | Name::NotUtf8(_) => false,
+    }
+}
+
+/// Prints that a text names no part, and returns the exit status.
+fn wrong_part(rt: &(impl Eprint + AllocGlobal), text: &str) -> Result<ExitCode, Fault> {
+    let text = shown(rt.alloc(), text)?;
+    let why = format!(in rt.alloc();
+        "invalid value '{text}' for '--part <K/N>': K is a number from 1 to N, as in 1/4"
+    )?;
+    wrong(rt, why.as_str())
+}
+
+/// Writes the lines of a part of each file, and returns the outcome.
+fn read_parts<R: Files + Eprint + AllocGlobal, W: Write>(
+    rt: &R,
+    lines: &mut Lines<W>,
+    names: &[Name<'_>],
+    part: FilePart,
+) -> Result<Outcome, Fault> {
+    let mut outcome = Outcome::Clean;
+    for name in names {
+        let next = match name {
+            Name::Path(path) => read_part(rt, lines, path, part)?,
+            Name::NotUtf8(shown) => fail(rt, lines, Some(*shown), &io::Error::other(NOT_UTF8))?,
+            Name::Standard => Outcome::Clean,
+        };
+        outcome = outcome.and(next);
+    }
+    Ok(outcome)
+}
+
+/// Writes the lines of a part of a file, and returns the outcome.
+fn read_part<R: Files + Eprint + AllocGlobal, W: Write>(
+    rt: &R,
+    lines: &mut Lines<W>,
+    path: &str,
+    part: FilePart,
+) -> Result<Outcome, Fault> {
+    let written = match open_regular(rt, path) {
+        Ok(mut file) => match file.metadata() {
+            Ok(found) => write_part(rt, lines, &mut file, found.len(), path, part),
+            Err(error) => Err(Fault::Input(error)),
+        },
+        Err(fault) => Err(fault),
+    };
+    match written {
+        Ok(written) => Ok(outcome_of(written)),
+        Err(Fault::Input(error)) => fail(rt, lines, Some(path), &error),
+        Err(fault) => Err(fault),
+    }
+}
+
+/// Writes the lines of a part of a file of this size, at whose start the reader is.
+fn write_part<I: Read + Seek, R: Eprint + AllocGlobal, W: Write>(
+    rt: &R,
+    lines: &mut Lines<W>,
+    reader: &mut I,
+    size: u64,
+    path: &str,
+    part: FilePart,
+) -> Result<Written, Fault> {
+    let range = part.range(size as usize);
+    let how = lines.how;
+    let mut meter = MailMeter(Meter::new(rt, Some(path), how.progress, range.start));
+    let known = &AllCharsets::standard();
+    let source = how.source(Some(path), known);
+    if part.number == 1 {
+        let out = &mut lines.out;
+        return write_first_part(rt.alloc(), out, reader, source, range.end, &mut meter);
+    }
+    if !shows_mailbox(rt.alloc(), reader, how.kind)? {
+        return Ok(Written::Clean);
+    }
+    if let Err(error) = reader.seek(SeekFrom::Start(reading_start(range.start) as u64)) {
+        return Err(Fault::Input(error));
+    }
+    write_range(
+        rt.alloc(),
+        &mut lines.out,
+        reader,
+        source,
+        range,
+        &mut meter,
+    )
+}

@@ -1,0 +1,155 @@
+//! The command line of the program.
+
+use clap::builder::ValueParser;
+use clap::{Arg, ArgAction, Command};
+use mail_inputs::PROGRAM;
+use mail_program::VERSION;
+use std::alloc::{AllocError, Global};
+
+/// The subcommand that writes lines of JSON.
+pub const JSON: &str = "json";
+
+/// The names of options and arguments.
+pub mod ids {
+    pub const FLOWED: &str = "flowed";
+
+    pub const HASH: &str = "hash";
+
+    pub const INPUTS: &str = "inputs";
+
+    pub const LABEL: &str = "label";
+
+    pub const MAIL: &str = "mail";
+
+    pub const MBOX: &str = "mbox";
+
+    pub const PART: &str = "part";
+
+    pub const PROGRESS: &str = "progress";
+
+    pub const RECURSIVE: &str = "recursive";
+}
+
+/// The formats of mailboxes that `--mbox` names: mboxo, mboxrd, and mboxcl or mboxcl2.
+pub const FORMATS: [&str; 3] = ["o", "rd", "cl"];
+
+/// The end of the help.
+const STATUSES: &str = "\
+The exit status is 0 if all was read and written, 3 if some mails were refused, 1 if something could
+not be read or written, and 2 if the arguments are wrong.";
+
+/// The end of the help of the subcommand `json`.
+const AFTER_JSON: &str = "\
+Without an INPUT, and for `-`, standard input is read. Of a directory each file is read, or the
+mails of a Maildir. After `--` no argument is an option.
+
+An input that begins with a separator of a mailbox is a mailbox, any other is one mail, unless an
+option says which it is. --mbox=rd is the mboxrd format, whose quoted lines lose a `>`, and
+--mbox=cl the mboxcl or mboxcl2 format, with Content-Length.
+
+Of each file, --part K/N reads the mails whose separator begins in the K-th of N equal parts of the
+file. Their `number` is null.
+
+A mail that is refused, and an input that cannot be read, has a line with the member `error`. The
+exit status is 0 if all was read and written, 3 if some mails were refused, 1 if something could not
+be read or written, and 2 if the arguments are wrong.";
+
+/// Returns the command line of the program.
+///
+/// # Errors
+///
+/// If it runs out of memory.
+pub fn command<'a>(alloc: Global) -> Result<Command<'a>, AllocError> {
+    Command::new(alloc, PROGRAM)
+        .bin_name(PROGRAM)?
+        .about("Reads mails and mailboxes.")
+        .after_help(STATUSES)
+        .version(VERSION)
+        .propagate_version(true)
+        .no_binary_name(true)
+        .subcommand_required(true)
+        .arg_required_else_help(true)
+        .subcommand(json(alloc)?)
+}
+
+/// Returns the command line of the subcommand `json`.
+fn json<'a>(alloc: Global) -> Result<Command<'a>, AllocError> {
+    Command::new(alloc, JSON)
+        .display_name("rocktray json")?
+        .about("Writes mails as JSON, one object to a line")
+        .after_help(AFTER_JSON)
+        .arg(inputs(alloc))?
+        .arg(flag(alloc, ids::MAIL, "Each input is one mail"))?
+        .arg(format(alloc)?)?
+        .arg(part(alloc)?)?
+        .arg(flag(
+            alloc,
+            ids::RECURSIVE,
+            "Read the subdirectories of directories too",
+        ))?
+        .arg(value(
+            alloc,
+            ids::LABEL,
+            "NAME",
+            "The name of standard input in the lines",
+        ))?
+        .arg(flag(
+            alloc,
+            ids::HASH,
+            "Give each file of a mail the SHA-256 of its bytes",
+        ))?
+        .arg(flag(
+            alloc,
+            ids::FLOWED,
+            "Show each paragraph in format=flowed as one line",
+        ))?
+        .arg(flag(
+            alloc,
+            ids::PROGRESS,
+            "Report the progress even if standard error is not a terminal",
+        ))
+}
+
+/// Returns an option without a value.
+fn flag<'a>(alloc: Global, id: &'a str, help: &'a str) -> Arg<'a> {
+    Arg::new(alloc, id)
+        .long(id)
+        .action(ArgAction::SetTrue)
+        .help(help)
+}
+
+/// Returns an option with a value.
+fn value<'a>(alloc: Global, id: &'a str, name: &'a str, help: &'a str) -> Arg<'a> {
+    Arg::new(alloc, id).long(id).value_name(name).help(help)
+}
+
+/// Returns the option that says that each input is a mailbox.
+fn format<'a>(alloc: Global) -> Result<Arg<'a>, AllocError> {
+    value(alloc, ids::MBOX, "FORMAT", "Each input is a mailbox")
+        .num_args(0..=1)
+        .require_equals(true)
+        .default_missing_value(FORMATS[0])
+        .value_parser(FORMATS.as_slice())
+        .conflicts_with(ids::MAIL)
+}
+
+/// Returns the option that reads a part of each file.
+fn part<'a>(alloc: Global) -> Result<Arg<'a>, AllocError> {
+    value(
+        alloc,
+        ids::PART,
+        "K/N",
+        "Read the K-th of N equal parts of each file",
+    )
+    .conflicts_with(ids::MAIL)
+}
+
+/// Returns the argument that names the inputs.
+fn inputs<'a>(alloc: Global) -> Arg<'a> {
+    Arg::new(alloc, ids::INPUTS)
+        .value_name("INPUT")
+        .action(ArgAction::Append)
+        .num_args(0..)
+        .value_parser(ValueParser::NonEmptyString)
+        .help("Files, directories, and `-` for standard input")
+}
