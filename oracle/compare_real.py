@@ -1,9 +1,9 @@
 #!/usr/bin/env python3
-"""Compares what rocktray json, mail_jobs and mail_extract make of real mails with what Python's email package does.
+"""Compares what rocktray json, rocktray extract and mail_jobs make of real mails with what Python's email package does.
 
 Each PATH is a mail, a mailbox (a file that begins with `From `) or a directory of such files. The mails are read for
 five jobs: the index (subject, the addresses of from, to and cc, date, id), the texts of parts and the attachments
-(names and sizes), both those of forwarded mails too, the bytes that mail_extract saves, and whether these have all that
+(names and sizes), both those of forwarded mails too, the bytes that rocktray extract saves, whether these have all that
 `iter_attachments` gives, the recipients that a delivery report says were not reached, the reports themselves, the ids
 of parts, and the threads (the ids of the mails before it). Both sides read the same mailbox, into which all are put; so
 a line that begins with `From ` begins with `>From ` there.
@@ -113,7 +113,7 @@ def unescaped(text):
 
 def said_here(line, job, saved):
     """What is said here of each item of a mail: its line of rocktray json, its lines of mail_jobs, and the bytes that
-    mail_extract saved, by their paths."""
+    rocktray extract saved, by their paths."""
     mail = json.loads(line)
     if "error" in mail:
         return {"mail": Refused(mail["error"])}
@@ -255,10 +255,10 @@ def differs(item, here, there):
 
 
 def saved_by(program, mailbox):
-    """The bytes of the files that mail_extract saves of a mailbox: by the number of the mail, and by the path."""
+    """The bytes of the files that rocktray extract saves of a mailbox: by the number of the mail, and by the path."""
     found = collections.defaultdict(dict)
     with tempfile.TemporaryDirectory() as directory:
-        for line in ran([program, "--into", directory], mailbox).splitlines():
+        for line in ran([program, "extract", "--into", directory], mailbox).splitlines():
             saved = json.loads(line)
             if saved["saved"] is not None:
                 with open(os.path.join(directory, saved["saved"]), "rb") as file:
@@ -305,7 +305,7 @@ def compare(batch, programs, counts):
     jobs = list(records(ran([programs["mail_jobs"]], mailbox)))
     if not len(lines) == len(jobs) == len(batch):
         sys.exit(f"{len(batch)} mails are {len(lines)} lines of rocktray json and {len(jobs)} records of mail_jobs")
-    saved = saved_by(programs["mail_extract"], mailbox)
+    saved = saved_by(programs["rocktray"], mailbox)
     for number, ((name, mail), line, job) in enumerate(zip(batch, lines, jobs), 1):
         counts.add(name, said_here(line, job, saved[number]), said_there(mail))
 
@@ -319,7 +319,7 @@ def main():
     missing = [path for path in asked.paths if not os.path.exists(path)]
     if missing:
         parser.error(f"{missing[0]} is not there")
-    programs = {name: f"{TOP}/crates/{name}/out/{name}" for name in ("rocktray", "mail_jobs", "mail_extract")}
+    programs = {name: f"{TOP}/crates/{name}/out/{name}" for name in ("rocktray", "mail_jobs")}
     counts = Counts(asked.show)
     batch = []
     for name, mail in mails_at(asked.paths):

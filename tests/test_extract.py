@@ -14,7 +14,7 @@ import re
 
 import pytest
 
-from support import SAMPLES, multipart, program, run
+from support import SAMPLES, command, multipart, run
 
 from by_email import SHOWN_TYPES, body_of, is_saved, saved_files
 
@@ -25,11 +25,6 @@ TYPES = (
     "application/zip", "audio/mpeg", "image/gif", "image/jpeg", "image/png", "image/svg+xml", "image/tiff", "text/csv",
     "text/html", "text/plain", "text/x-unknown", "video/mp4",
 )
-
-
-def extract():
-    """The command that saves files."""
-    return [program("rocktray"), "extract"]
 
 
 def sized():
@@ -98,7 +93,7 @@ def saved(mails, tmp_path_factory):
     """The directory into which all mails are saved, twice, and for each run its options and lines."""
     into, runs = tmp_path_factory.mktemp("saved"), []
     for options in (["--hash"], []):
-        ended = run([*extract(), "--into", into, *options, *mails])
+        ended = run([*command("extract"), "--into", into, *options, *mails])
         assert (ended.returncode, ended.stderr) == (0, b"")
         runs.append((options, [json.loads(line) for line in ended.stdout.splitlines()]))
     return into, runs
@@ -152,7 +147,7 @@ def test_files_of_one_name(tmp_path):
         b'Content-Type: message/rfc822\nContent-Disposition: attachment; filename=".b"\n\n'
         b"Content-Type: image/png\n\nthree",
     ))
-    lines = [json.loads(line) for line in run([*extract(), "--into", into, "--hash", mail]).stdout.splitlines()]
+    lines = [json.loads(line) for line in run([*command("extract"), "--into", into, "--hash", mail]).stdout.splitlines()]
     found = [(line["path"], line["saved"], (into / line["saved"]).read_bytes(), line["error"] is not None) for line in lines]
     assert found == [
         ("1", "_.._a.txt", b"one", False), ("2", "_.._a-2.txt", b"two", True),
@@ -199,7 +194,7 @@ def test_choices(options, paths, tmp_path):
     bodies = dict(saved_files(parted()))
     into = tmp_path / "into"
     into.mkdir()
-    ended = run([*extract(), "--into", into, *options, mail])
+    ended = run([*command("extract"), "--into", into, *options, mail])
     lines = [json.loads(line) for line in ended.stdout.splitlines()]
     assert (ended.returncode, [line["path"] for line in lines]) == (0, paths)
     assert [(into / line["saved"]).read_bytes() for line in lines] == [bodies[path] for path in paths]
@@ -216,7 +211,7 @@ def test_names_by_hash(tmp_path):
     bodies = dict(saved_files(parted()))
     names = {path: hashlib.sha256(body).hexdigest() for path, body in bodies.items()}
     for number in (2, 3):
-        ended = run([*extract(), "--into", into, "--by-hash", mail])
+        ended = run([*command("extract"), "--into", into, "--by-hash", mail])
         lines = [json.loads(line) for line in ended.stdout.splitlines()]
         assert (ended.returncode, [line["path"] for line in lines]) == (0, list(bodies))
         for line in lines:

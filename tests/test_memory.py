@@ -1,9 +1,9 @@
 """The programs and the suite when memory is refused or limited.
 
 Each allocation of a run is refused in turn, alone or with all that follow. The run then gives what it gives with ample
-memory, or ends with exit status 1 and reports only that memory ran out. The lines that rocktray json and mail_extract have
-written by then are the front of what they write with ample memory, and each saved file is complete; mail_show has
-written nothing. A run that met a refusal ends in the second way.
+memory, or ends with exit status 1 and reports only that memory ran out. The lines that rocktray json and rocktray
+extract have written by then are the front of what they write with ample memory, and each saved file is complete;
+mail_show has written nothing. A run that met a refusal ends in the second way.
 """
 
 import base64
@@ -17,7 +17,7 @@ import subprocess
 
 import pytest
 
-from support import SAMPLES, TOP, command, program
+from support import FROM, SAMPLES, TOP, command, multipart, program
 
 from suite import rows_in
 
@@ -28,8 +28,27 @@ REFUSED = {
     "part_with_space": b"Content-Type: multipart/mixed; boundary=b\n\n--b\n x\n--b\n\rz\n--b--\n",
 }
 MAILS = {path.stem: path.read_bytes() for path in SAMPLES} | REFUSED
+# two files of one name, one of them damaged; a refused mail; a file without a name; and forwarded mails
+FILES_OF_MAILS = (
+    multipart(
+        b"b", b"\nText\n", b'Content-Disposition: attachment; filename="../a.tar.gz"\n\none',
+        b'Content-Disposition: attachment; filename="../a.tar.gz"\nContent-Transfer-Encoding: base64\n\ndHdv!!!!',
+    ),
+    b" x\n",
+    b"Content-Disposition: attachment\n\nthree\n",
+    multipart(
+        b"b", b"Content-Type: message/rfc822\nContent-Transfer-Encoding: base64\n\n" + base64.encodebytes(
+            multipart(b"c", b"\nHi", b"Content-Type: image/png\n\npixels")
+        ), b"Content-Type: message/rfc822\n\n x", b"Content-Type: TEXT\n\nText",
+    ),
+)
+MAILBOXES = {
+    "json": (TOP / "crates" / "rocktray" / "stdin").read_bytes(),
+    "files": b"\n".join(FROM + mail for mail in FILES_OF_MAILS),
+}
 RUNS = [(name, [], mail) for name in ("mail_show", "json") for mail in MAILS]
-RUNS += [("json", ["--mbox"], "rocktray"), ("mail_extract", ["--hash", "--into", "into"], "mail_extract")]
+RUNS += [("json", ["--mbox"], "json")]
+RUNS += [("extract", [option, "--into", "into"], "files") for option in ("--hash", "--by-hash")]
 
 
 class Refused:
@@ -38,8 +57,7 @@ class Refused:
     def __init__(self, library, name, words, mail, directory):
         self.library, self.name, self.directory = library, name, directory
         self.command = [*command(name), *words]
-        data = MAILS[mail] if mail in MAILS else (TOP / "crates" / mail / "stdin").read_bytes()
-        (directory / "mail").write_bytes(data)
+        (directory / "mail").write_bytes((MAILS | MAILBOXES)[mail])
         (directory / "into").mkdir()
         self.wanted = self.run({})[0]
         (directory / "into").rename(directory / "saved")
@@ -149,7 +167,7 @@ def json_line():
 
 
 def extract_line():
-    """The line of mail_extract."""
+    """The line of rocktray extract."""
     line = {"file": None, "number": None, "path": "1", "saved": "file", "size": len(FILE)}
     line.update(sha256=hashlib.sha256(FILE).hexdigest(), error=None)
     return json.dumps(line, separators=(",", ":")) + "\n"
@@ -158,7 +176,7 @@ def extract_line():
 LIMITED = {
     "mail_show": (LONG, lambda: f"part 0: text/plain, {COUNT} headers, 4 body bytes\n" + f"  Subject: {SUBJECT}\n" * COUNT),
     "json": (LONG, json_line),
-    "mail_extract": (
+    "extract": (
         b"Content-Disposition: attachment; filename=file\nContent-Transfer-Encoding: base64\n\n" + base64.encodebytes(FILE),
         extract_line,
     ),
@@ -178,13 +196,13 @@ def run_limited(command, mail, directory, limit):
 def test_limits(name, tmp_path):
     """Smaller and smaller limits on memory, from 32 MB down to where the loader cannot start the program."""
     mail, wanted = LIMITED[name][0], LIMITED[name][1]().encode()
-    words = [*command(name), *(["--hash", "--into", "."] if name == "mail_extract" else [])]
+    words = [*command(name), *(["--hash", "--into", "."] if name == "extract" else [])]
     right = short = 0
     for limit in range(32_000, 0, -250):
         ended = run_limited(words, mail, tmp_path, limit)
         if b"error while loading shared libraries" in ended.stderr:
             break
-        if name == "mail_extract":
+        if name == "extract":
             is_complete = (tmp_path / "file").exists() and (tmp_path / "file").read_bytes() == FILE
             assert is_complete or (ended.returncode == 1 and not (tmp_path / "file").exists()), f"{limit} KB"
         if ended.returncode == 0:

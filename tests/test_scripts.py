@@ -17,7 +17,7 @@ SCRIPTS = sorted(
     path for pattern in ("tools/*", "bench/*", "oracle/*", "examples/archive/*.py")
     for path in TOP.glob(pattern) if path.is_file() and os.access(path, os.X_OK)
 )
-LAUNCHERS = ("mail_show", "rocktray", "mail_extract")
+LAUNCHERS = ("mail_show", "rocktray")
 MAIL = (TOP / "samples" / "attachment.eml").read_bytes()
 
 
@@ -71,9 +71,8 @@ def test_launcher(link):
 
 @pytest.mark.quick
 @pytest.mark.parametrize("command", [
-    ["./mail_extract", "samples/plain.eml"], ["./mail_show", "samples/plain.eml"], ["tools/program.sh", "rocktray"],
-    ["tools/make_c_library.sh", "/tmp/rocktray"], ["tools/make_wheel.py", "/tmp/wheels"],
-    ["./test"],
+    ["./mail_show", "samples/plain.eml"], ["tools/program.sh", "rocktray"],
+    ["tools/make_c_library.sh", "/tmp/rocktray"], ["tools/make_wheel.py", "/tmp/wheels"], ["./test"],
 ])
 def test_without_the_kit(command, tmp_path):
     """Without the kit, and in a copy where nothing is built, one line says what is needed."""
@@ -108,14 +107,8 @@ def test_version_without_a_program(name):
 
 def outputs(command, directory):
     """What a launcher or a program writes of the mail on standard input, and of the file."""
-    found = []
-    for words, data in (([], MAIL), (["mail"], b"")):
-        into = directory / "into"
-        subprocess.run(["rm", "-rf", into], check=True)
-        into.mkdir()
-        options = {"mail_extract": ["--into", "into"], "rocktray": ["json"]}.get(command.name, [])
-        found.append(run([command, *options, *words], data, cwd=directory).stdout)
-    return found
+    first = ["json"] if command.name == "rocktray" else []
+    return [run([command, *first, *words], data, cwd=directory).stdout for words, data in (([], MAIL), (["mail"], b""))]
 
 
 def test_program(link, tmp_path):

@@ -2,7 +2,7 @@
 
 A run ends with exit status 1 and reports on standard error what failed and why, in the system's words; if standard
 error fails too, it ends with that status alone. No run ends by a signal. If a file cannot be saved, or not completely,
-the line of mail_extract says so, and nothing of the file is kept.
+the line of rocktray extract says so, and nothing of the file is kept.
 """
 
 import json
@@ -13,7 +13,7 @@ import subprocess
 
 import pytest
 
-from support import FROM, SUBCOMMANDS, TOP, command, program
+from support import FROM, SUBCOMMANDS, TOP, command
 
 CLOSED = "Bad file descriptor (os error 9)"
 DIRECTORY = "Is a directory (os error 21)"
@@ -21,9 +21,9 @@ MISSING = "No such file or directory (os error 2)"
 FULL = "No space left on device (os error 28)"
 LARGE = "File too large (os error 27)"
 MAIL = TOP / "samples" / "attachment.eml"
-PROGRAMS = ("mail_show", "json", "mail_extract")
+PROGRAMS = ("mail_show", "json", "extract")
 # the exit status of a refused mail
-REFUSED = {"mail_show": 1, "json": 3, "mail_extract": 3}
+REFUSED = {"mail_show": 1, "json": 3, "extract": 3}
 
 
 class Runner:
@@ -34,7 +34,7 @@ class Runner:
         self.words = command(name)
         self.program = os.path.basename(self.words[0])
         self.input = "standard input" if name in SUBCOMMANDS else "input failed"
-        if name == "mail_extract":
+        if name == "extract":
             self.words += ["--into", str(self.into())]
 
     def into(self):
@@ -46,7 +46,7 @@ class Runner:
 
     def run(self, redirections, *arguments, stdin=None):
         """The exit status and standard error of a run with these redirections of sh."""
-        if self.name == "mail_extract":
+        if self.name == "extract":
             self.words[-1] = str(self.into())
         command = ["sh", "-c", f'exec "$@" {redirections}', "sh", *self.words, *map(str, arguments)]
         ended = subprocess.run(command, stdin=stdin or subprocess.DEVNULL, stdout=subprocess.DEVNULL,
@@ -86,7 +86,7 @@ def test_output(runner, redirection, arguments, why):
 def test_pipes(runner, tmp_path, count):
     """A pipe whose reader is gone before the first write, or after some bytes: nothing is reported, since scripts cut off
     output on purpose."""
-    refused = runner.name == "mail_extract"
+    refused = runner.name == "extract"
     (tmp_path / "mail").write_bytes((FROM + b" x\n\n") * 4000 if refused else b"A: b\n" * 100_000)
     reader, writer = os.pipe()
     with open(tmp_path / "mail" if count else MAIL, "rb") as file:
@@ -121,9 +121,9 @@ def test_show_a_directory(tmp_path):
 
 @pytest.mark.parametrize("into, why", [("no/such/directory", MISSING), (MAIL, "not a directory")])
 def test_no_directory(into, why):
-    """mail_extract needs a directory that exists."""
-    ended = subprocess.run([program("mail_extract"), "--into", into], input=b"", capture_output=True, timeout=60)
-    assert (ended.returncode, ended.stderr.decode()) == (1, f"mail_extract: {into}: {why}\n")
+    """rocktray extract needs a directory that exists."""
+    ended = subprocess.run([*command("extract"), "--into", into], input=b"", capture_output=True, timeout=60)
+    assert (ended.returncode, ended.stderr.decode()) == (1, f"rocktray: {into}: {why}\n")
 
 
 def small_files():
@@ -137,7 +137,7 @@ def test_unsaved(into, why, limit, tmp_path):
     """A directory that takes no file, and a file that cannot be written to its end: nothing of it is kept."""
     (tmp_path / "into").mkdir()
     mail = b"Content-Disposition: attachment\n\n" + b"y\n" * 4500
-    ended = subprocess.run([program("mail_extract"), "--into", into], input=mail, capture_output=True, timeout=60,
+    ended = subprocess.run([*command("extract"), "--into", into], input=mail, capture_output=True, timeout=60,
                            cwd=tmp_path, preexec_fn=limit)
     line = {"file": None, "number": None, "path": "1", "saved": None, "size": 9000, "sha256": None, "error": why}
     assert (ended.returncode, json.loads(ended.stdout), ended.stderr) == (1, line, b"")

@@ -9,7 +9,7 @@ import unicodedata
 
 import pytest
 
-from support import FROM, SAMPLES, multipart, program, run
+from support import FROM, SAMPLES, command, multipart, run
 
 from by_email import addresses_of, body_of, file_name, has_parts, parts_of, text_of, value_of
 
@@ -84,7 +84,7 @@ def view(raw):
 
 def show(*words, data=b""):
     """The exit status and the output of the program."""
-    ended = run([program("rocktray"), "show", *words], data)
+    ended = run([*command("show"), *words], data)
     return ended.returncode, ended.stdout.decode("utf-8")
 
 
