@@ -98,6 +98,25 @@ def test_rocktray_is_not_built(tmp_path):
 
 
 @pytest.mark.quick
+@pytest.mark.parametrize("words", [["samples/plain.eml"], ["-"]])
+@pytest.mark.parametrize("last, status, said", [
+    ("run=ended status=3 runners=1", 3, "a warning\n"), ("run=none", 2, "a warning\nrun=none\nrocktray: rt try has not"),
+], ids=["ended", "none"])
+def test_show_before_the_program_is_built(words, last, status, said, tmp_path):
+    """Until the program is built, ./rocktray show runs rt try on the mail: here another rt, which prints the mail."""
+    copy, path = tmp_path / "copy", tmp_path / "path"
+    shutil.copytree(TOP, copy, ignore=shutil.ignore_patterns("out", ".git", "data"), symlinks=True)
+    path.mkdir()
+    (path / "rt").write_text(f"#!/bin/sh\necho $PWD $*\ncat\necho a warning >&2\necho '{last}' >&2\nexit 3\n")
+    (path / "rt").chmod(0o755)
+    mail = (copy / "samples" / "plain.eml").read_bytes()
+    ended = run(["./rocktray", "show", *words], mail, cwd=copy, env={"PATH": f"{path}:/usr/bin:/bin"})
+    first, _, output = ended.stdout.partition(b"\n")
+    assert (first.decode(), output) == (f"{copy}/crates/rocktray try -- show -", mail)
+    assert ended.returncode == status and f"tools/program.sh rocktray\n{said}" in ended.stderr.decode()
+
+
+@pytest.mark.quick
 @pytest.mark.parametrize("name", LAUNCHERS)
 def test_version_without_a_program(name):
     """The version needs no built program."""
