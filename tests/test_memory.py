@@ -1,9 +1,9 @@
 """The programs and the suite when memory is refused or limited.
 
 Each allocation of a run is refused in turn, alone or with all that follow. The run then gives what it gives with ample
-memory, or ends with exit status 1 and reports only that memory ran out. The lines that rocktray json and rocktray
-extract have written by then are the front of what they write with ample memory, and each saved file is complete;
-mail_show has written nothing. A run that met a refusal ends in the second way.
+memory, or ends with exit status 1 and reports only that memory ran out. What rocktray has written by then is the front
+of what it writes with ample memory, and each saved file is complete; mail_show has written nothing. A run that met a
+refusal ends in the second way.
 """
 
 import base64
@@ -46,8 +46,8 @@ MAILBOXES = {
     "json": (TOP / "crates" / "rocktray" / "stdin").read_bytes(),
     "files": b"\n".join(FROM + mail for mail in FILES_OF_MAILS),
 }
-RUNS = [(name, [], mail) for name in ("mail_show", "json") for mail in MAILS]
-RUNS += [("json", ["--mbox"], "json")]
+RUNS = [(name, words, mail) for name, words in (("mail_show", []), ("json", []), ("show", ["-"])) for mail in MAILS]
+RUNS += [(name, ["--mbox", "-"], "json") for name in ("json", "show")]
 RUNS += [("extract", [option, "--into", "into"], "files") for option in ("--hash", "--by-hash")]
 
 
@@ -173,9 +173,17 @@ def extract_line():
     return json.dumps(line, separators=(",", ":")) + "\n"
 
 
+def shown():
+    """What rocktray show writes."""
+    return f"Subject:  {SUBJECT}\n" * COUNT + f"\n  body\n\nPart:     {'1':4}  {'text/plain':24}  4 bytes\n"
+
+
+# the options of each program, where it has some
+WORDS = {"show": ["-"], "extract": ["--hash", "--into", "."]}
 LIMITED = {
     "mail_show": (LONG, lambda: f"part 0: text/plain, {COUNT} headers, 4 body bytes\n" + f"  Subject: {SUBJECT}\n" * COUNT),
     "json": (LONG, json_line),
+    "show": (LONG, shown),
     "extract": (
         b"Content-Disposition: attachment; filename=file\nContent-Transfer-Encoding: base64\n\n" + base64.encodebytes(FILE),
         extract_line,
@@ -196,7 +204,7 @@ def run_limited(command, mail, directory, limit):
 def test_limits(name, tmp_path):
     """Smaller and smaller limits on memory, from 32 MB down to where the loader cannot start the program."""
     mail, wanted = LIMITED[name][0], LIMITED[name][1]().encode()
-    words = [*command(name), *(["--hash", "--into", "."] if name == "extract" else [])]
+    words = [*command(name), *WORDS.get(name, [])]
     right = short = 0
     for limit in range(32_000, 0, -250):
         ended = run_limited(words, mail, tmp_path, limit)
@@ -210,6 +218,7 @@ def test_limits(name, tmp_path):
             right += 1
         else:
             assert ended.returncode == 1 and re.fullmatch(rb"\w+: .*out of memory\n", ended.stderr), f"{limit} KB"
-            assert wanted.startswith(ended.stdout) if name == "json" else not ended.stdout, f"{limit} KB"
+            may_begin = name in ("json", "show")
+            assert wanted.startswith(ended.stdout) if may_begin else not ended.stdout, f"{limit} KB"
             short += 1
     assert right > 0 and short > 0
