@@ -5,13 +5,16 @@ use Rattle.std.specs.List.Sorted.{IsStrictlySortedBy}
 use Rattle.std.specs.Map.{lookup}
 use Rattle.std.specs.Ordering.{nat_cmp}
 use Rattle.std.specs.Str.{bytes_eq}
+use Rattle.mail_codec.specs.Charset.{Charsets}
 use Rattle.mail_codec.specs.Places.{has_prefix}
 use Rattle.mailparse.specs.ContentType.{ContentType}
 use Rattle.mailparse.specs.Disposition.{Disposition}
 use Rattle.mailparse.specs.Mail.{Node, Tree, root}
 use Rattle.mailparse.specs.Pairs.{Texts}
 use Rattle.mail_data.specs.Files.{describes_attachment, is_attachment_disposition, is_leaf}
+use Rattle.mail_data.specs.Bounce.{Delivery, recipients}
 use Rattle.mail_data.specs.Flowed.{unflowed_of}
+use Rattle.mail_data.specs.Reports.{report_blocks}
 use Rattle.mail_data.specs.Texts.{text_type}
 use Rattle.mail_data.specs.lenient.Content.{Content, message_content}
 use Rattle.mail_program.specs.Hash.{hash_text}
@@ -44,6 +47,15 @@ place_in None at = None
 abbrev pub content_if : Bool → Node → Option Content
 content_if true node = Some (message_content node)
 content_if false node = None
+
+-- the blocks of a report that a part is, and the recipients that a mail reports, if bodies are decoded
+abbrev pub report_if : Charsets → Bool → Node → Option (List (List (List ℕ × List ℕ)))
+report_if known true node = report_blocks known node
+report_if known false node = None
+
+abbrev pub recipients_if : Charsets → Bool → Tree → Option (List Delivery)
+recipients_if known true mail = Some (recipients known mail)
+recipients_if known false mail = None
 
 -- the hash of a content that is decoded, if it is wanted
 abbrev pub hash_of : Bool → Option Content → Option (List ℕ)

@@ -13,8 +13,8 @@ use Rattle.mailparse.specs.Map.{first_with_key}
 use Rattle.mailparse.specs.Placement.{placements}
 use Rattle.mailparse.specs.Refusal.{Reads, Refusal}
 use Rattle.mailparse.specs.Value.{lenient_value_in}
-use Rattle.mail_data.specs.Bounce.{original_message_id}
-use Rattle.mail_data.specs.Files.{name_in}
+use Rattle.mail_data.specs.Bounce.{Delivery, original_message_id}
+use Rattle.mail_data.specs.Files.{is_extracted, name_in}
 use Rattle.mail_data.specs.PartPlaces.{Place, places}
 use Rattle.mail_data.specs.lenient.Date.{Dated, Zoned, zoned_date_of}
 use Rattle.mail_data.specs.lenient.Content.{Content}
@@ -29,8 +29,9 @@ use Rattle.mail_lines.specs.Fields.{content_id, date_fault_text, disposition_nam
 use Rattle.mail_data.specs.InnerMails.{InnerMail}
 use Rattle.mail_lines.specs.Inside.{mails_inside, parts_inside}
 use Rattle.mail_lines.specs.Origin.{Origin}
-use Rattle.mail_lines.specs.Part.{Lists, content_if, hash_of, is_attachment, is_read, place_in, text_shown}
+use Rattle.mail_lines.specs.Part.{Lists, content_if, hash_of, is_attachment, is_read, place_in, recipients_if, report_if, text_shown}
 use Rattle.mail_lines.specs.Options.{Options}
+use Rattle.mail_lines.specs.Reports.{delivery_value}
 use Rattle.mail_lines.specs.JsonText.{refusal_text}
 use Rattle.mail_lines.specs.Printed.{Member, list_of, number_or_null, number_value, object_of, one, seconds_value, string_or_null, strings}
 
@@ -123,6 +124,22 @@ date_members None = one (codes "date") null
 date_members (Some (Ok date)) = one (codes "date") (seconds_value date.0) ++ zone_members date.1
 date_members (Some (Err fault)) = one (codes "date") null ++ one (codes "date_error") (string (date_fault_text fault))
 
+-- a pair of strings; the blocks of a report, each a list of its fields; and the same or `null`
+abbrev pub pair_value : List ℕ × List ℕ → Json
+pair_value pair = list_of (string pair.0 ∷ string pair.1 ∷ [])
+
+abbrev pub block_value : List (List ℕ × List ℕ) → Json
+block_value fields = list_of (map pair_value fields)
+
+abbrev pub report_value : Option (List (List (List ℕ × List ℕ))) → Json
+report_value (Some blocks) = list_of (map block_value blocks)
+report_value None = null
+
+-- the recipients that a mail reports, or `null`
+abbrev pub recipients_value : Option (List Delivery) → Json
+recipients_value (Some found) = list_of (map delivery_value found)
+recipients_value None = null
+
 -- the object of text that is not an address
 abbrev pub unknown_value : List ℕ → Json
 unknown_value text = object_of (one (codes "unknown") (string (latin1_text text)))
@@ -147,14 +164,14 @@ AreValues Is (x ∷ xs) values = (first : Json) × (others : List Json) × Is x 
 module _ (known : Charsets) where
   -- a header: its name and its value
   abbrev pub header_value : Header → Json
-  header_value header = list_of (string (key_text header) ∷ string (lenient_value_in known header.value) ∷ [])
+  header_value header = pair_value (key_text header, lenient_value_in known header.value)
 
-  -- the members of a disposition, of a file's name, of the id of the content, and of whether the part is an attachment
-  abbrev pub disposition_members : Disposition → Node → Bool → List Member
-  disposition_members disposition node is_attachment =
+  -- the members of a disposition, of a file's name, and of the id of the content
+  abbrev pub disposition_members : Disposition → Node → List Member
+  disposition_members disposition node =
       one (codes "disposition") (string_or_null (disposition_name disposition node))
       ++ one (codes "file_name") (string_or_null (name_in disposition node.ctype))
-      ++ one (codes "content_id") (string_or_null (content_id known node)) ++ one (codes "attachment") (boolean is_attachment)
+      ++ one (codes "content_id") (string_or_null (content_id known node))
 
   -- the members of the text of a body that is shown or not
   abbrev pub shown_members : Bool → Bool → ContentType → Content → List Member
@@ -215,12 +232,13 @@ module _ (known : Charsets) where
       ++ one (codes "references") (id_list true (codes "References") node)
 
   -- the members of a mail with this origin and these mails inside, whose parts have these values
-  abbrev pub mail_members : Origin → Tree → List InnerMail → List Json → List Member
-  mail_members origin mail inside parts =
+  abbrev pub mail_members : Bool → Origin → Tree → List InnerMail → List Json → List Member
+  mail_members decodes origin mail inside parts =
       let node = root mail in
       origin_members origin ++ values_members node ++ one (codes "raw") (raw_values node)
       ++ date_members (option_map zoned_date_of (value_of known (codes "Date") node)) ++ ids_members node
-      ++ one (codes "bounced_id") (string_or_null (original_message_id known mail)) ++ one (codes "parts") (list_of parts)
+      ++ one (codes "bounced_id") (string_or_null (original_message_id known mail))
+      ++ one (codes "recipients") (recipients_value (recipients_if known decodes mail)) ++ one (codes "parts") (list_of parts)
       ++ one (codes "forwarded") (list_of (map (inner_value origin.start) inside))
 
 -- Under these options.
@@ -233,7 +251,8 @@ module _ (options : Options) where
       let disposition = shown_as_in options.known node in
       one (codes "path") (string place.path) ++ one (codes "inside") (string_or_null inside)
       ++ type_members node.ctype.mimetype node.ctype.charset pairs
-      ++ disposition_members options.known disposition node (is_attachment place.part disposition)
+      ++ disposition_members options.known disposition node ++ one (codes "attachment") (boolean (is_attachment place.part disposition))
+      ++ one (codes "extracted") (boolean (is_extracted options.known place.part))
       ++ one (codes "encoding") (string (encoding_text (lenient_body_kind node)))
       ++ bounds_in start place.placement.whole.start place.placement.whole.end ++ one (codes "size") (number_value (length node.body))
 
@@ -243,7 +262,8 @@ module _ (options : Options) where
       let content = content_if options.decodes_bodies node in
       let disposition = shown_as_in options.known node in
       front_members inside start place pairs ++ decoded_members content
-      ++ one (codes "sha256") (string_or_null (hash_of (options.hashes && is_attachment place.part disposition) content))
+      ++ one (codes "sha256") (string_or_null (hash_of (options.hashes && is_extracted options.known place.part) content))
+      ++ one (codes "report") (report_value (report_if options.known options.decodes_bodies node))
       ++ one (codes "headers") (list_of (map (header_value options.known) node.headers))
       ++ body_members options.known options.joins_flowed (is_read place.part disposition) node.ctype content
 
@@ -264,7 +284,7 @@ module _ (options : Options) where
   IsMailValue origin mail value =
       (parts : List Json) × (others : List Json) × AreValues (IsPartValue None (Some origin.start)) (places mail (placements 0 mail)) parts
       × AreInsideValues origin.start (mails_inside options.known mail) others
-      × (value ≡ object_of (mail_members options.known origin mail (mails_inside options.known mail) (parts ++ others)))
+      × (value ≡ object_of (mail_members options.known options.decodes_bodies origin mail (mails_inside options.known mail) (parts ++ others)))
 
   -- a value is that of the line of a mail with this origin, or of its refusal
   abbrev pub IsLineValue : Origin → Reads Tree → Json → Type 0

@@ -5,7 +5,8 @@ use Rattle.json.specs.Json.{Json, null, array, object, Items, no_items, item, Me
 
 -- a member of a part that is known only if its body is decoded: one that is `null` without that, and one that is absent
 abbrev pub is_nulled : List ℕ → Bool
-is_nulled name = bytes_eq name (codes "decoded_size") || bytes_eq name (codes "sha256") || bytes_eq name (codes "text")
+is_nulled name =
+    bytes_eq name (codes "decoded_size") || bytes_eq name (codes "sha256") || bytes_eq name (codes "report") || bytes_eq name (codes "text")
 
 abbrev pub is_left_out : List ℕ → Bool
 is_left_out name = bytes_eq name (codes "error") || bytes_eq name (codes "text_charset") || bytes_eq name (codes "damaged")
@@ -30,11 +31,12 @@ abbrev pub parts_without_text : Json → Json
 parts_without_text (array values) = array (items_without_text values)
 parts_without_text value = value
 
--- the members of a line without them
+-- the members of a line without them, and without the recipients that the mail reports
 abbrev pub members_without_text : Members → Members
 members_without_text no_members = no_members
 members_without_text (member name value members) =
-    member name (if bytes_eq name (codes "parts") then parts_without_text value else value) (members_without_text members)
+    member name (if bytes_eq name (codes "recipients") then null else (if bytes_eq name (codes "parts") then parts_without_text value else value))
+    (members_without_text members)
 
 -- the value of a line without them
 abbrev pub without_text : Json → Json

@@ -24,6 +24,7 @@ use crate::members::{
 use crate::options::LineOptions;
 use crate::origin::{Origin, write_origin};
 use crate::part::{Form, write_parts};
+use crate::reports::write_reported;
 use mail_codec::charset::decode_latin1;
 use mail_data::bounce::original_message_id;
 use mail_data::inner_mails::inner_mails;
@@ -73,6 +74,8 @@ pub fn write_mail<W: Write, K: KnownCharsets>(
     write_ids(alloc, out, mail, known)?;
     let bounced = original_message_id(alloc, mail, known)?;
     add_optional(out, key!("bounced_id"), bounced.as_deref())?;
+    write_word(out, key!("recipients"))?;
+    write_reported(alloc, out, mail, options.decodes_bodies, known)?;
     let inside = inner_mails(alloc, mail, known)?;
     let form = Form {
         inside: None,

@@ -42,9 +42,9 @@ impl InputKind {
 #[derive(Clone, Copy, Debug)]
 pub struct LineOptions {
     /// Whether bodies are decoded. If they are not, what needs that is `null` or absent: the texts,
-    /// the decoded sizes and the hashes.
+    /// the decoded sizes, the hashes, the reports and the recipients.
     pub decodes_bodies: bool,
-    /// Whether files have their SHA-256.
+    /// Whether the parts that `rocktray extract` saves have their SHA-256.
     pub hashes: bool,
     /// Whether each paragraph of a flowed text is one line (RFC 3676).
     pub joins_flowed: bool,

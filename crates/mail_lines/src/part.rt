@@ -1,10 +1,10 @@
 //! The objects of the parts.
 ghost use Rattle.std.specs.Prelude.{◌&&◌, ◌≡◌, length, IfErr, IfOk, [], map, option_map};
-ghost use Rattle.std.specs.Prelude.{true, false};
+ghost use Rattle.std.specs.Prelude.{◌||◌, not, true, false, Ok};
 ghost use Rattle.mailparse.specs.Map.{text_found};
 ghost use Rattle.mailparse.specs.BodyViews.{IsBody, content_of};
 ghost use Rattle.mailparse.specs.Mail.{Tree, root};
-ghost use Rattle.mailparse.specs.Outcome.{IsMemory};
+ghost use Rattle.mailparse.specs.Outcome.{AnswersOrMemory, IsMemory};
 ghost use Rattle.mailparse.specs.Views as views;
 ghost use Rattle.mailparse.specs.Views.{content_type, placements_of, tree_of};
 ghost use Rattle.mail_data.specs.PartPlaces.{places};
@@ -12,8 +12,10 @@ ghost use Rattle.mail_data.specs.lenient.Content.{message_content};
 ghost use Rattle.mail_data.specs.lenient.ContentViews.{content_view};
 ghost use Rattle.mail_data.specs.lenient.Encoding.{lenient_body_kind};
 ghost use Rattle.mail_data.specs.PlaceViews.{place_view};
+ghost use Rattle.mail_data.specs.Files.{is_leaf, is_shown};
+ghost use Rattle.mail_data.specs.ReportViews.{block_view};
 ghost use Rattle.mail_lines.specs.Part.{Lists, content_if, hash_of, is_attachment, is_read};
-ghost use Rattle.mail_lines.specs.Part.{place_in};
+ghost use Rattle.mail_lines.specs.Part.{place_in, report_if};
 ghost use Rattle.mail_lines.specs.Options.{options_of};
 ghost use Rattle.mail_lines.specs.Members.{AddsMembers};
 ghost use Rattle.mail_lines.specs.Printed.{comma, listed, member_text, object_of, text_of};
@@ -31,10 +33,12 @@ use crate::members::{
     add_flag, add_null, add_number, add_number_or_null, add_optional, add_text, first_key, key,
 };
 use crate::options::LineOptions;
+use crate::reports::{write_pair, write_report};
 use mail_data::files::{describes_attachment, is_attachment_disposition, is_leaf, named_file};
 use mail_data::flowed::flowed_text;
 use mail_data::lenient::{Content, charset_used, lenient_body, lenient_content, lenient_text};
 use mail_data::places::{Place, places};
+use mail_data::reports::{Block, report_blocks};
 use mail_data::texts::text_type;
 use mail_program::{Fault, sha256_text};
 use mailparse::body::Body;
@@ -121,15 +125,21 @@ pub(crate) fn write_part<W: Write, K: KnownCharsets>(
     write_params(out, &part.ctype)?;
     let disposition = part.get_content_disposition_in(alloc, known)?;
     let attached = is_attachment(alloc, part, &disposition)?;
-    write_disposition(alloc, out, part, &disposition, attached, known)?;
+    let extracted = is_extracted(part, attached);
+    write_disposition(alloc, out, part, &disposition, known)?;
+    add_flag(out, key!("attachment"), attached)?;
+    add_flag(out, key!("extracted"), extracted)?;
     let body = lenient_body(alloc, part)?;
     add_text(out, key!("encoding"), encoding_name(&body))?;
     write_bounds(out, place, form.start)?;
     add_number(out, key!("size"), body.get_raw().len())?;
     let content = content_if(alloc, &body, options.decodes_bodies)?;
     write_decoded_size(alloc, out, &content)?;
-    let hash = hash_of(alloc, &content, is_hashed(options.hashes, attached))?;
+    let hash = hash_of(alloc, &content, is_hashed(options.hashes, extracted))?;
     add_optional(out, key!("sha256"), hash.as_deref())?;
+    let report = report_if(alloc, part, options.decodes_bodies, known)?;
+    write_word(out, key!("report"))?;
+    write_report(alloc, out, &report, known)?;
     write_word(out, key!("headers"))?;
     write_list(alloc, out, part.headers.as_slice(), known)?;
     let shown = is_read(part, &disposition);
@@ -169,11 +179,43 @@ fn content_if<'b>(
     Ok(Some(lenient_content(alloc, body)?))
 }
 
-/// Returns whether a part has its hash: an attachment has, if hashes are asked for.
-fn is_hashed(hashes: bool, is_attachment: bool) -> bool
-    ensures { result ≡ (hashes && is_attachment) }
+/// Returns whether a part is saved when the files of a mail are extracted.
+fn is_extracted(part: &ParsedMail<'_>, is_attachment: bool) -> bool
+    ensures { let tree = tree_of part.now in
+        result ≡ ((is_leaf tree && not (is_shown (root tree))) || is_attachment) }
 {
-    hashes && is_attachment
+    (is_leaf(part) && !is_shown(part)) || is_attachment
+}
+
+/// Returns whether a part is a text that mail readers show.
+fn is_shown(part: &ParsedMail<'_>) -> bool
+    ensures { result ≡ is_shown (root (tree_of part.now)) }
+{
+    let mimetype = part.ctype.mimetype.as_str();
+    mimetype == "text/plain" || mimetype == "text/html" || mimetype == "text"
+}
+
+/// Returns whether a part has its hash: one that is extracted has, if hashes are asked for.
+fn is_hashed(hashes: bool, is_extracted: bool) -> bool
+    ensures { result ≡ (hashes && is_extracted) }
+{
+    hashes && is_extracted
+}
+
+/// Returns the blocks of a report that a part is, or `None` if bodies are not decoded.
+fn report_if<K: KnownCharsets>(
+    alloc: Global,
+    part: &ParsedMail<'_>,
+    decodes_bodies: bool,
+    known: &K,
+) -> Result<Option<Vec<Block>>, MailParseError>
+    ensures { AnswersOrMemory (λ found. option_map (λ blocks. map block_view blocks.items) found)
+        result (Ok (report_if (K.known known.now) decodes_bodies (root (tree_of part.now)))) }
+{
+    if !decodes_bodies {
+        return Ok(None);
+    }
+    report_blocks(alloc, part, known)
 }
 
 /// Returns an offset in the input by the offset `at` in a mail that begins at `start`, or `None` if
@@ -235,19 +277,17 @@ fn is_attachment(
     describes_attachment(alloc, disposition, &part.ctype)
 }
 
-/// Writes the disposition, the name of the file, the id of the content, and whether the part is an
-/// attachment.
+/// Writes the disposition, the name of the file, and the id of the content.
 fn write_disposition<W: Write, K: KnownCharsets>(
     alloc: Global,
     out: &mut W,
     part: &ParsedMail<'_>,
     disposition: &ParsedContentDisposition,
-    is_attachment: bool,
     known: &K,
 ) -> Result<(), Fault>
     ensures { AddsMembers (W.contents out.old) (W.contents out.new) result
         (disposition_members (K.known known.now) (views.disposition disposition.now)
-        (root (tree_of part.now)) is_attachment) }
+        (root (tree_of part.now))) }
 {
     let name = named_file(alloc, disposition, &part.ctype)?;
     let id = content_id(alloc, part, known)?;
@@ -258,7 +298,6 @@ fn write_disposition<W: Write, K: KnownCharsets>(
     )?;
     add_optional(out, key!("file_name"), name.as_deref())?;
     add_optional(out, key!("content_id"), id.as_deref())?;
-    add_flag(out, key!("attachment"), is_attachment)?;
     Ok(())
 }
 
@@ -408,10 +447,6 @@ impl ListItem for MailHeader<'_> {
     ) -> Result<(), Fault> {
         let key = self.get_key(alloc)?;
         let value = self.get_value_in(alloc, known)?;
-        write_word(out, "[")?;
-        write_text(out, key.as_str())?;
-        write_word(out, ",")?;
-        write_text(out, value.as_str())?;
-        write_word(out, "]")
+        write_pair(out, key.as_str(), value.as_str())
     }
 }

@@ -1,14 +1,20 @@
-//! Delivery reports as JSON.
+//! Reports as JSON.
+ghost use Rattle.std.specs.Prelude.{map, option_map};
 ghost use Rattle.mailparse.specs.Views.{tree_of};
 ghost use Rattle.mail_data.specs.Bounce.{recipients};
 ghost use Rattle.mail_data.specs.BounceViews.{delivery};
+ghost use Rattle.mail_data.specs.ReportViews.{block_view, field_view};
 ghost use Rattle.mail_lines.specs.Reports.{deliveries_text, delivery_value};
+ghost use Rattle.mail_lines.specs.Part.{recipients_if};
+ghost use Rattle.mail_lines.specs.Printed.{text_of};
+ghost use Rattle.mail_lines.specs.Values.{block_value, pair_value, recipients_value, report_value};
 ghost use Rattle.mail_lines.specs.Written.{Writes};
 
-use crate::json_text::write_word;
+use crate::json_text::{write_text, write_word};
 use crate::lists::{ListItem, write_list};
 use crate::members::{add_optional, first_key, key};
 use mail_data::bounce::{Recipient, recipients};
+use mail_data::reports::{Block, Field};
 use mail_program::Fault;
 use mailparse::{KnownCharsets, ParsedMail};
 use std::alloc::Global;
@@ -76,4 +82,77 @@ impl ListItem for Recipient {
         )?;
         write_word(out, "}")
     }
+}
+
+impl ListItem for Block {
+    ghost value = { λ known block. block_value (block_view block) };
+
+    fn write_item<W: Write, K: KnownCharsets>(
+        &self,
+        alloc: Global,
+        out: &mut W,
+        known: &K,
+    ) -> Result<(), Fault> {
+        write_list(alloc, out, self.fields.as_slice(), known)
+    }
+}
+
+impl ListItem for Field {
+    ghost value = { λ known field. pair_value (field_view field) };
+
+    fn write_item<W: Write, K: KnownCharsets>(
+        &self,
+        _alloc: Global,
+        out: &mut W,
+        _known: &K,
+    ) -> Result<(), Fault> {
+        write_pair(out, self.name.as_str(), self.value.as_str())
+    }
+}
+
+/// Writes the blocks of a report, or `null` for `None`.
+#[tactic(auto, unfolding(crate::specs::Printed::text_of))]
+pub(crate) fn write_report<W: Write, K: KnownCharsets>(
+    alloc: Global,
+    out: &mut W,
+    report: &Option<Vec<Block>>,
+    known: &K,
+) -> Result<(), Fault>
+    ensures { Writes (W.contents out.old) (W.contents out.new) result (text_of
+        (report_value (option_map (λ blocks. map block_view blocks.items) report.now))) }
+{
+    match report {
+        Some(blocks) => write_list(alloc, out, blocks.as_slice(), known),
+        None => write_word(out, "null"),
+    }
+}
+
+/// Writes the recipients that a mail reports, or `null` if bodies are not decoded.
+pub(crate) fn write_reported<W: Write, K: KnownCharsets>(
+    alloc: Global,
+    out: &mut W,
+    mail: &ParsedMail<'_>,
+    decodes_bodies: bool,
+    known: &K,
+) -> Result<(), Fault>
+    ensures { Writes (W.contents out.old) (W.contents out.new) result (text_of
+        (recipients_value (recipients_if (K.known known.now) decodes_bodies (tree_of mail.now)))) }
+{
+    if !decodes_bodies {
+        return write_word(out, "null");
+    }
+    let found = recipients(alloc, mail, known)?;
+    write_list(alloc, out, found.as_slice(), known)
+}
+
+/// Writes a pair of strings.
+pub(crate) fn write_pair<W: Write>(out: &mut W, name: &str, value: &str) -> Result<(), Fault>
+    ensures { Writes (W.contents out.old) (W.contents out.new) result
+        (text_of (pair_value (name.now, value.now))) }
+{
+    write_word(out, "[")?;
+    write_text(out, name)?;
+    write_word(out, ",")?;
+    write_text(out, value)?;
+    write_word(out, "]")
 }

@@ -15,7 +15,8 @@ use Rattle.mailparse.specs.Mail.{Node, Tree, root, shown_as_in, read_mail_in}
 use Rattle.mailparse.specs.Placement.{placements}
 use Rattle.mailparse.specs.Refusal.{Reads, Refusal}
 use Rattle.mailparse.specs.Value.{lenient_value_in}
-use Rattle.mail_data.specs.Bounce.{original_message_id}
+use Rattle.mail_data.specs.Bounce.{Delivery, original_message_id}
+use Rattle.mail_data.specs.Files.{is_extracted}
 use Rattle.mail_data.specs.Mailbox.{front_length}
 use Rattle.mail_data.specs.MailboxFormats.{entries_in, mail_in}
 use Rattle.mail_data.specs.MailboxParts.{Placed, in_range, part_start, placed_from}
@@ -38,9 +39,10 @@ use Rattle.mail_lines.specs.declared.options.InputKind.{InputKind}
 use Rattle.mail_lines.specs.Inside.{mails_inside, parts_inside}
 use Rattle.mail_lines.specs.JsonText.{refusal_text}
 use Rattle.mail_lines.specs.Origin.{Origin}
-use Rattle.mail_lines.specs.Part.{content_if, hash_of, is_attachment, is_read, place_in, text_shown}
+use Rattle.mail_lines.specs.Reports.{delivery_value}
+use Rattle.mail_lines.specs.Part.{content_if, hash_of, is_attachment, is_read, place_in, recipients_if, report_if, text_shown}
 use Rattle.mail_lines.specs.Printed.{line_of, list_of, members_of, object_of, one, seconds_value, string_or_null, text_of}
-use Rattle.mail_lines.specs.Values.{address_list, AreInsideValues, AreJsonLines, AreValues, IsJsonLine, IsLineValue, IsMailValue, IsPartValue, body_members, date_members, decoded_members, element_value, error_value, front_members, header_value, id_list, ids_members, inner_value, origin_members, parameter_member, part_members, raw_values, single_or_unknown_value, single_value, size_members, text_members, unread_value, values_members, zone_members}
+use Rattle.mail_lines.specs.Values.{address_list, AreInsideValues, AreJsonLines, AreValues, IsJsonLine, IsLineValue, IsMailValue, IsPartValue, block_value, body_members, date_members, decoded_members, element_value, error_value, front_members, header_value, id_list, ids_members, inner_value, origin_members, pair_value, parameter_member, part_members, raw_values, recipients_value, report_value, single_or_unknown_value, single_value, size_members, text_members, unread_value, values_members, zone_members}
 use Rattle.mail_lines.proofs.lemmas.Values.{AreGood, IsGood, all_distinct, all_then, flag_good, json_line, list_good, mapped_good, members_then, named_good, null_good, number_good, number_or_null_good, object_good, optional_good, seconds_good, sorted_names, string_good}
 
 -- ---- the object of a part
@@ -69,8 +71,18 @@ text_good d false text charset is_damaged = (null_good d, tt)
 text_good d true text charset false = (string_good d text, (string_good d charset, tt))
 text_good d true text charset true = (string_good d text, (string_good d charset, (flag_good d true, tt)))
 
+pair_good : (d : ℕ) (pair : List ℕ × List ℕ) → IsGood (suc d) (pair_value pair)
+pair_good d pair = list_good d (string pair.0 ∷ string pair.1 ∷ []) (string_good d pair.0, (string_good d pair.1, tt))
+
 header_good : (known : Charsets) (d : ℕ) (header : Header) → IsGood (suc d) (header_value known header)
-header_good known d header = list_good d (string (key_text header) ∷ string (lenient_value_in known header.value) ∷ []) (string_good d _, (string_good d _, tt))
+header_good known d header = pair_good d (key_text header, lenient_value_in known header.value)
+
+block_good : (d : ℕ) (fields : List (List ℕ × List ℕ)) → IsGood (suc (suc d)) (block_value fields)
+block_good d fields = mapped_good (suc d) pair_value (pair_good d) fields
+
+report_good : (d : ℕ) (report : Option (List (List (List ℕ × List ℕ)))) → IsGood (suc (suc (suc d))) (report_value report)
+report_good d (Some blocks) = mapped_good (suc (suc d)) block_value (block_good d) blocks
+report_good d None = null_good (suc (suc (suc d)))
 
 decoded_good : (d : ℕ) (content : Option Content) → AreGood d (decoded_members content)
 decoded_good d (Some content) = size_good d content.fault (length content.bytes)
@@ -83,59 +95,63 @@ body_good d known joins shows ctype None = (null_good d, tt)
 
 module _ (options : Options) where
   -- no name occurs twice, whether the size is known or not, and whatever the members of the text are
-  shown_distinct : (inside : Option (List ℕ)) (start : Option ℕ) (place : Place) (pairs : List (List ℕ × List ℕ)) (fault : Option Refusal) (size : ℕ) (hash headers : Json) (shows : Bool)
+  shown_distinct : (inside : Option (List ℕ)) (start : Option ℕ) (place : Place) (pairs : List (List ℕ × List ℕ)) (fault : Option Refusal) (size : ℕ) (hash report headers : Json) (shows : Bool)
       (text charset : List ℕ) (is_damaged : Bool)
-      → all_distinct (keys (members_of (front_members options inside start place pairs ++ size_members fault size ++ one (codes "sha256") hash ++ one (codes "headers") headers
+      → all_distinct (keys (members_of (front_members options inside start place pairs ++ size_members fault size ++ one (codes "sha256") hash ++ one (codes "report") report ++ one (codes "headers") headers
       ++ text_members shows text charset is_damaged))) ≡ true
-  shown_distinct inside start place pairs None size hash headers false text charset is_damaged = refl
-  shown_distinct inside start place pairs None size hash headers true text charset true = refl
-  shown_distinct inside start place pairs None size hash headers true text charset false = refl
-  shown_distinct inside start place pairs (Some refusal) size hash headers false text charset is_damaged = refl
-  shown_distinct inside start place pairs (Some refusal) size hash headers true text charset true = refl
-  shown_distinct inside start place pairs (Some refusal) size hash headers true text charset false = refl
+  shown_distinct inside start place pairs None size hash report headers false text charset is_damaged = refl
+  shown_distinct inside start place pairs None size hash report headers true text charset true = refl
+  shown_distinct inside start place pairs None size hash report headers true text charset false = refl
+  shown_distinct inside start place pairs (Some refusal) size hash report headers false text charset is_damaged = refl
+  shown_distinct inside start place pairs (Some refusal) size hash report headers true text charset true = refl
+  shown_distinct inside start place pairs (Some refusal) size hash report headers true text charset false = refl
 
-  part_distinct : (inside : Option (List ℕ)) (start : Option ℕ) (place : Place) (pairs : List (List ℕ × List ℕ)) (content : Option Content) (hash headers : Json) (shows : Bool)
-      → all_distinct (keys (members_of (front_members options inside start place pairs ++ decoded_members content ++ one (codes "sha256") hash ++ one (codes "headers") headers
+  part_distinct : (inside : Option (List ℕ)) (start : Option ℕ) (place : Place) (pairs : List (List ℕ × List ℕ)) (content : Option Content) (hash report headers : Json) (shows : Bool)
+      → all_distinct (keys (members_of (front_members options inside start place pairs ++ decoded_members content ++ one (codes "sha256") hash ++ one (codes "report") report ++ one (codes "headers") headers
       ++ body_members options.known options.joins_flowed shows (root place.part).ctype content))) ≡ true
-  part_distinct inside start place pairs None hash headers shows = refl
-  part_distinct inside start place pairs (Some content) hash headers shows =
+  part_distinct inside start place pairs None hash report headers shows = refl
+  part_distinct inside start place pairs (Some content) hash report headers shows =
       let read = text_read options.known (root place.part).ctype.charset content in
-      shown_distinct inside start place pairs content.fault (length content.bytes) hash headers shows (text_shown options.joins_flowed (root place.part).ctype read.text) read.charset read.is_damaged
+      shown_distinct inside start place pairs content.fault (length content.bytes) hash report headers shows (text_shown options.joins_flowed (root place.part).ctype read.text) read.charset read.is_damaged
 
   part_good : (inside : Option (List ℕ)) (start : Option ℕ) (place : Place) (pairs : List (List ℕ × List ℕ)) → IsStrictlySortedBy (slice_cmp nat_cmp) (map (λ p. p.0) pairs)
-      → IsGood 3 (object_of (part_members options inside start place pairs))
+      → IsGood 4 (object_of (part_members options inside start place pairs))
   part_good inside start place pairs ordered =
       let node = root place.part in
       let content = content_if options.decodes_bodies node in
       let disposition = shown_as_in options.known node in
       let shows = is_read place.part disposition in
       let attached = is_attachment place.part disposition in
+      let extracted = is_extracted options.known place.part in
       let size = decoded_members content in
-      let hash = string_or_null (hash_of (options.hashes && attached) content) in
+      let hash = string_or_null (hash_of (options.hashes && extracted) content) in
+      let report = report_value (report_if options.known options.decodes_bodies node) in
       let headers = list_of (map (header_value options.known) node.headers) in
       let text = body_members options.known options.joins_flowed shows node.ctype content in
-      let sized : AreGood 2 (size ++ one (codes "sha256") hash) = members_then 2 size (one (codes "sha256") hash) (decoded_good 2 content) (optional_good 2 _, tt) in
-      let listed : AreGood 2 (size ++ one (codes "sha256") hash ++ one (codes "headers") headers) =
-      members_then 2 (size ++ one (codes "sha256") hash) (one (codes "headers") headers) sized
-      (mapped_good 1 (header_value options.known) (header_good options.known 0) node.headers, tt) in
-      let rest : AreGood 2 (size ++ one (codes "sha256") hash ++ one (codes "headers") headers ++ text) =
-      members_then 2 (size ++ one (codes "sha256") hash ++ one (codes "headers") headers) text listed (body_good 2 options.known options.joins_flowed shows node.ctype content) in
-      named_good (part_distinct inside start place pairs content hash headers shows)
-      (string_good 2 place.path, (optional_good 2 inside, (string_good 2 node.ctype.mimetype, (string_good 2 node.ctype.charset, (params_good 1 pairs ordered, (optional_good 2 _, (optional_good 2 _, (optional_good 2 _, (flag_good 2 attached, (string_good 2 _, (number_or_null_good 2 _, (number_or_null_good 2 _, (number_good 2 (length node.body), rest)))))))))))))
+      let sized : AreGood 3 (size ++ one (codes "sha256") hash) = members_then 3 size (one (codes "sha256") hash) (decoded_good 3 content) (optional_good 3 _, tt) in
+      let reported : AreGood 3 (size ++ one (codes "sha256") hash ++ one (codes "report") report) =
+      members_then 3 (size ++ one (codes "sha256") hash) (one (codes "report") report) sized (report_good 0 _, tt) in
+      let listed : AreGood 3 (size ++ one (codes "sha256") hash ++ one (codes "report") report ++ one (codes "headers") headers) =
+      members_then 3 (size ++ one (codes "sha256") hash ++ one (codes "report") report) (one (codes "headers") headers) reported
+      (mapped_good 2 (header_value options.known) (header_good options.known 1) node.headers, tt) in
+      let rest : AreGood 3 (size ++ one (codes "sha256") hash ++ one (codes "report") report ++ one (codes "headers") headers ++ text) =
+      members_then 3 (size ++ one (codes "sha256") hash ++ one (codes "report") report ++ one (codes "headers") headers) text listed (body_good 3 options.known options.joins_flowed shows node.ctype content) in
+      named_good (part_distinct inside start place pairs content hash report headers shows)
+      (string_good 3 place.path, (optional_good 3 inside, (string_good 3 node.ctype.mimetype, (string_good 3 node.ctype.charset, (params_good 2 pairs ordered, (optional_good 3 _, (optional_good 3 _, (optional_good 3 _, (flag_good 3 attached, (flag_good 3 extracted, (string_good 3 _, (number_or_null_good 3 _, (number_or_null_good 3 _, (number_good 3 (length node.body), rest))))))))))))))
 
   parts_good : (inside : Option (List ℕ)) (start : Option ℕ) (all : List Place) (values : List Json) → AreValues (IsPartValue options inside start) all values
-      → AllByRecursion (IsGood 3) values
-  parts_good inside start [] values is = subst (AllByRecursion (IsGood 3)) (sym is) tt
+      → AllByRecursion (IsGood 4) values
+  parts_good inside start [] values is = subst (AllByRecursion (IsGood 4)) (sym is) tt
   parts_good inside start (place ∷ others) values is =
       let part = is.2 in
-      let first = subst (IsGood 3) (sym part.2) (part_good inside start place part.0 part.1.ordered) in
-      subst (AllByRecursion (IsGood 3)) (sym is.4) (first, parts_good inside start others is.1 is.3)
+      let first = subst (IsGood 4) (sym part.2) (part_good inside start place part.0 part.1.ordered) in
+      subst (AllByRecursion (IsGood 4)) (sym is.4) (first, parts_good inside start others is.1 is.3)
 
-  inside_good : (start : ℕ) (mails : List InnerMail) (values : List Json) → AreInsideValues options start mails values → AllByRecursion (IsGood 3) values
-  inside_good start [] values is = subst (AllByRecursion (IsGood 3)) (sym is) tt
+  inside_good : (start : ℕ) (mails : List InnerMail) (values : List Json) → AreInsideValues options start mails values → AllByRecursion (IsGood 4) values
+  inside_good start [] values is = subst (AllByRecursion (IsGood 4)) (sym is) tt
   inside_good start (inner ∷ mails) values is =
-      subst (AllByRecursion (IsGood 3)) (sym is.4)
-      (all_then (IsGood 3) is.0 is.1 (parts_good (Some inner.path) (place_in inner.start start) (parts_inside options.known inner) is.0 is.2) (inside_good start mails is.1 is.3))
+      subst (AllByRecursion (IsGood 4)) (sym is.4)
+      (all_then (IsGood 4) is.0 is.1 (parts_good (Some inner.path) (place_in inner.start start) (parts_inside options.known inner) is.0 is.2) (inside_good start mails is.1 is.3))
 
 -- ---- the object of a mail
 
@@ -150,27 +166,28 @@ module _ (known : Charsets) where
       named_good refl
       (string_good (suc (suc d)) _, (mapped_good (suc d) (single_value known) (λ s. mailbox_good d s.mailbox s.text) g.members, tt))
 
-  address_list_good : (key : List ℕ) (node : Node) → IsGood 4 (address_list known key node)
-  address_list_good key node = mapped_good 3 (element_value known) (element_good 0) (addresses_of key node.headers)
+  address_list_good : (key : List ℕ) (node : Node) → IsGood 5 (address_list known key node)
+  address_list_good key node = mapped_good 4 (element_value known) (element_good 1) (addresses_of key node.headers)
 
-  id_list_good : (needs_at : Bool) (key : List ℕ) (node : Node) → IsGood 4 (id_list known needs_at key node)
-  id_list_good needs_at key node = mapped_good 3 (λ text. string text) (string_good 3) (ids_of known needs_at key node)
+  id_list_good : (needs_at : Bool) (key : List ℕ) (node : Node) → IsGood 5 (id_list known needs_at key node)
+  id_list_good needs_at key node = mapped_good 4 (λ text. string text) (string_good 4) (ids_of known needs_at key node)
 
   -- no name occurs twice, whether the zone of a date is known or not
-  zone_distinct : (origin : Origin) (node : Node) (bounced parts inside : Json) (seconds : ℤ) (is_known : Bool)
+  zone_distinct : (origin : Origin) (node : Node) (bounced recipients parts inside : Json) (seconds : ℤ) (is_known : Bool)
       → all_distinct (keys (members_of (origin_members origin ++ values_members known node ++ one (codes "raw") (raw_values node)
       ++ (one (codes "date") (seconds_value seconds) ++ zone_members is_known) ++ ids_members known node ++ one (codes "bounced_id") bounced
-      ++ one (codes "parts") parts ++ one (codes "forwarded") inside))) ≡ true
-  zone_distinct origin node bounced parts inside seconds true = refl
-  zone_distinct origin node bounced parts inside seconds false = refl
+      ++ one (codes "recipients") recipients ++ one (codes "parts") parts ++ one (codes "forwarded") inside))) ≡ true
+  zone_distinct origin node bounced recipients parts inside seconds true = refl
+  zone_distinct origin node bounced recipients parts inside seconds false = refl
 
   -- nor whether there is a date or not
-  mail_distinct : (origin : Origin) (node : Node) (bounced parts inside : Json) (date : Option (Dated Zoned))
+  mail_distinct : (origin : Origin) (node : Node) (bounced recipients parts inside : Json) (date : Option (Dated Zoned))
       → all_distinct (keys (members_of (origin_members origin ++ values_members known node ++ one (codes "raw") (raw_values node) ++ date_members date
-      ++ ids_members known node ++ one (codes "bounced_id") bounced ++ one (codes "parts") parts ++ one (codes "forwarded") inside))) ≡ true
-  mail_distinct origin node bounced parts inside None = refl
-  mail_distinct origin node bounced parts inside (Some (Ok date)) = zone_distinct origin node bounced parts inside date.0 date.1
-  mail_distinct origin node bounced parts inside (Some (Err fault)) = refl
+      ++ ids_members known node ++ one (codes "bounced_id") bounced
+      ++ one (codes "recipients") recipients ++ one (codes "parts") parts ++ one (codes "forwarded") inside))) ≡ true
+  mail_distinct origin node bounced recipients parts inside None = refl
+  mail_distinct origin node bounced recipients parts inside (Some (Ok date)) = zone_distinct origin node bounced recipients parts inside date.0 date.1
+  mail_distinct origin node bounced recipients parts inside (Some (Err fault)) = refl
 
 raw_good : (d : ℕ) (node : Node) → IsGood (suc d) (raw_values node)
 raw_good d node =
@@ -189,7 +206,15 @@ date_good d (Some (Err fault)) = (null_good d, (string_good d _, tt))
 inner_good : (d start : ℕ) (inner : InnerMail) → IsGood (suc d) (inner_value start inner)
 inner_good d start inner = named_good refl (string_good d _, (number_or_null_good d _, (optional_good d _, tt)))
 
-mail_good : (options : Options) (origin : Origin) (mail : Tree) (value : Json) → IsMailValue options origin mail value → IsGood 5 value
+delivery_good : (d : ℕ) (delivery : Delivery) → IsGood (suc d) (delivery_value delivery)
+delivery_good d delivery =
+    named_good refl (optional_good d _, (optional_good d _, (optional_good d _, (optional_good d _, (optional_good d _, tt)))))
+
+recipients_good : (d : ℕ) (found : Option (List Delivery)) → IsGood (suc (suc d)) (recipients_value found)
+recipients_good d (Some found) = mapped_good (suc d) delivery_value (delivery_good d) found
+recipients_good d None = null_good (suc (suc d))
+
+mail_good : (options : Options) (origin : Origin) (mail : Tree) (value : Json) → IsMailValue options origin mail value → IsGood 6 value
 mail_good options origin mail value is =
     let known = options.known in
     let node = root mail in
@@ -197,22 +222,26 @@ mail_good options origin mail value is =
     let parts = list_of (is.0 ++ is.1) in
     let date = date_members (option_map zoned_date_of (value_of known (codes "Date") node)) in
     let ids = ids_members known node in
-    let dated : AreGood 4 (date ++ ids) =
-    members_then 4 date ids (date_good 4 _)
+    let dated : AreGood 5 (date ++ ids) =
+    members_then 5 date ids (date_good 5 _)
     (id_list_good known false (codes "Message-ID") node, (id_list_good known true (codes "In-Reply-To") node, (id_list_good known true (codes "References") node, tt))) in
     let bounced = string_or_null (original_message_id known mail) in
-    let noted : AreGood 4 (date ++ ids ++ one (codes "bounced_id") bounced) = members_then 4 (date ++ ids) (one (codes "bounced_id") bounced) dated (optional_good 4 _, tt) in
-    let listed : AreGood 4 (date ++ ids ++ one (codes "bounced_id") bounced ++ one (codes "parts") parts) =
-    members_then 4 (date ++ ids ++ one (codes "bounced_id") bounced) (one (codes "parts") parts) noted (
-      list_good 3 (is.0 ++ is.1) (all_then (IsGood 3) is.0 is.1 (parts_good options None (Some origin.start) (places mail (placements 0 mail)) is.0 is.2)
+    let recipients = recipients_value (recipients_if known options.decodes_bodies mail) in
+    let own = date ++ ids ++ one (codes "bounced_id") bounced in
+    let noted : AreGood 5 own = members_then 5 (date ++ ids) (one (codes "bounced_id") bounced) dated (optional_good 5 _, tt) in
+    let reported : AreGood 5 (own ++ one (codes "recipients") recipients) =
+    members_then 5 own (one (codes "recipients") recipients) noted (recipients_good 3 _, tt) in
+    let listed : AreGood 5 (own ++ one (codes "recipients") recipients ++ one (codes "parts") parts) =
+    members_then 5 (own ++ one (codes "recipients") recipients) (one (codes "parts") parts) reported (
+      list_good 4 (is.0 ++ is.1) (all_then (IsGood 4) is.0 is.1 (parts_good options None (Some origin.start) (places mail (placements 0 mail)) is.0 is.2)
           (inside_good options origin.start (mails_inside known mail) is.1 is.3)),
       tt,
     ) in
-    let rest : AreGood 4 (date ++ ids ++ one (codes "bounced_id") bounced ++ one (codes "parts") parts ++ one (codes "forwarded") inside) =
-    members_then 4 (date ++ ids ++ one (codes "bounced_id") bounced ++ one (codes "parts") parts) (one (codes "forwarded") inside) listed
-    (mapped_good 3 (inner_value origin.start) (inner_good 2 origin.start) (mails_inside known mail), tt) in
-    subst (IsGood 5) (sym is.4)
-    (named_good (mail_distinct known origin node bounced parts inside _) (number_good 4 5, (optional_good 4 origin.file, (number_or_null_good 4 origin.number, (number_good 4 origin.start, (number_good 4 origin.end, (optional_good 4 _, (address_list_good known (codes "From") node, (address_list_good known (codes "To") node, (address_list_good known (codes "Cc") node, (address_list_good known (codes "Bcc") node, (address_list_good known (codes "Reply-To") node, (address_list_good known (codes "Sender") node, (raw_good 3 node, rest))))))))))))))
+    let rest : AreGood 5 (own ++ one (codes "recipients") recipients ++ one (codes "parts") parts ++ one (codes "forwarded") inside) =
+    members_then 5 (own ++ one (codes "recipients") recipients ++ one (codes "parts") parts) (one (codes "forwarded") inside) listed
+    (mapped_good 4 (inner_value origin.start) (inner_good 3 origin.start) (mails_inside known mail), tt) in
+    subst (IsGood 6) (sym is.4)
+    (named_good (mail_distinct known origin node bounced recipients parts inside _) (number_good 5 5, (optional_good 5 origin.file, (number_or_null_good 5 origin.number, (number_good 5 origin.start, (number_good 5 origin.end, (optional_good 5 _, (address_list_good known (codes "From") node, (address_list_good known (codes "To") node, (address_list_good known (codes "Cc") node, (address_list_good known (codes "Bcc") node, (address_list_good known (codes "Reply-To") node, (address_list_good known (codes "Sender") node, (raw_good 4 node, rest))))))))))))))
 
 -- ---- lines
 
@@ -229,7 +258,7 @@ unread_is_json file text =
 pub line_is_json : (options : Options) (origin : Origin) (mail : Reads Tree) (is_clean : Bool) (text : List ℕ) → IsLineOf options origin mail is_clean text
     → (value : Json) × (object : List ℕ) × IsLineValue options origin mail value × IsJsonLine value object × (text ≡ object ++ codes "\n")
 line_is_json options origin (Ok mail) is_clean text is =
-    (is.1, text_of is.1, is.2, json_line 5 is.1 (omega arith) (mail_good options origin mail is.1 is.2), is.3)
+    (is.1, text_of is.1, is.2, json_line 6 is.1 (omega arith) (mail_good options origin mail is.1 is.2), is.3)
 line_is_json options origin (Err refusal) is_clean text is =
     let value = error_value origin (refusal_text refusal) in
     (value, text_of value, refl, error_is_json origin (refusal_text refusal), is.1)

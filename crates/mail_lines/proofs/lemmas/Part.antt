@@ -2,7 +2,7 @@
 use Rattle.std.proofs.Common.{◌≡◌, ℕ, Bool, true, false, List, [], ◌∷◌, ◌++◌, map, Option, Some, Result, option_map, cond, String, refl, sym, ap, subst, ◌∙◌, append_assoc}
 use Rattle.std.proofs.lemmas.List.{append-nil}
 use Rattle.std.proofs.lemmas.Map.Text.{is_eq-slice_cmp}
-use Rattle.std.specs.Prelude.{codes}
+use Rattle.std.specs.Prelude.{◌&&◌, ◌||◌, codes, not}
 use Rattle.std.specs.BTreeMap.{BTreeMap, IsOrdered}
 use Rattle.std.specs.Cmp.Lexicographic.{slice_cmp}
 use Rattle.std.specs.Global.{Global}
@@ -12,7 +12,7 @@ use Rattle.std.specs.Map.{keys_of, lookup}
 use Rattle.std.specs.Ordering.{is_eq, nat_cmp}
 use Rattle.std.specs.Str.{bytes_eq}
 use Rattle.std.specs.String.{string_bytes, string_cmp}
-use Rattle.mailparse.specs.Mail.{Node, Tree, root}
+use Rattle.mailparse.specs.Mail.{Node, Tree, root, shown_as_in}
 use Rattle.mailparse.specs.Pairs.{text_at}
 use Rattle.mailparse.specs.Views.{content_type, tree_of, tree_step}
 use Rattle.mailparse.specs.declared.mail.message.ParsedMail.{ParsedMail}
@@ -20,11 +20,13 @@ use Rattle.mailparse.specs.declared.mail.message.ParsedMail.TheFolds.{fold_out-P
 use Rattle.mailparse.specs.declared.mail.message.ParsedMail.TheViews.{out-ParsedMail}
 use Rattle.mail_codec.specs.Charset.{Charsets}
 use Rattle.mailparse.specs.ContentType.{ContentType}
+use Rattle.mail_data.specs.Files as files
+use Rattle.mail_data.specs.Files.{is_extracted, is_leaf, is_shown}
 use Rattle.mail_data.specs.Flowed.{flowed_text}
 use Rattle.mail_data.specs.lenient.Content.{Content, message_content}
 use Rattle.mail_data.specs.lenient.Texts.{BodyText, text_read}
 use Rattle.mail_lines.specs.Options.{Options}
-use Rattle.mail_lines.specs.Part.{Lists, content_if}
+use Rattle.mail_lines.specs.Part.{Lists, content_if, is_attachment}
 use Rattle.mail_lines.specs.Printed.{Member, listed, one, text_of}
 use Rattle.mail_lines.specs.Values.{AreValues, IsPartValue, shown_members, text_members}
 use Rattle.mail_lines.specs.Written.{WritesOne}
@@ -77,6 +79,11 @@ ctype-out m = ap (λ (t : Tree). (root t).ctype) (sym (fold_out-ParsedMail Tree 
 
 pub headers-out : (m : ParsedMail) → (out-ParsedMail m).headers.items ≡ (root (tree_of m)).headers
 headers-out m = ap (λ (t : Tree). (root t).headers) (sym (fold_out-ParsedMail Tree tree_step m))
+
+-- a part is extracted if it is an attachment, or another part without parts that mail readers do not show
+pub extracted_is : (known : Charsets) (t : Tree) → ((is_leaf t && not (is_shown (root t))) || is_attachment t (shown_as_in known (root t))) ≡ is_extracted known t
+unfolding files.is_attachment
+extracted_is known t = refl
 
 -- ---- the parameters of a type
 

@@ -32,18 +32,18 @@ returns g c =
     let values = parts.0 ++ others.0 in
     let are = subst (λ (found : List Placement). AreValues (IsPartValue options None (Some origin.start)) (places mail found) parts.0) c.requires.placed parts.1 in
     let all = appends_as _ _ _ _ (parts_first options None (Some origin.start) mail parts.0 others.0 are) (Appends-trans _ _ _ _ _ parts.2 others.2) in
-    let list = list_appended _ _ _ _ values c.in_ok-write_word-3.ensures all c.in_ok-write_word-4.ensures in
+    let list = list_appended _ _ _ _ values c.in_ok-write_word-4.ensures all c.in_ok-write_word-5.ensures in
     let forwarded = value_as (λ (ms : List InnerMail). list_of (map (inner_value origin.start) ms)) _ _ _ _ again c.in_ok-write_forwarded.ensures in
     let bounced = value_renamed string_or_null _ _ c.in_ok-add_optional.ensures (c.as_deref.ensures.value ∙ sym (ok_same _ _ c.in_ok-bounced.ensures)) in
     let own = c.in_ok-write_origin.ensures ⨾ c.in_ok-write_values.ensures ⨾ valued _ _ _ _ _ refl c.in_ok-write_word.ensures c.in_ok-write_raw.ensures in
     let all_members =
-    own ⨾ c.in_ok-write_date.ensures ⨾ c.in_ok-write_ids.ensures ⨾ bounced ⨾ valued _ _ _ _ _ refl c.in_ok-write_word-2.ensures list
-    ⨾ valued _ _ _ _ _ refl c.in_ok-write_word-5.ensures forwarded in
-    let members = mail_members options.known origin mail (mails_inside options.known mail) values in
-    writes_one text_of (IsMailValue options origin mail) _ _ c.write_word-6.result (object_of members) (
+    own ⨾ c.in_ok-write_date.ensures ⨾ c.in_ok-write_ids.ensures ⨾ bounced ⨾ valued _ _ _ _ _ refl c.in_ok-write_word-2.ensures c.in_ok-write_reported.ensures ⨾ valued _ _ _ _ _ refl c.in_ok-write_word-3.ensures list
+    ⨾ valued _ _ _ _ _ refl c.in_ok-write_word-6.ensures forwarded in
+    let members = mail_members options.known c.args.options.decodes_bodies origin mail (mails_inside options.known mail) values in
+    writes_one text_of (IsMailValue options origin mail) _ _ c.write_word-7.result (object_of members) (
       parts.0,
       others.0,
       are,
       subst (λ (ms : List InnerMail). AreInsideValues options origin.start ms others.0) mails others.1,
       refl,
-    ) (closed _ c.write_word-6.result (object_of members) all_members c.write_word-6.ensures refl)
+    ) (closed _ c.write_word-7.result (object_of members) all_members c.write_word-7.ensures refl)

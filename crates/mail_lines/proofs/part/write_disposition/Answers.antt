@@ -12,4 +12,4 @@ returns g c =
     let kind = value_renamed string_or_null _ _ c.in_ok-add_optional.ensures c.disposition_name.ensures in
     let name = value_renamed string_or_null _ _ c.in_ok-add_optional-2.ensures (c.as_deref.ensures.value ∙ c.in_ok-name.ensures ∙ ap (name_in (disposition c.args.disposition.now)) (ctype-out c.args.part.now)) in
     let id = value_renamed string_or_null _ _ c.in_ok-add_optional-3.ensures (c.as_deref-2.ensures.value ∙ sym (ok_same _ _ c.in_ok-id.ensures)) in
-    kind ⨾ name ⨾ id ⨾ c.in_ok-add_flag.ensures
+    kind ⨾ name ⨾ id
