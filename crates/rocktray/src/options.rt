@@ -96,7 +96,7 @@ fn json<'a>(alloc: Global) -> Result<Command<'a>, AllocError> {
         .arg(flag(
             alloc,
             ids::HASH,
-            "Give each file of a mail the SHA-256 of its bytes",
+            "Give each part that is extracted the SHA-256 of its bytes",
         ))?
         .arg(flag(
             alloc,
