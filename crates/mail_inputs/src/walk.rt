@@ -31,7 +31,7 @@ pub trait Consumer {
     ///
     /// `Fault::Input` if a read fails, which ends this input alone, and any other fault, which ends
     /// the run.
-    fn read<R: Eprint + AllocGlobal, I: Read>(
+    fn read<R: Files + Eprint + AllocGlobal, I: Read>(
         &mut self,
         rt: &R,
         reader: &mut I,
@@ -104,11 +104,12 @@ struct Walk<'w, 'n, 'a, R, C> {
 /// use mail_program::{Fault, Outcome};
 /// use std::alloc::Global;
 /// use std::io::Read;
+/// use std::rt::Files;
 ///
 /// struct Count(usize);
 ///
 /// impl Consumer for Count {
-///     fn read<R: Eprint + AllocGlobal, I: Read>(
+///     fn read<R: Files + Eprint + AllocGlobal, I: Read>(
 ///         &mut self,
 ///         _rt: &R,
 ///         _reader: &mut I,
@@ -177,11 +178,12 @@ pub fn read_inputs<'w, R: Files + Input + Eprint + AllocGlobal, C: Consumer>(
 /// use mail_program::{Fault, Outcome};
 /// use std::alloc::Global;
 /// use std::io::{Error, ErrorKind, Read};
+/// use std::rt::Files;
 ///
 /// struct Silent;
 ///
 /// impl Consumer for Silent {
-///     fn read<R: Eprint + AllocGlobal, I: Read>(
+///     fn read<R: Files + Eprint + AllocGlobal, I: Read>(
 ///         &mut self,
 ///         _rt: &R,
 ///         _reader: &mut I,
@@ -401,7 +403,7 @@ fn is_folder(rt: &impl Files, path: &str) -> bool {
 
 /// Gives the consumer the bytes of a reader, unless the first ones are of a format that is not
 /// mail, which is a fault of the input.
-fn consume<R: Eprint + AllocGlobal, C: Consumer, I: Read>(
+fn consume<R: Files + Eprint + AllocGlobal, C: Consumer, I: Read>(
     rt: &R,
     consumer: &mut C,
     reader: &mut I,

@@ -4,9 +4,11 @@ use crate::Terminals;
 use crate::options::ids;
 use clap::ArgMatches;
 use mail_data::mailbox::Format;
-use mail_inputs::{Inputs, Name, Progress, Subdirectories};
+use mail_inputs::{Content, Inputs, Name, Progress, Subdirectories};
 use mail_lines::InputKind;
 use std::alloc::{AllocError, Global};
+use std::fs;
+use std::rt::Files;
 
 /// Returns the names of the inputs.
 pub fn names_of<'a>(alloc: Global, matches: &ArgMatches<'a>) -> Result<Vec<Name<'a>>, AllocError> {
@@ -41,11 +43,27 @@ pub fn kind_of(matches: &ArgMatches<'_>) -> InputKind {
     }
 }
 
+/// Returns what an input is, given what the options say and what is known of it.
+pub fn known_kind(kind: InputKind, content: Content) -> InputKind {
+    match content {
+        Content::Any => kind,
+        Content::Mail => InputKind::Mail,
+    }
+}
+
 /// Returns whether progress is reported: if an option says so, or standard error is a terminal.
 pub fn progress_of(matches: &ArgMatches<'_>, terminals: Terminals) -> Progress {
     if matches.get_flag(ids::PROGRESS) || terminals.error {
         Progress::Reported
     } else {
         Progress::Silent
+    }
+}
+
+/// Returns whether there is a directory at this path.
+pub fn is_directory(rt: &impl Files, path: &str) -> bool {
+    match fs::metadata(rt, path) {
+        Ok(found) => found.is_dir(),
+        Err(_) => false,
     }
 }

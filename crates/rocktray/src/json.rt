@@ -1,6 +1,6 @@
 //! The subcommand that writes mails as lines of JSON.
 
-use crate::inputs::{inputs_of, kind_of, names_of, progress_of};
+use crate::inputs::{inputs_of, kind_of, known_kind, progress_of};
 use crate::options::ids;
 use crate::{Terminals, wrong};
 use clap::ArgMatches;
@@ -53,7 +53,7 @@ impl<'r, R: Eprint + AllocGlobal> Watch for MailMeter<'r, R> {
 }
 
 impl<W: Write> Consumer for Lines<W> {
-    fn read<R: Eprint + AllocGlobal, I: Read>(
+    fn read<R: Files + Eprint + AllocGlobal, I: Read>(
         &mut self,
         rt: &R,
         reader: &mut I,
@@ -63,9 +63,7 @@ impl<W: Write> Consumer for Lines<W> {
         let mut meter = MailMeter(Meter::new(rt, name, self.how.progress, 0));
         let known = &AllCharsets::standard();
         let mut source = self.how.source(name, known);
-        if content == Content::Mail {
-            source.kind = InputKind::Mail;
-        }
+        source.kind = known_kind(source.kind, content);
         let written = write_input(rt.alloc(), &mut self.out, reader, source, &mut meter)?;
         Ok(outcome_of(written))
     }
@@ -100,15 +98,12 @@ fn outcome_of(written: Written) -> Outcome {
 /// # Errors
 ///
 /// A fault that ends the run.
-pub fn run<R: Files + Input + Print + Eprint + AllocGlobal>(
+pub fn run<'a, R: Files + Input + Print + Eprint + AllocGlobal>(
     rt: &R,
-    matches: &ArgMatches<'_>,
+    matches: &ArgMatches<'a>,
+    names: &[Name<'a>],
     terminals: Terminals,
 ) -> Result<ExitCode, Fault> {
-    let names = names_of(rt.alloc(), matches)?;
-    if names.is_empty() && terminals.input {
-        return wrong(rt, "no input was given, and standard input is a terminal");
-    }
     let mut lines = Lines {
         out: BufWriter::new(rt.alloc(), io::writer(rt))?,
         how: how_of(matches, terminals),
@@ -118,12 +113,12 @@ pub fn run<R: Files + Input + Print + Eprint + AllocGlobal>(
             let Some(part) = part_of(text) else {
                 return wrong_part(rt, text);
             };
-            if let Some(why) = why_no_parts(rt, names.as_slice(), lines.how.kind) {
+            if let Some(why) = why_no_parts(rt, names, lines.how.kind) {
                 return wrong(rt, why);
             }
-            read_parts(rt, &mut lines, names.as_slice(), part)?
+            read_parts(rt, &mut lines, names, part)?
         }
-        None => read_inputs(rt, &mut lines, inputs_of(matches, names.as_slice()))?,
+        None => read_inputs(rt, &mut lines, inputs_of(matches, names))?,
     };
     lines.out.flush()?;
     Ok(outcome.status())
@@ -134,6 +129,7 @@ fn how_of(matches: &ArgMatches<'_>, terminals: Terminals) -> How {
     let mut options = LineOptions::new();
     options.hashes = matches.get_flag(ids::HASH);
     options.joins_flowed = matches.get_flag(ids::FLOWED);
+    options.decodes_bodies = !matches.get_flag(ids::NO_TEXT);
     How {
         kind: kind_of(matches),
         options,

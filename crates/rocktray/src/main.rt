@@ -1,15 +1,18 @@
 //! Reads mails: `rocktray SUBCOMMAND [OPTION..] [INPUT..]`.
 #![tactic(auto)]
 
+mod extract;
 mod inputs;
 mod json;
 mod options;
+mod show;
 
 use clap::error::ErrorKind;
 use clap::{ArgMatches, Error};
+use inputs::names_of;
 use mail_inputs::{PROGRAM, arguments, shown};
 use mail_program::{Fault, status_of};
-use options::{JSON, command};
+use options::{EXTRACT, JSON, SHOW, command};
 use std::alloc::{AllocError, Global};
 use std::env::Env;
 use std::io::IsTerminal;
@@ -47,13 +50,22 @@ fn answer(
 }
 
 /// Runs the subcommand, and returns the exit status.
-fn run(
-    rt: &(impl Files + Input + Print + Eprint + AllocGlobal),
-    matches: &ArgMatches<'_>,
+fn run<'a>(
+    rt: &'a (impl Files + Input + Print + Eprint + AllocGlobal),
+    matches: &ArgMatches<'a>,
     terminals: Terminals,
 ) -> Result<ExitCode, Fault> {
-    match matches.subcommand() {
-        Some((JSON, matches)) => json::run(rt, matches, terminals),
+    let Some((name, matches)) = matches.subcommand() else {
+        return Ok(ExitCode::from(2));
+    };
+    let names = names_of(rt.alloc(), matches)?;
+    if names.is_empty() && terminals.input {
+        return wrong(rt, "no input was given, and standard input is a terminal");
+    }
+    match name {
+        JSON => json::run(rt, matches, names.as_slice(), terminals),
+        SHOW => show::run(rt, matches, names.as_slice()),
+        EXTRACT => extract::run(rt, matches, names.as_slice()),
         _ => Ok(ExitCode::from(2)),
     }
 }

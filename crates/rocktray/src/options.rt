@@ -6,16 +6,26 @@ use mail_inputs::PROGRAM;
 use mail_program::VERSION;
 use std::alloc::{AllocError, Global};
 
+/// The subcommand that saves files.
+pub const EXTRACT: &str = "extract";
+
 /// The subcommand that writes lines of JSON.
 pub const JSON: &str = "json";
 
+/// The subcommand that shows mails to people.
+pub const SHOW: &str = "show";
+
 /// The names of options and arguments.
 pub mod ids {
+    pub const BY_HASH: &str = "by-hash";
+
     pub const FLOWED: &str = "flowed";
 
     pub const HASH: &str = "hash";
 
     pub const INPUTS: &str = "inputs";
+
+    pub const INTO: &str = "into";
 
     pub const LABEL: &str = "label";
 
@@ -23,11 +33,19 @@ pub mod ids {
 
     pub const MBOX: &str = "mbox";
 
+    pub const NAME: &str = "name";
+
+    pub const NO_TEXT: &str = "no-text";
+
+    pub const ONLY: &str = "only";
+
     pub const PART: &str = "part";
 
     pub const PROGRESS: &str = "progress";
 
     pub const RECURSIVE: &str = "recursive";
+
+    pub const TYPE: &str = "type";
 }
 
 /// The formats of mailboxes that `--mbox` names: mboxo, mboxrd, and mboxcl or mboxcl2.
@@ -54,6 +72,39 @@ A mail that is refused, and an input that cannot be read, has a line with the me
 exit status is 0 if all was read and written, 3 if some mails were refused, 1 if something could not
 be read or written, and 2 if the arguments are wrong.";
 
+/// The end of the help of the subcommand `show`.
+const AFTER_SHOW: &str = "\
+Without an INPUT, and for `-`, standard input is read. Of a directory each file is read, or the
+mails of a Maildir. After `--` no argument is an option. Each of several files has its name before
+it.
+
+An input that begins with a separator of a mailbox is a mailbox, any other is one mail, unless an
+option says which it is. --mbox=rd is the mboxrd format, whose quoted lines lose a `>`, and
+--mbox=cl the mboxcl or mboxcl2 format, with Content-Length.
+
+A character that could move the cursor of a terminal or forge a line is shown as U+FFFD. The exit
+status is 0 if all was read and written, 3 if some mails were refused, 1 if something could not be
+read or written, and 2 if the arguments are wrong.";
+
+/// The end of the help of the subcommand `extract`.
+const AFTER_EXTRACT: &str = "\
+Without an INPUT, and for `-`, standard input is read. Of a directory each file is read, or the
+mails of a Maildir. After `--` no argument is an option.
+
+An input that begins with a separator of a mailbox is a mailbox, any other is one mail, unless an
+option says which it is. --mbox=rd is the mboxrd format, whose quoted lines lose a `>`, and
+--mbox=cl the mboxcl or mboxcl2 format, with Content-Length.
+
+A file is saved under the name that its sender gave it, made safe. If that is taken, a number is
+added. No file is overwritten. Parts without a name are saved too, except plain text and HTML, and
+so are forwarded mails and the files in them. In a PATTERN `*` fits any text, and the case of ASCII
+letters is ignored. A file is saved if it agrees with each of --only, --type and --name.
+
+A file with damaged Base64 is saved up to the damage, and its line has an `error`. So has the line
+of a mail that is refused, and of an input that cannot be read. The exit status is 0 if everything
+was saved, 3 if mails were refused or files were damaged, 1 if something could not be read, saved or
+written, and 2 if the arguments are wrong.";
+
 /// Returns the command line of the program.
 ///
 /// # Errors
@@ -69,30 +120,19 @@ pub fn command<'a>(alloc: Global) -> Result<Command<'a>, AllocError> {
         .no_binary_name(true)
         .subcommand_required(true)
         .arg_required_else_help(true)
-        .subcommand(json(alloc)?)
+        .subcommand(json(alloc)?)?
+        .subcommand(show(alloc)?)?
+        .subcommand(extract(alloc)?)
 }
 
 /// Returns the command line of the subcommand `json`.
 fn json<'a>(alloc: Global) -> Result<Command<'a>, AllocError> {
-    Command::new(alloc, JSON)
+    let command = Command::new(alloc, JSON)
         .display_name("rocktray json")?
         .about("Writes mails as JSON, one object to a line")
-        .after_help(AFTER_JSON)
-        .arg(inputs(alloc))?
-        .arg(flag(alloc, ids::MAIL, "Each input is one mail"))?
-        .arg(format(alloc)?)?
+        .after_help(AFTER_JSON);
+    reading(alloc, command)?
         .arg(part(alloc)?)?
-        .arg(flag(
-            alloc,
-            ids::RECURSIVE,
-            "Read the subdirectories of directories too",
-        ))?
-        .arg(value(
-            alloc,
-            ids::LABEL,
-            "NAME",
-            "The name of standard input in the lines",
-        ))?
         .arg(flag(
             alloc,
             ids::HASH,
@@ -105,8 +145,79 @@ fn json<'a>(alloc: Global) -> Result<Command<'a>, AllocError> {
         ))?
         .arg(flag(
             alloc,
+            ids::NO_TEXT,
+            "Decode no body: leave out texts, decoded sizes and hashes",
+        ))?
+        .arg(flag(
+            alloc,
             ids::PROGRESS,
             "Report the progress even if standard error is not a terminal",
+        ))
+}
+
+/// Returns the command line of the subcommand `show`.
+fn show<'a>(alloc: Global) -> Result<Command<'a>, AllocError> {
+    let command = Command::new(alloc, SHOW)
+        .display_name("rocktray show")?
+        .about("Shows mails as text to read")
+        .after_help(AFTER_SHOW);
+    reading(alloc, command)
+}
+
+/// Returns the command line of the subcommand `extract`.
+fn extract<'a>(alloc: Global) -> Result<Command<'a>, AllocError> {
+    let command = Command::new(alloc, EXTRACT)
+        .display_name("rocktray extract")?
+        .about("Saves the files in mails, and writes a line of JSON for each")
+        .after_help(AFTER_EXTRACT);
+    reading(alloc, command)?
+        .arg(directory(alloc))?
+        .arg(flag(
+            alloc,
+            ids::HASH,
+            "Give each line the SHA-256 of the saved bytes",
+        ))?
+        .arg(flag(
+            alloc,
+            ids::BY_HASH,
+            "Save each file under the SHA-256 of its bytes, and copies once",
+        ))?
+        .arg(value(
+            alloc,
+            ids::ONLY,
+            "PATH",
+            "Save only the files of the part with this path, such as 1.2",
+        ))?
+        .arg(value(
+            alloc,
+            ids::TYPE,
+            "PATTERN",
+            "Save only the files whose type fits, such as image/*",
+        ))?
+        .arg(value(
+            alloc,
+            ids::NAME,
+            "PATTERN",
+            "Save only the files whose name fits, such as *.pdf",
+        ))
+}
+
+/// Adds the inputs and the options that say how they are read.
+fn reading<'a>(alloc: Global, command: Command<'a>) -> Result<Command<'a>, AllocError> {
+    command
+        .arg(inputs(alloc))?
+        .arg(flag(alloc, ids::MAIL, "Each input is one mail"))?
+        .arg(format(alloc)?)?
+        .arg(flag(
+            alloc,
+            ids::RECURSIVE,
+            "Read the subdirectories of directories too",
+        ))?
+        .arg(value(
+            alloc,
+            ids::LABEL,
+            "NAME",
+            "The name of standard input in the output",
         ))
 }
 
@@ -142,6 +253,17 @@ fn part<'a>(alloc: Global) -> Result<Arg<'a>, AllocError> {
         "Read the K-th of N equal parts of each file",
     )
     .conflicts_with(ids::MAIL)
+}
+
+/// Returns the option that names the directory in which files are saved.
+fn directory<'a>(alloc: Global) -> Arg<'a> {
+    value(
+        alloc,
+        ids::INTO,
+        "DIRECTORY",
+        "Where to save; the current directory by default",
+    )
+    .value_parser(ValueParser::NonEmptyString)
 }
 
 /// Returns the argument that names the inputs.

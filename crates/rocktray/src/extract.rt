@@ -1,0 +1,152 @@
+//! The subcommand that saves the files in mails.
+
+use crate::inputs::{inputs_of, kind_of, known_kind};
+use crate::options::ids;
+use clap::ArgMatches;
+use mail_charsets::AllCharsets;
+use mail_extract::{
+    Choice, Disk, Hashing, Line, Naming, SaveOptions, Source, Target, extract_input, write_line,
+};
+use mail_inputs::{Consumer, Content, Name, PROGRAM, read_inputs, shown};
+use mail_lines::InputKind;
+use mail_program::{Fault, Outcome};
+use std::alloc::Global;
+use std::fs;
+use std::io::{self, BufWriter, ErrorKind, Printer, Read, Write};
+use std::process::ExitCode;
+use std::rt::Files;
+
+/// The first number that is added to a taken name.
+const FIRST_NUMBER: u64 = 2;
+
+/// Saves the files of inputs, and writes their lines.
+#[derive(Drop)]
+struct Saver<'r, P: Print> {
+    out: BufWriter<Printer<'r, P>>,
+    kind: InputKind,
+    /// The path of the directory in which files are saved.
+    directory: &'r str,
+    /// The number that is tried next if a name is taken.
+    number: u64,
+    options: SaveOptions<'r>,
+}
+
+impl<'r, P: Print> Consumer for Saver<'r, P> {
+    fn read<R: Files + Eprint + AllocGlobal, I: Read>(
+        &mut self,
+        rt: &R,
+        reader: &mut I,
+        name: Option<&str>,
+        content: Content,
+    ) -> Result<Outcome, Fault> {
+        let source = Source {
+            kind: known_kind(self.kind, content),
+            file: name,
+            options: self.options,
+            known: &AllCharsets::standard(),
+        };
+        let mut target = Target {
+            directory: Disk {
+                rt,
+                path: self.directory,
+            },
+            number: self.number,
+        };
+        let ended = extract_input(rt.alloc(), &mut self.out, &mut target, reader, source);
+        self.number = target.number;
+        ended
+    }
+
+    fn report(&mut self, alloc: Global, name: Option<&str>, why: &str) -> Result<(), Fault> {
+        write_unread(alloc, &mut self.out, name, why)
+    }
+}
+
+/// Saves the files of these inputs, and returns the exit status.
+///
+/// # Errors
+///
+/// A fault that ends the run.
+pub fn run<'a, R: Files + Input + Print + Eprint + AllocGlobal>(
+    rt: &'a R,
+    matches: &ArgMatches<'a>,
+    names: &[Name<'a>],
+) -> Result<ExitCode, Fault> {
+    let directory = directory_of(matches);
+    if let Err(error) = check_directory(rt, directory) {
+        let directory = shown(rt.alloc(), directory.trim_end_matches('\0'))?;
+        let _ = eprintln!(rt; "{PROGRAM}: {directory}: {error}");
+        return Ok(ExitCode::FAILURE);
+    }
+    let mut saver = Saver {
+        out: BufWriter::new(rt.alloc(), io::writer(rt))?,
+        kind: kind_of(matches),
+        directory,
+        number: FIRST_NUMBER,
+        options: options_of(matches),
+    };
+    let outcome = read_inputs(rt, &mut saver, inputs_of(matches, names))?;
+    saver.out.flush()?;
+    Ok(outcome.status())
+}
+
+/// Writes the line of an input that could not be read.
+fn write_unread<'l, W: Write>(
+    alloc: Global,
+    out: &mut W,
+    file: Option<&'l str>,
+    why: &'l str,
+) -> Result<(), Fault> {
+    let line = Line {
+        file,
+        number: None,
+        path: None,
+        saved: None,
+        size: None,
+        sha256: None,
+        error: Some(why),
+    };
+    write_line(alloc, out, &line)?;
+    Ok(())
+}
+
+/// Returns the path of the directory in which files are saved.
+fn directory_of<'a>(matches: &ArgMatches<'a>) -> &'a str {
+    match matches.get_str(ids::INTO) {
+        Some(path) => path,
+        None => ".",
+    }
+}
+
+/// Refuses a path that is no directory.
+fn check_directory(rt: &impl Files, path: &str) -> io::Result<()> {
+    if path.ends_with('\0') {
+        return Err(io::Error::other("the name is not UTF-8"));
+    }
+    if fs::metadata(rt, path)?.is_dir() {
+        Ok(())
+    } else {
+        Err(io::Error::from(ErrorKind::NotADirectory))
+    }
+}
+
+/// Returns how files are saved, and which.
+fn options_of<'a>(matches: &ArgMatches<'a>) -> SaveOptions<'a> {
+    SaveOptions {
+        hashing: if matches.get_flag(ids::HASH) {
+            Hashing::On
+        } else {
+            Hashing::Off
+        },
+        naming: if matches.get_flag(ids::BY_HASH) {
+            Naming::ByHash
+        } else {
+            Naming::BySender
+        },
+        choice: Choice {
+            path: matches.get_str(ids::ONLY),
+            mimetype: matches.get_str(ids::TYPE),
+            name: matches.get_str(ids::NAME),
+        },
+    }
+}
