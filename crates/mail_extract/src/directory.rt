@@ -28,6 +28,18 @@ pub trait Directory {
     /// # Errors
     ///
     /// If it runs out of memory.
+    ///
+    /// # Examples
+    ///
+    /// ```rust
+    /// use mail_extract::{Created, Directory, Disk};
+    ///
+    /// let mut disk = Disk {
+    ///     rt: &rt,
+    ///     path: "no/such/directory",
+    /// };
+    /// assert!(rt; matches!(disk.create("a.pdf", b"%PDF")?, Created::Failed(_)));
+    /// ```
     fn create(&mut self, name: &str, bytes: &[u8]) -> Result<Created, AllocError>
         ensures { (files : List File) → held self.old ≡ Some files → IfOk result
             (Creates files name.now bytes.now can_fail (held self.new)) };
@@ -38,6 +50,18 @@ pub trait Directory {
     /// # Errors
     ///
     /// If it runs out of memory.
+    ///
+    /// # Examples
+    ///
+    /// ```rust
+    /// use mail_extract::{Directory, Disk};
+    ///
+    /// let disk = Disk {
+    ///     rt: &rt,
+    ///     path: "no/such/directory",
+    /// };
+    /// assert!(rt; !disk.has("a.pdf", b"%PDF")?);
+    /// ```
     fn has(&self, name: &str, bytes: &[u8]) -> Result<bool, AllocError>
         ensures { (files : List File) → held self.now ≡ Some files → IfOk result
             (λ is. is ≡ has_copy name.now bytes.now files) };

@@ -31,6 +31,45 @@ pub trait Consumer {
     ///
     /// `Fault::Input` if a read fails, which ends this input alone, and any other fault, which ends
     /// the run.
+    ///
+    /// # Examples
+    ///
+    /// ```rust
+    /// use mail_inputs::{Consumer, Content};
+    /// use mail_program::{Fault, Outcome, read_input};
+    /// use std::alloc::Global;
+    /// use std::io::Read;
+    /// use std::rt::Files;
+    ///
+    /// #[derive(Drop)]
+    /// struct Size(usize);
+    ///
+    /// impl Consumer for Size {
+    ///     fn read<R: Files + Eprint + AllocGlobal, I: Read>(
+    ///         &mut self,
+    ///         rt: &R,
+    ///         reader: &mut I,
+    ///         _name: Option<&str>,
+    ///         _content: Content,
+    ///     ) -> Result<Outcome, Fault> {
+    ///         self.0 = read_input(rt.alloc(), reader)?.len();
+    ///         Ok(Outcome::Clean)
+    ///     }
+    ///
+    ///     fn report(
+    ///         &mut self,
+    ///         _alloc: Global,
+    ///         _name: Option<&str>,
+    ///         _why: &str,
+    ///     ) -> Result<(), Fault> {
+    ///         Ok(())
+    ///     }
+    /// }
+    ///
+    /// let mut size = Size(0);
+    /// size.read(&rt, &mut b"Subject: Hi\n".as_slice(), None, Content::Any)?;
+    /// assert_eq!(rt; size.0, 12);
+    /// ```
     fn read<R: Files + Eprint + AllocGlobal, I: Read>(
         &mut self,
         rt: &R,
@@ -44,6 +83,45 @@ pub trait Consumer {
     /// # Errors
     ///
     /// A fault that ends the run.
+    ///
+    /// # Examples
+    ///
+    /// ```rust
+    /// use mail_inputs::{Consumer, Content};
+    /// use mail_program::{Fault, Outcome};
+    /// use std::alloc::Global;
+    /// use std::io::Read;
+    /// use std::rt::Files;
+    ///
+    /// #[derive(Drop)]
+    /// struct Reported(usize);
+    ///
+    /// impl Consumer for Reported {
+    ///     fn read<R: Files + Eprint + AllocGlobal, I: Read>(
+    ///         &mut self,
+    ///         _rt: &R,
+    ///         _reader: &mut I,
+    ///         _name: Option<&str>,
+    ///         _content: Content,
+    ///     ) -> Result<Outcome, Fault> {
+    ///         Ok(Outcome::Clean)
+    ///     }
+    ///
+    ///     fn report(
+    ///         &mut self,
+    ///         _alloc: Global,
+    ///         _name: Option<&str>,
+    ///         why: &str,
+    ///     ) -> Result<(), Fault> {
+    ///         self.0 = why.len();
+    ///         Ok(())
+    ///     }
+    /// }
+    ///
+    /// let mut reported = Reported(0);
+    /// reported.report(alloc, Some("a.eml"), "not found")?;
+    /// assert_eq!(rt; reported.0, 9);
+    /// ```
     fn report(&mut self, alloc: Global, name: Option<&str>, why: &str) -> Result<(), Fault>;
 }
 
@@ -106,6 +184,7 @@ struct Walk<'w, 'n, 'a, R, C> {
 /// use std::io::Read;
 /// use std::rt::Files;
 ///
+/// #[derive(Drop)]
 /// struct Count(usize);
 ///
 /// impl Consumer for Count {
@@ -180,6 +259,7 @@ pub fn read_inputs<'w, R: Files + Input + Eprint + AllocGlobal, C: Consumer>(
 /// use std::io::{Error, ErrorKind, Read};
 /// use std::rt::Files;
 ///
+/// #[derive(Drop)]
 /// struct Silent;
 ///
 /// impl Consumer for Silent {
