@@ -109,8 +109,8 @@ def encoded(text):
     return f"=?utf-8?q?{''.join(f'={byte:02X}' for byte in text.encode())}?="
 
 
-# Python accepts no line end in a name
-NAME = encoded(EVIL.replace("\r\n", ""))
+# Python accepts no line end in a name, and reads a tab in one as a space
+NAME = encoded(EVIL.replace("\r\n", "").replace("\t", " "))
 TEXT = f"Subject: forged\n\n{EVIL}\n-- mail 2 --\nPart:     9\n\nend"
 MADE = {
     "values": f"From: {NAME} <a@example.org>\nTo: {NAME}: b@example.org;\nSubject: {encoded(EVIL)}\n\n".encode(),
