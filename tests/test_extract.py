@@ -219,3 +219,15 @@ def test_names_by_hash(tmp_path):
             assert line["saved"] == (name if name != taken else f"{name}-{number}")
             assert (into / line["saved"]).read_bytes() == bodies[line["path"]]
     assert (into / taken).read_bytes() == b"other bytes"
+
+
+@pytest.mark.parametrize("name, why", [
+    ("missing", "missing: No such file or directory (os error 2)"), ("file", "file: not a directory"),
+    (b"caf\xe9", r"caf\xE9: the name is not UTF-8"), ("a\x1b[2J", r"a\u{1b}[2J: No such file or directory (os error 2)"),
+])
+def test_into_no_directory(name, why, tmp_path):
+    """Where no directory has the name that --into gives, nothing is saved, and one line says why."""
+    (tmp_path / "file").write_bytes(b"")
+    ended = run([*command("extract"), "--into", name, SAMPLES[0]], cwd=tmp_path)
+    assert (ended.returncode, ended.stdout, ended.stderr.decode()) == (1, b"", f"rocktray: {why}\n")
+    assert [path.name for path in tmp_path.iterdir()] == ["file"]
