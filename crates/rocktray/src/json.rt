@@ -68,8 +68,8 @@ impl<W: Write> Consumer for Lines<W> {
         Ok(outcome_of(written))
     }
 
-    fn report(&mut self, alloc: Global, name: Option<&str>, why: &str) -> Result<(), Fault> {
-        write_unread(alloc, &mut self.out, name, why)
+    fn report(&mut self, _alloc: Global, name: Option<&str>, why: &str) -> Result<(), Fault> {
+        write_unread(&mut self.out, name, why)
     }
 }
 
