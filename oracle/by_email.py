@@ -216,7 +216,7 @@ def mail_object(data):
         found[name] = ids(raw_value(mail, name.replace("_", "-")), name != "message_id")
     anywhere = list(parts_anywhere(data))
     found["bounced_id"] = bounced_id(anywhere[0][2])
-    found["recipients"] = recipients(mail, [part for _inside, _path, part in anywhere])
+    found["recipients"] = recipients(mail, [part for inside, _path, part in anywhere if inside is None])
     reports = {(inside, path): report_of(part) for inside, path, part in anywhere}
     found["parts"] = [
         part_object(inside, path, part, reports.get((inside, path))) for inside, path, part in all_parts(mail)
@@ -345,7 +345,8 @@ def field_of(block, name):
 
 
 def recipients(mail, parts):
-    """The recipients that the delivery reports among some closed parts are about, and those in X-Failed-Recipients."""
+    """The recipients that the delivery reports among the mail's own closed parts are about, and those in
+    X-Failed-Recipients."""
     bodies = [bytes_of(part) for part in parts if kind_of(part) in STATUSES]
     blocks = [block for body in bodies for block in blocks_of(body) if "final-recipient" in block]
     found = [{name: field_of(block, name) for name in FIELDS} for block in blocks]

@@ -303,9 +303,10 @@ def test_reports():
                 deep = multipart(b"o", b"\nfirst\n", multipart(b"i", part))
                 forwarded = b"Content-Type: message/rfc822\n\n" + multipart(b"f", part, kind=b"report")
                 encoded = b"Content-Type: message/rfc822\nContent-Transfer-Encoding: base64\n\n" + base64.encodebytes(deep)
-                for data in (part, multipart(b"b", b"\nfirst\n", part, kind=b"report"), deep, forwarded, multipart(b"b", encoded)):
+                own = [part, multipart(b"b", b"\nfirst\n", part, kind=b"report"), deep]
+                for data in (*own, forwarded, multipart(b"b", encoded)):
                     found = objects([], data, 0, repr(data))[0]
-                    assert (reports(found), recipients(found)) == ([pairs], wanted), repr(data)
+                    assert (reports(found), recipients(found)) == ([pairs], wanted if data in own else []), repr(data)
                     anywhere = [report_of(part_) for _inside, _path, part_ in parts_anywhere(data)]
                     assert [part_["report"] for part_ in found["parts"]] == anywhere, repr(data)
                 compare(multipart(b"b", b"\nfirst\n", part, kind=b"report"), f"{kind} in {encoding}")
