@@ -1,7 +1,7 @@
 //! Laws: each line is JSON, a line without texts is the whole line without them, and the lines of
 //! all parts of an input are those of the whole.
-ghost use Rattle.std.specs.Prelude.{◌++◌, ◌<◌, ◌≡◌, ◌≤◌, Bool, List, Option, codes, drop, length};
-ghost use Rattle.std.specs.Prelude.{false, true, ℕ};
+ghost use Rattle.std.specs.Prelude.{◌++◌, ◌<◌, ◌≡◌, ◌≤◌, Bool, List, Option, codes, drop};
+ghost use Rattle.std.specs.Prelude.{encode_utf8_all, false, length, true, ℕ};
 ghost use Rattle.std.specs.List.{flat_map, list_all};
 ghost use Rattle.json.specs.Json.{Json};
 ghost use Rattle.mail_codec.specs.Places.{values_below};
