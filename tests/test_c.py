@@ -44,7 +44,7 @@ def passed(ended):
 
 def test_cases(check):
     """Every code, buffers one byte short, empty inputs, null pointers with length 0, and each allocation refused."""
-    assert passed(run_check(check, "cases")) > 700
+    assert passed(run_check(check, "cases")) > 600
 
 
 def test_threads(check, hostile):
