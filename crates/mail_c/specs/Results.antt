@@ -13,9 +13,9 @@ use Rattle.mail_data.specs.Bounce as report
 use Rattle.mail_data.specs.lenient.Encoding.{lenient_body_kind}
 use Rattle.mail_data.specs.lenient.Ids.{found_ids}
 use Rattle.mail_data.specs.lenient.Texts.{body_text}
-use Rattle.mail_lines.specs.JsonLines.{IsMailLine}
-use Rattle.mail_lines.specs.Options.{Options}
-use Rattle.mail_lines.specs.Reports.{deliveries_text}
+use Rattle.mail_json.specs.JsonLines.{IsMailLine}
+use Rattle.mail_json.specs.Options.{Options}
+use Rattle.mail_json.specs.Reports.{deliveries_text}
 use Rattle.mail_c.specs.Buffer.{Found}
 
 -- the bytes as a text, if they are UTF-8

@@ -7,7 +7,7 @@ ghost use Rattle.mail_c.specs.Results.{IsJson, bracketed, content, ids, raw_valu
 ghost use Rattle.mail_c.specs.Results.{text, text_in, value};
 
 use mail_data::lenient::{IdRule, body_text, find_ids, lenient_body};
-use mail_lines::{LineOptions, Origin, write_mail, write_recipients};
+use mail_json::{LineOptions, Origin, write_mail, write_recipients};
 use mailparse::{
     KnownCharsets, MailHeaderMap, MailParseError, parse_headers, parse_mail, parse_mail_in,
 };

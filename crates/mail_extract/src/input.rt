@@ -7,9 +7,9 @@ ghost use Rattle.mail_data.specs.InnerMailViews.{inner_view};
 ghost use Rattle.mail_data.specs.Mailbox.{has_front};
 ghost use Rattle.mail_data.specs.MailboxFormats.{entries_in, mail_in};
 ghost use Rattle.mail_data.specs.MailboxViews.{entries_left};
-ghost use Rattle.mail_lines.specs.JsonLines.{format_of};
-ghost use Rattle.mail_lines.specs.Part.{saturating_add};
-ghost use Rattle.mail_lines.specs.Written.{IsEnd, Writes};
+ghost use Rattle.mail_json.specs.JsonLines.{format_of};
+ghost use Rattle.mail_json.specs.Part.{saturating_add};
+ghost use Rattle.mail_json.specs.Written.{IsEnd, Writes};
 ghost use Rattle.mail_extract.specs.ChoiceViews.{options_view};
 ghost use Rattle.mail_extract.specs.Input.{AreMails, Ends, EndsInput, IsInput, IsMail, IsMailbox};
 ghost use Rattle.mail_extract.specs.Input.{file_line, front_lines, inner_lines, refused_line};
@@ -24,7 +24,7 @@ use crate::save::{Saved, save_files};
 use mail_data::inner_mails::InnerMail;
 use mail_data::mailbox::quoted::unquoted;
 use mail_data::mailbox::{Format, Mailbox, MailboxEntry, read_mailbox, settled_entry};
-use mail_lines::{InputKind, Wanted, first_wanted, is_mailbox, read_until, refusal_of};
+use mail_json::{InputKind, Wanted, first_wanted, is_mailbox, read_until, refusal_of};
 use mail_program::{Fault, Outcome};
 use mailparse::{KnownCharsets, parse_mail_in};
 use std::alloc::Global;
@@ -70,7 +70,7 @@ pub struct Source<'s, K> {
 ///
 /// ```rust
 /// use mail_extract::{Choice, Disk, Hashing, Naming, SaveOptions, Source, Target, extract_input};
-/// use mail_lines::InputKind;
+/// use mail_json::InputKind;
 /// use mail_program::Outcome;
 ///
 /// let mut reader = b" no mail".as_slice();

@@ -8,7 +8,7 @@ use mail_extract::{
     Choice, Disk, Hashing, Line, Naming, SaveOptions, Source, Target, extract_input, write_line,
 };
 use mail_inputs::{Consumer, Content, Name, PROGRAM, read_inputs, shown};
-use mail_lines::InputKind;
+use mail_json::InputKind;
 use mail_program::{Fault, Outcome};
 use std::alloc::Global;
 use std::fs;

@@ -5,7 +5,7 @@ use crate::options::ids;
 use clap::ArgMatches;
 use mail_data::mailbox::Format;
 use mail_inputs::{Content, Inputs, Name, Progress, Subdirectories};
-use mail_lines::InputKind;
+use mail_json::InputKind;
 use std::alloc::{AllocError, Global};
 use std::fs;
 use std::rt::Files;

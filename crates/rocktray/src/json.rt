@@ -9,8 +9,8 @@ use mail_data::mailbox::Format;
 use mail_inputs::{
     Consumer, Content, Meter, NOT_UTF8, Name, Progress, fail, open_regular, read_inputs, shown,
 };
-use mail_lines::range::{FilePart, reading_start, shows_mailbox, write_first_part, write_range};
-use mail_lines::{
+use mail_json::range::{FilePart, reading_start, shows_mailbox, write_first_part, write_range};
+use mail_json::{
     InputKind, LineOptions, NextMail, Source, Watch, Written, write_input, write_unread,
 };
 use mail_program::{Fault, Outcome};

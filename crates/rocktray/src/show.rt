@@ -4,7 +4,7 @@ use crate::inputs::{inputs_of, is_directory, kind_of, known_kind};
 use clap::ArgMatches;
 use mail_charsets::AllCharsets;
 use mail_inputs::{Consumer, Content, Name, read_inputs};
-use mail_lines::{InputKind, is_mailbox};
+use mail_json::{InputKind, is_mailbox};
 use mail_program::{Fault, Outcome, read_input};
 use mail_view::{write_mailbox, write_single, write_title};
 use std::alloc::Global;

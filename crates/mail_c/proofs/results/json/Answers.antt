@@ -2,9 +2,9 @@ use Rattle.std.proofs.Common.{ℕ, List, ◌++◌, length, None, true, refl, sym
 use Rattle.std.specs.Prelude.{codes}
 use Rattle.mailparse.specs.Mail.{Tree}
 use Rattle.mailparse.specs.Refusal.{Reads}
-use Rattle.mail_lines.specs.JsonLines.{IsLineOf}
-use Rattle.mail_lines.specs.Origin.{Origin}
-use Rattle.mail_lines.specs.Printed.{text_of}
+use Rattle.mail_json.specs.JsonLines.{IsLineOf}
+use Rattle.mail_json.specs.Origin.{Origin}
+use Rattle.mail_json.specs.Printed.{text_of}
 use Rattle.mail_c.specs.Results.{plain_options}
 use Rattle.mail_c.proofs.results.json.Goals as goal
 

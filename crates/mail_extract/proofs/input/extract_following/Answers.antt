@@ -1,6 +1,6 @@
 use Rattle.std.proofs.Common.{◌++◌, length, option_map, ◌∙◌}
 use Rattle.std.proofs.lemmas.List.{take_rest}
-use Rattle.mail_lines.specs.JsonLines.{format_of}
+use Rattle.mail_json.specs.JsonLines.{format_of}
 use Rattle.mail_extract.specs.ChoiceViews.{options_view}
 use Rattle.mail_extract.specs.Input.{front_lines}
 use Rattle.mail_extract.proofs.lemmas.Input.{appends_lines, front_after, mailbox_is, worst_both}

@@ -2,7 +2,7 @@ use Rattle.std.proofs.Common.{◌++◌, option_map, ap, ◌∙◌}
 use Rattle.mail_data.specs.MailboxFormats.{entries_in}
 use Rattle.mail_data.specs.MailboxViews.{entries_left}
 use Rattle.mail_data.specs.declared.mailbox.formats.Format.{Format}
-use Rattle.mail_lines.specs.JsonLines.{format_of}
+use Rattle.mail_json.specs.JsonLines.{format_of}
 use Rattle.mail_extract.specs.ChoiceViews.{options_view}
 use Rattle.mail_extract.specs.Input.{front_lines}
 use Rattle.mail_extract.proofs.lemmas.Input.{appends_lines, mailbox_is, worst_both}

@@ -1,7 +1,7 @@
 use Rattle.std.proofs.Common.{[], ◌++◌, ap, option_map, refl}
 use Rattle.std.proofs.KnownBytes.{Appends-nil}
 use Rattle.mail_data.specs.MailboxViews.{entries_left}
-use Rattle.mail_lines.specs.JsonLines.{format_of}
+use Rattle.mail_json.specs.JsonLines.{format_of}
 use Rattle.mail_extract.specs.ChoiceViews.{options_view}
 use Rattle.mail_extract.proofs.lemmas.Input.{appends_lines, mails_end, mails_more, mails_start, worst_both}
 use Rattle.mail_extract.proofs.input.extract_mails.Goals as goal

@@ -2,7 +2,7 @@
 use Rattle.std.proofs.Common.{◌≡◌, List, Some, option_map}
 use Rattle.std.specs.Io.KnownBytes.{Appends}
 use Rattle.mail_data.specs.MailboxViews.{entries_left}
-use Rattle.mail_lines.specs.JsonLines.{format_of}
+use Rattle.mail_json.specs.JsonLines.{format_of}
 use Rattle.mail_extract.specs.ChoiceViews.{options_view}
 use Rattle.mail_extract.specs.Directory.{File}
 use Rattle.mail_extract.specs.Report.{Line, lines_text, worst}

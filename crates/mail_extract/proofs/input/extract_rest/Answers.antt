@@ -3,7 +3,7 @@ use Rattle.std.proofs.KnownBytes.{Appends-nil, Consumes-nil, Consumes-trans}
 use Rattle.mail_data.specs.MailboxFormats.{entries_in}
 use Rattle.mail_data.specs.MailboxViews.{entries_left}
 use Rattle.mail_data.specs.declared.mailbox.formats.Format.{Format}
-use Rattle.mail_lines.specs.JsonLines.{format_of}
+use Rattle.mail_json.specs.JsonLines.{format_of}
 use Rattle.mail_extract.specs.ChoiceViews.{options_view}
 use Rattle.mail_extract.proofs.lemmas.Input.{appends_flushed, appends_lines, follows_end, follows_settled, follows_start, worst_both}
 use Rattle.mail_extract.proofs.input.extract_rest.Goals as goal

@@ -2,7 +2,7 @@
 use Rattle.std.proofs.Common.{◌≡◌, ◌++◌, ℕ, List, Some, option_map}
 use Rattle.std.specs.Io.KnownBytes.{Appends, Consumes}
 use Rattle.mail_data.specs.MailboxFormats.{entries_in}
-use Rattle.mail_lines.specs.JsonLines.{format_of}
+use Rattle.mail_json.specs.JsonLines.{format_of}
 use Rattle.mail_extract.specs.ChoiceViews.{options_view}
 use Rattle.mail_extract.specs.Directory.{File}
 use Rattle.mail_extract.specs.Report.{Line, lines_text, worst}

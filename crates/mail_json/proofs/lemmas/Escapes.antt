@@ -1,0 +1,255 @@
+-- How the kit's parser reads a written string: each byte and each character has an escape that is read back, or is
+-- unchanged.
+use Rattle.std.proofs.Common.{◌≡◌, ℕ, zero, suc, ◌<◌, ◌≤◌, Bool, true, false, cond, not, ◌&&◌, ◌||◌, ◌==◌, nat_le, codes, List, [], ◌∷◌, ◌++◌, take, drop, slice_index, Option, Some, None, inl, inr, refl, sym, ap, ap₂, subst, ◌∙◌, arith, append_assoc, append-nil, bytes_eq, true≢false}
+use Rattle.std.proofs.lemmas.Bool.{agree_below, agree_below_at, and_parts, and_from, cases_lt, cases_Bool, eqb-true, le-leb, le-ltb, leb-true, ltb-true, ne_eqb, or_cases, or_parts, not-true, eqb-false, ltb-false}
+use Rattle.std.proofs.lemmas.List.{take-append-drop}
+use Rattle.std.proofs.lemmas.List.Folds.{list_all-append}
+use Rattle.std.proofs.lemmas.Slice.Eq.{bytes_eq-Decides}
+use Rattle.std.specs.Char.{encode_utf8}
+use Rattle.std.specs.List.{list_all}
+use Rattle.json.proofs.Printed.Strings.{escape_byte_plain}
+use Rattle.json.specs.Lex.{Lexeme, token, Mode, lex, lex_byte, between, in_string, operator, space, other, string_token}
+use Rattle.json.specs.Token.{Token}
+use Rattle.json.specs.Print.{escape_byte}
+use Rattle.json.specs.Run.{is_plain}
+use Rattle.json.specs.Text.{content, plain, prepend, code_unit, short_escape, is_high_surrogate, is_low_surrogate}
+use Rattle.json.specs.Word.{is_operator, is_space}
+use Rattle.mail_json.specs.JsonText.{begins_control, begins_separator, byte_text, escaped, escaped_after, first_text, json_text, more_bytes, separator_text, unicode_escape}
+use Rattle.mail_json.specs.Values.{is_within_line}
+
+-- how both readers read a piece of a string before any text; and the piece has no line end
+pub record Passes (bytes piece : List ℕ) : Type 0 where
+  pub read : (r : List ℕ) → content plain (piece ++ r) ≡ prepend bytes (content plain r)
+  pub lexed : (r : List ℕ) → lex in_string (piece ++ r) ≡ lex in_string r
+  pub one_line : list_all is_within_line piece ≡ true
+
+abbrev same_option : List ℕ → Option ℕ → Bool
+same_option bytes None = false
+same_option bytes (Some x) = bytes_eq bytes (x ∷ [])
+
+abbrev spells : List ℕ → Option ℕ → Bool
+spells bytes None = false
+spells bytes (Some u) = not (is_high_surrogate u) && not (is_low_surrogate u) && bytes_eq bytes (encode_utf8 u)
+
+-- the piece is read as the bytes: a plain byte, a short escape, or `\u` and four digits
+abbrev stands_for : List ℕ → List ℕ → Bool
+stands_for bytes [] = false
+stands_for bytes (x ∷ []) = is_plain x && bytes_eq bytes (x ∷ [])
+stands_for bytes (e ∷ x ∷ []) = (e == 92) && not (x == 117) && not (x == 10) && same_option bytes (short_escape x)
+stands_for bytes (e ∷ u ∷ a ∷ []) = false
+stands_for bytes (e ∷ u ∷ a ∷ b ∷ []) = false
+stands_for bytes (e ∷ u ∷ a ∷ b ∷ c ∷ []) = false
+stands_for bytes (e ∷ u ∷ a ∷ b ∷ c ∷ d ∷ []) =
+    (e == 92) && (u == 117) && (is_plain a && is_plain b && is_plain c && is_plain d) && spells bytes (code_unit a b c d)
+stands_for bytes (e ∷ u ∷ a ∷ b ∷ c ∷ d ∷ f ∷ rest) = false
+
+-- ---- the three shapes are read
+
+plain_tests : (x : ℕ) → is_plain x ≡ true → (x ≡ 34 → ⊥) × (x ≡ 92 → ⊥) × (32 ≤ x)
+plain_tests x e =
+    let none = or_parts ((x == 34) || (x == 92)) _ (not-true _ e) in
+    let tests = or_parts (x == 34) _ none.0 in
+    (eqb-false x 34 tests.0, eqb-false x 92 tests.1, ltb-false x 32 none.1)
+
+stays_inside : (o s : Bool) (x : ℕ) (r : List ℕ) (k : Mode → List Lexeme) → lex_byte in_string (cond o operator (cond s space other)) x r k ≡ k in_string
+stays_inside true s x r k = refl
+stays_inside false true x r k = refl
+stays_inside false false x r k = refl
+
+pub plain_passes : (x : ℕ) → (x ≡ 34 → ⊥) → (x ≡ 92 → ⊥) → 32 ≤ x → Passes (x ∷ []) (x ∷ [])
+unfolding content lex
+plain_passes x q b l = record {
+  read = λ r. rw (ne_eqb x 34 q, ne_eqb x 92 b, le-ltb x 32 l);
+  lexed = λ r. rw (ne_eqb x 34 q, ne_eqb x 92 b) (stays_inside (is_operator x) (is_space x) x r (λ m. lex m r));
+  one_line = rw (ne_eqb x 10 (λ e. omega arith));
+}
+
+short_passes : (x v : ℕ) → (x == 117) ≡ false → (x == 10) ≡ false → short_escape x ≡ Some v → Passes (v ∷ []) (92 ∷ x ∷ [])
+unfolding content lex
+short_passes x v n m found = record {
+  read = λ r. rw (n, found);
+  lexed = λ r. refl;
+  one_line = rw m;
+}
+
+within : (x : ℕ) → 32 ≤ x → is_within_line x ≡ true
+within x l = rw (ne_eqb x 10 (λ e. omega arith))
+
+four_within : (a b c d : ℕ) → 32 ≤ a → 32 ≤ b → 32 ≤ c → 32 ≤ d → list_all is_within_line (92 ∷ 117 ∷ a ∷ b ∷ c ∷ d ∷ []) ≡ true
+four_within a b c d p q r s =
+    and_from (is_within_line a) (is_within_line b && (is_within_line c && (is_within_line d && true))) (within a p)
+    (and_from (is_within_line b) (is_within_line c && (is_within_line d && true)) (within b q)
+    (and_from (is_within_line c) (is_within_line d && true) (within c r) (and_from (is_within_line d) true (within d s) refl)))
+
+long_passes : (a b c d u : ℕ) → is_plain a ≡ true → is_plain b ≡ true → is_plain c ≡ true → is_plain d ≡ true → code_unit a b c d ≡ Some u
+    → is_high_surrogate u ≡ false → is_low_surrogate u ≡ false → Passes (encode_utf8 u) (92 ∷ 117 ∷ a ∷ b ∷ c ∷ d ∷ [])
+unfolding content lex
+long_passes a b c d u pa pb pc pd found high low =
+    let fa = plain_tests a pa in
+    let fb = plain_tests b pb in
+    let fc = plain_tests c pc in
+    let fd = plain_tests d pd in
+    let ra = plain_passes a fa.0 fa.1 fa.2 in
+    let rb = plain_passes b fb.0 fb.1 fb.2 in
+    let rc = plain_passes c fc.0 fc.1 fc.2 in
+    let rd = plain_passes d fd.0 fd.1 fd.2 in
+    record {
+      read = λ r. rw (found, high, low);
+      lexed = λ r. ra.lexed (b ∷ c ∷ d ∷ r) ∙ rb.lexed (c ∷ d ∷ r) ∙ rc.lexed (d ∷ r) ∙ rd.lexed r;
+      one_line = four_within a b c d fa.2 fb.2 fc.2 fd.2;
+    }
+
+read_short : (bytes : List ℕ) (x : ℕ) (o : Option ℕ) → short_escape x ≡ o → (x == 117) ≡ false → (x == 10) ≡ false → same_option bytes o ≡ true
+    → Passes bytes (92 ∷ x ∷ [])
+read_short bytes x None found n m e = absurd (true≢false (sym e))
+read_short bytes x (Some v) found n m e = subst (λ bs. Passes bs (92 ∷ x ∷ [])) (sym ((bytes_eq-Decides bytes (v ∷ [])).0 e)) (short_passes x v n m found)
+
+read_long : (bytes : List ℕ) (a b c d : ℕ) (o : Option ℕ) → code_unit a b c d ≡ o → is_plain a ≡ true → is_plain b ≡ true → is_plain c ≡ true
+    → is_plain d ≡ true → spells bytes o ≡ true → Passes bytes (92 ∷ 117 ∷ a ∷ b ∷ c ∷ d ∷ [])
+read_long bytes a b c d None found pa pb pc pd e = absurd (true≢false (sym e))
+read_long bytes a b c d (Some u) found pa pb pc pd e =
+    let p = and_parts (not (is_high_surrogate u) && not (is_low_surrogate u)) _ e in
+    let q = and_parts (not (is_high_surrogate u)) _ p.0 in
+    subst (λ bs. Passes bs (92 ∷ 117 ∷ a ∷ b ∷ c ∷ d ∷ [])) (sym ((bytes_eq-Decides bytes (encode_utf8 u)).0 p.1))
+    (long_passes a b c d u pa pb pc pd found (not-true _ q.0) (not-true _ q.1))
+
+stands_for-passes : (bytes text : List ℕ) → stands_for bytes text ≡ true → Passes bytes text
+stands_for-passes bytes [] e = absurd (true≢false (sym e))
+stands_for-passes bytes (x ∷ []) e =
+    let p = and_parts (is_plain x) _ e in
+    let f = plain_tests x p.0 in
+    subst (λ bs. Passes bs (x ∷ [])) (sym ((bytes_eq-Decides bytes (x ∷ [])).0 p.1)) (plain_passes x f.0 f.1 f.2)
+stands_for-passes bytes (e ∷ x ∷ []) h =
+    let p = and_parts ((e == 92) && not (x == 117) && not (x == 10)) _ h in
+    let q = and_parts ((e == 92) && not (x == 117)) _ p.0 in
+    let r = and_parts (e == 92) _ q.0 in
+    subst (λ b. Passes bytes (b ∷ x ∷ [])) (sym (eqb-true e 92 r.0)) (read_short bytes x _ refl (not-true _ r.1) (not-true _ q.1) p.1)
+stands_for-passes bytes (e ∷ u ∷ a ∷ []) h = absurd (true≢false (sym h))
+stands_for-passes bytes (e ∷ u ∷ a ∷ b ∷ []) h = absurd (true≢false (sym h))
+stands_for-passes bytes (e ∷ u ∷ a ∷ b ∷ c ∷ []) h = absurd (true≢false (sym h))
+stands_for-passes bytes (e ∷ u ∷ a ∷ b ∷ c ∷ d ∷ []) h =
+    let p = and_parts ((e == 92) && (u == 117) && (is_plain a && is_plain b && is_plain c && is_plain d)) _ h in
+    let q = and_parts ((e == 92) && (u == 117)) _ p.0 in
+    let r = and_parts (e == 92) _ q.0 in
+    let abc = and_parts (is_plain a && is_plain b && is_plain c) _ q.1 in
+    let ab = and_parts (is_plain a && is_plain b) _ abc.0 in
+    let both = and_parts (is_plain a) _ ab.0 in
+    subst (λ x. Passes bytes (x ∷ u ∷ a ∷ b ∷ c ∷ d ∷ [])) (sym (eqb-true e 92 r.0))
+    (subst (λ x. Passes bytes (92 ∷ x ∷ a ∷ b ∷ c ∷ d ∷ [])) (sym (eqb-true u 117 r.1))
+    (read_long bytes a b c d _ refl both.0 both.1 ab.1 abc.1 p.1))
+stands_for-passes bytes (e ∷ u ∷ a ∷ b ∷ c ∷ d ∷ f ∷ rest) h = absurd (true≢false (sym h))
+
+-- ---- pieces one after another
+
+prepend-nil : (r : Option (List ℕ)) → prepend [] r ≡ r
+prepend-nil None = refl
+prepend-nil (Some s) = refl
+
+prepend-prepend : (a b : List ℕ) (r : Option (List ℕ)) → prepend a (prepend b r) ≡ prepend (a ++ b) r
+prepend-prepend a b None = refl
+prepend-prepend a b (Some s) = ap Some (sym (append_assoc a b s))
+
+passes_nil : Passes [] []
+passes_nil = record { read = λ r. sym (prepend-nil _); lexed = λ r. refl; one_line = refl }
+
+passes_then : (a b p q : List ℕ) → Passes a p → Passes b q → Passes (a ++ b) (p ++ q)
+passes_then a b p q f g = record {
+  read = λ r. ap (content plain) (append_assoc p q r) ∙ f.read (q ++ r) ∙ ap (prepend a) (g.read r) ∙ prepend-prepend a b (content plain r);
+  lexed = λ r. ap (lex in_string) (append_assoc p q r) ∙ f.lexed (q ++ r) ∙ g.lexed r;
+  one_line = list_all-append is_within_line p q ∙ and_from _ _ f.one_line g.one_line;
+}
+
+-- ---- the text of a byte, and of a character
+
+bytes_read : agree_below (λ x. stands_for (x ∷ []) (byte_text x)) (λ x. true) 128 ≡ true
+unfolding escape_byte short_escape code_unit encode_utf8
+bytes_read = refl
+
+byte_passes : (x : ℕ) → Passes (x ∷ []) (byte_text x)
+byte_passes x = elim (cases_lt x 128) [
+  | inl low ↦ stands_for-passes (x ∷ []) (byte_text x) (agree_below_at (λ y. stands_for (y ∷ []) (byte_text y)) (λ y. true) 128 x bytes_read low)
+  | inr high ↦ rw (ne_eqb x 127 (λ e. omega arith)) (subst (Passes (x ∷ [])) (sym (escape_byte_plain x (λ e. omega arith) (λ e. omega arith) (omega arith)))
+      (plain_passes x (λ e. omega arith) (λ e. omega arith) (omega arith)))
+]
+
+abbrev is_control_read : ℕ → Bool
+is_control_read c = not (nat_le 128 c) || stands_for (194 ∷ c ∷ []) (unicode_escape c)
+
+controls_read : agree_below is_control_read (λ c. true) 160 ≡ true
+unfolding short_escape code_unit encode_utf8
+controls_read = refl
+
+control_passes : (c : ℕ) → 128 ≤ c → c < 160 → Passes (194 ∷ c ∷ []) (unicode_escape c)
+control_passes c least most =
+    let read : not (nat_le 128 c) || stands_for (194 ∷ c ∷ []) (unicode_escape c) ≡ true = agree_below_at is_control_read (λ d. true) 160 c controls_read most in
+    stands_for-passes (194 ∷ c ∷ []) (unicode_escape c) (rw (le-leb 128 c least) at read)
+
+separators_read : (stands_for (226 ∷ 128 ∷ 168 ∷ []) (codes "\\u2028") ≡ true) × (stands_for (226 ∷ 128 ∷ 169 ∷ []) (codes "\\u2029") ≡ true)
+unfolding short_escape code_unit encode_utf8
+separators_read = (refl, refl)
+
+-- ---- what the bytes begin with
+
+-- a control is two bytes
+control_first : (b : ℕ) (bytes : List ℕ) → begins_control (b ∷ bytes) ≡ true → Passes (b ∷ take 1 bytes) (unicode_escape (slice_index bytes 0))
+control_first b [] e = absurd (true≢false (sym (and_parts (b == 194) _ e).1))
+control_first b (c ∷ bytes) e =
+    let p = and_parts (b == 194) _ e in
+    let q = and_parts (nat_le 128 c) _ p.1 in
+    subst (λ a. Passes (a ∷ c ∷ []) (unicode_escape c)) (sym (eqb-true b 194 p.0)) (control_passes c (leb-true 128 c q.0) (ltb-true c 160 q.1))
+
+separator_passes : (c : ℕ) → (c == 168 || c == 169) ≡ true → Passes (226 ∷ 128 ∷ c ∷ []) (separator_text c)
+separator_passes c e = elim (or_cases (c == 168) (c == 169) e) [
+  | inl is ↦ subst (λ d. Passes (226 ∷ 128 ∷ d ∷ []) (separator_text d)) (sym (eqb-true c 168 is)) (stands_for-passes _ _ separators_read.0)
+  | inr is ↦ subst (λ d. Passes (226 ∷ 128 ∷ d ∷ []) (separator_text d)) (sym (eqb-true c 169 is)) (stands_for-passes _ _ separators_read.1)
+]
+
+-- a separator is three
+separator_first : (b : ℕ) (bytes : List ℕ) → begins_separator (b ∷ bytes) ≡ true → Passes (b ∷ take 2 bytes) (separator_text (slice_index bytes 1))
+separator_first b [] e = absurd (true≢false (sym (and_parts (b == 226) _ e).1))
+separator_first b (c ∷ []) e =
+    let p = and_parts (b == 226) _ e in let q = and_parts (c == 128) _ p.1 in absurd (true≢false (sym q.1))
+separator_first b (c ∷ d ∷ bytes) e =
+    let p = and_parts (b == 226) _ e in
+    let q = and_parts (c == 128) _ p.1 in
+    subst (λ a. Passes (a ∷ c ∷ d ∷ []) (separator_text d)) (sym (eqb-true b 226 p.0))
+    (subst (λ a. Passes (226 ∷ a ∷ d ∷ []) (separator_text d)) (sym (eqb-true c 128 q.0)) (separator_passes d q.1))
+
+first_passes : (b : ℕ) (bytes : List ℕ) → Passes (b ∷ take (more_bytes (b ∷ bytes)) bytes) (first_text (b ∷ bytes))
+unfolding first_text more_bytes
+first_passes b bytes = elim (cases_Bool (begins_control (b ∷ bytes))) [
+  | inl e ↦ rw e (control_first b bytes e)
+  | inr e ↦ elim (cases_Bool (begins_separator (b ∷ bytes))) [
+    | inl f ↦ rw (e, f) (separator_first b bytes f)
+    | inr f ↦ rw (e, f) (byte_passes b)
+  ]
+]
+
+-- ---- a string
+
+after_passes : (k : ℕ) (bytes : List ℕ) → Passes (drop k bytes) (escaped_after k bytes)
+unfolding escaped_after
+after_passes zero [] = passes_nil
+after_passes (suc k) [] = passes_nil
+after_passes zero (b ∷ bytes) =
+    let m = more_bytes (b ∷ bytes) in
+    subst (λ t. Passes t (first_text (b ∷ bytes) ++ escaped_after m bytes)) (ap (λ t. b ∷ t) (take-append-drop m bytes))
+    (passes_then (b ∷ take m bytes) (drop m bytes) (first_text (b ∷ bytes)) (escaped_after m bytes) (first_passes b bytes) (after_passes m bytes))
+after_passes (suc k) (b ∷ bytes) = after_passes k bytes
+
+escaped_passes : (text : List ℕ) → Passes text (escaped text)
+escaped_passes text = after_passes 0 text
+
+-- the lexer reads a string as the text
+pub lex-json_text : (text r : List ℕ) → lex between (json_text text ++ r) ≡ token (Token.string text) ∷ lex between r
+unfolding lex content json_text
+lex-json_text text r =
+    let f = escaped_passes text in
+    ap (λ t. lex between (34 ∷ t)) (append_assoc (escaped text) (34 ∷ []) r)
+    ∙ ap₂ (λ o l. token (string_token o) ∷ l)
+    (f.read (34 ∷ r) ∙ ap Some (append-nil text)) (f.lexed (34 ∷ r))
+
+-- a string has no line end
+pub one_line-json_text : (text : List ℕ) → list_all is_within_line (json_text text) ≡ true
+unfolding json_text
+one_line-json_text text = list_all-append is_within_line (escaped text) (34 ∷ []) ∙ and_from _ _ (escaped_passes text).one_line refl

@@ -1,0 +1,144 @@
+-- Lemmas on the objects of parts, and on the parameters of a type.
+use Rattle.std.proofs.Common.{◌≡◌, ℕ, Bool, true, false, List, [], ◌∷◌, ◌++◌, map, Option, Some, Result, option_map, cond, String, refl, sym, ap, subst, ◌∙◌, append_assoc}
+use Rattle.std.proofs.lemmas.List.{append-nil}
+use Rattle.std.proofs.lemmas.Map.Text.{is_eq-slice_cmp}
+use Rattle.std.specs.Prelude.{◌&&◌, ◌||◌, codes, not}
+use Rattle.std.specs.BTreeMap.{BTreeMap, IsOrdered}
+use Rattle.std.specs.Cmp.Lexicographic.{slice_cmp}
+use Rattle.std.specs.Global.{Global}
+use Rattle.std.specs.List.{AllByRecursion}
+use Rattle.std.specs.List.Sorted.{IsStrictlySortedBy}
+use Rattle.std.specs.Map.{keys_of, lookup}
+use Rattle.std.specs.Ordering.{is_eq, nat_cmp}
+use Rattle.std.specs.Str.{bytes_eq}
+use Rattle.std.specs.String.{string_bytes, string_cmp}
+use Rattle.mailparse.specs.Mail.{Node, Tree, root, shown_as_in}
+use Rattle.mailparse.specs.Pairs.{text_at}
+use Rattle.mailparse.specs.Views.{content_type, tree_of, tree_step}
+use Rattle.mailparse.specs.declared.mail.message.ParsedMail.{ParsedMail}
+use Rattle.mailparse.specs.declared.mail.message.ParsedMail.TheFolds.{fold_out-ParsedMail}
+use Rattle.mailparse.specs.declared.mail.message.ParsedMail.TheViews.{out-ParsedMail}
+use Rattle.mail_codec.specs.Charset.{Charsets}
+use Rattle.mailparse.specs.ContentType.{ContentType}
+use Rattle.mail_data.specs.Files as files
+use Rattle.mail_data.specs.Files.{is_extracted, is_leaf, is_shown}
+use Rattle.mail_data.specs.Flowed.{flowed_text}
+use Rattle.mail_data.specs.lenient.Content.{Content, message_content}
+use Rattle.mail_data.specs.lenient.Texts.{BodyText, text_read}
+use Rattle.mail_json.specs.Options.{Options}
+use Rattle.mail_json.specs.Part.{Lists, content_if, is_attachment}
+use Rattle.mail_json.specs.Printed.{Member, listed, one, text_of}
+use Rattle.mail_json.specs.Values.{AreValues, IsPartValue, shown_members, text_members}
+use Rattle.mail_json.specs.Written.{WritesOne}
+use Rattle.mail_data.specs.PartPlaces.{Place}
+use Rattle.mail_program.specs.declared.fault.Fault.{Fault}
+use Rattle.json.specs.Json.{Json, null}
+use Rattle.mail_json.proofs.lemmas.JsonText.{listed-comma}
+
+-- ---- the objects
+
+-- what was written is completed by the texts of any values of the items that are left
+abbrev pub Completes : (Left : List Json → Type 0) → (List Json → List ℕ) → (All : List Json → Type 0) → (List Json → List ℕ) → List ℕ → Type 0
+Completes Left text All text_all done = (rest : List Json) → Left rest → (all : List Json) × All all × (done ++ text rest ≡ text_all all)
+
+-- one item more
+pub items_more : {A : Type 0} (Is : A → Json → Type 0) (All : List Json → Type 0) (text_all : List Json → List ℕ) (before : List ℕ) (x : A) (left rest : List A) (done : List ℕ) (value : Json)
+    → left ≡ x ∷ rest → Completes (AreValues Is left) (listed text_of before) All text_all done → Is x value
+    → Completes (AreValues Is rest) (listed text_of (codes ",")) All text_all (done ++ (before ++ text_of value))
+items_more {A = A} Is All text_all before x left rest done value e here is = λ others h.
+    let all = here (value ∷ others) (subst (λ (xs : List A). AreValues Is xs (value ∷ others)) (sym e) (value, others, is, h, refl)) in (
+      all.0,
+      all.1,
+      append_assoc done (before ++ text_of value) (listed text_of (codes ",") others)
+          ∙ ap (λ t. done ++ t) (append_assoc before (text_of value) (listed text_of (codes ",") others)
+          ∙ ap (λ t. before ++ (text_of value ++ t)) (listed-comma text_of others)) ∙ all.2,
+    )
+
+-- no item is left
+pub items_end : {A : Type 0} (Is : A → Json → Type 0) (All : List Json → Type 0) (text_all : List Json → List ℕ) (before : List ℕ) (left : List A) (done : List ℕ) → left ≡ []
+    → Completes (AreValues Is left) (listed text_of before) All text_all done → (all : List Json) × All all × (done ≡ text_all all)
+items_end {A = A} Is All text_all before left done e here =
+    let all = here [] (subst (λ (xs : List A). AreValues Is xs []) (sym e) refl) in
+    (all.0, all.1, sym (append-nil done) ∙ all.2)
+
+-- the same parts at the same offset by other names
+pub found_as : {T : Type 0} (options : Options) (inside : Option (List ℕ)) (text : List Json → List ℕ) (s t : Option ℕ) (xs ys : List Place) (old new : Option (List ℕ)) (r : Result T Fault) → s ≡ t
+    → xs ≡ ys → WritesOne old new r text (AreValues (IsPartValue options inside s) xs) → WritesOne old new r text (AreValues (IsPartValue options inside t) ys)
+found_as options inside text s t xs ys old new r e f h =
+    subst (λ (z : Option ℕ). WritesOne old new r text (AreValues (IsPartValue options inside z) ys)) e
+    (subst (λ (zs : List Place). WritesOne old new r text (AreValues (IsPartValue options inside s) zs)) f h)
+
+-- the members of a text that was read
+abbrev pub read_members : BodyText → List Member
+read_members read = text_members true read.text read.charset read.is_damaged
+
+-- ---- a message and its parts
+
+pub ctype-out : (m : ParsedMail) → content_type (out-ParsedMail m).ctype ≡ (root (tree_of m)).ctype
+ctype-out m = ap (λ (t : Tree). (root t).ctype) (sym (fold_out-ParsedMail Tree tree_step m))
+
+pub headers-out : (m : ParsedMail) → (out-ParsedMail m).headers.items ≡ (root (tree_of m)).headers
+headers-out m = ap (λ (t : Tree). (root t).headers) (sym (fold_out-ParsedMail Tree tree_step m))
+
+-- a part is extracted if it is an attachment, or another part without parts that mail readers do not show
+pub extracted_is : (known : Charsets) (t : Tree) → ((is_leaf t && not (is_shown (root t))) || is_attachment t (shown_as_in known (root t))) ≡ is_extracted known t
+unfolding files.is_attachment
+extracted_is known t = refl
+
+-- ---- the parameters of a type
+
+-- an entry of a map as texts
+abbrev pub pair_of : String Global × String Global → List ℕ × List ℕ
+pair_of entry = (string_bytes entry.0, string_bytes entry.1)
+
+-- one entry more
+looked_up : (name : List ℕ) (k : String Global) (v : String Global) (es : List (String Global × String Global)) (a b : Bool) → a ≡ b
+    → lookup (bytes_eq name) (map pair_of es) ≡ option_map string_bytes (lookup (λ key. is_eq (slice_cmp nat_cmp name (string_bytes key))) es)
+    → cond a (Some (string_bytes v)) (lookup (bytes_eq name) (map pair_of es))
+    ≡ option_map string_bytes (cond b (Some v) (lookup (λ key. is_eq (slice_cmp nat_cmp name (string_bytes key))) es))
+looked_up name k v es true b e here = rw (sym e) refl
+looked_up name k v es false b e here = rw (sym e) here
+
+lookup-pairs : (name : List ℕ) (es : List (String Global × String Global))
+    → lookup (bytes_eq name) (map pair_of es) ≡ option_map string_bytes (lookup (λ key. is_eq (slice_cmp nat_cmp name (string_bytes key))) es)
+lookup-pairs name [] = refl
+lookup-pairs name (e ∷ es) = looked_up name e.0 e.1 es (bytes_eq name (string_bytes e.0)) (is_eq (slice_cmp nat_cmp name (string_bytes e.0)))
+    (sym (is_eq-slice_cmp name (string_bytes e.0))) (lookup-pairs name es)
+
+all-keys : (P : List ℕ → Type 0) (es : List (String Global × String Global)) → AllByRecursion (λ y. P (string_bytes y)) (keys_of es)
+    → AllByRecursion P (map (λ p. p.0) (map pair_of es))
+all-keys P [] h = tt
+all-keys P (e ∷ es) h = (h.0, all-keys P es h.1)
+
+sorted-pairs : (es : List (String Global × String Global)) → IsStrictlySortedBy string_cmp (keys_of es)
+    → IsStrictlySortedBy (slice_cmp nat_cmp) (map (λ p. p.0) (map pair_of es))
+unfolding IsStrictlySortedBy
+sorted-pairs [] h = tt
+sorted-pairs (e ∷ es) h = (all-keys _ es h.0, sorted-pairs es h.1)
+
+-- the entries of a map list its texts
+pub lists-entries : (m : BTreeMap (String Global) (String Global)) → IsOrdered string_cmp m → Lists (text_at m) (map pair_of m.entries)
+lists-entries m h = record { ordered = sorted-pairs m.entries h; same = λ name. lookup-pairs name m.entries }
+
+-- ---- the text of a body
+
+-- a body that is decoded
+pub content_some : (decodes : Bool) (node : Node) (content : Content) → content_if decodes node ≡ Some content
+    → (content ≡ message_content node) × (content_if decodes node ≡ Some (message_content node))
+content_some true node content e = (cc, refl)
+content_some false node content e = absurd (cc)
+
+pub text-hidden : (known : Charsets) (joins shows : Bool) (ctype : ContentType) (content : Content) → shows ≡ false
+    → one (codes "text") null ≡ shown_members known joins shows ctype content
+text-hidden known joins shows ctype content e = rw e refl
+
+-- the text of a body that is read as it is
+pub text-shown : (known : Charsets) (shows : Bool) (ctype : ContentType) (content : Content) → shows ≡ true
+    → read_members (text_read known ctype.charset content) ≡ shown_members known false shows ctype content
+text-shown known shows ctype content e = rw e refl
+
+-- the text of one whose paragraphs flow
+pub text-flowed : (known : Charsets) (shows : Bool) (node : Node) (read : BodyText) → shows ≡ true → read ≡ flowed_text known node
+    → read_members read ≡ shown_members known true shows node.ctype (message_content node)
+unfolding flowed_text
+text-flowed known shows node read e is = ap read_members is ∙ rw e refl

@@ -1,0 +1,137 @@
+-- The line of a mail whose bodies are not decoded is the whole line without what needs that.
+use Rattle.std.proofs.Common.{◌≡◌, ℕ, ℤ, Bool, true, false, List, [], ◌∷◌, ◌++◌, length, map, Option, Some, None, Ok, Err, refl, sym, ap, ap₂, ◌∙◌}
+use Rattle.std.specs.Prelude.{codes, option_map, ◌&&◌}
+use Rattle.json.specs.Json.{Json, null, object, array, Members, item, member}
+use Rattle.json.specs.Value.{items_of}
+use Rattle.mailparse.specs.Mail.{Tree, root, shown_as_in}
+use Rattle.mailparse.specs.Placement.{placements}
+use Rattle.mailparse.specs.Refusal.{Reads, Refusal}
+use Rattle.mail_data.specs.Bounce.{original_message_id}
+use Rattle.mail_data.specs.Files.{is_extracted}
+use Rattle.mail_data.specs.InnerMails.{InnerMail}
+use Rattle.mail_data.specs.PartPlaces.{Place, places}
+use Rattle.mail_data.specs.lenient.Content.{message_content}
+use Rattle.mail_data.specs.lenient.Date.{Dated, Zoned, zoned_date_of}
+use Rattle.mail_data.specs.lenient.Texts.{text_read}
+use Rattle.mail_json.specs.Fields.{value_of}
+use Rattle.mail_json.specs.Inside.{mails_inside, parts_inside}
+use Rattle.mail_json.specs.Options.{Options, decoding}
+use Rattle.mail_json.specs.Origin.{Origin}
+use Rattle.mail_json.specs.Part.{hash_of, is_read, place_in, recipients_if, report_if, text_shown}
+use Rattle.mail_json.specs.Printed.{Member, list_of, members_of, object_of, one, string_or_null}
+use Rattle.mail_json.specs.Values.{AreInsideValues, AreValues, IsLineValue, IsMailValue, IsPartValue, date_members, front_members, header_value, ids_members, inner_value, mail_members, origin_members, part_members, raw_values, recipients_value, report_value, size_members, text_members, values_members}
+use Rattle.mail_json.specs.WithoutText.{items_without_text, object_without_text, part_without_text, parts_without_text, without_text}
+
+-- the members that need a decoded body, whether it is refused or not, and whatever the text is
+tail_without : (fault : Option Refusal) (size : ℕ) (hash report headers : Json) (shows : Bool) (text charset : List ℕ) (is_damaged : Bool)
+    → members_of (one (codes "decoded_size") null ++ one (codes "sha256") null ++ one (codes "report") null ++ one (codes "headers") headers ++ one (codes "text") null)
+    ≡ part_without_text (members_of (size_members fault size ++ one (codes "sha256") hash ++ one (codes "report") report ++ one (codes "headers") headers
+    ++ text_members shows text charset is_damaged))
+tail_without None size hash report headers false text charset is_damaged = refl
+tail_without None size hash report headers true text charset true = refl
+tail_without None size hash report headers true text charset false = refl
+tail_without (Some refusal) size hash report headers false text charset is_damaged = refl
+tail_without (Some refusal) size hash report headers true text charset true = refl
+tail_without (Some refusal) size hash report headers true text charset false = refl
+
+no_hash : (is_wanted : Bool) → string_or_null (hash_of is_wanted None) ≡ null
+no_hash true = refl
+no_hash false = refl
+
+-- members before others
+abbrev members_then : List Member → Members → Members
+members_then [] rest = rest
+members_then (m ∷ ms) rest = member m.0 m.1 (members_then ms rest)
+
+module _ (options : Options) where
+  part_without : (inside : Option (List ℕ)) (start : Option ℕ) (place : Place) (pairs : List (List ℕ × List ℕ))
+      → object_of (part_members (decoding false options) inside start place pairs)
+      ≡ object_without_text (object_of (part_members (decoding true options) inside start place pairs))
+  part_without inside start place pairs =
+      let node = root place.part in
+      let content = message_content node in
+      let disposition = shown_as_in options.known node in
+      let read = text_read options.known node.ctype.charset content in
+      let wanted = options.hashes && is_extracted options.known place.part in
+      let report = report_value (report_if options.known true node) in
+      let headers = list_of (map (header_value options.known) node.headers) in
+      let front : Members → Json = λ rest. object (members_then (front_members options inside start place pairs) rest) in
+      let bare : Json → Members =
+      λ hash. members_of (one (codes "decoded_size") null ++ one (codes "sha256") hash ++ one (codes "report") null ++ one (codes "headers") headers ++ one (codes "text") null) in
+      ap (λ hash. front (bare hash)) (no_hash wanted)
+      ∙ ap front (tail_without content.fault (length content.bytes) (string_or_null (hash_of wanted (Some content))) report headers (is_read place.part disposition)
+      (text_shown options.joins_flowed node.ctype read.text) read.charset read.is_damaged)
+
+  parts_whole : (inside : Option (List ℕ)) (start : Option ℕ) (all : List Place) (values : List Json) → AreValues (IsPartValue (decoding false options) inside start) all values
+      → (wholes : List Json) × AreValues (IsPartValue (decoding true options) inside start) all wholes × (values ≡ map object_without_text wholes)
+  parts_whole inside start [] values is = ([], refl, is)
+  parts_whole inside start (place ∷ all) values is =
+      let whole = object_of (part_members (decoding true options) inside start place is.2.0) in
+      let rest = parts_whole inside start all is.1 is.3 in (
+        whole ∷ rest.0,
+        (whole, rest.0, (is.2.0, is.2.1, refl), rest.1, refl),
+        is.4 ∙ ap₂ (λ (a : Json) (b : List Json). a ∷ b) (is.2.2 ∙ part_without inside start place is.2.0) rest.2,
+      )
+
+  map_then : (a b : List Json) → map object_without_text a ++ map object_without_text b ≡ map object_without_text (a ++ b)
+  map_then [] b = refl
+  map_then (x ∷ a) b = ap (λ js. object_without_text x ∷ js) (map_then a b)
+
+  insides_whole : (start : ℕ) (mails : List InnerMail) (values : List Json) → AreInsideValues (decoding false options) start mails values
+      → (wholes : List Json) × AreInsideValues (decoding true options) start mails wholes × (values ≡ map object_without_text wholes)
+  insides_whole start [] values is = ([], refl, is)
+  insides_whole start (inner ∷ mails) values is =
+      let first = parts_whole (Some inner.path) (place_in inner.start start) (parts_inside options.known inner) is.0 is.2 in
+      let rest = insides_whole start mails is.1 is.3 in (
+        first.0 ++ rest.0,
+        (first.0, rest.0, first.1, rest.1, refl),
+        is.4 ∙ ap₂ (λ (a b : List Json). a ++ b) first.2 rest.2 ∙ map_then first.0 rest.0,
+      )
+
+  items_whole : (js : List Json) → items_of (map object_without_text js) ≡ items_without_text (items_of js)
+  items_whole [] = refl
+  items_whole (j ∷ js) = ap (λ items. item (object_without_text j) items) (items_whole js)
+
+  -- the members of a line, whether there is a date or not
+  abbrev line_members : Origin → Tree → Option (Dated Zoned) → Json → Json → Json → Json → List Member
+  line_members origin mail date bounced recipients parts inside =
+      origin_members origin ++ values_members options.known (root mail) ++ one (codes "raw") (raw_values (root mail)) ++ date_members date
+      ++ ids_members options.known (root mail) ++ one (codes "bounced_id") bounced ++ one (codes "recipients") recipients ++ one (codes "parts") parts
+      ++ one (codes "forwarded") inside
+
+  zoned_without : (origin : Origin) (mail : Tree) (seconds : ℤ) (is_known : Bool) (bounced recipients parts inside : Json)
+      → object_of (line_members origin mail (Some (Ok (seconds, is_known))) bounced null (parts_without_text parts) inside)
+      ≡ without_text (object_of (line_members origin mail (Some (Ok (seconds, is_known))) bounced recipients parts inside))
+  zoned_without origin mail seconds true bounced recipients parts inside = refl
+  zoned_without origin mail seconds false bounced recipients parts inside = refl
+
+  line_without : (origin : Origin) (mail : Tree) (date : Option (Dated Zoned)) (bounced recipients parts inside : Json)
+      → object_of (line_members origin mail date bounced null (parts_without_text parts) inside)
+      ≡ without_text (object_of (line_members origin mail date bounced recipients parts inside))
+  line_without origin mail None bounced recipients parts inside = refl
+  line_without origin mail (Some (Ok date)) bounced recipients parts inside = zoned_without origin mail date.0 date.1 bounced recipients parts inside
+  line_without origin mail (Some (Err fault)) bounced recipients parts inside = refl
+
+  mail_whole : (origin : Origin) (mail : Tree) (value : Json) → IsMailValue (decoding false options) origin mail value
+      → (whole : Json) × IsMailValue (decoding true options) origin mail whole × (value ≡ without_text whole)
+  mail_whole origin mail value is =
+      let known = options.known in
+      let parts = parts_whole None (Some origin.start) (places mail (placements 0 mail)) is.0 is.2 in
+      let others = insides_whole origin.start (mails_inside known mail) is.1 is.3 in
+      let all = parts.0 ++ others.0 in
+      let same : is.0 ++ is.1 ≡ map object_without_text all = ap₂ (λ (a b : List Json). a ++ b) parts.2 others.2 ∙ map_then parts.0 others.0 in
+      let date = option_map zoned_date_of (value_of known (codes "Date") (root mail)) in
+      let bounced = string_or_null (original_message_id known mail) in
+      let recipients = recipients_value (recipients_if known true mail) in
+      let inside = list_of (map (inner_value origin.start) (mails_inside known mail)) in (
+        object_of (mail_members known true origin mail (mails_inside known mail) all),
+        (parts.0, others.0, parts.1, others.1, refl),
+        is.4 ∙ ap (λ (js : List Json). object_of (mail_members known false origin mail (mails_inside known mail) js)) same
+            ∙ ap (λ items. object_of (line_members origin mail date bounced null (array items) inside)) (items_whole all)
+            ∙ line_without origin mail date bounced recipients (list_of all) inside,
+      )
+
+  pub line_whole : (origin : Origin) (mail : Reads Tree) (value : Json) → IsLineValue (decoding false options) origin mail value
+      → (whole : Json) × IsLineValue (decoding true options) origin mail whole × (value ≡ without_text whole)
+  line_whole origin (Ok mail) value is = mail_whole origin mail value is
+  line_whole origin (Err refusal) value is = (value, is, is ∙ ap without_text (sym is))

@@ -1,0 +1,5 @@
+use Rattle.mail_json.proofs.lemmas.Members.{◌⨾◌}
+use Rattle.mail_json.proofs.origin.write_file.Goals as goal
+
+pub returns : goal.returns
+returns g c = c.in_ok-add_number.ensures ⨾ c.in_ok-add_optional.ensures

@@ -1,0 +1,157 @@
+//! The members of an object, which are written one after another.
+//!
+//! A key is the text before the value of a member: `first_key!("name")`, or `key!("name")` if other
+//! members come before it.
+ghost use Rattle.std.specs.Prelude.{◌≡◌, map, option_map, string_bytes, true};
+ghost use Rattle.json.specs.Json.{boolean, null, string};
+ghost use Rattle.mail_json.specs.Members.{AddsMember, is_key};
+ghost use Rattle.mail_json.specs.Printed.{number_or_null, number_value, seconds_value};
+ghost use Rattle.mail_json.specs.Printed.{string_or_null, strings, text_of};
+ghost use Rattle.mail_json.specs.Written.{Writes};
+
+use crate::json_text::{
+    write_name, write_number, write_number_or_null, write_text, write_texts, write_word,
+};
+use mail_program::Fault;
+use std::alloc::Global;
+use std::io::Write;
+
+/// Returns the key of the first member of an object: `{"name":`.
+macro_rules! first_key {
+    ($name:literal) => {
+        concat!("{\"", $name, "\":")
+    };
+}
+
+/// Returns the key of a member after others: `,"name":`.
+macro_rules! key {
+    ($name:literal) => {
+        concat!(",\"", $name, "\":")
+    };
+}
+
+pub(crate) use first_key;
+pub(crate) use key;
+
+/// Adds a member that is a string.
+#[tactic(auto, using(crate::proofs::lemmas::Members::member))]
+pub(crate) fn add_text<W: Write>(out: &mut W, key: &str, text: &str) -> Result<(), Fault>
+    requires { is_key key.now ≡ true }
+    ensures { AddsMember (W.contents out.old) (W.contents out.new) result key.now
+        (string text.now) }
+{
+    write_word(out, key)?;
+    write_text(out, text)
+}
+
+/// Adds a member that is a string, or `null` for `None`.
+#[tactic(auto, using(crate::proofs::lemmas::Members::member))]
+pub(crate) fn add_optional<W: Write>(
+    out: &mut W,
+    key: &str,
+    text: Option<&str>,
+) -> Result<(), Fault>
+    requires { is_key key.now ≡ true }
+    ensures { AddsMember (W.contents out.old) (W.contents out.new) result key.now
+        (string_or_null (option_map (λ text. text.now) text.entry)) }
+{
+    write_word(out, key)?;
+    write_name(out, text)
+}
+
+/// Adds a member that is a list of strings.
+#[tactic(auto, using(crate::proofs::lemmas::Members::member))]
+pub(crate) fn add_texts<W: Write>(out: &mut W, key: &str, texts: &[String]) -> Result<(), Fault>
+    requires { is_key key.now ≡ true }
+    ensures { AddsMember (W.contents out.old) (W.contents out.new) result key.now
+        (strings (map (λ t. string_bytes t) texts.now)) }
+{
+    write_word(out, key)?;
+    write_texts(out, texts)
+}
+
+/// Adds a member that is a number.
+#[tactic(auto, using(crate::proofs::lemmas::Members::member))]
+pub(crate) fn add_number<W: Write>(out: &mut W, key: &str, number: usize) -> Result<(), Fault>
+    requires { is_key key.now ≡ true }
+    ensures { AddsMember (W.contents out.old) (W.contents out.new) result key.now
+        (number_value number) }
+{
+    write_word(out, key)?;
+    write_number(out, number)
+}
+
+/// Adds a member that is a number, or `null` for `None`.
+#[tactic(auto, using(crate::proofs::lemmas::Members::member))]
+pub(crate) fn add_number_or_null<W: Write>(
+    out: &mut W,
+    key: &str,
+    number: Option<usize>,
+) -> Result<(), Fault>
+    requires { is_key key.now ≡ true }
+    ensures { AddsMember (W.contents out.old) (W.contents out.new) result key.now
+        (number_or_null number) }
+{
+    write_word(out, key)?;
+    write_number_or_null(out, number)
+}
+
+/// Adds a member that is a date, by its seconds.
+#[tactic(auto, using(crate::proofs::lemmas::Members::member))]
+pub(crate) fn add_seconds<W: Write>(out: &mut W, key: &str, seconds: i64) -> Result<(), Fault>
+    requires { is_key key.now ≡ true }
+    ensures { AddsMember (W.contents out.old) (W.contents out.new) result key.now
+        (seconds_value seconds) }
+{
+    write_word(out, key)?;
+    write_seconds(out, seconds)
+}
+
+/// Adds a member that is `true` or `false`.
+#[tactic(auto, using(crate::proofs::lemmas::Members::member))]
+pub(crate) fn add_flag<W: Write>(out: &mut W, key: &str, flag: bool) -> Result<(), Fault>
+    requires { is_key key.now ≡ true }
+    ensures { AddsMember (W.contents out.old) (W.contents out.new) result key.now (boolean flag) }
+{
+    write_word(out, key)?;
+    write_flag(out, flag)
+}
+
+/// Adds a member that is `null`.
+#[tactic(auto, using(crate::proofs::lemmas::Members::member))]
+pub(crate) fn add_null<W: Write>(out: &mut W, key: &str) -> Result<(), Fault>
+    requires { is_key key.now ≡ true }
+    ensures { AddsMember (W.contents out.old) (W.contents out.new) result key.now null }
+{
+    write_word(out, key)?;
+    write_null(out)
+}
+
+/// Writes `true` or `false`.
+#[tactic(auto, unfolding(crate::specs::Printed::text_of))]
+fn write_flag<W: Write>(out: &mut W, flag: bool) -> Result<(), Fault>
+    ensures { Writes (W.contents out.old) (W.contents out.new) result (text_of (boolean flag)) }
+{
+    if flag {
+        return write_word(out, "true");
+    }
+    write_word(out, "false")
+}
+
+/// Writes `null`.
+#[tactic(auto, unfolding(crate::specs::Printed::text_of))]
+fn write_null<W: Write>(out: &mut W) -> Result<(), Fault>
+    ensures { Writes (W.contents out.old) (W.contents out.new) result (text_of null) }
+{
+    write_word(out, "null")
+}
+
+/// Writes the seconds of a date.
+#[tactic(auto, unfolding(crate::specs::Printed::text_of))]
+fn write_seconds<W: Write>(out: &mut W, seconds: i64) -> Result<(), Fault>
+    ensures { Writes (W.contents out.old) (W.contents out.new) result
+        (text_of (seconds_value seconds)) }
+{
+    write!(out, "{seconds}")?;
+    Ok(())
+}

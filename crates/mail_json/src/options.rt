@@ -1,0 +1,88 @@
+//! What an input is, and how its mails are read and shown.
+ghost use Rattle.std.specs.Prelude.{◌≡◌, false, true};
+ghost use Rattle.mail_json.specs.JsonLines.{format_of};
+
+use mail_data::mailbox::Format;
+
+/// What an input is.
+#[derive(Clone, Copy, Debug, PartialEq, Eq)]
+pub enum InputKind {
+    /// A mailbox if it begins with a separator, otherwise a mail.
+    Either,
+    /// One mail.
+    Mail,
+    /// A mailbox in this format.
+    Mailbox(Format),
+}
+
+impl InputKind {
+    /// Returns the format in which an input of this kind is read if it is a mailbox.
+    ///
+    /// Does not allocate.
+    ///
+    /// # Examples
+    ///
+    /// ```rust
+    /// use mail_data::mailbox::Format;
+    /// use mail_json::InputKind;
+    ///
+    /// assert!(rt; matches!(InputKind::Either.format(), Format::Plain));
+    /// ```
+    pub fn format(self) -> Format
+        ensures { result ≡ format_of self }
+    {
+        match self {
+            InputKind::Either | InputKind::Mail => Format::Plain,
+            InputKind::Mailbox(format) => format,
+        }
+    }
+}
+
+/// How mails are read and shown.
+#[derive(Clone, Copy, Debug)]
+pub struct LineOptions {
+    /// Whether bodies are decoded. If they are not, what needs that is `null` or absent: the texts,
+    /// the decoded sizes, the hashes, the reports and the recipients.
+    pub decodes_bodies: bool,
+    /// Whether the parts that `rocktray extract` saves have their SHA-256.
+    pub hashes: bool,
+    /// Whether each paragraph of a flowed text is one line (RFC 3676).
+    pub joins_flowed: bool,
+}
+
+impl LineOptions {
+    /// Returns options that decode bodies, show no hashes, and show texts as they are.
+    ///
+    /// # Examples
+    ///
+    /// ```rust
+    /// use mail_json::LineOptions;
+    ///
+    /// assert!(rt; !LineOptions::new().hashes);
+    /// ```
+    pub fn new() -> LineOptions
+        ensures decodes_bodies { result.decodes_bodies ≡ true }
+        ensures hashes { result.hashes ≡ false }
+        ensures joins_flowed { result.joins_flowed ≡ false }
+    {
+        LineOptions {
+            decodes_bodies: true,
+            hashes: false,
+            joins_flowed: false,
+        }
+    }
+}
+
+/// What is known of an input, and how its mails are read and shown.
+#[derive_where(Clone, Copy, Debug)]
+pub struct Source<'s, K> {
+    /// What the input is.
+    pub kind: InputKind,
+    /// The name of the file, or `None` for standard input.
+    pub file: Option<&'s str>,
+    /// How its mails are shown.
+    pub options: LineOptions,
+    /// The charsets in which its mails are read.
+    #[derive_where(skip(Debug))]
+    pub known: &'s K,
+}

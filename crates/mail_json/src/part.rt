@@ -1,0 +1,452 @@
+//! The objects of the parts.
+ghost use Rattle.std.specs.Prelude.{◌&&◌, ◌≡◌, length, IfErr, IfOk, [], map, option_map};
+ghost use Rattle.std.specs.Prelude.{◌||◌, not, true, false, Ok};
+ghost use Rattle.mailparse.specs.Map.{text_found};
+ghost use Rattle.mailparse.specs.BodyViews.{IsBody, content_of};
+ghost use Rattle.mailparse.specs.Mail.{Tree, root};
+ghost use Rattle.mailparse.specs.Outcome.{AnswersOrMemory, IsMemory};
+ghost use Rattle.mailparse.specs.Views as views;
+ghost use Rattle.mailparse.specs.Views.{content_type, placements_of, tree_of};
+ghost use Rattle.mail_data.specs.PartPlaces.{places};
+ghost use Rattle.mail_data.specs.lenient.Content.{message_content};
+ghost use Rattle.mail_data.specs.lenient.ContentViews.{content_view};
+ghost use Rattle.mail_data.specs.lenient.Encoding.{lenient_body_kind};
+ghost use Rattle.mail_data.specs.PlaceViews.{place_view};
+ghost use Rattle.mail_data.specs.Files.{is_leaf, is_shown};
+ghost use Rattle.mail_data.specs.ReportViews.{block_view};
+ghost use Rattle.mail_json.specs.Part.{Lists, content_if, hash_of, is_attachment, is_read};
+ghost use Rattle.mail_json.specs.Part.{place_in, report_if};
+ghost use Rattle.mail_json.specs.Options.{options_of};
+ghost use Rattle.mail_json.specs.Members.{AddsMembers};
+ghost use Rattle.mail_json.specs.Printed.{comma, listed, member_text, object_of, text_of};
+ghost use Rattle.mail_json.specs.Values.{AreValues, IsPartValue, body_members, bounds_in};
+ghost use Rattle.mail_json.specs.Values.{damaged_members, decoded_members, shown_members};
+ghost use Rattle.mail_json.specs.Values.{disposition_members, header_value, parameter_member};
+ghost use Rattle.mail_json.specs.Values.{size_members};
+ghost use Rattle.mail_json.specs.Written.{Writes, WritesOne};
+
+use crate::body::encoding_name;
+use crate::fields::{content_id, disposition_name};
+use crate::json_text::{Position, refusal_of, write_comma, write_text, write_word};
+use crate::lists::{ListItem, write_list};
+use crate::members::{
+    add_flag, add_null, add_number, add_number_or_null, add_optional, add_text, first_key, key,
+};
+use crate::options::LineOptions;
+use crate::reports::{write_pair, write_report};
+use mail_data::files::{describes_attachment, is_attachment_disposition, is_leaf, named_file};
+use mail_data::flowed::flowed_text;
+use mail_data::lenient::{Content, charset_used, lenient_body, lenient_content, lenient_text};
+use mail_data::places::{Place, places};
+use mail_data::reports::{Block, report_blocks};
+use mail_data::texts::text_type;
+use mail_program::{Fault, sha256_text};
+use mailparse::body::Body;
+use mailparse::{
+    KnownCharsets, MailHeader, MailParseError, ParsedContentDisposition, ParsedContentType,
+    ParsedMail,
+};
+use std::alloc::{AllocError, Global};
+use std::io::Write;
+
+/// The mail to which parts belong, and how they are shown.
+#[derive_where(Clone, Copy)]
+pub(crate) struct Form<'f, K> {
+    /// The path of the part that contains the mail, or `None` for the mail itself.
+    pub inside: Option<&'f str>,
+    /// The offset in the input at which the mail begins, or `None` if it is encoded.
+    pub start: Option<usize>,
+    /// How its parts are shown.
+    pub options: LineOptions,
+    /// The charsets in which they are read.
+    pub known: &'f K,
+}
+
+/// Writes the objects of a mail and of its parts, separated by commas, without those of the mails
+/// inside it.
+pub(crate) fn write_parts<W: Write, K: KnownCharsets>(
+    alloc: Global,
+    out: &mut W,
+    mail: &ParsedMail<'_>,
+    form: Form<'_, K>,
+) -> Result<(), Fault>
+    ensures { WritesOne (W.contents out.old) (W.contents out.new) result (listed text_of [])
+        (AreValues (IsPartValue (options_of (K.known form.entry.known.now) form.entry.options)
+        (option_map (λ path. path.now) form.entry.inside) form.entry.start)
+        (places (tree_of mail.now) (placements_of mail.now))) }
+{
+    let found = places(alloc, mail)?;
+    write_found(alloc, out, found.as_slice(), Position::First, form)
+}
+
+/// Writes the objects of parts of a mail, the first one of which comes at this position of the list
+/// of all objects.
+pub(crate) fn write_found<W: Write, K: KnownCharsets>(
+    alloc: Global,
+    out: &mut W,
+    found: &[Place<'_, '_>],
+    first: Position,
+    form: Form<'_, K>,
+) -> Result<(), Fault>
+    ensures { WritesOne (W.contents out.old) (W.contents out.new) result
+        (listed text_of (comma first)) (AreValues
+        (IsPartValue (options_of (K.known form.entry.known.now) form.entry.options)
+        (option_map (λ path. path.now) form.entry.inside) form.entry.start)
+        (map place_view found.now)) }
+{
+    let mut position = first;
+    for place in found {
+        write_comma(out, position)?;
+        write_part(alloc, out, place, form)?;
+        position = Position::Later;
+    }
+    Ok(())
+}
+
+/// Writes the object of a part, without its parts.
+pub(crate) fn write_part<W: Write, K: KnownCharsets>(
+    alloc: Global,
+    out: &mut W,
+    place: &Place<'_, '_>,
+    form: Form<'_, K>,
+) -> Result<(), Fault>
+    ensures { WritesOne (W.contents out.old) (W.contents out.new) result text_of
+        (IsPartValue (options_of (K.known form.entry.known.now) form.entry.options)
+        (option_map (λ path. path.now) form.entry.inside) form.entry.start
+        (place_view place.now)) }
+{
+    let part = place.part;
+    let (options, known) = (form.options, form.known);
+    add_text(out, first_key!("path"), place.path.as_str())?;
+    add_optional(out, key!("inside"), form.inside)?;
+    add_text(out, key!("type"), part.ctype.mimetype.as_str())?;
+    add_text(out, key!("charset"), part.ctype.charset.as_str())?;
+    write_word(out, key!("params"))?;
+    write_params(out, &part.ctype)?;
+    let disposition = part.get_content_disposition_in(alloc, known)?;
+    let attached = is_attachment(alloc, part, &disposition)?;
+    let extracted = is_extracted(part, attached);
+    write_disposition(alloc, out, part, &disposition, known)?;
+    add_flag(out, key!("attachment"), attached)?;
+    add_flag(out, key!("extracted"), extracted)?;
+    let body = lenient_body(alloc, part)?;
+    add_text(out, key!("encoding"), encoding_name(&body))?;
+    write_bounds(out, place, form.start)?;
+    add_number(out, key!("size"), body.get_raw().len())?;
+    let content = content_if(alloc, &body, options.decodes_bodies)?;
+    write_decoded_size(alloc, out, &content)?;
+    let hash = hash_of(alloc, &content, is_hashed(options.hashes, extracted))?;
+    add_optional(out, key!("sha256"), hash.as_deref())?;
+    let report = report_if(alloc, part, options.decodes_bodies, known)?;
+    write_word(out, key!("report"))?;
+    write_report(alloc, out, &report, known)?;
+    write_word(out, key!("headers"))?;
+    write_list(alloc, out, part.headers.as_slice(), known)?;
+    let shown = is_read(part, &disposition);
+    write_part_text(alloc, out, &content, part, shown, options, known)?;
+    write_word(out, "}")
+}
+
+/// Writes the offsets of a part of a mail that begins at this offset, or is encoded.
+fn write_bounds<W: Write>(
+    out: &mut W,
+    place: &Place<'_, '_>,
+    start: Option<usize>,
+) -> Result<(), Fault>
+    ensures { let whole = (place_view place.now).placement.whole in
+        AddsMembers (W.contents out.old) (W.contents out.new) result
+        (bounds_in start whole.start whole.end) }
+{
+    add_number_or_null(out, key!("start"), place_in(start, place.byte_range.start))?;
+    add_number_or_null(out, key!("end"), place_in(start, place.byte_range.end))?;
+    Ok(())
+}
+
+/// Returns the content of a body, or `None` if bodies are not decoded.
+fn content_if<'b>(
+    alloc: Global,
+    body: &Body<'b>,
+    decodes_bodies: bool,
+) -> Result<Option<Content<'b>>, MailParseError>
+    ensures read { (part : Tree) → IsBody (lenient_body_kind (root part)) (content_of (root part))
+        body.now → IfOk result (λ content.
+        option_map content_view content ≡ content_if decodes_bodies (root part)) }
+    ensures only_memory { IfErr result IsMemory }
+{
+    if !decodes_bodies {
+        return Ok(None);
+    }
+    Ok(Some(lenient_content(alloc, body)?))
+}
+
+/// Returns whether a part is saved when the files of a mail are extracted.
+fn is_extracted(part: &ParsedMail<'_>, is_attachment: bool) -> bool
+    ensures { let tree = tree_of part.now in
+        result ≡ ((is_leaf tree && not (is_shown (root tree))) || is_attachment) }
+{
+    (is_leaf(part) && !is_shown(part)) || is_attachment
+}
+
+/// Returns whether a part is a text that mail readers show.
+fn is_shown(part: &ParsedMail<'_>) -> bool
+    ensures { result ≡ is_shown (root (tree_of part.now)) }
+{
+    let mimetype = part.ctype.mimetype.as_str();
+    mimetype == "text/plain" || mimetype == "text/html" || mimetype == "text"
+}
+
+/// Returns whether a part has its hash: one that is extracted has, if hashes are asked for.
+fn is_hashed(hashes: bool, is_extracted: bool) -> bool
+    ensures { result ≡ (hashes && is_extracted) }
+{
+    hashes && is_extracted
+}
+
+/// Returns the blocks of a report that a part is, or `None` if bodies are not decoded.
+fn report_if<K: KnownCharsets>(
+    alloc: Global,
+    part: &ParsedMail<'_>,
+    decodes_bodies: bool,
+    known: &K,
+) -> Result<Option<Vec<Block>>, MailParseError>
+    ensures { AnswersOrMemory (λ found. option_map (λ blocks. map block_view blocks.items) found)
+        result (Ok (report_if (K.known known.now) decodes_bodies (root (tree_of part.now)))) }
+{
+    if !decodes_bodies {
+        return Ok(None);
+    }
+    report_blocks(alloc, part, known)
+}
+
+/// Returns an offset in the input by the offset `at` in a mail that begins at `start`, or `None` if
+/// the mail is encoded.
+pub(crate) fn place_in(start: Option<usize>, at: usize) -> Option<usize>
+    ensures { result ≡ place_in start at }
+{
+    Some(start?.saturating_add(at))
+}
+
+/// Returns whether the body of a part is a text that is shown.
+fn is_read(part: &ParsedMail<'_>, disposition: &ParsedContentDisposition) -> bool
+    ensures { result ≡ is_read (tree_of part.now) (views.disposition disposition.now) }
+{
+    !is_attachment_disposition(&disposition.disposition)
+        && is_leaf(part)
+        && text_type(part.ctype.mimetype.as_str()).starts_with("text/")
+}
+
+/// Writes the object of the parameters of a type.
+fn write_params<W: Write>(out: &mut W, ctype: &ParsedContentType) -> Result<(), Fault>
+    ensures { WritesOne (W.contents out.old) (W.contents out.new) result
+        (λ pairs. text_of (object_of (map parameter_member pairs)))
+        (Lists (content_type ctype.now).params) }
+{
+    write_word(out, "{")?;
+    let mut position = Position::First;
+    for (name, value) in &ctype.params {
+        write_comma(out, position)?;
+        write_parameter(out, name.as_str(), value.as_str())?;
+        position = Position::Later;
+    }
+    write_word(out, "}")
+}
+
+/// Writes a parameter as a member.
+fn write_parameter<W: Write>(out: &mut W, name: &str, value: &str) -> Result<(), Fault>
+    ensures { Writes (W.contents out.old) (W.contents out.new) result
+        (member_text (parameter_member (name.now, value.now))) }
+{
+    write_text(out, name)?;
+    write_word(out, ":")?;
+    write_text(out, value)
+}
+
+/// Returns whether a part of this disposition is an attachment: it has no parts of its own, and its
+/// disposition and its type are those of one.
+fn is_attachment(
+    alloc: Global,
+    part: &ParsedMail<'_>,
+    disposition: &ParsedContentDisposition,
+) -> Result<bool, AllocError>
+    ensures { IfOk result (λ is.
+        is ≡ is_attachment (tree_of part.now) (views.disposition disposition.now)) }
+{
+    if !is_leaf(part) {
+        return Ok(false);
+    }
+    describes_attachment(alloc, disposition, &part.ctype)
+}
+
+/// Writes the disposition, the name of the file, and the id of the content.
+fn write_disposition<W: Write, K: KnownCharsets>(
+    alloc: Global,
+    out: &mut W,
+    part: &ParsedMail<'_>,
+    disposition: &ParsedContentDisposition,
+    known: &K,
+) -> Result<(), Fault>
+    ensures { AddsMembers (W.contents out.old) (W.contents out.new) result
+        (disposition_members (K.known known.now) (views.disposition disposition.now)
+        (root (tree_of part.now))) }
+{
+    let name = named_file(alloc, disposition, &part.ctype)?;
+    let id = content_id(alloc, part, known)?;
+    add_optional(
+        out,
+        key!("disposition"),
+        disposition_name(part, disposition),
+    )?;
+    add_optional(out, key!("file_name"), name.as_deref())?;
+    add_optional(out, key!("content_id"), id.as_deref())?;
+    Ok(())
+}
+
+/// Writes the size of the decoded body. If it is refused, writes `null` and the reason; if it is
+/// not decoded, writes `null`.
+fn write_decoded_size<W: Write>(
+    alloc: Global,
+    out: &mut W,
+    content: &Option<Content<'_>>,
+) -> Result<(), Fault>
+    ensures { AddsMembers (W.contents out.old) (W.contents out.new) result
+        (decoded_members (option_map content_view content.now)) }
+{
+    match content {
+        None => add_null(out, key!("decoded_size")),
+        Some(content) => write_size(alloc, out, content),
+    }
+}
+
+/// Writes the size of the decoded body. If it is refused, writes `null` and the reason.
+fn write_size<W: Write>(alloc: Global, out: &mut W, content: &Content<'_>) -> Result<(), Fault>
+    ensures { let content = content_view content.now in
+        AddsMembers (W.contents out.old) (W.contents out.new) result
+        (size_members content.fault (length content.bytes)) }
+{
+    match content.fault {
+        None => add_number(out, key!("decoded_size"), content.bytes.len()),
+        Some(fault) => {
+            let text = refusal_of(alloc, &MailParseError::from(fault))?;
+            add_null(out, key!("decoded_size"))?;
+            add_optional(out, key!("error"), text.as_deref())?;
+            Ok(())
+        }
+    }
+}
+
+/// Returns the hash of a content, or `None` if it is not wanted or not decoded.
+fn hash_of(
+    alloc: Global,
+    content: &Option<Content<'_>>,
+    is_wanted: bool,
+) -> Result<Option<String>, AllocError>
+    ensures { IfOk result (λ hash.
+        text_found hash ≡ hash_of is_wanted (option_map content_view content.now)) }
+{
+    if !is_wanted {
+        return Ok(None);
+    }
+    match content {
+        None => Ok(None),
+        Some(content) => Ok(Some(sha256_text(alloc, content.bytes.as_slice())?)),
+    }
+}
+
+/// Writes the members of the text of a part, or `null` if it is not shown or not decoded.
+fn write_part_text<W: Write, K: KnownCharsets>(
+    alloc: Global,
+    out: &mut W,
+    content: &Option<Content<'_>>,
+    part: &ParsedMail<'_>,
+    is_read: bool,
+    options: LineOptions,
+    known: &K,
+) -> Result<(), Fault>
+    ensures { let node = root (tree_of part.now) in
+        option_map content_view content.now ≡ content_if options.decodes_bodies node →
+        AddsMembers (W.contents out.old) (W.contents out.new) result
+        (body_members (K.known known.now) options.joins_flowed is_read node.ctype
+        (content_if options.decodes_bodies node)) }
+{
+    let Some(content) = content else {
+        return add_null(out, key!("text"));
+    };
+    if options.joins_flowed {
+        return write_flowed(alloc, out, part, is_read, known);
+    }
+    write_body_text(alloc, out, content, &part.ctype, is_read, known)
+}
+
+/// Writes the same as `write_part_text`, with each flowed paragraph as one line.
+fn write_flowed<W: Write, K: KnownCharsets>(
+    alloc: Global,
+    out: &mut W,
+    part: &ParsedMail<'_>,
+    is_read: bool,
+    known: &K,
+) -> Result<(), Fault>
+    ensures { AddsMembers (W.contents out.old) (W.contents out.new) result
+        (shown_members (K.known known.now) true is_read (root (tree_of part.now)).ctype
+        (message_content (root (tree_of part.now)))) }
+{
+    if !is_read {
+        return add_null(out, key!("text"));
+    }
+    let read = flowed_text(alloc, part, known)?;
+    add_text(out, key!("text"), read.text.as_str())?;
+    add_text(out, key!("text_charset"), read.charset.as_str())?;
+    write_damaged(out, read.is_damaged)?;
+    Ok(())
+}
+
+/// Writes the members of the text of a body, or `null` if it is not shown: the text, the charset in
+/// which it is read, and whether the body is damaged.
+fn write_body_text<W: Write, K: KnownCharsets>(
+    alloc: Global,
+    out: &mut W,
+    content: &Content<'_>,
+    ctype: &ParsedContentType,
+    is_read: bool,
+    known: &K,
+) -> Result<(), Fault>
+    ensures { AddsMembers (W.contents out.old) (W.contents out.new) result
+        (shown_members (K.known known.now) false is_read (content_type ctype.now)
+        (content_view content.now)) }
+{
+    if !is_read {
+        return add_null(out, key!("text"));
+    }
+    let bytes = content.bytes.as_slice();
+    let text = lenient_text(alloc, bytes, ctype, known)?;
+    add_text(out, key!("text"), text.as_str())?;
+    add_text(out, key!("text_charset"), charset_used(bytes, ctype, known))?;
+    write_damaged(out, content.fault.is_some())?;
+    Ok(())
+}
+
+/// Writes the member for a damaged body, or nothing if it is not damaged.
+fn write_damaged<W: Write>(out: &mut W, is_damaged: bool) -> Result<(), Fault>
+    ensures { AddsMembers (W.contents out.old) (W.contents out.new) result
+        (damaged_members is_damaged) }
+{
+    if !is_damaged {
+        return Ok(());
+    }
+    add_flag(out, key!("damaged"), true)
+}
+
+impl ListItem for MailHeader<'_> {
+    ghost value = { λ known header. header_value known header };
+
+    /// Writes the header as a pair of its name and its value.
+    fn write_item<W: Write, K: KnownCharsets>(
+        &self,
+        alloc: Global,
+        out: &mut W,
+        known: &K,
+    ) -> Result<(), Fault> {
+        let key = self.get_key(alloc)?;
+        let value = self.get_value_in(alloc, known)?;
+        write_pair(out, key.as_str(), value.as_str())
+    }
+}

@@ -1,0 +1,158 @@
+//! Reports as JSON.
+ghost use Rattle.std.specs.Prelude.{map, option_map};
+ghost use Rattle.mailparse.specs.Views.{tree_of};
+ghost use Rattle.mail_data.specs.Bounce.{recipients};
+ghost use Rattle.mail_data.specs.BounceViews.{delivery};
+ghost use Rattle.mail_data.specs.ReportViews.{block_view, field_view};
+ghost use Rattle.mail_json.specs.Reports.{deliveries_text, delivery_value};
+ghost use Rattle.mail_json.specs.Part.{recipients_if};
+ghost use Rattle.mail_json.specs.Printed.{text_of};
+ghost use Rattle.mail_json.specs.Values.{block_value, pair_value, recipients_value, report_value};
+ghost use Rattle.mail_json.specs.Written.{Writes};
+
+use crate::json_text::{write_text, write_word};
+use crate::lists::{ListItem, write_list};
+use crate::members::{add_optional, first_key, key};
+use mail_data::bounce::{Recipient, recipients};
+use mail_data::reports::{Block, Field};
+use mail_program::Fault;
+use mailparse::{KnownCharsets, ParsedMail};
+use std::alloc::Global;
+use std::io::Write;
+
+/// Writes the recipients of a delivery report (RFC 3464, section 2.3), as a line with one list.
+/// Each is an object with the members `final_recipient`, `original_recipient`, `action`, `status`
+/// and `diagnostic_code`, which are strings or `null`. The list is empty if the mail is no such
+/// report. Takes memory as `mail_data::bounce::recipients` does, and for each string.
+///
+/// # Errors
+///
+/// `Fault::Output` if a write fails, and `Fault::Mail` with `MailParseError::Memory` if it runs out
+/// of memory.
+///
+/// # Examples
+///
+/// ```rust
+/// use mail_json::write_recipients;
+/// use mailparse::parse_mail;
+///
+/// let raw = b"Content-Type: multipart/report; boundary=b\n\n\
+///     --b\nContent-Type: message/delivery-status\n\n\
+///     Reporting-MTA: dns; mx.example.org\n\n\
+///     Final-Recipient: rfc822; ann@example.org\nAction: failed\n\n--b--\n";
+/// let mut out = Vec::new(alloc);
+/// write_recipients(alloc, &mut out, &parse_mail(alloc, raw)?, &())?;
+/// let line = b"[{\"final_recipient\":\"ann@example.org\",\"original_recipient\":null,";
+/// assert!(rt; out.as_slice().starts_with(line));
+/// assert!(rt; out.as_slice().ends_with(b"\"status\":null,\"diagnostic_code\":null}]\n"));
+/// ```
+pub fn write_recipients<W: Write, K: KnownCharsets>(
+    alloc: Global,
+    out: &mut W,
+    mail: &ParsedMail<'_>,
+    known: &K,
+) -> Result<(), Fault>
+    ensures { Writes (W.contents out.old) (W.contents out.new) result
+        (deliveries_text (recipients (K.known known.now) (tree_of mail.now))) }
+{
+    let found = recipients(alloc, mail, known)?;
+    write_list(alloc, out, found.as_slice(), known)?;
+    write_word(out, "\n")
+}
+
+impl ListItem for Recipient {
+    ghost value = { λ known recipient. delivery_value (delivery recipient) };
+
+    fn write_item<W: Write, K: KnownCharsets>(
+        &self,
+        alloc: Global,
+        out: &mut W,
+        _known: &K,
+    ) -> Result<(), Fault> {
+        let final_recipient = self.final_recipient.as_deref();
+        let original_recipient = self.original_recipient.as_deref();
+        add_optional(out, first_key!("final_recipient"), final_recipient)?;
+        add_optional(out, key!("original_recipient"), original_recipient)?;
+        add_optional(out, key!("action"), self.action.as_deref())?;
+        add_optional(out, key!("status"), self.status.as_deref())?;
+        add_optional(
+            out,
+            key!("diagnostic_code"),
+            self.diagnostic_code.as_deref(),
+        )?;
+        write_word(out, "}")
+    }
+}
+
+impl ListItem for Block {
+    ghost value = { λ known block. block_value (block_view block) };
+
+    fn write_item<W: Write, K: KnownCharsets>(
+        &self,
+        alloc: Global,
+        out: &mut W,
+        known: &K,
+    ) -> Result<(), Fault> {
+        write_list(alloc, out, self.fields.as_slice(), known)
+    }
+}
+
+impl ListItem for Field {
+    ghost value = { λ known field. pair_value (field_view field) };
+
+    fn write_item<W: Write, K: KnownCharsets>(
+        &self,
+        _alloc: Global,
+        out: &mut W,
+        _known: &K,
+    ) -> Result<(), Fault> {
+        write_pair(out, self.name.as_str(), self.value.as_str())
+    }
+}
+
+/// Writes the blocks of a report, or `null` for `None`.
+#[tactic(auto, unfolding(crate::specs::Printed::text_of))]
+pub(crate) fn write_report<W: Write, K: KnownCharsets>(
+    alloc: Global,
+    out: &mut W,
+    report: &Option<Vec<Block>>,
+    known: &K,
+) -> Result<(), Fault>
+    ensures { Writes (W.contents out.old) (W.contents out.new) result (text_of
+        (report_value (option_map (λ blocks. map block_view blocks.items) report.now))) }
+{
+    match report {
+        Some(blocks) => write_list(alloc, out, blocks.as_slice(), known),
+        None => write_word(out, "null"),
+    }
+}
+
+/// Writes the recipients that a mail reports, or `null` if bodies are not decoded.
+pub(crate) fn write_reported<W: Write, K: KnownCharsets>(
+    alloc: Global,
+    out: &mut W,
+    mail: &ParsedMail<'_>,
+    decodes_bodies: bool,
+    known: &K,
+) -> Result<(), Fault>
+    ensures { Writes (W.contents out.old) (W.contents out.new) result (text_of
+        (recipients_value (recipients_if (K.known known.now) decodes_bodies (tree_of mail.now)))) }
+{
+    if !decodes_bodies {
+        return write_word(out, "null");
+    }
+    let found = recipients(alloc, mail, known)?;
+    write_list(alloc, out, found.as_slice(), known)
+}
+
+/// Writes a pair of strings.
+pub(crate) fn write_pair<W: Write>(out: &mut W, name: &str, value: &str) -> Result<(), Fault>
+    ensures { Writes (W.contents out.old) (W.contents out.new) result
+        (text_of (pair_value (name.now, value.now))) }
+{
+    write_word(out, "[")?;
+    write_text(out, name)?;
+    write_word(out, ",")?;
+    write_text(out, value)?;
+    write_word(out, "]")
+}

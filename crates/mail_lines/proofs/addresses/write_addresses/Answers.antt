@@ -1,7 +1,0 @@
-use Rattle.mail_lines.proofs.lemmas.Members.{◌⨾◌}
-use Rattle.mail_lines.proofs.addresses.write_addresses.Goals as goal
-
-pub returns : goal.returns
-returns g c =
-    c.in_ok-add_addresses.ensures ⨾ c.in_ok-add_addresses-2.ensures ⨾ c.in_ok-add_addresses-3.ensures ⨾ c.in_ok-add_addresses-4.ensures
-    ⨾ c.in_ok-add_addresses-5.ensures ⨾ c.in_ok-add_addresses-6.ensures

@@ -1,5 +1,0 @@
-use Rattle.mail_lines.proofs.lemmas.Members.{◌⨾◌}
-use Rattle.mail_lines.proofs.origin.write_file.Goals as goal
-
-pub returns : goal.returns
-returns g c = c.in_ok-add_number.ensures ⨾ c.in_ok-add_optional.ensures

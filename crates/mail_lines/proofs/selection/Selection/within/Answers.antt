@@ -1,4 +1,0 @@
-use Rattle.mail_lines.proofs.selection.Selection.within.Goals as goal
-
-pub returns-clause-fits : goal.returns-clause-fits
-returns-clause-fits c = (c.ranges.from.fits, c.ranges.to.fits)
