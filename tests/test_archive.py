@@ -12,6 +12,7 @@ import glob
 import gzip
 import importlib.util
 import json
+import lzma
 import os
 import re
 import signal
@@ -56,7 +57,7 @@ SMALL = (
     b" refused\n",
     b"From: \x1b[31mCai@example.net\nSubject: =?utf-8?q?Zebra=0Aforged?=\nMessage-ID: <3@small>\nReferences: <0@small> <2@small>\n\n.\n",
 )
-UNREAD = ("mails/no.mbox.gz", "mails/caf\udce9")
+UNREAD = ("mails/no.mbox", "mails/caf\udce9")
 CHANGED = b"Subject: Changed\nMessage-ID: <4@small>\n\nAn okapi.\n"
 
 # after this number of further deaths a part is given up; dask's own number is 3
@@ -254,7 +255,7 @@ def test_faults(runs, wanted):
     status, told = runs.index("faults")
     named = [line for line in told.splitlines() if line.startswith("index_archive.py: ")]
     assert status == 1 and any(PART in line and "KilledWorker" in line for line in named), f"a part kills its workers: {told}"
-    assert any("no.mbox.gz" in line and "status 1" in line for line in named), f"a file cannot be read: {told}"
+    assert any("no.mbox" in line and "status 1" in line for line in named), f"a file cannot be read: {told}"
     assert any("caf\\udce9': the name is not UTF-8" in line for line in named), f"a name cannot be read: {told}"
     assert len(shards(out)) > 20, f"the other parts are read: {told}"
     assert not os.path.exists(os.path.join(out, "MANIFEST")), "faults: there is no MANIFEST"
@@ -264,6 +265,35 @@ def test_faults(runs, wanted):
     assert runs.index("faults")[0] == 0, "the next run completes it"
     assert before.items() <= shards(out).items(), "the next run reads no part twice"
     assert lines(out) == wanted, "the next run: the lines"
+
+
+def test_packed(tmp_path):
+    """Files in .gz and .xz are unpacked, mails of a Maildir too; what only has such a name is read as it is."""
+    spec = importlib.util.spec_from_file_location("index_archive", os.path.join(EXAMPLES, "index_archive.py"))
+    index = importlib.util.module_from_spec(spec)
+    spec.loader.exec_module(index)
+    box, mail = b"".join(FROM + mail + b"\n" for mail in SMALL), FROM + SMALL[0]
+    for name, data in (
+        ("a.gz", gzip.compress(box)), ("b.xz", lzma.compress(box)), ("c.gz", box), ("d", box), ("e.gz", gzip.compress(box)[:-9]),
+        ("f.xz", b""), ("m/cur/1.gz", gzip.compress(mail)), ("m/cur/2.gz", mail),
+    ):
+        write(f"{tmp_path}/mails/{name}", data)
+    found, faults = [], []
+    for options, files in index.visit(f"{tmp_path}/mails", [], str(tmp_path), faults):
+        for number, part in enumerate(index.parts(options, files, 1 << 20)):
+            name, fault = index.read(str(number), *part, str(tmp_path), program("rocktray"))
+            if fault:
+                faults.append((os.path.basename(part[1][0][0]), fault))
+                continue
+            with open(os.path.join(tmp_path, name), "rb") as shard:
+                found += [json.loads(line) for line in shard]
+    counts = {os.path.basename(file): sum(line["file"] == file for line in found) for file in {line["file"] for line in found}}
+    assert counts == {"a.gz": len(SMALL), "b.xz": len(SMALL), "c.gz": len(SMALL), "d": len(SMALL), "f.xz": 1, "1.gz": 1, "2.gz": 1}
+    plain = [{**line, "file": None} for line in found if line["file"].endswith("d")]
+    assert [{**line, "file": None} for line in found if line["file"].endswith("a.gz")] == [
+        {**line, "number": number} for number, line in enumerate(plain, 1)
+    ]
+    assert [name for name, fault in faults] == ["e.gz"] and "gzip: exit status 1" in faults[0][1]
 
 
 def check_loaded(runs, mails):

@@ -2,7 +2,7 @@
 """Reads the mailboxes and Maildirs of shared directories on many machines, with dask.distributed and rocktray.
 
 Every machine sees the directories, OUT and the program under the same paths. A large mailbox is read in equal parts,
-and small files are read together. The lines of each part go to a file in OUT, a shard, which gets its name when it is
+and small files are read together. Files in .gz and .xz are unpacked by gzip and xz. The lines of each part go to a file in OUT, a shard, which gets its name when it is
 complete. The name is a hash of the part, the paths, sizes and times of its files, and the program: no part is read
 twice, however often a run is interrupted, and a mailbox that changed is read again. OUT/MANIFEST, written last, names
 the shards in order; other shards are removed. Files that cannot be read are named, and the exit status is 1.
@@ -21,6 +21,8 @@ import zlib
 
 OURS = re.compile(r"[0-9a-f]{32}\.jsonl|\.part-[0-9a-f]{32}")
 NO_TEXT = re.compile("[\udc80-\udcff]")
+# the programs that unpack files, whose names end so and which begin with these bytes
+PACKED = ((".gz", b"\x1f\x8b", "gzip"), (".xz", b"\xfd7zXZ\0", "xz"))
 PROGRAM = os.path.join(os.path.dirname(os.path.abspath(__file__)), "../../crates/rocktray/out/rocktray")
 
 
@@ -31,6 +33,18 @@ def state(path):
         return path, found.st_size, found.st_mtime_ns
     except OSError:  # rocktray says why
         return path, 0, None
+
+
+def unpacker(path):
+    """Returns the program that unpacks a file, or None if it is not packed."""
+    for ending, first, program in PACKED:
+        if path.endswith(ending):
+            try:
+                with open(path, "rb") as file:
+                    return program if file.read(len(first)) == first else None
+            except OSError:  # rocktray says why
+                return None
+    return None
 
 
 def visit(directory, options, out, faults):
@@ -69,11 +83,15 @@ def batches(files, most):
 
 
 def parts(options, files, most):
-    """Yields the options and the files of each run of rocktray json. A part of a mailbox is a run of its own."""
-    for batch in batches(files, most):
+    """Yields the options and the files of each run of rocktray json. A part of a mailbox is a run of its own, and so is a
+    packed file."""
+    packed = {file: unpacker(file[0]) for file in files}
+    for batch in batches([file for file in files if not packed[file]], most):
         count = max(1, -(-sum(size for _, size, _ in batch) // most))
         for number in [1] if options else range(1, count + 1):
             yield options or ["--part", f"{number}/{count}"], batch
+    for file in filter(packed.get, files):
+        yield [*options, "--label", file[0]], [file]
 
 
 def title(options, files):
@@ -81,16 +99,38 @@ def title(options, files):
     return f"{files[0][0]}{f' and {len(files) - 1} more' if len(files) > 1 else ''} ({' '.join(options)})"
 
 
+def read_packed(command, path, shard):
+    """Reads a packed file into a shard, and returns the error or None."""
+    unpack = [unpacker(path) or "gzip", "-dc", "--", path]
+    with subprocess.Popen(unpack, stdin=subprocess.DEVNULL, stdout=subprocess.PIPE, stderr=subprocess.PIPE) as packed:
+        fault = read_files(command, packed.stdout, shard)
+        packed.stdout.close()
+        told = packed.stderr.read()
+    if not fault and packed.returncode:
+        fault = f"{unpack[0]}: exit status {packed.returncode}: {told.decode(errors='replace').strip()}"
+    return fault
+
+
+def read_files(command, stdin, shard):
+    """Reads files, or standard input, into a shard, and returns the error or None."""
+    ended = subprocess.run(command, stdin=stdin, stdout=shard, stderr=subprocess.PIPE, check=False)
+    if ended.returncode in (0, 3):
+        return None
+    return f"exit status {ended.returncode}: {ended.stderr.decode(errors='replace').strip()}"
+
+
 def read(name, options, files, out, program):
     """Reads a part into its shard, which gets its name when it is complete. Returns the name, and the error or None."""
     unfinished = os.path.join(out, f".part-{uuid.uuid4().hex}")
     try:
         with open(unfinished, "xb") as shard:
-            command = [program, "json", *options, *(path for path, _, _ in files)]
-            ended = subprocess.run(command, stdin=subprocess.DEVNULL, stdout=shard, stderr=subprocess.PIPE, check=False)
+            if "--label" in options:
+                fault = read_packed([program, "json", *options], files[0][0], shard)
+            else:
+                fault = read_files([program, "json", *options, *(path for path, _, _ in files)], subprocess.DEVNULL, shard)
             os.fsync(shard.fileno())
-        if ended.returncode not in (0, 3):
-            return name, f"exit status {ended.returncode}: {ended.stderr.decode(errors='replace').strip()}"
+        if fault:
+            return name, fault
         if [state(path) for path, _, _ in files] != files:
             return name, "changed while it was read"
         os.replace(unfinished, os.path.join(out, name))
