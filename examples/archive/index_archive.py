@@ -2,11 +2,11 @@
 """Reads the mailboxes and Maildirs of shared directories on many machines, with dask.distributed and rocktray.
 
 Every machine sees the directories, OUT and the program under the same paths. A large mailbox is read in equal parts,
-and small files are read together. Files in .gz and .xz are unpacked by gzip and xz. The lines of each part go to a file in OUT, a shard, which gets its name when it is
-complete. The name is a hash of the part, the paths, sizes and times of its files, and the program: no part is read
-twice, however often a run is interrupted, and a mailbox that changed is read again. OUT/MANIFEST, written last, names
-the shards in order; other shards are removed. Files that cannot be read are named, and the exit status is 1.
-Everything else is read nevertheless, and the next run continues from there.
+and small files are read together. Files in .gz and .xz are unpacked by gzip and xz. The lines of each part go to a file
+in OUT, a shard, which gets its name when it is complete. The name is a hash of the part, the paths, sizes and times of
+its files, and the program: no part is read twice, however often a run is interrupted, and a mailbox that changed is
+read again. OUT/MANIFEST, written last, names the shards in order; other shards are removed. Files that cannot be read
+are named, and the exit status is 1. Everything else is read nevertheless, and the next run continues from there.
 """
 import argparse
 import hashlib
