@@ -5,13 +5,20 @@
  * returns a code:
  *
  *   ROCKTRAY_DONE       the result is in the buffer, and *needed is its length
- *   ROCKTRAY_TOO_SHORT  the buffer is too short: *needed is the capacity that it must have
+ *   ROCKTRAY_TOO_SHORT  a buffer is too short: *needed is the capacity that it must have
  *   ROCKTRAY_NO_MEMORY  out of memory
  *   ROCKTRAY_ABSENT     there is no such header, or no further mail
  *   16 and greater      the input is refused, and the code is the reason: rocktray_reason has its text
  *
  * After every code but ROCKTRAY_DONE the buffer is unchanged, byte for byte. *needed is set after ROCKTRAY_DONE and
- * ROCKTRAY_TOO_SHORT, and unchanged after any other code.
+ * ROCKTRAY_TOO_SHORT, and unchanged after any other code. A call with two buffers has two capacities and two lengths:
+ * if one buffer is too short, both are unchanged, and both lengths are set.
+ *
+ * Records. `rocktray_parts` reads a mail once and fills records with offsets into its bytes. The other calls then get
+ * the bytes at these offsets: the raw value of a header, or a body. They do not read the mail again:
+ *
+ *   rocktray_parts(mail, length, SIZE_MAX, parts, 100, &part_count, headers, 1000, &header_count);
+ *   rocktray_body(parts[1].encoding, mail + parts[1].body_start, parts[1].body_end - parts[1].body_start, ..);
  *
  * Memory. Calls allocate with malloc and realloc, and free everything before they return, whatever they return. The
  * library keeps no memory, no state and no pointer, so nothing has to be opened, closed or freed.
@@ -24,6 +31,9 @@
  * contain any bytes, and need not end in NUL.
  *
  * Time. A call takes time linear in the length of its input, times the depth of nested parts.
+ *
+ * ABI. Later versions with the same major number keep the calls, the codes, and the layout of the records. They may add
+ * calls, codes and flags.
  */
 #ifndef ROCKTRAY_H
 #define ROCKTRAY_H
@@ -55,6 +65,8 @@ enum rocktray_code {
     ROCKTRAY_NOT_UTF8 = 20,
     /* Any other refusal. No call of this version returns it. */
     ROCKTRAY_REFUSED = 21,
+    /* The mail has more parts and headers than the caller allows. */
+    ROCKTRAY_TOO_MANY = 22,
     /* What is missing or wrong in a date. */
     ROCKTRAY_DATE_DAY = 32,
     ROCKTRAY_DATE_MONTH = 33,
@@ -67,57 +79,189 @@ enum rocktray_code {
 /* Returns the version of the library, as ROCKTRAY_VERSION_NUMBER is that of the header. */
 uint32_t rocktray_version(void);
 
+/* The parent of the mail itself, and the group of an address that is in none. */
+#define ROCKTRAY_NONE UINT64_MAX
+
+/* The transfer encoding of a body. A name that is unknown, or none, is ROCKTRAY_7BIT. */
+enum rocktray_encoding {
+    ROCKTRAY_7BIT = 0,
+    ROCKTRAY_8BIT = 1,
+    ROCKTRAY_BINARY = 2,
+    ROCKTRAY_QUOTED_PRINTABLE = 3,
+    ROCKTRAY_BASE64 = 4
+};
+
+/* The disposition of a part. */
+enum rocktray_disposition {
+    ROCKTRAY_UNDISPOSED = 0, /* no Content-Disposition */
+    ROCKTRAY_INLINE = 1,
+    ROCKTRAY_ATTACHED = 2,
+    ROCKTRAY_FORM_DATA = 3,
+    ROCKTRAY_OTHERWISE = 4
+};
+
+/* The flags of a part; each has one bit. */
+enum rocktray_flag {
+    ROCKTRAY_IS_LEAF = 1,       /* it has no parts */
+    ROCKTRAY_IS_ATTACHMENT = 2, /* the member `attachment` of the JSON: a leaf that is attached or has a file name */
+    ROCKTRAY_IS_EXTRACTED = 4,  /* the member `extracted`: `rocktray extract` saves it */
+    ROCKTRAY_IS_TEXT = 8,       /* the JSON has its text: a leaf of a type text/.. that is not attached */
+    ROCKTRAY_IS_MAIL = 16       /* it forwards a mail (message/rfc822, message/global): read its content as a mail */
+};
+
+/* A mail or a part of it. All offsets are in bytes of the mail that was read, and an end is the offset after the last
+ * byte. */
+struct rocktray_part {
+    uint64_t parent;                 /* the index of the part that it is in, or ROCKTRAY_NONE for the mail itself */
+    uint64_t level;                  /* 0 for the mail, and one more than the level of its parent */
+    uint64_t start, end;             /* all its bytes */
+    uint64_t body_start, body_end;   /* its body; of a part with parts, the text before the first of them */
+    uint64_t first_header;           /* the index of its first header */
+    uint64_t header_count;
+    uint64_t encoding;               /* of its body: enum rocktray_encoding */
+    uint64_t disposition;            /* enum rocktray_disposition */
+    uint64_t flags;                  /* a sum of enum rocktray_flag */
+};
+
+/* A header. The key is without the colon. The raw value is without the spaces before it and the line end after it, but
+ * with the line ends inside it. */
+struct rocktray_header_record {
+    uint64_t start, key_end;         /* the key, which begins where the header does */
+    uint64_t value_start, value_end; /* the raw value */
+    uint64_t end;                    /* the end of the header, after its line end */
+};
+
+/* What an element of a list of addresses is. */
+enum rocktray_address_kind {
+    ROCKTRAY_MAILBOX = 0,
+    ROCKTRAY_GROUP = 1,  /* its members follow it */
+    ROCKTRAY_UNKNOWN = 2 /* text that is no address */
+};
+
+/* An element of a list of addresses, or a member of a group. The ranges are offsets in the buffer of strings. */
+struct rocktray_address {
+    uint64_t kind;                       /* enum rocktray_address_kind */
+    uint64_t group;                      /* the index of the group that it is in, or ROCKTRAY_NONE */
+    uint64_t name_start, name_end;       /* the display name in UTF-8; empty if it has none */
+    uint64_t address_start, address_end; /* the address in canonical form; of unknown text its bytes; of a group empty */
+};
+
+#if defined(__cplusplus) && __cplusplus >= 201103L
+static_assert(sizeof(struct rocktray_part) == 88, "eleven numbers of 64 bits");
+static_assert(sizeof(struct rocktray_header_record) == 40, "five numbers of 64 bits");
+static_assert(sizeof(struct rocktray_address) == 48, "six numbers of 64 bits");
+#elif defined(__STDC_VERSION__) && __STDC_VERSION__ >= 201112L
+_Static_assert(sizeof(struct rocktray_part) == 88, "eleven numbers of 64 bits");
+_Static_assert(sizeof(struct rocktray_header_record) == 40, "five numbers of 64 bits");
+#endif
+
+/* Reads a mail and fills a record for it and for each of its parts, each before its own parts and in their order, and a
+ * record for each of their headers, in the order of the parts. A capacity is a number of records, and so is a length.
+ * Refuses with ROCKTRAY_LEADING_SPACE, _LONE_CARRIAGE_RETURN or _TOO_DEEP, and with ROCKTRAY_TOO_MANY if there are more
+ * than `limit` parts and headers together; SIZE_MAX is no limit. */
+uint32_t rocktray_parts(const void *mail, size_t mail_length, size_t limit, struct rocktray_part *parts,
+                        size_t parts_capacity, size_t *parts_needed, struct rocktray_header_record *headers,
+                        size_t headers_capacity, size_t *headers_needed);
+
+/* The same for the headers of a mail or a part alone: only the header block is read. Offsets are counted from `part`.
+ * `limit` is the greatest number of headers. */
+uint32_t rocktray_headers(const void *part, size_t part_length, size_t limit, struct rocktray_header_record *headers,
+                          size_t headers_capacity, size_t *headers_needed);
+
+/* Writes the value of a header in UTF-8, given its raw value: unfolded, with its encoded words decoded. */
+uint32_t rocktray_value(const void *raw_value, size_t raw_value_length, void *buffer, size_t capacity, size_t *needed);
+
+/* Reads the raw value of a Content-Type. Writes strings in UTF-8 one after another to the buffer, and the end of each
+ * to `ends`: first the type in lower case, as text/plain; then the charset, us-ascii if none is given; then each
+ * parameter: its name in lower case, and its value. Parameters are in the order of their names. String k is
+ * buffer[k ? ends[k - 1] : 0] to buffer[ends[k] - 1]. */
+uint32_t rocktray_type(const void *raw_value, size_t raw_value_length, uint64_t *ends, size_t ends_capacity,
+                       size_t *ends_needed, void *buffer, size_t capacity, size_t *needed);
+
+/* Writes the file name of a part in UTF-8, as the sender gave it, given the raw values of its first Content-Disposition
+ * and its first Content-Type; a length of 0 if it has none. Returns ROCKTRAY_ABSENT if there is no name. */
+uint32_t rocktray_file_name(const void *raw_disposition, size_t raw_disposition_length, const void *raw_type,
+                            size_t raw_type_length, void *buffer, size_t capacity, size_t *needed);
+
+/* Writes a name that is safe in any directory, made from a file name: at most 255 bytes, without `/`, `\` and control
+ * characters, and neither empty nor `.` nor `..`. Refuses with ROCKTRAY_NOT_UTF8. */
+uint32_t rocktray_safe_name(const void *name, size_t name_length, void *buffer, size_t capacity, size_t *needed);
+
+/* Writes the decoded bytes of a body: the file, if it is one. `encoding` is that of the part's record; any other number
+ * is as ROCKTRAY_7BIT. Sets *is_damaged to whether the body is damaged: then the result is the bytes before the damage.
+ * Only Base64 can be damaged. *is_damaged is unchanged after any code but ROCKTRAY_DONE and ROCKTRAY_TOO_SHORT. */
+uint32_t rocktray_body(uint64_t encoding, const void *body, size_t body_length, void *buffer, size_t capacity,
+                       size_t *needed, bool *is_damaged);
+
+/* Writes the text of a body in UTF-8, as rocktray_text does for a part, given the raw value of the part's first
+ * Content-Type; a length of 0 if it has none. Sets *is_damaged as rocktray_body does. */
+uint32_t rocktray_body_text(uint64_t encoding, const void *body, size_t body_length, const void *raw_type,
+                            size_t raw_type_length, void *buffer, size_t capacity, size_t *needed, bool *is_damaged);
+
+/* Reads the raw value of a header with addresses, as From or To. Fills a record for each element, and writes their
+ * strings to the buffer. */
+uint32_t rocktray_addresses(const void *raw_value, size_t raw_value_length, struct rocktray_address *addresses,
+                            size_t addresses_capacity, size_t *addresses_needed, void *buffer, size_t capacity,
+                            size_t *needed);
+
+/* Writes the id of the mail that a delivery report is about, with no angle brackets. Returns ROCKTRAY_ABSENT if the mail
+ * is no such report or does not give the id. Refuses as rocktray_json does. */
+uint32_t rocktray_bounced_id(const void *mail, size_t mail_length, void *buffer, size_t capacity, size_t *needed);
+
+/* Writes a mail of a mailbox in the format mboxrd without the `>` that its writer put before lines `From `. */
+uint32_t rocktray_unquoted(const void *mail, size_t mail_length, void *buffer, size_t capacity, size_t *needed);
+
 /* Writes a mail as one line of JSON, LF included, as `rocktray json` does: headers, dates, ids, and all parts
  * with their types, texts and offsets (docs/mail_json.schema.json). The bytes of a part are mail[start] to
  * mail[end - 1], by the members `start` and `end` of its object. Both are null for parts of a forwarded mail that is
  * encoded: decode that mail by rocktray_content first. Refuses with ROCKTRAY_LEADING_SPACE, _LONE_CARRIAGE_RETURN or
  * _TOO_DEEP. */
-uint32_t rocktray_json(const uint8_t *mail, size_t mail_length, uint8_t *buffer, size_t capacity, size_t *needed);
+uint32_t rocktray_json(const void *mail, size_t mail_length, void *buffer, size_t capacity, size_t *needed);
 
 /* Writes the decoded bytes of the body of a mail or a part, without its transfer encoding: the file, if it is one.
  * `part` is the part's own bytes. Refuses as rocktray_json does, and with ROCKTRAY_NOT_BASE64. */
-uint32_t rocktray_content(const uint8_t *part, size_t part_length, uint8_t *buffer, size_t capacity, size_t *needed);
+uint32_t rocktray_content(const void *part, size_t part_length, void *buffer, size_t capacity, size_t *needed);
 
 /* Writes the text of the body of a mail or a part in UTF-8. It is decoded leniently: damaged Base64 is decoded up to
  * the damage, and text without a known charset is decoded as UTF-8 if it is valid. Refuses as rocktray_json does. */
-uint32_t rocktray_text(const uint8_t *part, size_t part_length, uint8_t *buffer, size_t capacity, size_t *needed);
+uint32_t rocktray_text(const void *part, size_t part_length, void *buffer, size_t capacity, size_t *needed);
 
 /* Writes the value of a header in UTF-8: unfolded, with its encoded words decoded. `number` selects one of the headers
  * with this name, counting from 0. The name is in any case, and without a colon. Only the header block is read.
  * Returns ROCKTRAY_ABSENT if there is no such header. Refuses with ROCKTRAY_LEADING_SPACE or _LONE_CARRIAGE_RETURN for
  * the block, and with ROCKTRAY_NOT_UTF8 for the name. */
-uint32_t rocktray_header(const uint8_t *part, size_t part_length, const uint8_t *name, size_t name_length,
-                         size_t number, uint8_t *buffer, size_t capacity, size_t *needed);
+uint32_t rocktray_header(const void *part, size_t part_length, const void *name, size_t name_length,
+                         size_t number, void *buffer, size_t capacity, size_t *needed);
 
 /* Writes the raw value of that header, without the spaces before it and the line end after it. */
-uint32_t rocktray_raw_header(const uint8_t *part, size_t part_length, const uint8_t *name, size_t name_length,
-                             size_t number, uint8_t *buffer, size_t capacity, size_t *needed);
+uint32_t rocktray_raw_header(const void *part, size_t part_length, const void *name, size_t name_length,
+                             size_t number, void *buffer, size_t capacity, size_t *needed);
 
 /* Writes the message ids in a text, each between `<` and `>`, without separators. With needs_at, only those with an `@`
  * are ids, as in References; a mail's own Message-ID may have none. Refuses with ROCKTRAY_NOT_UTF8. */
-uint32_t rocktray_ids(const uint8_t *text, size_t text_length, bool needs_at, uint8_t *buffer, size_t capacity,
+uint32_t rocktray_ids(const void *text, size_t text_length, bool needs_at, void *buffer, size_t capacity,
                       size_t *needed);
 
 /* Reads the value of a Date header: sets *seconds to the seconds since 1 January 1970, 00:00 UTC, and *is_zone_known to
  * whether it gives its zone; otherwise it is read as UTC. If it is refused, *seconds is unchanged and *is_zone_known is
  * false. Refuses with ROCKTRAY_NOT_UTF8, or one of the codes ROCKTRAY_DATE_... */
-uint32_t rocktray_date(const uint8_t *text, size_t text_length, int64_t *seconds, bool *is_zone_known);
+uint32_t rocktray_date(const void *text, size_t text_length, int64_t *seconds, bool *is_zone_known);
 
 /* Finds the first mail of a mailbox (mbox, RFC 4155): the mail is mailbox[*start] to mailbox[*end - 1], without the
  * line `From ..` before it and the empty line after it. For the next mail, call it again with mailbox + *next and the
  * length minus *next: all calls together take time linear in the mailbox. Text before the first `From ` line is
  * skipped. With is_counted, the length of a mail is that in its Content-Length (mboxcl, mboxcl2). Returns
  * ROCKTRAY_ABSENT if there is no mail; then the three are unchanged. Does not allocate. */
-uint32_t rocktray_next_mail(const uint8_t *mailbox, size_t mailbox_length, bool is_counted, size_t *start, size_t *end,
+uint32_t rocktray_next_mail(const void *mailbox, size_t mailbox_length, bool is_counted, size_t *start, size_t *end,
                             size_t *next);
 
 /* Writes the recipients of a delivery report (RFC 3464) as one line of JSON, LF included: a list of objects with the
  * members final_recipient, original_recipient, action, status and diagnostic_code, each a string or null. The list is
  * empty if the mail is no such report. Refuses as rocktray_json does. */
-uint32_t rocktray_recipients(const uint8_t *mail, size_t mail_length, uint8_t *buffer, size_t capacity, size_t *needed);
+uint32_t rocktray_recipients(const void *mail, size_t mail_length, void *buffer, size_t capacity, size_t *needed);
 
 /* Writes the text of a code, in English. For a refused mail it is the text in the line of rocktray json. */
-uint32_t rocktray_reason(uint32_t code, uint8_t *buffer, size_t capacity, size_t *needed);
+uint32_t rocktray_reason(uint32_t code, void *buffer, size_t capacity, size_t *needed);
 
 #ifdef __cplusplus
 }
