@@ -33,7 +33,7 @@ pub use disposition::{
     parse_content_disposition_in,
 };
 pub use error::{Base64Fault, MailParseError, QuotedPrintableFault, RefusalKind, Wrapped};
-pub use header::parse::parse_header;
+pub use header::parse::{HeaderPlaces, header_places, parse_header};
 pub use header::{MailHeader, value_text, value_text_in};
 pub use headers::block::parse_headers;
 pub use headers::map::MailHeaderMap;

@@ -124,13 +124,6 @@ header_end-> raw e = rw e (omega arith)
 pub is_line_end-false : (b : ℕ) → (b ≡ 13 → ⊥) → (b ≡ 10 → ⊥) → is_line_end b ≡ false
 is_line_end-false b no_return no_feed = rw (ne_eqb b 13 no_return, ne_eqb b 10 no_feed) refl
 
--- a header without a colon is a key alone
-pub header_of-key : (raw : List ℕ) (end : ℕ) → has_colon raw ≡ false → end ≡ header_end raw → header_of raw ≡ record { key = take end raw; value = slice_range raw end end }
-unfolding header_end value_start value_end
-header_of-key raw end without at =
-    let key : key_end raw ≡ end = sym (at ∙ (rw without refl)) in
-    rw (without, key) refl
-
 -- a part of a part
 trimmed_slice : (raw : List ℕ) (a e p q : ℕ) → a ≤ e → e ≤ length raw → p ≤ length (slice_range raw a e) → q ≤ length (drop p (slice_range raw a e)) → take q (drop p (slice_range raw a e)) ≡ slice_range raw (a + p) ((a + p) + q)
 trimmed_slice raw a e p q order within p_fits q_fits =
@@ -264,8 +257,59 @@ value-in_order raw = by_colon (has_colon raw) refl
         let within = key_end-≤ raw in
         (omega arith, omega arith, omega arith)
 
+-- the same from the places that are found, and within the bytes
+pub places-in_order : (raw : List ℕ) (key start stop len : ℕ) → key ≡ key_end raw → start ≡ value_start raw → stop ≡ value_end raw → len ≡ header_length raw
+    → (key ≤ start) × (start ≤ stop) × (stop ≤ len) × (len ≤ length raw)
+places-in_order raw key start stop len k s e n =
+    let order = value-in_order raw in
+    let first = order.0 in
+    let second = order.1 in
+    let third = order.2 in
+    let fits = header_length-≤ raw in
+    (omega arith, omega arith, omega arith, omega arith)
+
+-- where the value is without a colon
+pub value_start-key : (raw : List ℕ) (place : ℕ) → has_colon raw ≡ false → place ≡ key_end raw → place ≡ value_start raw
+value_start-key raw place without at = at ∙ sym (no_start raw without)
+
+pub value_end-key : (raw : List ℕ) (place : ℕ) → has_colon raw ≡ false → place ≡ key_end raw → place ≡ value_end raw
+value_end-key raw place without at = at ∙ sym (no_end raw without)
+
+-- where it is with a colon, from its parts as they are cut
+pub value-places : (raw : List ℕ) (colon end : ℕ) → has_colon raw ≡ true → colon ≡ key_end raw → end ≡ header_end raw
+    → (after spaceless trimmed : List ℕ) → after ≡ slice_range raw (colon + 1) end
+    → spaceless ≡ drop (first_place (begins (λ b. not (eqb b 32))) after) after
+    → trimmed ≡ take (first_place (list_all is_line_end) spaceless) spaceless
+    → (end - length spaceless ≡ value_start raw) × ((end - length spaceless) + length trimmed ≡ value_end raw)
+value-places raw colon end has at ends after spaceless trimmed is_after is_spaceless is_trimmed =
+    let is_cut : after ≡ cut raw = is_after ∙ ap (λ n. slice_range raw (n + 1) end) at ∙ ap (λ n. slice_range raw (key_end raw + 1) n) ends ∙ (rw add-one refl) in
+    let is_left : spaceless ≡ drop (spaces raw) (cut raw) = is_spaceless ∙ ap (λ (xs : List ℕ). drop (first_place (begins (λ b. not (eqb b 32))) xs) xs) is_cut in
+    let is_value : trimmed ≡ take (kept raw) (drop (spaces raw) (cut raw)) = is_trimmed ∙ ap (λ (xs : List ℕ). take (first_place (list_all is_line_end) xs) xs) is_left in
+    let order = header_end-> raw has in
+    let size = length-cut raw has in
+    let front = first_place-≤ (begins (λ b. not (eqb b 32))) (cut raw) in
+    let back = first_place-≤ (list_all is_line_end) (drop (spaces raw) (cut raw)) in
+    let rest = length-drop (spaces raw) (cut raw) in
+    let left : length spaceless ≡ length (cut raw) - spaces raw = ap length is_left ∙ rest in
+    let value : length trimmed ≡ kept raw = ap length is_value ∙ length-take (kept raw) (drop (spaces raw) (cut raw)) ∙ omega arith in
+    let starts = value_start-colon raw has in
+    let stops = value_end-colon raw has in
+    (omega arith, omega arith)
+
+-- the same from what the searches find
+pub value-found : (raw : List ℕ) (place feed end : ℕ) (is : Bool) (spaceless trimmed : List ℕ) → place ≡ key_end raw → is ≡ begins is_colon (drop place raw) → is ≡ true
+    → feed ≡ place_from (begins is_line_feed) raw (place + 1) → end ≡ place_from ends_header raw feed
+    → spaceless ≡ drop (first_place (begins (λ b. not (eqb b 32))) (slice_range raw (place + 1) end)) (slice_range raw (place + 1) end)
+    → trimmed ≡ take (first_place (list_all is_line_end) spaceless) spaceless
+    → (end - length spaceless ≡ value_start raw) × ((end - length spaceless) + length trimmed ≡ value_end raw)
+value-found raw place feed end is spaceless trimmed at found colon is_feed is_end is_spaceless is_trimmed =
+    let has = has_colon-at raw place is true at found colon in
+    let within = key_end-< raw has in
+    let low : place < length raw = omega arith in
+    value-places raw place end has at (is_end ∙ header_end-from_feed raw place feed has at low is_feed) (slice_range raw (place + 1) end) spaceless trimmed refl is_spaceless is_trimmed
+
 -- where a header is cut
-pub ruleset header_cuts = (has_colon-at, feed_after, key_end-<, header_end-key, header_end-from_feed, header_length-at, header_of-key, header_of-value)
+pub ruleset header_cuts = (has_colon-at, feed_after, key_end-<, header_end-key, header_end-from_feed, header_length-at, value_start-key, value_end-key, places-in_order)
 
 -- the reading of a header
 pub ruleset header_readings = (read_header-empty, read_header-space, read_header-ok, header_length-≤, header_length->)

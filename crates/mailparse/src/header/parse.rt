@@ -5,6 +5,7 @@ ghost use Rattle.mail_codec.specs.Ascii.{colon, is_blank, space};
 ghost use Rattle.mail_codec.specs.Places.{first_place, place_from, begins};
 ghost use Rattle.mailparse.specs.Header.{is_line_end, is_line_feed, key_end, ends_header};
 ghost use Rattle.mailparse.specs.Header.{header_of, header_length, read_header};
+ghost use Rattle.mailparse.specs.Header.{value_end, value_start};
 ghost use Rattle.mailparse.specs.Outcome.{Answers};
 
 use super::MailHeader;
@@ -50,19 +51,72 @@ pub fn parse_header(raw: &[u8]) -> Result<(MailHeader<'_>, usize), MailParseErro
 }
 
 /// Returns the header at the front of the bytes, and its length.
-#[tactic(auto, using(crate::proofs::lemmas::Header::header_cuts))]
 fn cut_header(raw: &[u8]) -> (MailHeader<'_>, usize)
     ensures { result ≡ (header_of raw.now, header_length raw.now) }
 {
+    let places = header_places(raw);
+    let key = &raw[..places.key_end];
+    let value = &raw[places.value_start..places.value_end];
+    (MailHeader { key, value }, places.length)
+}
+
+/// The offsets in a header, counted from its first byte, as `header_places` returns them. Its key
+/// begins at 0.
+#[derive(Clone, Copy, Debug, PartialEq, Eq)]
+pub struct HeaderPlaces {
+    /// The end of the key, which is before the colon, if there is one.
+    pub key_end: usize,
+    /// The start of the value, after the colon and the spaces after it.
+    pub value_start: usize,
+    /// The end of the value, before its line end.
+    pub value_end: usize,
+    /// The number of bytes that the header takes up, including its line end.
+    pub length: usize,
+}
+
+/// Returns where the key and the value of the header at the front of `raw` are, and the length of
+/// the header (RFC 5322, sections 2.2 and 2.2.3), as `parse_header` cuts it.
+///
+/// Any bytes are read as a header, also those that `parse_header` refuses. Does not allocate.
+///
+/// # Examples
+///
+/// ```rust
+/// use mailparse::header_places;
+///
+/// let raw = b"Subject: Hello,\n  you\nTo: me";
+/// let places = header_places(raw);
+/// assert_eq!(rt; &raw[..places.key_end], b"Subject".as_slice());
+/// assert_eq!(rt; &raw[places.value_start..places.value_end], b"Hello,\n  you".as_slice());
+/// assert_eq!(rt; places.length, 22);
+/// ```
+#[tactic(auto, using(crate::proofs::lemmas::Header::header_cuts))]
+pub fn header_places(raw: &[u8]) -> HeaderPlaces
+    ensures key { result.key_end ≡ key_end raw.now }
+    ensures start { result.value_start ≡ value_start raw.now }
+    ensures end { result.value_end ≡ value_end raw.now }
+    ensures len { result.length ≡ header_length raw.now }
+    ensures order { (result.key_end ≤ result.value_start) × (result.value_start ≤ result.value_end)
+        × (result.value_end ≤ result.length) × (result.length ≤ length raw.now) }
+{
     let place = key_end(raw);
-    let key = &raw[..place];
     if !is_colon_at(raw, place) {
-        let value = &raw[place..place];
-        return (MailHeader { key, value }, length_to(raw, place));
+        return HeaderPlaces {
+            key_end: place,
+            value_start: place,
+            value_end: place,
+            length: length_to(raw, place),
+        };
     }
     let end = header_end(raw, line_feed_from(raw, place + 1));
-    let value = trim_line_ends(trim_spaces(&raw[place + 1..end]));
-    (MailHeader { key, value }, length_to(raw, end))
+    let spaceless = trim_spaces(&raw[place + 1..end]);
+    let value_start = end - spaceless.len();
+    HeaderPlaces {
+        key_end: place,
+        value_start,
+        value_end: value_start + trim_line_ends(spaceless).len(),
+        length: length_to(raw, end),
+    }
 }
 
 /// Returns where the key ends: at the first colon or LF, or at the end of the bytes.
