@@ -62,6 +62,17 @@ mail_start (Some start) place =
     if is_plain (lenient_body_kind (root place.part))
     then Some (min (start + place.placement.body.start) (2 ^ 64 - 1)) else None
 
+-- the mail that a part forwards: its bytes, and their offset in the whole mail, if they occur there
+pub record Forwarded : Type 0 where
+  pub bytes : List ℕ
+  pub start : Option ℕ
+
+-- the mail that a part forwards, if it is read, given the offset of the mail that contains the part
+abbrev pub forwarded : Option ℕ → Place → Option Forwarded
+forwarded start place =
+    if holds_mail place
+    then Some (record { bytes = mail_bytes place; start = mail_start start place }) else None
+
 -- a mail inside: the path of the part that contains it, its bytes, their offset in the whole mail,
 -- if they occur there, and its refusal
 pub record InnerMail : Type 0 where
@@ -95,3 +106,16 @@ module _ (known : Charsets) where
       (λ inside. inner_mails most place.path (mail_start start place) inside (placements 0 inside))
       (result_ok (mail_read place)) []
       else []) (places_under path mail found)
+
+  -- the mails inside a mail that was read so, given its path and its offset
+  abbrev pub mails_below : ℕ → List ℕ → Option ℕ → Reads Tree → List InnerMail
+  mails_below most path start read = option_map_or
+      (λ inside. inner_mails most path start inside (placements 0 inside)) (result_ok read) []
+
+  -- the mail in a part, if it forwards one, and those inside it
+  abbrev pub mails_in_place : ℕ → Option ℕ → Place → List InnerMail
+  mails_in_place most start place =
+      if holds_mail place
+      then held_mail start place
+      ∷ mails_below most place.path (mail_start start place) (mail_read place)
+      else []

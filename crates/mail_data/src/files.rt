@@ -318,8 +318,21 @@ pub fn is_extracted<K: KnownCharsets>(
     is_attachment(alloc, part, known)
 }
 
-/// Returns whether a part is a text that mail readers show.
-fn is_shown(part: &ParsedMail<'_>) -> bool
+/// Returns whether the type of a part is that of a text that mail readers show: `text/plain`, also
+/// `text` without a subtype, or `text/html`.
+///
+/// Does not allocate.
+///
+/// # Examples
+///
+/// ```rust
+/// use mail_data::files::is_shown;
+/// use mailparse::parse_mail;
+///
+/// assert!(rt; is_shown(&parse_mail(alloc, b"Content-Type: text/html\n\n")?));
+/// assert!(rt; !is_shown(&parse_mail(alloc, b"Content-Type: text/calendar\n\n")?));
+/// ```
+pub fn is_shown(part: &ParsedMail<'_>) -> bool
     ensures { result ≡ is_shown (root (tree_of part.now)) }
 {
     let mimetype = part.ctype.mimetype.as_str();

@@ -78,8 +78,30 @@ pub fn flowed_text<K: KnownCharsets>(
     })
 }
 
-/// Returns the text of a part of this type, with each paragraph as one line if they flow.
-fn unflowed_of(alloc: Global, ctype: &ParsedContentType, text: String) -> Result<String, AllocError>
+/// Returns the text of a part of this type, as `lenient::lenient_text` reads it, with each paragraph
+/// as one line if they flow: `flowed_text` is this for a part whose body is not decoded yet.
+///
+/// Returns the text itself if they do not flow, and otherwise allocates the new one.
+///
+/// # Errors
+///
+/// `AllocError` if it runs out of memory.
+///
+/// # Examples
+///
+/// ```rust
+/// use mail_data::flowed::unflowed_of;
+/// use mailparse::parse_content_type;
+///
+/// let ctype = parse_content_type(alloc, "text/plain; format=flowed")?;
+/// let text = unflowed_of(alloc, &ctype, String::from_str(alloc, "one \ntwo\n")?)?;
+/// assert_eq!(rt; text.as_str(), "one two\n");
+/// ```
+pub fn unflowed_of(
+    alloc: Global,
+    ctype: &ParsedContentType,
+    text: String,
+) -> Result<String, AllocError>
     ensures { IfOk result (λ joined.
         string_bytes joined ≡ unflowed_of (content_type ctype.now) (string_bytes text)) }
 {

@@ -1,10 +1,9 @@
 -- Lemmas on the mails inside a mail.
-use Rattle.std.proofs.Common.{◌≡◌, ◌≢◌, ℕ, zero, suc, ◌-◌, Bool, true, false, List, [], ◌∷◌, ◌++◌, Option, Some, None, Ok, Err, ◌<◌, length, drop, get_or, refl, sym, ap, ◌∙◌, arith, append_assoc, add-one, drop-cons}
-use Rattle.std.specs.Prelude.{flat_map, if◌then◌else◌, min, ◌+◌, ◌^◌}
+use Rattle.std.proofs.Common.{◌≡◌, ◌≢◌, inl, inr, ℕ, zero, suc, ◌-◌, Bool, true, false, List, [], ◌∷◌, ◌++◌, Option, Some, None, Ok, Err, ◌<◌, length, drop, get_or, refl, sym, ap, ◌∙◌, arith, append_assoc, add-one, drop-cons}
+use Rattle.std.specs.Prelude.{flat_map, min, ◌+◌, ◌^◌}
 use Rattle.std.specs.Cow.{cow_str_bytes}
-use Rattle.std.specs.Option.{option_map_or}
-use Rattle.std.specs.Result.{result_err, result_ok}
-use Rattle.std.proofs.lemmas.Bool.{cond-true, cond-false}
+use Rattle.std.specs.Result.{result_err}
+use Rattle.std.proofs.lemmas.Bool.{cases_Bool, cond-true, cond-false}
 use Rattle.std.proofs.lemmas.List.{append-nil}
 use Rattle.mail_codec.specs.Charset.{Charsets}
 use Rattle.mailparse.specs.Mail.{Tree, read_mail_in, root}
@@ -13,24 +12,13 @@ use Rattle.mailparse.specs.Placement.{Placement, placements}
 use Rattle.mailparse.specs.Refusal.{Reads, Refusal, generic, encoding, base64_fault}
 use Rattle.mailparse.specs.declared.error.MailParseError.{MailParseError}
 use Rattle.mailparse.specs.declared.error.MailParseError.TheVariants.{QuotedPrintableDecodeError, Base64DecodeError, EncodingError, Generic, Memory}
-use Rattle.mail_data.specs.InnerMails.{InnerMail, held_mail, holds_mail, inner_mails, is_plain, mail_bytes, mail_read, mail_start, places_under}
+use Rattle.mail_data.specs.InnerMails.{Forwarded, InnerMail, forwarded, holds_mail, inner_mails, is_plain, mail_bytes, mail_read, mail_start, mails_below, mails_in_place, places_under}
 use Rattle.mail_data.specs.PartPlaces.{Place}
 use Rattle.mail_data.specs.lenient.Encoding.{lenient_body_kind}
 
 -- a mail inside, given its fields
 abbrev pub inner_with : List ℕ → List ℕ → Option ℕ → Option Refusal → InnerMail
 inner_with path bytes start refusal = record { path = path; bytes = bytes; start = start; refusal = refusal }
-
--- the mails inside a mail that was read so, given its path and its offset
-abbrev pub mails_below : Charsets → ℕ → List ℕ → Option ℕ → Reads Tree → List InnerMail
-mails_below known most path at read = option_map_or (λ inside. inner_mails known most path at inside (placements 0 inside)) (result_ok read) []
-
--- the mail in a part, if there is one, and those inside it
-abbrev pub mails_in_place : Charsets → ℕ → Option ℕ → Place → List InnerMail
-mails_in_place known most start place =
-    if holds_mail place
-    then held_mail known start place ∷ mails_below known most place.path (mail_start start place) (mail_read known place)
-    else []
 
 pub inner_mails-some : (known : Charsets) (most : ℕ) (path : List ℕ) (start : Option ℕ) (t : Tree) (found : List Placement) → most ≢ 0
     → inner_mails known most path start t found ≡ flat_map (mails_in_place known (most - 1) start) (places_under path t found)
@@ -50,6 +38,43 @@ held-read known most start at place bytes read h same there e =
     ∙ ap (λ (r : Reads Tree). inner_with place.path (mail_bytes place) (mail_start start place) (result_err r) ∷ mails_below known most place.path (mail_start start place) r) is
     ∙ ap (λ (b : List ℕ). inner_with place.path b (mail_start start place) (result_err read) ∷ mails_below known most place.path (mail_start start place) read) (sym same)
     ∙ ap (λ (s : Option ℕ). inner_with place.path bytes s (result_err read) ∷ mails_below known most place.path s read) (sym there)
+
+some-is : {A : Type 0} (x y : A) → ◌≡◌ {A = Option A} (Some x) (Some y) → x ≡ y
+some-is x y e = cc
+
+none≢some : {A : Type 0} {x : A} → ◌≡◌ {A = Option A} None (Some x) → ⊥
+none≢some e = cc
+
+some≢none : {A : Type 0} {x : A} → ◌≡◌ {A = Option A} (Some x) None → ⊥
+some≢none e = cc
+
+-- the mail that a part forwards, given its fields
+abbrev pub forwarded_with : List ℕ → Option ℕ → Forwarded
+forwarded_with bytes start = record { bytes = bytes; start = start }
+
+pub forwarded-is : (start at : Option ℕ) (place : Place) (bytes : List ℕ) → holds_mail place ≡ true → bytes ≡ mail_bytes place → at ≡ mail_start start place
+    → ◌≡◌ {A = Option Forwarded} (Some (forwarded_with bytes at)) (forwarded start place)
+forwarded-is start at place bytes h same there =
+    ap (λ (b : List ℕ). Some (forwarded_with b at)) same ∙ ap (λ (s : Option ℕ). Some (forwarded_with (mail_bytes place) s)) there
+    ∙ sym (cond-true (holds_mail place) _ _ h)
+
+-- a part that forwards none, and one whose mail was read so
+pub not_forwarded : (known : Charsets) (most : ℕ) (start : Option ℕ) (place : Place) → ◌≡◌ {A = Option Forwarded} None (forwarded start place)
+    → mails_in_place known most start place ≡ []
+not_forwarded known most start place h = elim (cases_Bool (holds_mail place)) [
+  | inl holds ↦ absurd (none≢some (h ∙ cond-true (holds_mail place) _ _ holds))
+  | inr holds ↦ held-none known most start place holds
+]
+
+pub forwarded_read : (known : Charsets) (most : ℕ) (start at : Option ℕ) (place : Place) (bytes : List ℕ) (read : Reads Tree)
+    → ◌≡◌ {A = Option Forwarded} (Some (forwarded_with bytes at)) (forwarded start place) → read_mail_in known 100 bytes ≡ read
+    → mails_in_place known most start place ≡ inner_with place.path bytes at (result_err read) ∷ mails_below known most place.path at read
+forwarded_read known most start at place bytes read h e = elim (cases_Bool (holds_mail place)) [
+  | inl holds ↦
+      let same = some-is _ _ (h ∙ cond-true (holds_mail place) _ _ holds) in
+      held-read known most start at place bytes read holds (ap (λ (f : Forwarded). f.bytes) same) (ap (λ (f : Forwarded). f.start) same) e
+  | inr holds ↦ absurd (some≢none (h ∙ cond-false (holds_mail place) _ _ holds))
+]
 
 -- the refusal in an error that is not out of memory
 refused-is : (e : MailParseError) (given : Reads Tree) → (IsMemory e → ⊥) → IsRefusalOrMemory e given

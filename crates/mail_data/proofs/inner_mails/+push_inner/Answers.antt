@@ -4,11 +4,11 @@ use Rattle.mailparse.specs.BodyViews.{content_of}
 use Rattle.mailparse.specs.Mail.{read_mail_in, root}
 use Rattle.mailparse.specs.Outcome.{IsRefusalOrMemory, refusal_of}
 use Rattle.mailparse.specs.Views.{placements_of, tree_of}
-use Rattle.mail_data.specs.InnerMails.{InnerMail, inner_mails}
+use Rattle.mail_data.specs.InnerMails.{InnerMail, inner_mails, mails_in_place}
 use Rattle.mail_data.specs.InnerMailViews.{inner_view}
 use Rattle.mail_data.specs.PlaceViews.{place_view}
 use Rattle.mail_data.specs.lenient.Encoding.{lenient_body_kind}
-use Rattle.mail_data.proofs.lemmas.InnerMails.{drop_next, inner_mails-some, inner_with, mails_in_place, next-none, next-read, next-refused}
+use Rattle.mail_data.proofs.lemmas.InnerMails.{drop_next, inner_mails-some, inner_with, next-none, next-read, next-refused}
 use Rattle.mail_data.proofs.inner_mails.«+push_inner».Goals.{then-holds_mail+in_ok-body+in_ok-bytes, in-Ok+in_ok-push_mail-in-Ok+in_ok-push_inner-in-Ok, in-Err+in_ok-push_refused-in-Err, else-holds_mail}
 use Rattle.mail_data.proofs.inner_mails.«+push_inner».Goals as goal
 

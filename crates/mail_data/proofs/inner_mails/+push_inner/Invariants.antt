@@ -2,10 +2,9 @@
 use Rattle.std.proofs.Common.{◌≡◌, ◌++◌, ◌-◌, drop, map}
 use Rattle.std.specs.Prelude.{flat_map}
 use Rattle.mailparse.specs.Views.{placements_of, tree_of}
-use Rattle.mail_data.specs.InnerMails.{inner_mails}
+use Rattle.mail_data.specs.InnerMails.{inner_mails, mails_in_place}
 use Rattle.mail_data.specs.InnerMailViews.{inner_view}
 use Rattle.mail_data.specs.PlaceViews.{place_view}
-use Rattle.mail_data.proofs.lemmas.InnerMails.{mails_in_place}
 use Rattle.mail_data.proofs.inner_mails.«+push_inner».Given as goal
 
 abbrev pub decreases-push_inner : goal.decreases-push_inner
