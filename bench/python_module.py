@@ -1,34 +1,34 @@
-"""Times the Python module beside Python's email, with policy=default and compat32.
+"""Times the Python module beside Python's email, with compat32 and with policy=default.
 
-Each reads a mail and then everything: subject, sender, recipients, date, ids, all headers decoded, and of each part its
-type, name, bytes and text. The module is that of PYTHONPATH, or of python/ with the library that ROCKTRAY_LIBRARY names.
+The works: to parse a mail; five members with the names of the files; the names and values of all headers, for which
+email has BytesHeaderParser; everything, which is all headers decoded, and of each part its type, name, bytes and text;
+and subject, sender and date of each mail of a mailbox, for which email has mailbox.mbox. Threads read everything of
+mails that are shared out among 1, 2 and 4 of them. The module is the one that Python finds: install the wheel, or unpack
+it into a directory and name that in PYTHONPATH.
 """
 import email
 import email.policy
 import email.utils
 import glob
+import mailbox
 import os
 import sys
+import tempfile
+import threading
 import time
+from email.header import decode_header, make_header
+from email.parser import BytesHeaderParser
 
 import made_mails
 
 TOP = os.path.dirname(os.path.dirname(os.path.abspath(__file__)))
+THREADS = (1, 2, 4)
+LARGE = 1 << 16
 
 
-def read_by_rocktray(raw):
-    import rocktray  # here, so that --help needs no library
-
-    mail = rocktray.parse(raw)
-    found = [mail.subject, mail.from_, mail.to, mail.cc, mail.date, mail.message_id, mail.references]
-    for part in mail.walk():
-        found += [part.content_type, part.file_name, part.is_attachment, part.text]
-        found += [(header.name, header.value) for header in part.headers]
-        try:
-            found.append(part.content)
-        except rocktray.Refused:
-            pass
-    return found
+def decoded(value):
+    """The text of a value, by compat32."""
+    return value and str(make_header(decode_header(value)))
 
 
 def text_of(part, content):
@@ -38,71 +38,176 @@ def text_of(part, content):
         return content.decode("latin-1")
 
 
-def read_parts(message, shown):
-    """All of a message's parts; `shown` decodes the value of a header."""
-    found = []
-    for part in message.walk():
-        content = part.get_payload(decode=True)
-        found += [part.get_content_type(), part.get_filename(), part.get_content_disposition(), content]
-        found += [(name, shown(value)) for name, value in part.items()]
-        if content is not None and part.get_content_maintype() == "text":
-            found.append(text_of(part, content))
-    return found
+class Rocktray:
+    """The works by the module."""
+
+    @staticmethod
+    def parse(raw):
+        import rocktray  # here, so that --help needs no module
+
+        return rocktray.parse(raw)
+
+    @staticmethod
+    def envelope(mail):
+        return [mail.subject, mail.from_, mail.date]
+
+    @classmethod
+    def members(cls, raw):
+        mail = cls.parse(raw)
+        return cls.envelope(mail) + [mail.to, mail.message_id, [part.file_name for part in mail.walk()]]
+
+    @classmethod
+    def headers(cls, raw):
+        return [(header.name, header.value) for header in cls.parse(raw).headers]
+
+    @classmethod
+    def everything(cls, raw):
+        mail = cls.parse(raw)
+        found = cls.envelope(mail) + [mail.to, mail.cc, mail.message_id, mail.references]
+        for part in mail.walk():
+            found += [part.content_type, part.file_name, part.is_attachment, part.text]
+            found += [(header.name, header.value) for header in part.headers]
+            found.append(None if part.is_damaged else part.content)
+        return found
+
+    @classmethod
+    def mailbox(cls, path):
+        import rocktray
+
+        return [cls.envelope(mail) for mail in rocktray.open_mailbox(path) if not mail.error]
 
 
-def read_by_default(raw):
-    message = email.message_from_bytes(raw, policy=email.policy.default)
-    found = [str(message["subject"]), message["message-id"], message["references"]]
-    for name in ("from", "to", "cc"):
+class Compat32:
+    """The works by email."""
+
+    policy = email.policy.compat32
+
+    @classmethod
+    def parse(cls, raw):
+        return email.message_from_bytes(raw, policy=cls.policy)
+
+    @classmethod
+    def addresses(cls, message, name):
+        return [(decoded(one), address) for one, address in email.utils.getaddresses(message.get_all(name, []))]
+
+    @classmethod
+    def time(cls, message):
+        return message["date"] and email.utils.parsedate_to_datetime(message["date"])
+
+    @classmethod
+    def value(cls, value):
+        return decoded(value)
+
+    @classmethod
+    def envelope(cls, message):
+        return [cls.value(message["subject"]), cls.addresses(message, "from"), cls.time(message)]
+
+    @classmethod
+    def members(cls, raw):
+        message = cls.parse(raw)
+        found = cls.envelope(message) + [cls.addresses(message, "to"), message["message-id"]]
+        return found + [[part.get_filename() for part in message.walk()]]
+
+    @classmethod
+    def headers(cls, raw):
+        return [(name, cls.value(value)) for name, value in BytesHeaderParser(policy=cls.policy).parsebytes(raw).items()]
+
+    @classmethod
+    def everything(cls, raw):
+        message = cls.parse(raw)
+        found = cls.envelope(message) + [cls.addresses(message, "to"), cls.addresses(message, "cc")]
+        found += [message["message-id"], message["references"]]
+        for part in message.walk():
+            content = part.get_payload(decode=True)
+            found += [part.get_content_type(), part.get_filename(), part.get_content_disposition(), content]
+            found += [(name, cls.value(value)) for name, value in part.items()]
+            if content is not None and part.get_content_maintype() == "text":
+                found.append(text_of(part, content))
+        return found
+
+    @classmethod
+    def mailbox(cls, path):
+        messages = mailbox.mbox(path, factory=lambda file: cls.parse(file.read()))
+        return [cls.envelope(message) for message in messages]
+
+
+class Default(Compat32):
+    """The works by email with policy=default, which reads values as its header classes do."""
+
+    policy = email.policy.default
+
+    @classmethod
+    def addresses(cls, message, name):
         value = message[name]
-        found.append(value and [(one.display_name, one.addr_spec) for one in value.addresses])
-    date = message["date"]
-    found.append(date and date.datetime)
-    return found + read_parts(message, str)
+        return value and [(one.display_name, one.addr_spec) for one in value.addresses]
+
+    @classmethod
+    def time(cls, message):
+        return message["date"] and message["date"].datetime
+
+    @classmethod
+    def value(cls, value):
+        return value and str(value)
 
 
-def decoded(value):
-    return value and str(email.header.make_header(email.header.decode_header(value)))
-
-
-def read_by_compat32(raw):
-    message = email.message_from_bytes(raw)
-    found = [decoded(message["subject"]), message["message-id"], message["references"]]
-    for name in ("from", "to", "cc"):
-        found.append([(decoded(one), address) for one, address in email.utils.getaddresses(message.get_all(name, []))])
-    date = message["date"]
-    found.append(date and email.utils.parsedate_to_datetime(date))
-    return found + read_parts(message, decoded)
-
-
-READERS = {"rocktray": read_by_rocktray, "policy=default": read_by_default, "compat32": read_by_compat32}
+READERS = {"rocktray": Rocktray, "compat32": Compat32, "policy=default": Default}
+WORKS = ("parse", "members", "headers", "everything")
 
 
 def readable(mails):
     """The mails that each reader reads: email raises errors of many kinds."""
-    import rocktray  # an error of which says that it is not installed
-
     kept = []
     for raw in mails:
         try:
-            rocktray.parse(raw)
-            read_by_default(raw)
-            read_by_compat32(raw)
+            for reader in READERS.values():
+                for work in WORKS:
+                    getattr(reader, work)(raw)
+        except ImportError:
+            raise
         except Exception:  # noqa: BLE001
             continue
         kept.append(raw)
     return kept
 
 
-def least_times(mails, rounds):
-    """The least seconds of each reader over all mails."""
-    least = dict.fromkeys(READERS, float("inf"))
+def seconds(call, *arguments):
+    """The seconds that a call takes."""
+    start = time.perf_counter()
+    call(*arguments)
+    return time.perf_counter() - start
+
+
+def read_all(read, mails):
+    for raw in mails:
+        read(raw)
+
+
+def with_threads(count, mails):
+    """Reads everything of mails that are shared out among threads."""
+    threads = [threading.Thread(target=read_all, args=(Rocktray.everything, mails[k::count])) for k in range(count)]
+    for thread in threads:
+        thread.start()
+    for thread in threads:
+        thread.join()
+
+
+def measured(mails, path):
+    """The works with their mails, and what times each: a call for each reader, or for each number of threads."""
+    for work in WORKS:
+        yield work, mails, {name: (read_all, getattr(reader, work), mails) for name, reader in READERS.items()}
+    yield "mailbox", mails, {name: (reader.mailbox, path) for name, reader in READERS.items()}
+    large = [raw for raw in mails if len(raw) >= LARGE]
+    for work, some in (("threads", mails), (f"threads, mails of {LARGE >> 10} kB and more", large)):
+        if some:
+            yield work, some, {f"{count} threads": (with_threads, count, some * 4) for count in THREADS}
+
+
+def least_times(calls, rounds):
+    """The least seconds of each call, which take turns."""
+    least = dict.fromkeys(calls, float("inf"))
     for _ in range(rounds):
-        for name, read in READERS.items():
-            start = time.perf_counter()
-            for raw in mails:
-                read(raw)
-            least[name] = min(least[name], time.perf_counter() - start)
+        for name, (call, *arguments) in calls.items():
+            least[name] = min(least[name], seconds(call, *arguments))
     return least
 
 
@@ -115,12 +220,12 @@ def samples(_real):
     return [contents(path) for path in sorted(glob.glob(f"{TOP}/samples/*.eml"))] * 20
 
 
-def mailbox(_real):
+def made_mailbox(_real):
     return list(made_mails.mails(1))[:500]
 
 
 def attachment(_real):
-    return [made_mails.KINDS["attachment"][1](1)]
+    return [made_mails.KINDS["attachment"][1](1)] * 4
 
 
 def real_mails(real):
@@ -128,15 +233,20 @@ def real_mails(real):
 
 
 # by case: the mails, from the directory of real mails
-CASES = {"python-samples": samples, "python-mailbox": mailbox, "python-attachment": attachment, "python-real": real_mails}
+CASES = {"python-samples": samples, "python-mailbox": made_mailbox, "python-attachment": attachment, "python-real": real_mails}
+
+
+def write_mailbox(mails, file):
+    """Writes mails as a mailbox in which no line of a mail is a separator."""
+    for raw in mails:
+        lines = raw.replace(b"\nFrom ", b"\n>From ").rstrip(b"\r\n")
+        separator = b"" if lines.startswith(b"From ") else b"From a@b Thu Jan  1 00:00:00 1970\n"
+        file.write(separator + lines + b"\n\n")
+    file.flush()
 
 
 def table(names, real, turns):
     """Prints the microseconds for each mail and how many times as long email takes, and yields the figures of each case."""
-    sys.path.append(os.path.join(TOP, "python"))
-    if names:
-        print("\n| Mails read in Python | " + " | ".join(f"{it}, us" for it in READERS) + " | times as long |")
-        print("|---" * (len(READERS) + 2) + "|")
     for name in names:
         print(f"bench.py: {name}", file=sys.stderr)
         mails = CASES[name](real)
@@ -144,9 +254,15 @@ def table(names, real, turns):
         if not kept:
             print(f"bench.py: {name} is left out: email reads none of {len(mails)} mails", file=sys.stderr)
             continue
-        least = {reader: 1e6 * it / len(kept) for reader, it in least_times(kept, turns).items()}
-        size = sum(map(len, kept)) // len(kept)
-        ratios = [f"{least[reader] / least['rocktray']:.1f}" for reader in READERS if reader != "rocktray"]
-        cells = [f"{us:.0f}" for us in least.values()] + ["; ".join(ratios)]
-        print(f"| {name}: {len(kept)} of {len(mails)}, of {size} bytes | " + " | ".join(cells) + " |", flush=True)
-        yield name, least
+        print(f"\n| {name}: {len(kept)} of {len(mails)} mails, of {sum(map(len, kept)) // len(kept)} bytes | us a mail | times as long |")
+        print("|---|---|---|")
+        figures = {}
+        with tempfile.NamedTemporaryFile() as file:
+            write_mailbox(kept, file)
+            for work, some, calls in measured(kept, file.name):
+                least = {key: 1e6 * it / len(some) for key, it in least_times(calls, turns).items()}
+                first = next(iter(least.values()))
+                ratios = "; ".join(f"{key} {it / first:.2f}" for key, it in list(least.items())[1:])
+                print(f"| {work} | {first:.1f} | {ratios} |", flush=True)
+                figures |= {f"{key} {work}": it for key, it in least.items()}
+        yield name, figures

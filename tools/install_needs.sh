@@ -15,6 +15,10 @@ g++ command g++
 parallel command parallel
 mypy command mypy
 python3-venv module ensurepip
+python3-dev file /usr/include/python3.*/Python.h
+python3-setuptools module setuptools
+python3-wheel module wheel
+python3-pip module pip
 python3-pytest module pytest
 python3-pytest-xdist module xdist
 python3-jsonschema module jsonschema

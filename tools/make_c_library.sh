@@ -1,6 +1,6 @@
 #!/bin/sh
-# make_c_library.sh PREFIX: installs the C library into the directory PREFIX: lib/librocktray.so,
-# include/rocktray.h and lib/pkgconfig/rocktray.pc. It prints where the library is.
+# make_c_library.sh PREFIX: installs the C library into the directory PREFIX: lib/librocktray.so, lib/librocktray.a,
+# include/rocktray.h and lib/pkgconfig/rocktray.pc. It prints where the shared library is.
 #
 # If crates/mail_c/out/libmail_c.a is missing or older than a source, the crate is proved and the
 # archive built first, with progress on standard error (docs/CONTRIBUTING.md says how long). It needs the kit and a C compiler (CC, or cc), and the library
@@ -41,6 +41,11 @@ END
     -Wl,-z,relro,-z,now,-z,noexecstack -Wl,--no-undefined \
     -Wl,--whole-archive "$archive" -Wl,--no-whole-archive "$kit/c/liblibc_c.a"
 ln -sf librocktray.so.0 "$library"
+# the static library is one object, of which nothing but the calls can be seen
+"$compiler" -r -nostdlib -o "$work/rocktray.o" -Wl,--whole-archive "$archive" -Wl,--no-whole-archive "$kit/c/liblibc_c.a"
+objcopy --wildcard --keep-global-symbol='rocktray_*' "$work/rocktray.o"
+rm -f "$prefix/lib/librocktray.a"
+ar rcsD "$prefix/lib/librocktray.a" "$work/rocktray.o"
 cp "$top/c/rocktray.h" "$prefix/include/"
 cat > "$prefix/lib/pkgconfig/rocktray.pc" << END
 prefix=$prefix

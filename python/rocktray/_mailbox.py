@@ -19,7 +19,7 @@ FORMATS = ("mbox", "mboxrd", "mboxcl")
 # the least number of bytes that are read at once
 BLOCK = 1 << 19
 # the greatest number of mails that are found at once
-MOST = 1000
+MOST = _library.MOST
 # what may be between a header block and a body and between mails, whose separator counts up to 1,000 bytes, and one byte
 SEPARATOR = 4 + 2 + 1000 + 1
 # how compressed files begin, and what opens them as a file of bytes
@@ -163,7 +163,7 @@ class Mailbox:
                 raise ValueError(f"{name} is compressed by {kind}: unpack it, or use open_mailbox({opener})")
         while True:
             window = self._open_window()
-            first = next(_library.mails_of(window.data, 0, self._is_counted), None)
+            first = next(_library.mails_of(window.data, 0, len(window.data), self._is_counted), None)
             if window.last == len(window.data) or (first and first[0] < len(window.data)):
                 break
             self._read_on()
@@ -330,8 +330,8 @@ def _settled(window: _Window, is_counted: bool) -> List[Tuple[int, int, int]]:
     """The offsets of the next mails that no further bytes change, but of at most `MOST`."""
     data, found = window.data, []
     needs_count = is_counted and window.last < len(data)
-    for mail in islice(_library.mails_of(data, window.at, is_counted), MOST):
-        if mail[2] > window.last or (needs_count and not _is_count_known(data, mail[0], mail[2])):
+    for mail in islice(_library.mails_of(data, window.at, window.last, is_counted), MOST):
+        if needs_count and not _is_count_known(data, mail[0], mail[2]):
             break
         found.append(mail)
     return found

@@ -1,0 +1,90 @@
+/* What the sources of rocktray._engine share. */
+#ifndef ROCKTRAY_ENGINE_H
+#define ROCKTRAY_ENGINE_H
+
+#define PY_SSIZE_T_CLEAN
+#include <Python.h>
+
+#include <stdbool.h>
+#include <stdint.h>
+
+#include "rocktray.h"
+
+/* the capacity of a buffer on the stack */
+#define SHORT 4096
+
+#if Py_LIMITED_API < 0x030b0000
+/* Buffers are part of the stable ABI from 3.11 on, and were the same in 3.10. */
+typedef struct {
+    void *buf;
+    PyObject *obj;
+    Py_ssize_t len, itemsize;
+    int readonly, ndim;
+    char *format;
+    Py_ssize_t *shape, *strides, *suboffsets;
+    void *internal;
+} Py_buffer;
+PyAPI_FUNC(int) PyObject_GetBuffer(PyObject *object, Py_buffer *view, int flags);
+PyAPI_FUNC(void) PyBuffer_Release(Py_buffer *view);
+#define PyBUF_SIMPLE 0
+#endif
+
+/* the bytes of an object that a call reads */
+struct input {
+    PyObject *object;
+    Py_buffer view;
+    const uint8_t *at;
+    size_t length;
+};
+
+/* a call of the library with its arguments */
+struct request {
+    uint32_t (*call)(struct request *request, void *buffer, size_t capacity, size_t *needed);
+    struct input input;
+    const uint8_t *other; /* a name, or the raw value of another header */
+    size_t other_length, number;
+    bool choice, is_damaged;
+};
+
+/* defines call_NAME, which makes the call rocktray_NAME with these arguments of `it` and a buffer */
+#define CALL(name, ...)                                                                                                \
+    static uint32_t call_##name(struct request *it, void *buffer, size_t capacity, size_t *needed)                     \
+    {                                                                                                                  \
+        return rocktray_##name(__VA_ARGS__, buffer, capacity, needed);                                                 \
+    }
+#define INPUT it->input.at, it->input.length
+#define OTHER it->other, it->other_length
+
+/* a function with several arguments as an entry of a table of functions */
+#define FAST(function) (PyCFunction)(void (*)(void)) function
+
+/* Takes all bytes of an object, until give_back. Returns 0, or -1 for an error. */
+int take(struct input *input, PyObject *object);
+void give_back(struct input *input);
+
+/* Selects the bytes from `start` up to `end` of those that were taken. Returns 0, or -1 for an error: then they are
+ * given back. */
+int narrow(struct input *input, uint64_t start, uint64_t end);
+
+/* Whether the number of arguments is right; otherwise sets a TypeError. */
+bool is_count(Py_ssize_t count, Py_ssize_t wanted);
+
+/* Take an argument: a size; a name, which is bytes. They return 0, or -1 for an error. */
+int take_size(size_t *size, PyObject *object);
+int take_name(const uint8_t **name, size_t *length, PyObject *object);
+
+/* Makes a call, with Python's lock or without it, and returns its code. */
+uint32_t run(struct request *request, void *buffer, size_t capacity, size_t *needed);
+
+/* What a call without a result returns: None if the code is ROCKTRAY_ABSENT, otherwise NULL, with an exception. */
+PyObject *no_result(uint32_t code);
+
+/* The result of a call as a text or as bytes, given a guess of its length; those `and_back` give its input back. */
+PyObject *text_of(struct request *request, size_t guess);
+PyObject *text_and_back(struct request *request, size_t guess);
+PyObject *bytes_and_back(struct request *request, size_t guess);
+
+/* Appends an item, which it takes over, to a list. Returns 0, or -1 for an error, also if the item is NULL. */
+int append(PyObject *list, PyObject *item);
+
+#endif
