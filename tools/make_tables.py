@@ -8,8 +8,9 @@ writes nothing and reports whether the file is what the sources give; the last l
 each table are in crates/mail_vectors/data/tables.txt.
 
 With --indexes ORACLE it makes the indexes of the encodings of several bytes instead. ORACLE is the
-program of oracle/encoding_rs, which decodes each pair and each four bytes by encoding_rs. It then
-reports how many entries Python's codecs read differently; docs/DIFFERENCES.md has the reasons.
+program of oracle/encoding_rs, built with encoding_rs 0.8.35 or later, which has the index of gb18030
+of 2023; it decodes each pair and each four bytes by encoding_rs. It then reports how many entries
+Python's codecs read differently; docs/DIFFERENCES.md has the reasons.
 """
 import argparse
 import os
@@ -119,12 +120,6 @@ def table_source(name, codes, all_labels):
     return "\n".join(lines)
 
 
-def list_source(text, reach, name, names):
-    """Returns a constant list of tables with a line of documentation."""
-    head = "%s const %s: [SingleByteTable<'static>; %d] = [" % (reach, name, len(names))
-    return ["/// %s" % text, head, *("    %s," % it for it in names), "];", ""]
-
-
 def source_of(sources):
     """Returns the file of the tables."""
     characters, known = indexes(sources), labels(sources)
@@ -133,14 +128,11 @@ def source_of(sources):
         assert len(characters[index]) == 0x80, name
         constants.append(table_source(name, characters[index], known[name]))
     names = [constant(name) for name, _ in ENCODINGS]
-    iso_8859, windows = ([name for name in names if name.startswith(it)] for it in ("ISO_8859", "WINDOWS"))
-    others = [name for name in names if name not in iso_8859 + windows]
     made = ["//! The tables, made by `tools/make_tables.py`; do not edit them.", ""]
     made += ["use mail_codec::charset::SingleByteTable;", ""]
-    made += list_source("All tables, in the order in which the standard lists their encodings.", "pub", "TABLES", names)
-    made += list_source("The tables of ISO 8859.", "pub(crate)", "ISO_8859_TABLES", iso_8859)
-    made += list_source("The tables of Windows.", "pub(crate)", "WINDOWS_TABLES", windows)
-    made += list_source("The other tables.", "pub(crate)", "OTHER_TABLES", others)
+    made += ["/// All tables, in the order in which the standard lists their encodings."]
+    made += ["pub const TABLES: [SingleByteTable<'static>; %d] = [" % len(names)]
+    made += [*("    %s," % it for it in names), "];", ""]
     made += ["\n\n".join(constants), ""]
     return "\n".join(made)
 

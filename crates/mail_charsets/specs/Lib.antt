@@ -6,4 +6,5 @@ pub mod Big5
 pub mod EucJp
 pub mod Iso2022Jp
 pub mod Encoding
+pub mod Aliases
 pub mod All

@@ -1,10 +1,15 @@
 //! All charsets of the standard, as one value that a reader of mail takes.
+ghost use Rattle.std.specs.Prelude.{◌≡◌, find, option_map};
+ghost use Rattle.mail_codec.specs.Charset.{is_among_labels};
+ghost use Rattle.mail_charsets.specs.Aliases.{aliases_by_label, label_of_alias};
 ghost use Rattle.mail_charsets.specs.All.{all_known, encodings_under};
 ghost use Rattle.mail_charsets.specs.Encoding.{text_in};
 
+use crate::aliases::ALIASES;
 use crate::encoding::Encoding;
 use crate::indexes::Indexes;
-use crate::single_byte::{ISO_8859_TABLES, OTHER_TABLES, WINDOWS_TABLES};
+use crate::single_byte::TABLES;
+use mail_codec::charset::decoder::is_among;
 use mail_codec::charset::{Decode, KnownCharsets, SingleByteTable};
 use std::alloc::{AllocError, Global};
 
@@ -45,14 +50,14 @@ impl<'t> KnownCharsets for Indexes<'t> {
     }
 }
 
-/// Tables of this crate.
-type Tables = &'static [SingleByteTable<'static>];
-
-/// The tables of ISO 8859, those of Windows, the other tables, and the indexes of the encodings.
-type Standard = (Tables, (Tables, (Tables, Indexes<'static>)));
+/// The tables of this crate, and the indexes of its encodings.
+type Standard = (&'static [SingleByteTable<'static>], Indexes<'static>);
 
 /// All charsets of the standard that can be read: the four of `mail_codec`, then those of the
 /// tables of this crate, and then its encodings.
+///
+/// They are known by the labels of the standard, and by other names that mail uses, such as
+/// `cp936`, `latin-1` and `euc_kr`.
 ///
 /// The labels of the replacement encoding, such as `iso-2022-kr`, are unknown, since the standard
 /// does not read its texts: a value in one of them stays as it is written.
@@ -80,29 +85,9 @@ impl AllCharsets {
     /// ```
     pub fn standard() -> AllCharsets {
         AllCharsets {
-            known: (
-                iso_8859_tables(),
-                (windows_tables(), (other_tables(), Indexes::standard())),
-            ),
+            known: (&TABLES, Indexes::standard()),
         }
     }
-}
-
-// One list of all tables would take three times as long to prove.
-
-/// Returns the tables of ISO 8859.
-fn iso_8859_tables() -> Tables {
-    &ISO_8859_TABLES
-}
-
-/// Returns the tables of Windows.
-fn windows_tables() -> Tables {
-    &WINDOWS_TABLES
-}
-
-/// Returns the other tables.
-fn other_tables() -> Tables {
-    &OTHER_TABLES
 }
 
 impl KnownCharsets for AllCharsets {
@@ -111,6 +96,31 @@ impl KnownCharsets for AllCharsets {
     ghost known = { all_known };
 
     fn for_label(&self, label: &[u8]) -> Option<<Standard as KnownCharsets>::Decoder> {
-        self.known.for_label(label)
+        if let Some(charset) = self.known.for_label(label) {
+            return Some(charset);
+        }
+        match label_of_alias(label) {
+            Some(known) => self.known.for_label(known.as_bytes()),
+            None => None,
+        }
+    }
+}
+
+/// Returns the label of the standard for a name that mail uses, ignoring ASCII case and ASCII
+/// whitespace around it.
+fn label_of_alias(name: &[u8]) -> Option<&'static str>
+    ensures { option_map (λ label. label.now) result ≡ label_of_alias name.now }
+{
+    trimmed_alias(name.trim_ascii())
+}
+
+/// Returns the label of the standard for a trimmed name, ignoring ASCII case.
+fn trimmed_alias(name: &[u8]) -> Option<&'static str>
+    ensures { option_map (λ label. label.now) result ≡ option_map (λ row. row.0)
+        (find (λ row. is_among_labels row.1 name.now) aliases_by_label) }
+{
+    match ALIASES.iter().find(|row| is_among(name, row.1)) {
+        Some(row) => Some(row.0),
+        None => None,
     }
 }

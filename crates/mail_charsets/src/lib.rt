@@ -25,6 +25,7 @@
 //! ```
 #![tactic(auto)]
 
+mod aliases;
 mod all;
 mod big5;
 mod encoded;

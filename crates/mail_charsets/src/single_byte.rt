@@ -33,45 +33,6 @@ pub const TABLES: [SingleByteTable<'static>; 27] = [
     X_MAC_CYRILLIC,
 ];
 
-/// The tables of ISO 8859.
-pub(crate) const ISO_8859_TABLES: [SingleByteTable<'static>; 13] = [
-    ISO_8859_2,
-    ISO_8859_3,
-    ISO_8859_4,
-    ISO_8859_5,
-    ISO_8859_6,
-    ISO_8859_7,
-    ISO_8859_8,
-    ISO_8859_8_I,
-    ISO_8859_10,
-    ISO_8859_13,
-    ISO_8859_14,
-    ISO_8859_15,
-    ISO_8859_16,
-];
-
-/// The tables of Windows.
-pub(crate) const WINDOWS_TABLES: [SingleByteTable<'static>; 9] = [
-    WINDOWS_874,
-    WINDOWS_1250,
-    WINDOWS_1251,
-    WINDOWS_1253,
-    WINDOWS_1254,
-    WINDOWS_1255,
-    WINDOWS_1256,
-    WINDOWS_1257,
-    WINDOWS_1258,
-];
-
-/// The other tables.
-pub(crate) const OTHER_TABLES: [SingleByteTable<'static>; 5] = [
-    IBM866,
-    KOI8_R,
-    KOI8_U,
-    MACINTOSH,
-    X_MAC_CYRILLIC,
-];
-
 /// IBM866.
 pub const IBM866: SingleByteTable<'static> = SingleByteTable {
     labels: &["866", "cp866", "csibm866", "ibm866"],

@@ -7,11 +7,11 @@ use Rattle.mail_charsets.proofs.encoding.encoding_of.Goals as goal
 pub returns-in-Some : goal.returns-in-Some
 returns-in-Some c =
     let yields = YieldsList-from_slice _ c.iter.ensures.rest in
-    row_found c.args.label.now yields (Some c.in-Some.row)
+    row_found (λ e. e) c.args.label.now yields (Some c.in-Some.row)
     (ap (option_map (λ x. x.now)) (sym c.in-Some.is) ∙ find_from_yields_List (has c.args.label.now) _ _ c.find.result c.find.ensures.ran yields (λ x b q k. search (rules, tests)))
 
 pub returns-in-None : goal.returns-in-None
 returns-in-None c =
     let yields = YieldsList-from_slice _ c.iter.ensures.rest in
-    row_found c.args.label.now yields None
+    row_found (λ e. e) c.args.label.now yields None
     (ap (option_map (λ x. x.now)) (sym c.in-None.is) ∙ find_from_yields_List (has c.args.label.now) _ _ c.find.result c.find.ensures.ran yields (λ x b q k. search (rules, tests)))
