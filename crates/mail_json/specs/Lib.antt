@@ -4,6 +4,8 @@ pub mod Written
 pub mod Members
 pub mod Options
 pub mod Fields
+pub mod FileLine
+pub mod FileLineViews
 pub mod Addresses
 pub mod Origin
 pub mod Body

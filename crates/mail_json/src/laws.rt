@@ -8,6 +8,7 @@ ghost use Rattle.mail_codec.specs.Places.{values_below};
 ghost use Rattle.mail_data.specs.declared.mailbox.formats.Format.{Format};
 ghost use Rattle.mailparse.specs.Mail.{Tree};
 ghost use Rattle.mailparse.specs.Refusal.{Reads};
+ghost use Rattle.mail_json.specs.FileLine.{FileLine, file_line_value};
 ghost use Rattle.mail_json.specs.JsonText.{character_text, json_text};
 ghost use Rattle.mail_json.specs.JsonLines.{AreMailboxLines, IsLineOf, format_of};
 ghost use Rattle.mail_json.specs.Options.{Options, decoding};
@@ -28,8 +29,8 @@ pub fn strings_are_characters()
 
 /// Each line that is written of an input is JSON, and ends in its only LF: the parser of the crate
 /// `json` reads the text before the LF as a value in which no object has a key twice. For the line
-/// of a mail, or of its refusal, this is the value that `IsLineValue` gives, and for that of an
-/// input that could not be read it is `unread_value`.
+/// of a mail, or of its refusal, this is the value that `IsLineValue` gives, for that of an input
+/// that could not be read it is `unread_value`, and for that of a file `file_line_value`.
 pub fn lines_are_json()
     ensures line { (options : Options) (origin : Origin) (mail : Reads Tree) (is_clean : Bool)
         (text : List ℕ) → IsLineOf options origin mail is_clean text →
@@ -44,6 +45,9 @@ pub fn lines_are_json()
     ensures unread { (file : Option (List ℕ)) (text : List ℕ) → (object : List ℕ)
         × IsJsonLine (unread_value file text) object
         × (line_of (unread_value file text) ≡ object ++ codes "\n") }
+    ensures file { (line : FileLine) → (object : List ℕ)
+        × IsJsonLine (file_line_value line) object
+        × (line_of (file_line_value line) ≡ object ++ codes "\n") }
 {}
 
 /// If bodies are not decoded, the line of a mail is its whole line without what needs that.

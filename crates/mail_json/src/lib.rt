@@ -5,6 +5,7 @@ mod addresses;
 mod body;
 mod escapes;
 mod fields;
+mod file_line;
 mod inside;
 mod json_lines;
 mod json_text;
@@ -21,6 +22,7 @@ mod selection;
 mod stream;
 mod written;
 
+pub use file_line::{FileLine, write_file_line};
 pub use json_lines::write_single;
 pub use json_text::refusal_of;
 pub use mail::write_mail;

@@ -29,6 +29,7 @@ use Rattle.mail_address.specs.Addresses.{Element, single, group}
 use Rattle.mail_address.specs.Headers.{addresses_of}
 use Rattle.mail_address.specs.Mailbox.{Parts}
 use Rattle.mail_json.specs.Fields.{value_of, ids_of}
+use Rattle.mail_json.specs.FileLine.{FileLine, file_line_value}
 use Rattle.mail_data.specs.InnerMails.{InnerMail}
 use Rattle.mail_json.specs.Selection.{AreChosenOf, OnlyIf}
 use Rattle.mail_json.specs.JsonLines.{AreLines, AreMailboxLines, IsFront, IsLineOf, format_of, is_mailbox, origin_at}
@@ -248,6 +249,11 @@ mail_good options origin mail value is =
 error_is_json : (origin : Origin) (text : List ℕ) → IsJsonLine (error_value origin text) (text_of (error_value origin text))
 error_is_json origin text =
     json_line 1 (error_value origin text) (omega arith) (named_good refl (number_good 0 5, (optional_good 0 origin.file, (number_or_null_good 0 origin.number, (number_good 0 origin.start, (number_good 0 origin.end, (string_good 0 text, tt)))))))
+
+pub file_is_json : (line : FileLine) → (object : List ℕ) × IsJsonLine (file_line_value line) object × (line_of (file_line_value line) ≡ object ++ codes "\n")
+file_is_json line =
+    let good : IsGood 1 (file_line_value line) = named_good refl (optional_good 0 line.file, (number_or_null_good 0 line.number, (optional_good 0 line.path, (optional_good 0 line.saved, (number_or_null_good 0 line.size, (optional_good 0 line.sha256, (optional_good 0 line.error, tt))))))) in
+    (text_of (file_line_value line), json_line 1 (file_line_value line) (omega arith) good, refl)
 
 pub unread_is_json : (file : Option (List ℕ)) (text : List ℕ)
     → (object : List ℕ) × IsJsonLine (unread_value file text) object × (line_of (unread_value file text) ≡ object ++ codes "\n")
