@@ -3,10 +3,11 @@
 The archive is a mailbox of 60 MB, a small one, a mail and a Maildir. After each complete run the shards, in the order of
 MANIFEST, are byte for byte what rocktray json writes in one process. The tests run in this order: a worker is killed in the
 middle of a part; a run is killed, and continued; a part kills every worker that reads it, and a file cannot be read, and
-the next run completes it; the shards are loaded and searched, before and after the small mailbox changed; and the
+the next runs complete it; the shards are loaded and searched, before and after the small mailbox changed; and the
 commands of docs/SCRIPTS.md for GNU parallel run unchanged. It takes about 30 s.
 """
 
+import bz2
 import contextlib
 import glob
 import gzip
@@ -30,6 +31,10 @@ from made_mails import mailbox
 
 pytestmark = pytest.mark.xdist_group("archive")
 EXAMPLES = os.path.join(TOP, "examples", "archive")
+sys.path.insert(0, EXAMPLES)
+
+import search  # noqa: E402
+
 SCALE = 6
 MAILS = 2000 * SCALE
 PART = "all.mbox (--part 9/30)"
@@ -57,7 +62,7 @@ SMALL = (
     b" refused\n",
     b"From: \x1b[31mCai@example.net\nSubject: =?utf-8?q?Zebra=0Aforged?=\nMessage-ID: <3@small>\nReferences: <0@small> <2@small>\n\n.\n",
 )
-UNREAD = ("mails/no.mbox", "mails/caf\udce9")
+UNREAD = "mails/no.mbox"
 CHANGED = b"Subject: Changed\nMessage-ID: <4@small>\n\nAn okapi.\n"
 
 # after this number of further deaths a part is given up; dask's own number is 3
@@ -119,10 +124,17 @@ def lines(out):
     """The lines of all shards, in the order of MANIFEST."""
     found = b""
     with open(os.path.join(out, "MANIFEST"), encoding="utf-8") as manifest:
-        for line in manifest:
-            with open(os.path.join(out, json.loads(line)["shard"]), "rb") as shard:
-                found += shard.read()
+        for line in map(json.loads, manifest):
+            if "shard" in line:
+                with open(os.path.join(out, line["shard"]), "rb") as shard:
+                    found += shard.read()
     return found
+
+
+def manifest(out, key):
+    """The values of the lines of MANIFEST that have a key."""
+    with open(os.path.join(out, "MANIFEST"), encoding="utf-8") as lines:
+        return [line[key] for line in map(json.loads, lines) if key in line]
 
 
 class Runs:
@@ -152,7 +164,7 @@ class Runs:
     def search(self, *words):
         """The subjects of the mails that a search finds."""
         ended = self.call("search.py", "db", *words)
-        assert (ended.returncode, ended.stderr) == (0, b""), f"search.py {words}"
+        assert ended.returncode == (0 if ended.stdout else 1), f"search.py {words}"
         assert not re.search(rb"[^\t\n -~\x80-\xff]", ended.stdout), f"search.py {words}: control characters"
         return [line.split("\t")[2] for line in ended.stdout.decode().splitlines()]
 
@@ -248,66 +260,85 @@ def test_broken(runs, wanted, nanny):
 
 
 def test_faults(runs, wanted):
-    """A part that kills each worker that reads it, and a file that cannot be read."""
+    """A part that kills each worker that reads it, and a file that cannot be read; all else is read nevertheless."""
     out = runs.path("faults")
-    for name in ("deadly", "always", *UNREAD):
-        write(runs.path(name), gzip.compress(b"Subject: 1\n"))
+    for name in ("deadly", "always"):
+        write(runs.path(name))
+    write(runs.path(UNREAD), gzip.compress(b"Subject: 1\n")[:-4])
+    write(runs.path("mails/picture"), b"\x89PNG\r\n")
     status, told = runs.index("faults")
     named = [line for line in told.splitlines() if line.startswith("index_archive.py: ")]
     assert status == 1 and any(PART in line and "KilledWorker" in line for line in named), f"a part kills its workers: {told}"
-    assert any("no.mbox" in line and "status 1" in line for line in named), f"a file cannot be read: {told}"
-    assert any("caf\\udce9': the name is not UTF-8" in line for line in named), f"a name cannot be read: {told}"
+    assert any("no.mbox: gzip: exit status 1" in line for line in named), f"a file cannot be read: {told}"
+    assert "index_archive.py: skipped, since they are no mail: 1 PNG images" in named, f"a file is no mail: {told}"
     assert len(shards(out)) > 20, f"the other parts are read: {told}"
-    assert not os.path.exists(os.path.join(out, "MANIFEST")), "faults: there is no MANIFEST"
-    for name in ("deadly", "always", *UNREAD):
+    refused = manifest(out, "refused")
+    assert any(PART in one for one in refused) and runs.path(UNREAD) in refused, "MANIFEST names what is refused"
+    assert manifest(out, "skipped") == [runs.path("mails/picture")], "MANIFEST names what is no mail"
+    for name in ("deadly", "always", "mails/picture"):
         os.remove(runs.path(name))
     before = shards(out)
+    assert runs.index("faults", "--scheduler", runs.scheduler, "--skip-bad")[0] == 0, "--skip-bad"
+    assert lines(out) == wanted and manifest(out, "refused") == [runs.path(UNREAD)], "the next run: all but the bad file"
+    os.remove(runs.path(UNREAD))
     assert runs.index("faults")[0] == 0, "the next run completes it"
     assert before.items() <= shards(out).items(), "the next run reads no part twice"
     assert lines(out) == wanted, "the next run: the lines"
 
 
 def test_packed(tmp_path):
-    """Files in .gz and .xz are unpacked, mails of a Maildir too; what only has such a name is read as it is."""
-    spec = importlib.util.spec_from_file_location("index_archive", os.path.join(EXAMPLES, "index_archive.py"))
-    index = importlib.util.module_from_spec(spec)
-    spec.loader.exec_module(index)
+    """Packed files are unpacked, mails of a Maildir too, and names may have any bytes."""
     box, mail = b"".join(FROM + mail + b"\n" for mail in SMALL), FROM + SMALL[0]
     for name, data in (
-        ("a.gz", gzip.compress(box)), ("b.xz", lzma.compress(box)), ("c.gz", box), ("d", box), ("e.gz", gzip.compress(box)[:-9]),
-        ("f.xz", b""), ("m/cur/1.gz", gzip.compress(mail)), ("m/cur/2.gz", mail),
+        ("a.gz", gzip.compress(box)), ("b.xz", lzma.compress(box)), ("c.bz2", bz2.compress(box)), ("d", box), ("e", gzip.compress(box)),
+        ("f.xz", b""), ("caf\udce9", mail), ("m/cur/1.gz", gzip.compress(mail)), ("m/cur/2.gz", mail),
     ):
         write(f"{tmp_path}/mails/{name}", data)
-    found, faults = [], []
-    for options, files in index.visit(f"{tmp_path}/mails", [], str(tmp_path), faults):
-        for number, part in enumerate(index.parts(options, files, 1 << 20)):
-            name, fault = index.read(str(number), *part, str(tmp_path), program("rocktray"))
-            if fault:
-                faults.append((os.path.basename(part[1][0][0]), fault))
-                continue
-            with open(os.path.join(tmp_path, name), "rb") as shard:
-                found += [json.loads(line) for line in shard]
+    words = [sys.executable, os.path.join(EXAMPLES, "index_archive.py"), "out", "mails", "--program", program("rocktray")]
+    ended = subprocess.run(words, cwd=tmp_path, capture_output=True, env={**os.environ, **QUIET}, check=False)
+    assert (ended.returncode, ended.stderr) == (0, b"")
+    found = [json.loads(line) for line in lines(f"{tmp_path}/out").splitlines()]
     counts = {os.path.basename(file): sum(line["file"] == file for line in found) for file in {line["file"] for line in found}}
-    assert counts == {"a.gz": len(SMALL), "b.xz": len(SMALL), "c.gz": len(SMALL), "d": len(SMALL), "f.xz": 1, "1.gz": 1, "2.gz": 1}
-    plain = [{**line, "file": None} for line in found if line["file"].endswith("d")]
-    assert [{**line, "file": None} for line in found if line["file"].endswith("a.gz")] == [
-        {**line, "number": number} for number, line in enumerate(plain, 1)
-    ]
-    assert [name for name, fault in faults] == ["e.gz"] and "gzip: exit status 1" in faults[0][1]
+    boxes, mails = dict.fromkeys(("a.gz", "b.xz", "c.bz2", "d", "e"), len(SMALL)), dict.fromkeys(("caf\\xe9", "f.xz", "1.gz", "2.gz"), 1)
+    assert counts == {**boxes, **mails}
+    plain = [{**line, "file": None, "number": None} for line in found if line["file"].endswith("d")]
+    assert [{**line, "file": None, "number": None} for line in found if line["file"].endswith("a.gz")] == plain
+    load = [sys.executable, os.path.join(EXAMPLES, "load_sqlite.py"), "out", "db"]
+    assert subprocess.run(load, cwd=tmp_path, capture_output=True, check=False).returncode == 0
+    for name in ("a.gz", "b.xz", "c.bz2", "caf\\xe9"):
+        with contextlib.ExitStack() as stack:
+            dbs = [stack.enter_context(contextlib.closing(sqlite3.connect(path))) for path in glob.glob(f"{tmp_path}/db/[0-9]*.sqlite")]
+            query = 'select file, start, "end" from copies where file like ?'
+            file, start, end = next(row for db in dbs for row in db.execute(query, (f"%{name}",)))
+        raw = search.bytes_of({"file": os.path.join(tmp_path, file), "start": start, "end": end})
+        assert raw in (mail[len(FROM) :], *SMALL), f"the bytes of a mail of {name}"
+
+
+def test_interrupted(tmp_path):
+    """Ctrl-C is one line, and the next run goes on."""
+    write(f"{tmp_path}/mails/a", SMALL[0])
+    write(f"{tmp_path}/slow", b"#!/bin/sh\ntouch begun\nsleep 60\n")
+    os.chmod(f"{tmp_path}/slow", 0o755)
+    words = [sys.executable, os.path.join(EXAMPLES, "index_archive.py"), "out", "mails", "--program", "./slow"]
+    with subprocess.Popen(words, cwd=tmp_path, stdout=subprocess.PIPE, stderr=subprocess.PIPE, env={**os.environ, **QUIET}, start_new_session=True) as process:
+        wait_for(lambda: os.path.exists(f"{tmp_path}/begun"), "the first part")
+        os.killpg(process.pid, signal.SIGINT)
+        told = process.communicate()[1]
+    assert (process.returncode, told) == (130, b"index_archive.py: interrupted; the next run goes on from here\n")
 
 
 def check_loaded(runs, mails):
     """Loads the shards: every mail has to be there once, and what was refused."""
     ended = runs.call("load_sqlite.py", "killed", "db")
     assert ended.returncode == 0, f"load_sqlite.py: {ended.stderr.decode()}"
-    found = []
-    for path in glob.glob(runs.path("db/*.sqlite")):
+    ids, copies, refused = [], 0, 0
+    for path in glob.glob(runs.path("db/[0-9]*.sqlite")):
         with contextlib.closing(sqlite3.connect(path)) as db:
             db.execute("insert into texts(texts) values('integrity-check')")
-            found += db.execute("select message_id, error is null from mails")
-    assert sum(not is_read for _, is_read in found) == 1, "what was refused"
-    ids = [one for one, is_read in found if is_read]
-    assert (len(ids), len(set(ids))) == (mails, mails), "every mail once"
+            ids += [one for one, in db.execute("select message_id from mails")]
+            copies += db.execute("select count(*) from copies").fetchone()[0]
+            refused += db.execute("select count(*) from refused").fetchone()[0]
+    assert (len(ids), len(set(ids)), copies, refused) == (mails, mails, mails, 1), "every mail once, and what was refused"
     return ended.stderr.decode()
 
 
@@ -322,8 +353,11 @@ def test_searched(runs):
     for words, wanted in (
         (["zebra"], [answer, first, forged]),
         (["zebra", "quagga"], [first]),
-        (["quagga is"], [first]),
-        (["is quagga"], []),
+        (['"quagga is"'], [first]),
+        (['"is quagga"'], []),
+        (["zebra", "NOT", "quagga"], [answer, forged]),
+        (["subject:", "zebra"], [answer, first, forged]),
+        (["body: zebra"], []),
         (["auroch*"], [answer]),
         (["okapi"], []),
         (["--from", "ana@example.net"], [first]),
@@ -332,7 +366,9 @@ def test_searched(runs):
         (["zebra", "--before", "2025-03-04"], [first]),
         (["--attachment", "QUAGGA"], [first]),
         (["--id", "2@small"], [answer]),
-        (["--thread", "0@small"], [answer, first, forged]),
+        (["--to", "bo@example.net"], [first]),
+        (["zebra", "--has", "attachment"], [first]),
+        (["--thread", "3@small"], [first, f"  {answer}", f"    {forged}"]),
         (["zebra", "--limit", "1"], [answer]),
     ):
         assert runs.search(*words) == wanted, f"search.py {words}"
@@ -352,18 +388,53 @@ def test_changed(runs):
     assert runs.search("okapi") == ["Changed"], "what is new"
 
 
+def test_outputs(runs):
+    """The bytes of a mail, a mailbox, objects, and what is wrong."""
+    raw = runs.call("search.py", "db", "--id", "2@small", "--raw")
+    assert (raw.returncode, raw.stdout) == (0, SMALL[1]), "--raw"
+    mbox = runs.call("search.py", "db", "--id", "2@small", "--mbox").stdout
+    assert mbox == b"From MAILER-DAEMON Tue Mar  4 10:00:00 2025\n" + SMALL[1] + b"\n", "--mbox"
+    found = json.loads(runs.call("search.py", "db", "--id", "2@small", "--json").stdout)
+    assert (found["message_id"], found["subject"], found["copies"]) == ("2@small", "Re: Zebra crossing", 1), "--json"
+    shown = runs.call("search.py", "db", "--id", "2@small", "--show", "--program", program("rocktray"))
+    assert b"Re: Zebra crossing" in shown.stdout, "--show"
+    assert runs.call("search.py", "db", "--id", "none").returncode == 1, "nothing is found"
+    for words in (["ana@example.net"], ["--after", "yesterday"], ["zebra", "(", "--raw"]):
+        ended = runs.call("search.py", "db", *words)
+        assert ended.returncode == 2 and ended.stdout == b"", f"search.py {words}"
+
+
+def test_copies(runs):
+    """A second copy of a mailbox adds copies and no mails; when it is gone, so are they."""
+    os.link(runs.path("mails/small.mbox"), runs.path("mails/copy.mbox"))
+    for copies, index in ((2, True), (1, False)):
+        if not index:
+            os.remove(runs.path("mails/copy.mbox"))
+        assert runs.index("killed", "--bytes", "2000000") == (0, ""), "copies are read"
+        assert runs.call("load_sqlite.py", "killed", "db").returncode == 0, "copies are loaded"
+        line = runs.call("search.py", "db", "--id", "2@small").stdout.decode().split("\t")
+        assert line[4] == str(copies), "the number of copies"
+
+
+def test_older_database(runs):
+    """A database of another version is made anew."""
+    with contextlib.closing(sqlite3.connect(runs.path("db/000.sqlite"))) as db:
+        db.execute("pragma user_version = 1")
+    check_loaded(runs, MAILS + 9)
+
+
 def test_lists(runs):
     """A line whose addresses are lists, with the hash of a file."""
     people = [{"name": "Ana Lima", "address": "ana@example.net"}, {"group": "all", "members": [{"name": None, "address": "bo@example.net"}]}]
-    file = {"path": "1", "type": "text/plain", "extracted": True, "file_name": "a", "text": None, "sha256": "0123abcd"}
-    line = {"schema": 5, "from": people, "to": [{"unknown": "cai"}], "cc": [], "subject": "Lists", "date": None, "parts": [file]}
+    file = {"path": "1", "type": "text/plain", "extracted": True, "file_name": "a", "text": None, "sha256": "0123abcd", "headers": [["List-Id", "x <l.example>"]]}
+    line = {"schema": 5, "from": people, "to": [{"unknown": "cai"}], "cc": [], "bcc": [], "subject": "Lists", "date": None, "parts": [file]}
     line.update({name: [] for name in ("message_id", "in_reply_to", "references")}, file="x", start=0, end=1)
     write(runs.path("lists/a.jsonl"), json.dumps(line).encode() + b"\n")
     write(runs.path("lists/MANIFEST"), b'{"shard": "a.jsonl"}\n')
     assert runs.call("load_sqlite.py", "lists", "lists.db").returncode == 0, "addresses in lists"
-    for words in (["--from", "ana@example.net"], ["--from", "bo"], ["--hash", "0123ABCD"]):
+    for words in (["--from", "ana@example.net"], ["--from", "bo"], ["--hash", "0123ABCD"], ["--list", "L.example"]):
         ended = runs.call("search.py", "lists.db", *words)
-        wanted = "-\tAna Lima <ana@example.net>, bo@example.net\tLists\ta\tx:0-1\n"
+        wanted = "-\tAna Lima <ana@example.net>, bo@example.net\tLists\ta\t1\tx:0-1\n"
         assert ended.stdout.decode() == wanted, f"addresses in lists: {words}"
     write(runs.path("old/a.jsonl"), json.dumps({**line, "schema": 4}).encode() + b"\n")
     write(runs.path("old/MANIFEST"), b'{"shard": "a.jsonl"}\n')

@@ -2,28 +2,48 @@
 """Reads the mailboxes and Maildirs of shared directories on many machines, with dask.distributed and rocktray.
 
 Every machine sees the directories, OUT and the program under the same paths. A large mailbox is read in equal parts,
-and small files are read together. Files in .gz and .xz are unpacked by gzip and xz. The lines of each part go to a file
-in OUT, a shard, which gets its name when it is complete. The name is a hash of the part, the paths, sizes and times of
-its files, and the program: no part is read twice, however often a run is interrupted, and a mailbox that changed is
+and small files are read together. Packed files are unpacked by gzip, xz, bzip2 or zstd. The lines of each part go to a
+file in OUT, a shard, which gets its name when it is complete. The name is a hash of the part, the paths, sizes and times
+of its files, and the program: no part is read twice, however often a run is interrupted, and a mailbox that changed is
 read again. OUT/MANIFEST, written last, names the shards in order; other shards are removed. Files that cannot be read
-are named, and the exit status is 1. Everything else is read nevertheless, and the next run continues from there.
+are named there and on standard error, and the exit status is 1, or 0 with --skip-bad; the next run tries them again.
+Files that begin as those of other formats do, such as images, are counted and skipped.
 """
 import argparse
+import collections
 import hashlib
 import json
 import os
 import pathlib
 import re
+import shutil
 import subprocess
 import sys
+import tempfile
 import uuid
 import zlib
 
 OURS = re.compile(r"[0-9a-f]{32}\.jsonl|\.part-[0-9a-f]{32}")
 NO_TEXT = re.compile("[\udc80-\udcff]")
-# the programs that unpack files, whose names end so and which begin with these bytes
-PACKED = ((".gz", b"\x1f\x8b", "gzip"), (".xz", b"\xfd7zXZ\0", "xz"))
-PROGRAM = os.path.join(os.path.dirname(os.path.abspath(__file__)), "../../crates/rocktray/out/rocktray")
+# what packed files begin with, and the programs that unpack them
+PACKED = ((b"\x1f\x8b", "gzip"), (b"\xfd7zXZ\0", "xz"), (b"BZh", "bzip2"), (b"\x28\xb5\x2f\xfd", "zstd"))
+# what other files than mail begin with, and what they are
+FOREIGN = (
+    (b"PK\x03\x04", "ZIP archives"),
+    (b"7z\xbc\xaf\x27\x1c", "7-Zip archives"),
+    (b"Rar!", "RAR archives"),
+    (b"\xd0\xcf\x11\xe0\xa1\xb1\x1a\xe1", "OLE files, such as those of Outlook"),
+    (b"!BDN", "PST files of Outlook"),
+    (b"// <!-- <mdb:mork", "indexes of Thunderbird"),
+    (b"SQLite format 3\0", "SQLite databases"),
+    (b"\x89PNG", "PNG images"),
+    (b"\xff\xd8\xff", "JPEG images"),
+    (b"GIF8", "GIF images"),
+    (b"%PDF-", "PDF files"),
+    (b"\x7fELF", "programs"),
+)
+INDEXES = re.compile(r"dovecot[.-].*|\..*|.*\.(?:msf|idx|cmeta)")
+BUILT = os.path.join(os.path.dirname(os.path.abspath(__file__)), "../../crates/rocktray/out/rocktray")
 
 
 def state(path):
@@ -35,35 +55,73 @@ def state(path):
         return path, 0, None
 
 
+def first_bytes(path):
+    """Returns the first bytes of a file; empty if it cannot be read, which is said when it is read."""
+    try:
+        with open(path, "rb") as file:
+            return file.read(24)
+    except OSError:
+        return b""
+
+
 def unpacker(path):
     """Returns the program that unpacks a file, or None if it is not packed."""
-    for ending, first, program in PACKED:
-        if path.endswith(ending):
-            try:
-                with open(path, "rb") as file:
-                    return program if file.read(len(first)) == first else None
-            except OSError:  # rocktray says why
-                return None
-    return None
+    first = first_bytes(path)
+    return next((program for begin, program in PACKED if first.startswith(begin)), None)
 
 
-def visit(directory, options, out, faults):
-    """Yields the files of a directory and of those inside it, with the options for rocktray json."""
-    try:
-        entries = sorted(os.scandir(directory), key=lambda entry: entry.name)
-    except OSError as fault:
-        faults.append(str(fault))
-        return
-    inside = [entry for entry in entries if entry.is_dir(follow_symlinks=False) and entry.path != out]
-    is_maildir = any(entry.name in ("cur", "new") for entry in inside)
-    if not is_maildir:
-        files = [entry.path for entry in entries if entry.is_file() and not entry.name.startswith(".")]
-        faults += [f"{path!a}: the name is not UTF-8" for path in files if NO_TEXT.search(path)]
-        yield options, [state(path) for path in files if not NO_TEXT.search(path)]
-    for entry in inside:
-        if entry.name != "tmp" if is_maildir else not entry.name.startswith("."):
-            is_mails = is_maildir and entry.name in ("cur", "new")
-            yield from visit(entry.path, ["--mail"] if is_mails else [], out, faults)
+def what_is(path):
+    """Returns what a file is, if it is no mail: by its name or its first bytes, or None."""
+    if INDEXES.fullmatch(os.path.basename(path)):
+        return "indexes of mail programs"
+    first = first_bytes(path)
+    return next((name for begin, name in FOREIGN if first.startswith(begin)), None)
+
+
+def label(path):
+    """Returns a path as text. Bytes that are not UTF-8 are shown as in `\\xE9`."""
+    return os.fsencode(path).decode("utf-8", "backslashreplace")
+
+
+class Found:
+    """The files of an archive: those to be read, those that cannot be read with the reason, and what is no mail."""
+
+    def __init__(self, out):
+        self.out, self.faults, self.skipped = out, [], []
+
+    def visit(self, directory, options=()):
+        """Yields the files of a directory and of those inside it, with the options for rocktray json."""
+        try:
+            entries = sorted(os.scandir(directory), key=lambda entry: entry.name)
+        except OSError as fault:
+            self.faults.append((directory, fault.strerror))
+            return
+        inside = [entry for entry in entries if entry.is_dir(follow_symlinks=False) and entry.path != self.out]
+        is_maildir = any(entry.name in ("cur", "new") for entry in inside)
+        if not is_maildir:
+            files = [entry.path for entry in entries if entry.is_file() and not entry.name.startswith(".")]
+            yield list(options), self.mails(files, options)
+        for entry in inside:
+            if entry.name != "tmp" if is_maildir else not entry.name.startswith("."):
+                is_mails = is_maildir and entry.name in ("cur", "new")
+                yield from self.visit(entry.path, ["--mail"] if is_mails else [])
+
+    def mails(self, paths, options):
+        """Returns the files that can be read and may be mail, with their states. All files of a Maildir are mails."""
+        found = []
+        for path in paths:
+            if not os.access(path, os.R_OK):
+                self.faults.append((path, "Permission denied" if os.path.exists(path) else "No such file or directory"))
+            elif kind := None if options else what_is(path):
+                self.skipped.append((path, kind))
+            else:
+                found.append(state(path))
+        return found
+
+    def said_of_skipped(self):
+        """Returns how many files were skipped, and what they are."""
+        kinds = collections.Counter(kind for _, kind in self.skipped)
+        return ", ".join(f"{count} {kind}" for kind, count in kinds.most_common())
 
 
 def batches(files, most):
@@ -84,30 +142,39 @@ def batches(files, most):
 
 def parts(options, files, most):
     """Yields the options and the files of each run of rocktray json. A part of a mailbox is a run of its own, and so is a
-    packed file."""
-    packed = {file: unpacker(file[0]) for file in files}
-    for batch in batches([file for file in files if not packed[file]], most):
+    file that is read from standard input: one that is packed, or whose name is not UTF-8."""
+    alone = {file: unpacker(file[0]) or NO_TEXT.search(file[0]) for file in files}
+    for batch in batches([file for file in files if not alone[file]], most):
         count = max(1, -(-sum(size for _, size, _ in batch) // most))
         for number in [1] if options else range(1, count + 1):
             yield options or ["--part", f"{number}/{count}"], batch
-    for file in filter(packed.get, files):
-        yield [*options, "--label", file[0]], [file]
+    for file in filter(alone.get, files):
+        yield [*options, "--label", label(file[0])], [file]
 
 
 def title(options, files):
     """Returns the title of a part."""
-    return f"{files[0][0]}{f' and {len(files) - 1} more' if len(files) > 1 else ''} ({' '.join(options)})"
+    words = " ".join(options if "--label" not in options else options[:-2])
+    more = f" and {len(files) - 1} more" if len(files) > 1 else ""
+    return f"{label(files[0][0])}{more}{f' ({words})' if words else ''}"
 
 
-def read_packed(command, path, shard):
-    """Reads a packed file into a shard, and returns the error or None."""
-    unpack = [unpacker(path) or "gzip", "-dc", "--", path]
-    with subprocess.Popen(unpack, stdin=subprocess.DEVNULL, stdout=subprocess.PIPE, stderr=subprocess.PIPE) as packed:
-        fault = read_files(command, packed.stdout, shard)
-        packed.stdout.close()
-        told = packed.stderr.read()
-    if not fault and packed.returncode:
-        fault = f"{unpack[0]}: exit status {packed.returncode}: {told.decode(errors='replace').strip()}"
+def read_alone(command, path, shard):
+    """Reads a file from standard input into a shard, unpacked if it is packed. Returns the error or None."""
+    program = unpacker(path)
+    if program is None:
+        with open(path, "rb") as file:
+            return read_files(command, file, shard)
+    try:
+        unpack = subprocess.Popen([program, "-dc", "--", path], stdin=subprocess.DEVNULL, stdout=subprocess.PIPE, stderr=subprocess.PIPE)
+    except FileNotFoundError:
+        return f"{program} is not installed"
+    with unpack:
+        fault = read_files(command, unpack.stdout, shard)
+        unpack.stdout.close()
+        told = unpack.stderr.read()
+    if not fault and unpack.returncode:
+        fault = f"{program}: exit status {unpack.returncode}: {told.decode(errors='replace').strip()}"
     return fault
 
 
@@ -125,7 +192,7 @@ def read(name, options, files, out, program):
     try:
         with open(unfinished, "xb") as shard:
             if "--label" in options:
-                fault = read_packed([program, "json", *options], files[0][0], shard)
+                fault = read_alone([program, "json", *options], files[0][0], shard)
             else:
                 fault = read_files([program, "json", *options, *(path for path, _, _ in files)], subprocess.DEVNULL, shard)
             os.fsync(shard.fileno())
@@ -141,52 +208,88 @@ def read(name, options, files, out, program):
 
 
 def run(wanted, scheduler, **places):
-    """Reads these parts on the workers. Yields each error, with the title of its part."""
-    from dask.distributed import Client, progress, wait  # here, so that --help needs no dask
+    """Reads these parts on the workers. Yields the name of each part that is not read, with the error."""
+    import dask  # here, so that --help needs no dask
+    from dask.distributed import Client, progress, wait
 
-    with Client(**{"address": scheduler} if scheduler else {"threads_per_worker": 1, "dashboard_address": ":0"}) as client:
-        futures = client.map(read, *zip(*((name, *part) for name, part in wanted.items())), pure=False, **places)
-        if sys.stdout.isatty():
-            progress(futures)
-        wait(futures)
-        results = dict(client.gather(futures, errors="skip"))
-        for name, future in zip(wanted, futures):
-            if name not in results or results[name]:
-                yield f"{title(*wanted[name])}: {results[name] if name in results else repr(future.exception())}"
+    with tempfile.TemporaryDirectory() as scratch:
+        dask.config.set({"temporary-directory": scratch})
+        here = {"processes": False, "n_workers": 1, "threads_per_worker": os.cpu_count(), "dashboard_address": None}
+        with Client(**{"address": scheduler} if scheduler else here) as client:
+            futures = client.map(read, *zip(*((name, *part) for name, part in wanted.items())), pure=False, **places)
+            if sys.stdout.isatty():
+                progress(futures)
+            wait(futures)
+            results = dict(client.gather(futures, errors="skip"))
+            for name, future in zip(wanted, futures):
+                if name not in results or results[name]:
+                    yield name, results[name] if name in results else repr(future.exception())
 
 
-def main():
-    """Reads the missing parts, and writes MANIFEST if the index is complete."""
+def parts_of(found, paths, most, options, program):
+    """Returns the parts of the archive, by the names of their shards."""
+    wanted = {}
+    for top in paths:
+        for reading, files in found.visit(top) if os.path.isdir(top) else [([], found.mails([top], []))]:
+            for words, batch in parts(reading, files, most):
+                part = [*options, *words], batch
+                key = hashlib.sha256(repr((program, part)).encode("utf-8", "surrogateescape")).hexdigest()
+                wanted[f"{key[:32]}.jsonl"] = part
+    return wanted
+
+
+def write_manifest(out, wanted, refused, found):
+    """Writes MANIFEST: the shards, the parts and files that could not be read, and those that are no mail. Removes all
+    other shards."""
+    lines = [{"shard": name, "read": title(*part)} for name, part in wanted.items() if name not in refused]
+    lines += [{"refused": title(*wanted[name]), "why": why} for name, why in refused.items()]
+    lines += [{"refused": label(path), "why": why} for path, why in found.faults]
+    lines += [{"skipped": label(path), "is": kind} for path, kind in found.skipped]
+    manifest = os.path.join(out, "MANIFEST")
+    with open(f"{manifest}.new", "w", encoding="utf-8") as file:
+        file.writelines(json.dumps(line) + "\n" for line in lines)
+    os.replace(f"{manifest}.new", manifest)
+    for name in set(filter(OURS.fullmatch, os.listdir(out))) - set(wanted):
+        os.remove(os.path.join(out, name))
+    return [f"{line['refused']}: {line['why']}" for line in lines if "refused" in line]
+
+
+def arguments():
+    """Returns the parser of the arguments."""
     parser = argparse.ArgumentParser(description=__doc__, formatter_class=argparse.RawDescriptionHelpFormatter)
     parser.add_argument("out", metavar="OUT", type=os.path.abspath)
     parser.add_argument("paths", metavar="PATH", nargs="+", type=os.path.abspath, help="a directory or a mailbox")
-    parser.add_argument("--scheduler", metavar="ADDRESS", help="by default, a worker for each processor is started here")
-    parser.add_argument("--program", metavar="ROCKTRAY", type=os.path.abspath, default=PROGRAM)
+    parser.add_argument("--scheduler", metavar="ADDRESS", help="by default, as many parts are read at once as there are processors here")
+    parser.add_argument("--program", metavar="ROCKTRAY", help="by default the built rocktray of this repository, or the installed one")
     parser.add_argument("--hash", action="store_true", help="write the SHA-256 of each attachment")
+    parser.add_argument("--skip-bad", action="store_true", help="end with exit status 0 although files could not be read")
     parser.add_argument("--bytes", type=int, default=32 << 20, help="the greatest size of a part; 32 MiB by default")
+    return parser
+
+
+def main():
+    """Reads the missing parts, and writes MANIFEST."""
+    parser = arguments()
     given = parser.parse_args()
-    if not os.path.isfile(given.program):
-        parser.error(f"{given.program} is missing: build it by tools/program.sh rocktray")
-    program = hashlib.sha256(pathlib.Path(given.program).read_bytes()).hexdigest()
+    program = os.path.abspath(given.program or (BUILT if os.path.isfile(BUILT) else shutil.which("rocktray") or BUILT))
+    if not os.path.isfile(program):
+        parser.error(f"{program} is missing: build it by tools/program.sh rocktray, or install rocktray")
     os.makedirs(given.out, exist_ok=True)
-    faults, wanted = [], {}
-    for top in given.paths:
-        found = visit(top, [], given.out, faults) if os.path.isdir(top) else [([], [state(top)])]
-        for reading, files in found:
-            for options, batch in parts(reading, files, given.bytes):
-                part = ["--hash"] * given.hash + options, batch
-                key = hashlib.sha256(repr((program, part)).encode("utf-8", "surrogateescape")).hexdigest()
-                wanted[f"{key[:32]}.jsonl"] = part
+    found = Found(given.out)
+    key = hashlib.sha256(pathlib.Path(program).read_bytes()).hexdigest()
+    wanted = parts_of(found, given.paths, given.bytes, ["--hash"] * given.hash, key)
     unread = {name: part for name, part in wanted.items() if not os.path.exists(os.path.join(given.out, name))}
-    faults += run(unread, given.scheduler, out=given.out, program=given.program) if unread else []
-    if faults:
-        sys.exit("\n".join(f"index_archive.py: {fault}" for fault in faults))
-    manifest = os.path.join(given.out, "MANIFEST")
-    with open(f"{manifest}.new", "w", encoding="utf-8") as file:
-        file.writelines(json.dumps({"shard": name, "read": title(*part)}) + "\n" for name, part in wanted.items())
-    os.replace(f"{manifest}.new", manifest)
-    for name in set(filter(OURS.fullmatch, os.listdir(given.out))) - set(wanted):
-        os.remove(os.path.join(given.out, name))
+    try:
+        refused = dict(run(unread, given.scheduler, out=given.out, program=program)) if unread else {}
+    except KeyboardInterrupt:
+        print("index_archive.py: interrupted; the next run goes on from here", file=sys.stderr, flush=True)
+        os._exit(130)  # without the messages of what dask still runs
+    said = write_manifest(given.out, wanted, refused, found)
+    if found.skipped:
+        said.append(f"skipped, since they are no mail: {found.said_of_skipped()}")
+    for line in said:
+        print(f"index_archive.py: {line}", file=sys.stderr)
+    sys.exit(1 if (refused or found.faults) and not given.skip_bad else 0)
 
 
 if __name__ == "__main__":

@@ -1,16 +1,23 @@
 #!/usr/bin/env python3
-"""Loads the index of an archive into SQLite, with full-text search (FTS5).
+"""Loads the index of an archive into SQLite, with full-text search (FTS5) and threads.
 
 OUT is the directory of index_archive.py. DATABASE is a directory of databases, the slices, which are loaded in
-parallel. Each shard is in one of them, and search.py searches them all. A shard is loaded in one transaction. Shards
-that are already loaded are skipped, and those that OUT/MANIFEST no longer names are removed. So an interrupted run can
-be continued. The tables of a slice:
+parallel, and of one with the threads; search.py searches them all. A mail has one row however many copies the archive
+has of it: mails with the same message id are copies of one mail. All copies of a mail are in one slice. A shard is
+loaded into a slice in one transaction. Shards that are already loaded are skipped, and those that OUT/MANIFEST no
+longer names are removed, so an interrupted run can be continued. A database of an older version is made anew. The
+tables of a slice:
 
-  mails        each mail, which is in `file` from `start` to `end`, and each that was refused, with the `error`
-  texts        the words of subject, sender and body
-  links        the ids in References and In-Reply-To
-  attachments  the files of the mails, as `rocktray extract` saves them, each with its SHA-256 if the lines have it
+  mails        each mail, with what its first copy says
+  copies       the copies of a mail: each is in `file` from `start` to `end`; `flags` are those of a Maildir
+  refused      each mail that was refused, with the `error`
+  recipients   the addresses in To, Cc and Bcc
+  links        the ids in References and In-Reply-To, in order, the parent last
+  attachments  the files of a mail, as `rocktray extract` saves them, each with its SHA-256 if the lines have it
+  texts        the words of subject, sender, recipients and body
   shards       the loaded shards
+
+threads.sqlite has the table `threads`: each message id with its parent, if it has one, and the top of its thread.
 """
 import argparse
 import concurrent.futures
@@ -18,35 +25,57 @@ import contextlib
 import glob
 import html
 import json
+import marshal
 import os
 import re
 import sqlite3
 import sys
+import tempfile
 import time
+import zlib
 
+import threads
+
+# the version of the tables; a database that has another one is made anew
+VERSION = 2
 SCHEMA = """
 pragma journal_mode = wal;
 pragma synchronous = normal;
 pragma cache_size = -100000;
-create table if not exists shards(name text primary key, first integer, count integer);
+create table if not exists shards(name text primary key) without rowid;
 create table if not exists mails(
-    id integer primary key, file text, start integer, "end" integer, error text, message_id text, date integer,
-    sender text, recipients text, subject text, body text);
-create index if not exists mails_by_message_id on mails(message_id);
+    id integer primary key, message_id text, date integer, sender text, recipients text, subject text, list_id text, body text);
+create unique index if not exists mails_by_message_id on mails(message_id);
 create index if not exists mails_by_date on mails(date);
-create table if not exists links(mail integer, id text, primary key(mail, id)) without rowid;
-create index if not exists links_by_id on links(id);
+create index if not exists mails_by_list_id on mails(list_id);
+create table if not exists copies(mail integer, shard text, file text, start integer, "end" integer, flags text);
+create index if not exists copies_by_mail on copies(mail);
+create index if not exists copies_by_shard on copies(shard);
+create table if not exists refused(shard text, file text, start integer, "end" integer, error text);
+create table if not exists recipients(mail integer, address text, name text, primary key(mail, address)) without rowid;
+create index if not exists recipients_by_address on recipients(address);
+create table if not exists links(mail integer, position integer, id text, primary key(mail, position)) without rowid;
 create table if not exists attachments(
-    mail integer, path text, name text, type text, size integer, start integer, "end" integer, sha256 text,
-    primary key(mail, path)) without rowid;
+    mail integer, number integer, path text, name text, type text, size integer, start integer, "end" integer, sha256 text,
+    primary key(mail, number)) without rowid;
 create index if not exists attachments_by_sha256 on attachments(sha256);
-create virtual table if not exists texts using fts5(subject, sender, body, content=mails, content_rowid=id);
+create virtual table if not exists texts using fts5(subject, sender, recipients, body, content=mails, content_rowid=id);
+"""
+THREADS = """
+begin;
+drop table if exists threads;
+create table threads(message_id text primary key, parent text, top text) without rowid;
+create index threads_by_top on threads(top);
+create index threads_by_parent on threads(parent);
 """
 # the number of bytes of words that are sorted in memory
 BUFFER = "insert into texts(texts, rank) values('hashsize', 100000000)"
+WORDS = "id, subject, sender, recipients, body from mails"
 # the number of the form of the lines
 LINES = 5
 TAGS = re.compile(r"<(style|script)\b.*?</\1|<[^>]*>", re.DOTALL | re.IGNORECASE)
+FLAGS = re.compile(r":2,([A-Za-z]+)$")
+LIST_ID = re.compile(r"<([^<>\s]+)>\s*$")
 
 
 def people(value):
@@ -60,6 +89,15 @@ def people(value):
     )
 
 
+def mailboxes(value):
+    """Yields the addresses of a header, those of groups too, in lower case, each with its name."""
+    for one in value:
+        if "members" in one:
+            yield from mailboxes(one["members"])
+        elif "address" in one:
+            yield one["address"].lower(), one["name"]
+
+
 def body(parts):
     """Returns the text of a mail: its text parts, or if there are only HTML parts, those without their tags."""
     texts = [part for part in parts if part["text"]]
@@ -67,62 +105,101 @@ def body(parts):
     return "\n".join(plain or [html.unescape(TAGS.sub(" ", part["text"])) for part in texts])
 
 
-def mail_row(number, line):
-    """Returns the row of a mail."""
-    origin = (number, line["file"], line["start"], line["end"])
-    if "error" in line:
-        return (*origin, line["error"], *[None] * 6)
-    to = ", ".join(filter(None, map(people, (line["to"], line["cc"]))))
-    first_id = line["message_id"][0] if line["message_id"] else None
-    return (*origin, None, first_id, line["date"], people(line["from"]), to, line["subject"], body(line["parts"]))
+def list_id(line):
+    """Returns the id of the mailing list, without its angle brackets, or None."""
+    for name, value in line["parts"][0]["headers"]:
+        if name.lower() == "list-id":
+            found = LIST_ID.search(value)
+            return (found[1] if found else value.strip()).lower() or None
+    return None
 
 
-def link_rows(number, line):
-    """Returns the rows of the ids to which a mail refers."""
-    return [(number, one) for one in {*line["references"], *line["in_reply_to"]}]
-
-
-def attachment_rows(number, line):
-    """Returns the rows of the files of a mail."""
+def mail_of(line):
+    """Returns what a line says: the row of the mail, and those of its recipients, links and attachments."""
+    message_id = line["message_id"][0] if line["message_id"] else None
+    to = [*line["to"], *line["cc"], *line["bcc"]]
+    row = (message_id, line["date"], people(line["from"]), people(to), line["subject"], list_id(line), body(line["parts"]))
+    links = line["references"] or line["in_reply_to"][:1]
     members = ("path", "file_name", "type", "decoded_size", "start", "end", "sha256")
-    return [(number, *map(part.get, members)) for part in line["parts"] if part["extracted"]]
+    files = [tuple(map(part.get, members)) for part in line["parts"] if part["extracted"]]
+    return row, list(dict(mailboxes(to)).items()), links, files
 
 
-def remove(db, name):
-    """Removes a shard."""
-    first, count = db.execute("select first, count from shards where name = ?", (name,)).fetchone()
-    ids = (first, first + count - 1)
-    columns = "id, subject, sender, body from mails where id between ? and ?"
-    db.execute(f"insert into texts(texts, rowid, subject, sender, body) select 'delete', {columns}", ids)
-    for table, column in (("mails", "id"), ("links", "mail"), ("attachments", "mail")):
-        db.execute(f"delete from {table} where {column} between ? and ?", ids)
-    db.execute("delete from shards where name = ?", (name,))
-
-
-def insert(db, name, path):
-    """Inserts a shard. Returns the number of its mails."""
-    first = db.execute("select coalesce(max(first + count), 1) from shards").fetchone()[0]
-    mails, links, attachments = [], [], []
+def deal(path, shard, count, scratch):
+    """Reads a shard, and writes what each of `count` slices gets of it to a file. Returns the names of the files."""
+    dealt = [([], []) for _ in range(count)]
     with open(path, "rb") as lines:
-        for number, line in enumerate(map(json.loads, lines), first):
+        for line in map(json.loads, lines):
             if line["schema"] != LINES:
                 raise ValueError(f"{path} has lines of schema {line['schema']}, not {LINES}: repeat index_archive.py")
-            mails.append(mail_row(number, line))
-            if "error" not in line:
-                links += link_rows(number, line)
-                attachments += attachment_rows(number, line)
-    db.executemany(f"insert into mails values({','.join('?' * 11)})", mails)
-    db.executemany("insert into links values(?, ?)", links)
-    db.executemany(f"insert into attachments values({','.join('?' * 8)})", attachments)
-    columns = "id, subject, sender, body from mails where id >= ?"
-    db.execute(f"insert into texts(rowid, subject, sender, body) select {columns}", (first,))
-    db.execute("insert into shards values(?, ?, ?)", (name, first, len(mails)))
-    return len(mails)
+            flags = FLAGS.search(line["file"] or "")
+            origin = (line["file"], line["start"], line["end"])
+            key = line.get("message_id") or [f"{origin[0]}:{origin[1]}"]
+            mails, refused = dealt[zlib.crc32(key[0].encode()) % count]
+            if "error" in line:
+                refused.append((shard, *origin, line["error"]))
+            else:
+                mails.append(((*origin, flags[1] if flags else None), mail_of(line)))
+    names = [os.path.join(scratch, f"{shard}.{number}") for number in range(count)]
+    for name, part in zip(names, dealt):
+        with open(name, "wb") as file:
+            marshal.dump(part, file)
+    return names
+
+
+def delete_mails(db, ids):
+    """Deletes mails with all that belongs to them."""
+    given = json.dumps(ids)
+    chosen = "in (select value from json_each(?))"
+    db.execute(f"insert into texts(texts, rowid, subject, sender, recipients, body) select 'delete', {WORDS} where id {chosen}", (given,))
+    for table, column in (("mails", "id"), ("recipients", "mail"), ("links", "mail"), ("attachments", "mail")):
+        db.execute(f"delete from {table} where {column} {chosen}", (given,))
+
+
+def remove(db, shard):
+    """Removes the copies of a shard, and the mails of which no copy is left."""
+    ids = [one for one, in db.execute("select distinct mail from copies where shard = ?", (shard,))]
+    db.execute("delete from copies where shard = ?", (shard,))
+    left = {one for one, in db.execute("select mail from copies where mail in (select value from json_each(?))", (json.dumps(ids),))}
+    delete_mails(db, [one for one in ids if one not in left])
+    db.execute("delete from refused where shard = ?", (shard,))
+    db.execute("delete from shards where name = ?", (shard,))
+
+
+def insert(db, shard, mails, refused):
+    """Inserts what a slice gets of a shard. Returns the number of copies."""
+    ids = json.dumps([row[0] for _, (row, *_) in mails if row[0] is not None])
+    known = dict(db.execute("select message_id, id from mails where message_id in (select value from json_each(?))", (ids,)))
+    first = fresh = db.execute("select coalesce(max(id), 0) + 1 from mails").fetchone()[0]
+    rows, copies, recipients, links, files = [], [], [], [], []
+    for origin, (row, to, ids, attached) in mails:
+        number = known.get(row[0]) if row[0] is not None else None
+        if number is None:
+            number, fresh = fresh, fresh + 1
+            known[row[0]] = number
+            rows.append((number, *row))
+            recipients += [(number, *one) for one in to]
+            links += [(number, position, one) for position, one in enumerate(ids)]
+            files += [(number, position, *one) for position, one in enumerate(attached)]
+        copies.append((number, shard, *origin))
+    for table, width, given in (("mails", 8, rows), ("copies", 6, copies), ("recipients", 3, recipients), ("links", 3, links), ("attachments", 9, files)):
+        db.executemany(f"insert into {table} values({','.join('?' * width)})", given)
+    db.executemany("insert into refused values(?, ?, ?, ?, ?)", refused)
+    db.execute(f"insert into texts(rowid, subject, sender, recipients, body) select {WORDS} where id >= ?", (first,))
+    db.execute("insert into shards values(?)", (shard,))
+    return len(copies) + len(refused)
 
 
 def opened(path):
-    """Opens a slice, and creates its tables."""
+    """Opens a slice, and creates its tables. A slice of another version is emptied."""
     db = sqlite3.connect(path)
+    if db.execute("pragma user_version").fetchone()[0] != VERSION:
+        db.close()
+        for end in ("", "-wal", "-shm"):
+            with contextlib.suppress(FileNotFoundError):
+                os.remove(path + end)
+        db = sqlite3.connect(path)
+        db.execute(f"pragma user_version = {VERSION}")
     db.executescript(SCHEMA)
     with db:
         db.execute(BUFFER)
@@ -135,38 +212,75 @@ def loaded(path):
         return {name for name, in db.execute("select name from shards")}
 
 
-def load(path, out, stale, fresh):
-    """Removes shards from a slice, and inserts others. Returns the number of inserted mails."""
+def load(path, stale, fresh):
+    """Removes shards from a slice, and inserts others: names, each with the file of what the slice gets. Returns the number
+    of copies that were inserted."""
     total = 0
     with contextlib.closing(opened(path)) as db:
-        for name in stale:
+        for shard in stale:
             with db:
-                remove(db, name)
-        for name in fresh:
+                remove(db, shard)
+        for shard, name in fresh:
+            with open(name, "rb") as file:
+                mails, refused = marshal.load(file)
             with db:
-                total += insert(db, name, os.path.join(out, name))
+                total += insert(db, shard, mails, refused)
     return total
 
 
+def sent(path):
+    """Returns what the mails of a slice say of themselves, for threads."""
+    with contextlib.closing(sqlite3.connect(path)) as db:
+        links = {}
+        for mail, one in db.execute("select mail, id from links order by mail, position"):
+            links.setdefault(mail, []).append(one)
+        columns = "select id, message_id, date, subject from mails where message_id is not null"
+        return [threads.Sent(one, date, subject or "", tuple(links.get(mail, ()))) for mail, one, date, subject in db.execute(columns)]
+
+
+def load_threads(path, slices):
+    """Makes the threads of all mails anew."""
+    parents = threads.trees([one for name in slices for one in sent(name)])
+    tops = threads.tops_of(parents)
+    with contextlib.closing(sqlite3.connect(path, isolation_level=None)) as db:
+        db.executescript(THREADS)
+        db.executemany("insert into threads values(?, ?, ?)", ((one, above, tops[one]) for one, above in parents.items()))
+        db.execute("commit")
+
+
+def load_all(out, database, named, paths):
+    """Loads all slices in parallel. Returns the number of copies that were inserted, and whether anything changed."""
+    there = list(map(loaded, paths))
+    stale = [names - set(named) for names in there]
+    fresh = [[name for name in named if name not in names] for names in there]
+    wanted = sorted({name for names in fresh for name in names})
+    with tempfile.TemporaryDirectory(prefix=".load-", dir=database) as scratch, concurrent.futures.ProcessPoolExecutor() as pool:
+        files = [os.path.join(out, name) for name in wanted]
+        dealt = dict(zip(wanted, pool.map(deal, files, wanted, [len(paths)] * len(wanted), [scratch] * len(wanted))))
+        parts = [[(name, dealt[name][number]) for name in names] for number, names in enumerate(fresh)]
+        return sum(pool.map(load, paths, stale, parts)), any(stale) or any(fresh)
+
+
 def main():
-    """Loads all slices in parallel."""
+    """Loads the index, and makes the threads anew if it has changed."""
     parser = argparse.ArgumentParser(description=__doc__, formatter_class=argparse.RawDescriptionHelpFormatter)
     parser.add_argument("out", metavar="OUT")
     parser.add_argument("database", metavar="DATABASE")
     parser.add_argument("--slices", type=int, default=os.cpu_count(), help="the number of slices of a new database")
     given = parser.parse_args()
     begun = time.monotonic()
-    with open(os.path.join(given.out, "MANIFEST"), encoding="utf-8") as manifest:
-        named = [json.loads(line)["shard"] for line in manifest]
+    try:
+        with open(os.path.join(given.out, "MANIFEST"), encoding="utf-8") as manifest:
+            named = [line["shard"] for line in map(json.loads, manifest) if "shard" in line]
+    except FileNotFoundError:
+        sys.exit(f"load_sqlite.py: {given.out} has no MANIFEST: run index_archive.py first")
     os.makedirs(given.database, exist_ok=True)
-    paths = sorted(glob.glob(os.path.join(glob.escape(given.database), "*.sqlite")))
+    paths = sorted(glob.glob(os.path.join(glob.escape(given.database), "[0-9]*.sqlite")))
     paths = paths or [os.path.join(given.database, f"{number:03}.sqlite") for number in range(max(1, given.slices))]
-    there = list(map(loaded, paths))
-    stale = [names - set(named) for names in there]
-    fresh = [name for name in named if not any(name in names for names in there)]
-    with concurrent.futures.ProcessPoolExecutor() as pool:
-        dealt = [fresh[number :: len(paths)] for number in range(len(paths))]
-        total = sum(pool.map(load, paths, [given.out] * len(paths), stale, dealt))
+    total, has_changed = load_all(given.out, given.database, named, paths)
+    trees = os.path.join(given.database, "threads.sqlite")
+    if has_changed or not os.path.exists(trees):
+        load_threads(trees, paths)
     seconds = time.monotonic() - begun
     print(f"{total} mails loaded in {seconds:.1f} s, {total / seconds:.0f} a second", file=sys.stderr)
 

@@ -1,0 +1,130 @@
+"""Threads of mails, as trees: by References, then by subject, after Jamie Zawinski (https://www.jwz.org/doc/threading.html).
+
+`trees` takes what mails say of themselves, in any order, and returns each id with its parent. The result is a forest: each
+id occurs once, and no id is above itself. It depends on the set of mails alone, and not on the order in which they
+come. An id to which mails refer, but which no mail has, is a node if two mails or more are below it.
+"""
+import re
+from typing import NamedTuple
+
+# `Re:`, `Fwd:` and the like, also as other languages have them, with a count, and the names of lists in brackets
+REPLY = re.compile(r"\s*((re|aw|sv|vs|antw|odp|ref|rv|res|r|fwd?|wg|tr|i)\s*(\[\d+\]|\(\d+\)|\^\d+)?\s*[:\uff1a]|\[[^]]*\])\s*", re.IGNORECASE)
+NEVER = float("inf")
+
+
+class Sent(NamedTuple):
+    """What a mail says of itself. The ids to which it refers are in their order, its parent last."""
+
+    id: str
+    date: "int | None"
+    subject: str
+    references: "tuple[str, ...]"
+
+
+def base_subject(subject):
+    """Returns a subject without `Re:` and the like, and whether it is one of a reply."""
+    rest, is_reply = subject, False
+    while found := REPLY.match(rest):
+        is_reply = is_reply or not found[1].startswith("[")
+        rest = rest[found.end() :]
+    return " ".join(rest.split()).casefold(), is_reply
+
+
+def linked(mails):
+    """Returns the parent of each id that mails have or refer to. A mail that refers to none has the parent that the first
+    mail says which refers to both. `mails` are in order."""
+    parents = {}
+    for mail in mails:
+        for above, below in zip(mail.references, mail.references[1:]):
+            if above != below:
+                parents.setdefault(below, above)
+    for mail in mails:
+        if mail.references and mail.references[-1] != mail.id:
+            parents[mail.id] = mail.references[-1]
+    for one in [*(mail.id for mail in mails), *parents.values()]:
+        parents.setdefault(one, None)
+    return parents
+
+
+def without_cycles(parents, ranks):
+    """Ends each cycle at its first mail, which becomes the top of a thread. Ids that no mail has come last."""
+    visits = {}
+    for start in list(parents):
+        one = start
+        while one is not None and one not in visits:
+            visits[one] = start
+            one = parents[one]
+        if one is not None and visits[one] == start:
+            cycle = [one]
+            while parents[cycle[-1]] != one:
+                cycle.append(parents[cycle[-1]])
+            parents[min(cycle, key=lambda it: (ranks.get(it, len(ranks)), it))] = None
+    return parents
+
+
+def above_first(parents):
+    """Returns the ids, each before those below it."""
+    children = {}
+    for one, above in parents.items():
+        children.setdefault(above, []).append(one)
+    order = list(children.get(None, ()))
+    for one in order:
+        order += children.get(one, ())
+    return order
+
+
+def without_empty(parents, ids):
+    """Leaves out ids that no mail has, but for those at a top that hold two threads or more together."""
+    order, shown, counts = above_first(parents), set(), dict.fromkeys(parents, 0)
+    for one in reversed(order):
+        above = parents[one]
+        if one in ids or (above is None and counts[one] > 1):
+            shown.add(one)
+        if above is not None:
+            counts[above] += 1 if one in shown else counts[one]
+    nearest, kept = {None: None}, {}
+    for one in order:
+        nearest[one] = one if one in shown else nearest[parents[one]]
+        if one in shown:
+            kept[one] = nearest[parents[one]]
+    return kept
+
+
+def by_subject(parents, mails):
+    """Puts replies whose parent is unknown below the first mail with their subject, which is no reply if one is not."""
+    roots = [mail for mail in mails if parents[mail.id] is None]
+    firsts = {}
+    for wants_reply in (False, True):
+        for mail in roots:
+            subject, is_reply = base_subject(mail.subject)
+            if subject and is_reply == wants_reply:
+                firsts.setdefault(subject, mail.id)
+    for mail in roots:
+        subject, is_reply = base_subject(mail.subject)
+        first = firsts.get(subject) if is_reply else None
+        if first is not None and first != mail.id:
+            parents[mail.id] = first
+    return parents
+
+
+def trees(mails):
+    """Returns the parent of each id, or None at the top of a thread. Of mails with one id the first in order counts."""
+    of = {}
+    for mail in sorted(mails, key=lambda it: (NEVER if it.date is None else it.date, it.id, it.subject, it.references)):
+        of.setdefault(mail.id, mail)
+    ordered = list(of.values())
+    ranks = {one: rank for rank, one in enumerate(of)}
+    return by_subject(without_empty(without_cycles(linked(ordered), ranks), of), ordered)
+
+
+def tops_of(parents):
+    """Returns the top of the thread of each id."""
+    tops = {}
+    for one in parents:
+        way = []
+        while one not in tops and parents[one] is not None:
+            way.append(one)
+            one = parents[one]
+        top = tops.setdefault(one, one)
+        tops.update(dict.fromkeys(way, top))
+    return tops
