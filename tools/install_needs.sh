@@ -23,6 +23,11 @@ python3-pytest module pytest
 python3-pytest-xdist module xdist
 python3-jsonschema module jsonschema
 python3-distributed module distributed
+python3-flask module flask
+python3-pygal module pygal
+chromium command chromium
+chromium-driver command chromedriver
+python3-selenium module selenium
 cargo command cargo
 librust-encoding-rs-dev file /usr/share/cargo/registry/encoding_rs-*/Cargo.toml
 END

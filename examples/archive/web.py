@@ -1,0 +1,296 @@
+#!/usr/bin/env python3
+"""Shows the mails that load_sqlite.py loaded in a browser: search, threads, mails with their files, and plots.
+
+It only reads. It answers on this machine alone unless --host says otherwise, and only to requests for a host that it
+answers on. Nothing of a mail is markup: texts are escaped, HTML is shown as its text, pages load nothing from elsewhere,
+and files are downloads. It needs Flask and pygal (Debian: python3-flask, python3-pygal).
+"""
+import argparse
+import contextlib
+import datetime
+import glob
+import json
+import os
+import re
+import shutil
+import sqlite3
+import subprocess
+import sys
+import tempfile
+from types import SimpleNamespace
+from xml.etree import ElementTree
+
+import flask
+import pygal
+
+import search
+
+PAGE = 25
+# the number of the latest mails that are counted beside a search
+COUNTED = 5000
+POLICY = "default-src 'none'; style-src 'self'; img-src 'self'; form-action 'self'; base-uri 'none'; frame-ancestors 'none'"
+HEADERS = {
+    "Content-Security-Policy": POLICY,
+    "X-Content-Type-Options": "nosniff",
+    "Referrer-Policy": "no-referrer",
+    "Cross-Origin-Opener-Policy": "same-origin",
+    "Cross-Origin-Resource-Policy": "same-origin",
+}
+HIDDEN = re.compile("[\x00-\x08\x0b-\x1f\x7f-\x9f\u202a-\u202e\u2066-\u2069]")
+FACETS = {
+    "year": "strftime('%Y', date, 'unixepoch')",
+    "sender": "sender",
+    "list": "list_id",
+    "type": "(select type from attachments where mail = id limit 1)",
+}
+MAIL = "select message_id, date, datetime(date, 'unixepoch') as time, sender, recipients, subject, list_id, body from mails where id = ?"
+SENT = "select strftime('%Y-%m', date, 'unixepoch'), count(*) from mails where date is not null group by 1"
+SENDERS = "select sender, count(*) from mails where sender != '' group by 1 order by 2 desc limit 1000"
+
+
+class Archive:
+    """The databases of an archive, opened for each request."""
+
+    def __init__(self, directory, program):
+        self.directory, self.program = directory, program
+        self.paths = sorted(glob.glob(os.path.join(glob.escape(directory), "[0-9]*.sqlite")))
+
+    @contextlib.contextmanager
+    def slices(self):
+        """Opens all slices, for reading alone."""
+        with contextlib.ExitStack() as stack:
+            yield [stack.enter_context(contextlib.closing(self.opened(path))) for path in self.paths]
+
+    @staticmethod
+    def opened(path):
+        """Opens a database for reading alone."""
+        db = sqlite3.connect(f"file:{path}?mode=ro", uri=True)
+        db.row_factory = sqlite3.Row
+        return db
+
+    def slice(self, number):
+        """Opens a slice by its number."""
+        if number >= len(self.paths):
+            flask.abort(404)
+        return contextlib.closing(self.opened(self.paths[number]))
+
+    def sums(self, query):
+        """Returns the sums of a query that counts, over all slices."""
+        counts = {}
+        with self.slices() as slices:
+            for db in slices:
+                for key, count in db.execute(query):
+                    counts[key] = counts.get(key, 0) + count
+        return counts
+
+    def first_copy(self, number, mail):
+        """Returns the bytes of the first copy of a mail."""
+        with self.slice(number) as db:
+            copy = db.execute('select file, start, "end" from copies where mail = ? limit 1', (mail,)).fetchone()
+        if copy is None:
+            flask.abort(404)
+        try:
+            return search.bytes_of(dict(copy))
+        except OSError as fault:
+            flask.abort(410, f"The mail cannot be read: {fault.strerror}")
+
+
+def given_of(words):
+    """Returns what a request searches for, as the arguments of search.py."""
+    given = SimpleNamespace(query=words.get("q", "").strip(), after=None, before=None, to=words.get("to"), has=words.get("has"))
+    given.sender, given.list, given.type = words.get("sender"), words.get("list"), words.get("type")
+    given.id = given.thread = given.hash = given.attachment = None
+    year = words.get("year", "")
+    if re.fullmatch(r"[0-9]{4}", year) and year != "0000" and year != "9999":
+        given.after, given.before = (search.seconds(f"{int(year) + more:04}-01-01") for more in (0, 1))
+    return given
+
+
+def wheres_of(given):
+    """Returns the conditions of a search."""
+    wheres = list(search.conditions(given))
+    if given.type:
+        wheres.append(("mails.id in (select mail from attachments where type = ?)", given.type))
+    return wheres
+
+
+def facets_of(slices, wheres):
+    """Returns the most frequent years, senders, lists and types of files among the latest mails that are found."""
+    where = " and ".join(["true", *(condition for condition, *_ in wheres)])
+    values = [value for _, *given in wheres for value in given]
+    counts = {name: {} for name in FACETS}
+    for db in slices:
+        columns = ", ".join(f"{what} as {name}" for name, what in FACETS.items())
+        query = f"select {columns} from mails where {where} order by date desc limit ?"
+        for row in db.execute(query, (*values, COUNTED // len(slices))):
+            for name in FACETS:
+                if row[name]:
+                    counts[name][row[name]] = counts[name].get(row[name], 0) + 1
+    return {name: sorted(of.items(), key=lambda it: (-it[1], it[0]))[:8] for name, of in counts.items()}
+
+
+def tree(archive, message_id):
+    """Returns the mails of a thread, each with its level, and ids that no mail has."""
+    order = search.tree_of(archive.directory, message_id)
+    ids, found = json.dumps([one for one, _ in order]), {}
+    with archive.slices() as slices:
+        for number, db in enumerate(slices):
+            columns = "id, message_id, datetime(date, 'unixepoch') as time, sender, subject"
+            for row in db.execute(f"select {columns} from mails where message_id in (select value from json_each(?))", (ids,)):
+                found[row["message_id"]] = {**row, "slice": number}
+    return [{**found.get(one, {"id": None, "message_id": one}), "level": min(level, 12)} for one, level in order]
+
+
+def bars(title, counts, is_horizontal=False):
+    """Returns a plot as SVG."""
+    chart = (pygal.HorizontalBar if is_horizontal else pygal.Bar)(
+        js=[], title=title, show_legend=False, x_label_rotation=0 if is_horizontal else 60, disable_xml_declaration=True, height=420,
+        style=pygal.style.Style(background="transparent", plot_background="transparent", foreground="#808080", foreground_strong="#808080",
+                                foreground_subtle="#808080", colors=("#3b7dd8",)),
+    )
+    chart.x_labels = [label for label, _ in counts]
+    if not is_horizontal:
+        chart.x_labels_major_count, chart.show_minor_x_labels = 12, False
+    chart.add(None, [count for _, count in counts])
+    return flask.Response(without_scripts(chart.render()), mimetype="image/svg+xml")
+
+
+def without_scripts(svg):
+    """Returns an image of pygal without its scripts, which only serve tooltips."""
+    top = ElementTree.fromstring(svg)
+    for element in list(top.iter()):
+        for child in list(element):
+            if child.tag.endswith("}script"):
+                element.remove(child)
+    return ElementTree.tostring(top)
+
+
+def download(raw, name):
+    """Returns bytes as a file to be saved, whatever they are."""
+    response = flask.Response(raw, mimetype="application/octet-stream")
+    response.headers.set("Content-Disposition", "attachment", filename=name)
+    return response
+
+
+def extracted(archive, raw, path):
+    """Returns the name and the bytes of a file of a mail, as rocktray extract saves it."""
+    with tempfile.TemporaryDirectory() as into:
+        words = [archive.program, "extract", "--mail", "--into", into, "--only", path, "-"]
+        subprocess.run(words, input=raw, stdout=subprocess.DEVNULL, check=False, timeout=60)
+        for name in os.listdir(into):
+            with open(os.path.join(into, name), "rb") as file:
+                return name, file.read()
+    flask.abort(404)
+
+
+def create_app(directory, program, hosts=None):
+    """Makes the application over a database. `hosts` are the hosts that requests may name; any if left out."""
+    app = flask.Flask(__name__)
+    archive = Archive(directory, program)
+    app.jinja_env.filters["shown"] = lambda text: HIDDEN.sub("\ufffd", text or "")
+    app.jinja_env.globals["link"] = lambda words, **more: flask.url_for("index", **{key: it for key, it in {**words, "page": None, **more}.items() if it})
+
+    @app.before_request
+    def check_host():
+        if hosts is not None and flask.request.host not in hosts:
+            flask.abort(403)
+
+    @app.after_request
+    def add_headers(response):
+        response.headers.update(HEADERS)
+        return response
+
+    @app.errorhandler(400)
+    @app.errorhandler(403)
+    @app.errorhandler(404)
+    @app.errorhandler(410)
+    def fault(error):
+        return flask.render_template("fault.html", error=error), error.code
+
+    @app.get("/")
+    def index():
+        words = {key: flask.request.args[key] for key in ("q", "to", "has", "year", "sender", "list", "type") if flask.request.args.get(key)}
+        page = max(1, min(flask.request.args.get("page", 1, type=int), 400))
+        wheres = wheres_of(given_of(words))
+        with archive.slices() as slices:
+            try:
+                found, total = search.found_in(slices, wheres, page * PAGE)
+                facets = facets_of(slices, wheres)
+            except sqlite3.OperationalError:
+                return flask.render_template("index.html", words=words, wrong=True, mails=[], total=0, facets={}, page=1, pages=1)
+            mails = [{**mail, "files": json.loads(mail["files"]), "slice": slices.index(db), "id": number} for mail, db, number in found[(page - 1) * PAGE :]]
+        pages = min(-(-total // PAGE), 400)
+        return flask.render_template("index.html", words=words, mails=mails, total=total, facets=facets, page=page, pages=pages)
+
+    @app.get("/mail/<int:number>/<int:mail>")
+    def mail(number, mail):
+        with archive.slice(number) as db:
+            row = db.execute(MAIL, (mail,)).fetchone()
+            if row is None:
+                flask.abort(404)
+            files = db.execute("select number, path, name, type, size from attachments where mail = ? order by number", (mail,)).fetchall()
+            copies = db.execute('select file, start, "end", flags from copies where mail = ? order by rowid limit 50', (mail,)).fetchall()
+        return flask.render_template("mail.html", mail=row, files=files, copies=copies, slice=number, id=mail)
+
+    @app.get("/raw/<int:number>/<int:mail>")
+    def raw(number, mail):
+        return download(archive.first_copy(number, mail), "message.eml")
+
+    @app.get("/file/<int:number>/<int:mail>/<int:file>")
+    def file(number, mail, file):
+        with archive.slice(number) as db:
+            row = db.execute("select path from attachments where mail = ? and number = ?", (mail, file)).fetchone()
+        if row is None:
+            flask.abort(404)
+        name, content = extracted(archive, archive.first_copy(number, mail), row["path"])
+        return download(content, name)
+
+    @app.get("/thread")
+    def thread():
+        mails = tree(archive, flask.request.args.get("id", ""))
+        if not mails:
+            flask.abort(404)
+        return flask.render_template("thread.html", mails=mails)
+
+    @app.get("/favicon.ico")
+    def icon():
+        return "", 204
+
+    @app.get("/plots")
+    def plots():
+        return flask.render_template("plots.html")
+
+    @app.get("/plots/months.svg")
+    def months():
+        counts = archive.sums(SENT)
+        return bars("Mails per month", sorted(counts.items())[-240:])
+
+    @app.get("/plots/senders.svg")
+    def senders():
+        counts = archive.sums(SENDERS)
+        most = sorted(counts.items(), key=lambda it: it[1])[-15:]
+        return bars("Most frequent senders", [(HIDDEN.sub("\ufffd", sender)[:40], count) for sender, count in most], is_horizontal=True)
+
+    return app
+
+
+def main():
+    """Serves the pages until it is interrupted."""
+    parser = argparse.ArgumentParser(description=__doc__, formatter_class=argparse.RawDescriptionHelpFormatter)
+    parser.add_argument("database", metavar="DATABASE")
+    parser.add_argument("--host", default="127.0.0.1", help="the address to answer on; 127.0.0.1 by default, which is this machine alone")
+    parser.add_argument("--port", type=int, default=8025)
+    parser.add_argument("--program", metavar="ROCKTRAY", help="by default the built rocktray of this repository, or the installed one")
+    given = parser.parse_args()
+    if not glob.glob(os.path.join(glob.escape(given.database), "[0-9]*.sqlite")):
+        parser.error(f"{given.database} has no slices of load_sqlite.py")
+    hosts = {f"{host}:{given.port}" for host in ("127.0.0.1", "localhost", "[::1]", given.host)}
+    if given.host not in ("127.0.0.1", "localhost", "::1"):
+        print("web.py: anyone who reaches this port can read the archive; there are no passwords", file=sys.stderr)
+        hosts = None
+    program = given.program or (search.BUILT if os.path.isfile(search.BUILT) else shutil.which("rocktray") or search.BUILT)
+    create_app(given.database, program, hosts).run(given.host, given.port, threaded=True)
+
+
+if __name__ == "__main__":
+    main()

@@ -1,0 +1,158 @@
+"""The pages of examples/archive/web.py over a small archive with hostile mails, by requests and in a browser.
+
+No markup, script or address of a mail may reach a page: texts are escaped, pages load nothing from elsewhere, and files are
+downloads. The browser is Chromium without a window; screenshots go to the directory that --basetemp names.
+"""
+
+import base64
+import contextlib
+import os
+import re
+import signal
+import socket
+import subprocess
+import sys
+import time
+import urllib.error
+import urllib.parse
+import urllib.request
+from xml.etree import ElementTree
+
+import pytest
+
+from support import FROM, TOP, missing, program
+
+pytestmark = pytest.mark.xdist_group("web")
+EXAMPLES = os.path.join(TOP, "examples", "archive")
+EVIL = "<script>alert(1)</script><img src=http://198.51.100.7/x onerror=alert(2)>"
+WORD = f"=?utf-8?B?{base64.b64encode(EVIL.encode()).decode()}?="
+MAILS = (
+    "From: Ana Lima <ana@example.net>\nTo: Bo <bo@example.net>\nSubject: Zebra crossing\nMessage-ID: <1@small>\nList-Id: <l.example>\n"
+    "Date: Mon, 3 Mar 2025 10:00:00 +0000\nContent-Type: multipart/mixed; boundary=b\n\n"
+    "--b\n\nThe quagga is extinct.\n--b\nContent-Type: application/pdf\nContent-Disposition: attachment; filename=quagga.pdf\n\n%PDF-x\n--b--\n",
+    "From: Bo <bo@example.net>\nSubject: Re: Zebra crossing\nMessage-ID: <2@small>\nIn-Reply-To: <1@small>\n"
+    "Date: Tue, 4 Mar 2025 10:00:00 +0000\n\nSo is the aurochs.\n",
+    f"From: {WORD} <evil@example.net>\nTo: \"{EVIL}\" <x@example.net>\nSubject: {WORD}\nMessage-ID: <<script>alert(3)</script>@x>\nList-Id: {EVIL}\n"
+    "Date: Wed, 5 Mar 2025 10:00:00 +0000\nContent-Type: multipart/mixed; boundary=b\n\n"
+    f"--b\n\n{EVIL}\n\x1b[31m red\n--b\nContent-Type: text/html\n\n<p>{EVIL}</p>\n"
+    f"--b\nContent-Type: text/html\nContent-Disposition: attachment; filename=\"../{EVIL.replace('/', '')}.html\"\n\n{EVIL}\n--b--\n",
+)
+
+
+@pytest.fixture(scope="module")
+def database(tmp_path_factory):
+    """The database of the archive."""
+    directory = tmp_path_factory.mktemp("web")
+    (directory / "mails.mbox").write_bytes(b"".join(FROM + mail.encode() + b"\n" for mail in MAILS))
+    (directory / "index").mkdir()
+    lines = subprocess.run([program("rocktray"), "json", str(directory / "mails.mbox")], stdout=subprocess.PIPE, check=True).stdout
+    (directory / "index/a.jsonl").write_bytes(lines)
+    (directory / "index/MANIFEST").write_bytes(b'{"shard": "a.jsonl"}\n')
+    subprocess.run([sys.executable, os.path.join(EXAMPLES, "load_sqlite.py"), "index", "db"], cwd=directory, stderr=subprocess.PIPE, check=True)
+    return directory / "db"
+
+
+@pytest.fixture(scope="module")
+def address(database):
+    """The address at which the pages are served."""
+    if subprocess.run([sys.executable, "-c", "import flask, pygal"], stderr=subprocess.DEVNULL, check=False).returncode:
+        missing("Flask or pygal is missing (Debian: python3-flask, python3-pygal)")
+    with socket.create_server(("127.0.0.1", 0)) as free:
+        port = free.getsockname()[1]
+    words = [sys.executable, os.path.join(EXAMPLES, "web.py"), str(database), "--port", str(port), "--program", program("rocktray")]
+    with subprocess.Popen(words, stdout=subprocess.DEVNULL, stderr=subprocess.DEVNULL) as server:
+        for _ in range(200):
+            with contextlib.suppress(OSError), socket.create_connection(("127.0.0.1", port), 1):
+                break
+            time.sleep(0.05)
+        yield f"http://127.0.0.1:{port}"
+        server.send_signal(signal.SIGTERM)
+
+
+def get(address, path, host=None):
+    """Returns the status, the headers and the body of an answer."""
+    request = urllib.request.Request(address + path, headers={"Host": host} if host else {})
+    try:
+        with urllib.request.urlopen(request, timeout=20) as answer:
+            return answer.status, answer.headers, answer.read().decode()
+    except urllib.error.HTTPError as fault:
+        return fault.code, fault.headers, fault.read().decode()
+
+
+def links(text, begin):
+    """Returns the links of a page that begin so."""
+    return [link.replace("&amp;", "&") for link in re.findall(r'href="([^"]*)"', text) if link.startswith(begin)]
+
+
+def test_pages(address):
+    """Search, facets, a mail, its thread and its file."""
+    _, _, found = get(address, "/?q=zebra")
+    assert "<h1>2 mails</h1>" in found and found.index("Re: Zebra crossing") < found.index("\">Zebra crossing")
+    for facet in ("year=2025", "sender=Ana", "list=l.example", "type=application"):
+        assert any(facet in link for link in links(found, "/?")), f"a facet {facet}"
+    assert "<h1>1 mail</h1>" in get(address, "/?q=zebra&has=attachment")[2]
+    assert "<h1>0 mails</h1>" in get(address, "/?q=zebra&year=1999")[2]
+    assert "The query is wrong" in get(address, "/?q=(")[2]
+    mail = next(get(address, link)[2] for link in links(found, "/mail/") if "quagga" in get(address, link)[2])
+    assert "The quagga is extinct." in mail and "mails.mbox, bytes" in mail
+    _, headers, content = get(address, links(mail, "/file/")[0])
+    assert (content, headers["Content-Disposition"], headers["Content-Type"]) == ("%PDF-x", "attachment; filename=quagga.pdf", "application/octet-stream")
+    assert get(address, links(mail, "/raw/")[0])[2] == MAILS[0]
+    thread = get(address, "/thread?id=2@small")[2]
+    assert re.search(r'level-0.*Zebra crossing.*level-1.*Re: Zebra crossing', thread, re.DOTALL)
+    for name in ("months", "senders"):
+        assert ElementTree.fromstring(get(address, f"/plots/{name}.svg")[2]).tag == "{http://www.w3.org/2000/svg}svg"
+
+
+def test_safety(address):
+    """No page has markup of a mail, each has a policy, and other hosts are refused."""
+    paths = ["/", "/?q=alert", f"/?q={urllib.parse.quote(EVIL)}", "/thread?id=2@small", "/plots", "/plots/senders.svg", "/none", "/mail/0/99", "/mail/99/1"]
+    paths += [link for link in links(get(address, "/")[2], "/") if not link.startswith("/static")]
+    for path in paths:
+        _, headers, text = get(address, path)
+        assert "<script" not in text and "<img src=http" not in text and "\x1b" not in text, f"{path}: markup of a mail"
+        assert headers["Content-Security-Policy"].startswith("default-src 'none'") and headers["X-Content-Type-Options"] == "nosniff", path
+    hostile = next(get(address, link)[2] for link in links(get(address, "/?q=alert")[2], "/mail/"))
+    for link in links(hostile, "/file/"):
+        _, headers, _ = get(address, link)
+        assert headers["Content-Disposition"].startswith("attachment") and headers["Content-Type"] == "application/octet-stream", link
+        assert "/" not in headers["Content-Disposition"] and headers["X-Content-Type-Options"] == "nosniff", link
+    assert get(address, "/", host="mail.example.org")[0] == 403
+
+
+def test_browser(address, tmp_path):
+    """In a browser: search, thread, mail and download; no dialog, no other address, and nothing in the console."""
+    try:
+        from selenium import webdriver
+        from selenium.webdriver.common.by import By
+    except ImportError:
+        missing("selenium is missing (Debian: python3-selenium, chromium-driver)")
+    options = webdriver.ChromeOptions()
+    for word in ("--headless=new", "--no-sandbox", "--disable-dev-shm-usage", "--window-size=390,844"):
+        options.add_argument(word)
+    options.add_experimental_option("prefs", {"download.default_directory": str(tmp_path)})
+    options.set_capability("goog:loggingPrefs", {"browser": "ALL", "performance": "ALL"})
+    service = webdriver.chrome.service.Service("/usr/bin/chromedriver")
+    with webdriver.Chrome(service=service, options=options) as browser:
+        browser.get(address)
+        browser.find_element(By.NAME, "q").send_keys("zebra quagga\n")
+        assert browser.find_element(By.TAG_NAME, "h1").text == "1 mail"
+        browser.find_element(By.LINK_TEXT, "thread").click()
+        assert browser.find_element(By.TAG_NAME, "h1").text == "Thread of 2 mails"
+        browser.save_screenshot(str(tmp_path / "thread.png"))
+        browser.find_element(By.LINK_TEXT, "Zebra crossing").click()
+        browser.find_element(By.LINK_TEXT, "quagga.pdf").click()
+        for _ in range(100):
+            if (tmp_path / "quagga.pdf").exists():
+                break
+            time.sleep(0.1)
+        assert (tmp_path / "quagga.pdf").read_bytes() == b"%PDF-x"
+        browser.get(f"{address}/?q=alert")
+        browser.find_element(By.CSS_SELECTOR, ".mails .subject").click()
+        assert EVIL in browser.find_element(By.TAG_NAME, "pre").text
+        browser.save_screenshot(str(tmp_path / "hostile.png"))
+        browser.get(f"{address}/plots")
+        assert browser.execute_script("return document.documentElement.scrollWidth <= window.innerWidth"), "a page is wider than a phone"
+        assert browser.get_log("browser") == []
+        asked = re.findall(r'"url":"(https?://[^"]*)"', "".join(entry["message"].replace('\\"', '"') for entry in browser.get_log("performance")))
+        assert asked and all(url.startswith(f"{address}/") for url in asked), "a request to another address"
