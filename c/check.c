@@ -7,7 +7,7 @@
  *
  * The first two end in `N passed, N failed`.
  */
-#include "rocktray.h"
+#include <rocktray.h>
 
 #include <pthread.h>
 #include <stdatomic.h>

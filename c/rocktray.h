@@ -46,9 +46,10 @@
 extern "C" {
 #endif
 
-/* The version of this header, as a text and as a number, 10000 * major + 100 * minor + patch. */
-#define ROCKTRAY_VERSION "0.1.0"
-#define ROCKTRAY_VERSION_NUMBER 100
+/* The version of this header, as a text and as a number, 10000 * major + 100 * minor + patch. It is filled in where the
+ * library is installed. */
+#define ROCKTRAY_VERSION "@VERSION@"
+#define ROCKTRAY_VERSION_NUMBER @VERSION_NUMBER@
 
 enum rocktray_code {
     ROCKTRAY_DONE = 0,

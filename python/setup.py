@@ -22,6 +22,7 @@ except ImportError:  # before setuptools 70.1
     from wheel.bdist_wheel import bdist_wheel
 
 TOP = Path(__file__).resolve().parent.parent
+VERSION = TOP / "crates" / "mail_version" / "src" / "lib.rt"
 # what is made on the way: nothing of it stays in the checkout
 WORK = tempfile.mkdtemp()
 atexit.register(shutil.rmtree, WORK, ignore_errors=True)
@@ -60,7 +61,7 @@ class Wheel(bdist_wheel):
 
 
 setup(
-    version=re.search(r'^#define ROCKTRAY_VERSION "(.+)"$', (TOP / "c" / "rocktray.h").read_text(), re.M)[1],
+    version=re.search(r'^pub const VERSION: &str = "(.+)";$', VERSION.read_text(), re.M)[1],
     ext_modules=[
         Extension(
             "rocktray._engine",

@@ -2,6 +2,7 @@
 
 import functools
 import os
+import re
 import subprocess
 import sys
 from pathlib import Path
@@ -23,6 +24,10 @@ def missing(why):
 def text_of(path):
     """The text of a file of the repository."""
     return (TOP / path).read_text(encoding="utf-8")
+
+
+VERSION, LOGIC = (re.search(rf'^pub const {name}: &str = "(.*)";$', text_of(f"crates/{path}"), re.M)[1] for name, path in
+                  (("VERSION", "mail_version/src/lib.rt"), ("LOGIC", "rocktray/src/release.rt")))
 
 
 @functools.cache

@@ -8,7 +8,7 @@ import subprocess
 
 import pytest
 
-from support import SAMPLES, TOP, command, run
+from support import SAMPLES, TOP, VERSION, command, run
 
 STRICT = ["-std=c11", "-Wall", "-Wextra", "-Werror"]
 
@@ -23,7 +23,7 @@ def check(c_library, tmp_path_factory):
     """check.c over the static library, under the address and the undefined-behaviour sanitizer."""
     target = tmp_path_factory.mktemp("check") / "check"
     kit = os.path.dirname(subprocess.run(["rt", "doc"], capture_output=True, text=True, check=True).stdout.strip())
-    gcc(*STRICT, "-g", "-O1", "-fsanitize=address,undefined", "-fno-sanitize-recover=all", f"-I{TOP}/c", "-o", target,
+    gcc(*STRICT, "-g", "-O1", "-fsanitize=address,undefined", "-fno-sanitize-recover=all", f"-I{c_library}/include", "-o", target,
         TOP / "c" / "check.c", "-Wl,--wrap=malloc,--wrap=realloc,--wrap=free",
         TOP / "crates" / "mail_c" / "out" / "libmail_c.a", f"{kit}/c/liblibc_c.a", "-lpthread")
     return target
@@ -95,7 +95,8 @@ def test_header_as_cpp():
 def test_version(c_library):
     """The header, the pkg-config file and the programs have one version."""
     version = run([*command("json")[:1], "--version"]).stdout.decode().split()[1]
-    assert f'#define ROCKTRAY_VERSION "{version}"\n' in (TOP / "c" / "rocktray.h").read_text()
+    assert version == VERSION
+    assert f'#define ROCKTRAY_VERSION "{version}"\n' in (c_library / "include" / "rocktray.h").read_text()
     assert f"Version: {version}\n" in (c_library / "lib" / "pkgconfig" / "rocktray.pc").read_text()
 
 

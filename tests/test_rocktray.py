@@ -16,7 +16,7 @@ import zipfile
 
 import pytest
 
-from support import FROM, SAMPLES, TOP, command, program, run, text_of
+from support import FROM, LOGIC, SAMPLES, TOP, VERSION, command, program, run, text_of
 
 MAIL = b"Subject: %b\n\none\n"
 HELP = "For more information, try '--help'."
@@ -80,10 +80,10 @@ def test_control_characters():
     (["--version"], "rocktray {}\n"), (["-V"], "rocktray {}\n"), (["json", "--version"], "rocktray json {}\n"),
 ])
 def test_version(words, wanted):
-    """The version is that of the C library."""
-    version = text_of("c/rocktray.h").split('ROCKTRAY_VERSION "')[1].split('"')[0]
+    """The version, the commit of a release and the logic of the kit."""
     ended = run([program("rocktray"), *words])
-    assert (ended.returncode, ended.stdout.decode(), ended.stderr) == (0, wanted.format(version), b"")
+    wanted = wanted.format(VERSION) + f"commit unreleased\nlogic {LOGIC}\n"
+    assert (ended.returncode, ended.stdout.decode(), ended.stderr) == (0, wanted, b"")
 
 
 def test_help():

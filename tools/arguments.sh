@@ -32,14 +32,14 @@ help() {
 # need_kit: ends the script if the kit is missing
 need_kit() {
     command -v rt > /dev/null || {
-        echo "$script: this needs the Rattle kit, whose command is rt" >&2
+        echo "$script: this needs the Rattle kit, whose command is rt; README.md says how to get a release" >&2
         exit 2
     }
 }
 
-# version: prints the version of the programs
+# version [NAME]: prints the version, or another constant of the crate mail_version
 version() {
-    sed -n "s/^#define ROCKTRAY_VERSION \"\(.*\)\"\$/$script \1/p" "$top/c/rocktray.h"
+    sed -n "s/^pub const ${1:-VERSION}: .* = \"\{0,1\}\([^\"]*\)\"\{0,1\};$/\1/p" "$top/crates/mail_version/src/lib.rt"
 }
 
 # check_arguments ARGUMENT..: prints the help, or refuses what `arguments` does not allow
@@ -53,7 +53,7 @@ check_arguments() {
         fi
         case $word in
             -h | --help) help; exit 0 ;;
-            --version) case $arguments in *'[--version]'*) version; exit 0 ;; esac; usage "there is no option $word" ;;
+            --version) case $arguments in *'[--version]'*) echo "$script $(version)"; exit 0 ;; esac; usage "there is no option $word" ;;
             '') usage 'an argument is empty' ;;
             -) given=$((given + 1)) ;;
             --) are_names=1 ;;

@@ -10,7 +10,6 @@ arguments='PREFIX'
 [ -d "$(dirname "$1")" ] || usage "there is no directory $(dirname "$1")"
 crate=$top/crates/mail_c
 archive=$crate/out/libmail_c.a
-version=$(sed -n 's/^#define ROCKTRAY_VERSION "\(.*\)"$/\1/p' "$top/c/rocktray.h")
 compiler=${CC:-cc}
 need_kit
 
@@ -46,15 +45,16 @@ ln -sf librocktray.so.0 "$library"
 objcopy --wildcard --keep-global-symbol='rocktray_*' "$work/rocktray.o"
 rm -f "$prefix/lib/librocktray.a"
 ar rcsD "$prefix/lib/librocktray.a" "$work/rocktray.o"
-cp "$top/c/rocktray.h" "$prefix/include/"
+sed -e "s/@VERSION@/$(version)/" -e "s/@VERSION_NUMBER@/$(version VERSION_NUMBER)/" \
+    "$top/c/rocktray.h" > "$prefix/include/rocktray.h"
 cat > "$prefix/lib/pkgconfig/rocktray.pc" << END
-prefix=$prefix
+prefix=\${pcfiledir}/../..
 libdir=\${prefix}/lib
 includedir=\${prefix}/include
 
 Name: rocktray
 Description: Reads mail, proved
-Version: $version
+Version: $(version)
 Libs: -L\${libdir} -lrocktray
 Cflags: -I\${includedir}
 END

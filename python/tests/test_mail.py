@@ -43,8 +43,8 @@ def forwarded(mail):
 
 
 def test_version():
-    header = (TOP / "c" / "rocktray.h").read_text()
-    assert f'#define ROCKTRAY_VERSION "{rocktray.__version__}"' in header.splitlines()
+    source = (TOP / "crates" / "mail_version" / "src" / "lib.rt").read_text()
+    assert f'pub const VERSION: &str = "{rocktray.__version__}";' in source.splitlines()
 
 
 def test_sample(samples):

@@ -25,6 +25,7 @@ mod results;
 use buffer::{write_bytes, write_result};
 use codes::reason;
 use mail_charsets::AllCharsets;
+use mail_version::VERSION_NUMBER;
 use std::alloc::Global;
 
 /// Returns the charsets in which mails are read: all those of the Encoding Standard.
@@ -35,9 +36,9 @@ fn charsets() -> AllCharsets {
 /// Returns the version of the library: 10000 * major + 100 * minor + patch.
 #[unsafe(no_mangle)]
 pub extern "C" fn rocktray_version() -> u32
-    ensures { result ≡ 100 }
+    ensures { result ≡ 200 }
 {
-    100
+    VERSION_NUMBER
 }
 
 /// Writes a mail as a line of JSON, as `rocktray json` does.

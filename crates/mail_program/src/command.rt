@@ -83,6 +83,3 @@ impl<'a> Argument<'a> {
         }
     }
 }
-
-/// The version of the programs, which `--version` prints after their names.
-pub const VERSION: &str = "0.1.0";

@@ -7,7 +7,7 @@ mod hash;
 mod outcome;
 mod streams;
 
-pub use command::{Argument, Expected, VERSION, arguments};
+pub use command::{Argument, Expected, arguments};
 pub use fault::Fault;
 pub use hash::sha256_text;
 pub use outcome::{Outcome, status_of};

@@ -5,7 +5,8 @@ mod request;
 mod run;
 mod text;
 
-use mail_program::{Fault, VERSION, arguments, status_of};
+use mail_program::{Fault, arguments, status_of};
+use mail_version::VERSION;
 use request::{HELP, Request, USAGE, request_of};
 use run::run;
 use std::process::ExitCode;

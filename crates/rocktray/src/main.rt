@@ -5,6 +5,7 @@ mod extract;
 mod inputs;
 mod json;
 mod options;
+mod release;
 mod show;
 
 use clap::error::ErrorKind;
@@ -13,6 +14,7 @@ use inputs::names_of;
 use mail_inputs::{PROGRAM, arguments, shown};
 use mail_program::{Fault, status_of};
 use options::{EXTRACT, JSON, SHOW, command};
+use release::{LOGIC, commit};
 use std::alloc::{AllocError, Global};
 use std::env::Env;
 use std::io::IsTerminal;
@@ -96,8 +98,13 @@ fn shown_texts(alloc: Global, arguments: &[String]) -> Result<Vec<String>, Alloc
 fn print(rt: &(impl Print + Eprint), error: &Error) -> Result<ExitCode, Fault> {
     match error.kind() {
         ErrorKind::OutOfMemory => Err(Fault::from(AllocError)),
-        ErrorKind::DisplayHelp | ErrorKind::DisplayVersion => {
+        ErrorKind::DisplayHelp => {
             rt.print(error)?;
+            Ok(ExitCode::SUCCESS)
+        }
+        ErrorKind::DisplayVersion => {
+            rt.print(error)?;
+            println!(rt; "commit {}\nlogic {LOGIC}", commit())?;
             Ok(ExitCode::SUCCESS)
         }
         _ => {

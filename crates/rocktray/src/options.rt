@@ -3,7 +3,7 @@
 use clap::builder::ValueParser;
 use clap::{Arg, ArgAction, Command};
 use mail_inputs::PROGRAM;
-use mail_program::VERSION;
+use mail_version::VERSION;
 use std::alloc::{AllocError, Global};
 
 /// The subcommand that saves files.
