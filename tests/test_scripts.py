@@ -11,7 +11,7 @@ import subprocess
 
 import pytest
 
-from support import TOP, program, run, text_of
+from support import TOP, VERSION, program, run, text_of
 
 SCRIPTS = sorted(
     path for pattern in ("tools/*", "bench/*", "oracle/*", "examples/archive/*.py")
@@ -19,11 +19,6 @@ SCRIPTS = sorted(
 )
 LAUNCHERS = ("mail_show", "rocktray")
 MAIL = (TOP / "samples" / "attachment.eml").read_bytes()
-
-
-def version():
-    """The version of the header of the C library."""
-    return re.search(r'^#define ROCKTRAY_VERSION "(.*)"$', (TOP / "c" / "rocktray.h").read_text(), re.M)[1]
 
 
 def ends(command, status, stream, **options):
@@ -81,7 +76,7 @@ def test_without_the_kit(command, tmp_path):
     ended = subprocess.run(command, stdin=subprocess.DEVNULL, capture_output=True, text=True, timeout=20, cwd=copy,
                            env={"PATH": "/usr/bin:/bin"})
     assert (ended.returncode, ended.stdout) == (2, "")
-    assert re.fullmatch(r"\w[\w.]*: this needs the Rattle kit, whose command is rt\n", ended.stderr)
+    assert re.fullmatch(r"\w[\w.]*: this needs the Rattle kit, whose command is rt(; README.md says how to get a release)?\n", ended.stderr)
 
 
 @pytest.mark.quick
@@ -93,7 +88,7 @@ def test_rocktray_is_not_built(tmp_path):
         ended = run(["./rocktray", *words], cwd=copy)
         assert (ended.returncode, ended.stdout.decode(), ended.stderr) == (0, text_of("docs/usage.txt"), b"")
     ended = run(["./rocktray", "json", "samples/plain.eml"], cwd=copy)
-    why = b"rocktray: the program is not built; to prove and build it: tools/program.sh rocktray\n"
+    why = b"rocktray: the program is not built: install a release (README.md), or prove and build it: tools/program.sh rocktray\n"
     assert (ended.returncode, ended.stdout, ended.stderr) == (2, b"", why)
 
 
@@ -121,7 +116,7 @@ def test_show_before_the_program_is_built(words, last, status, said, tmp_path):
 def test_version_without_a_program(name):
     """The version needs no built program."""
     ended = run([TOP / name, "--version"])
-    assert ended.stdout.decode() == f"{name} {version()}\n"
+    assert ended.stdout.decode().splitlines()[0] == f"{name} {VERSION}"
 
 
 def outputs(command, directory):

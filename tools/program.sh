@@ -1,11 +1,13 @@
 #!/bin/sh
 # program.sh NAME: prints where the program of the crate NAME is, a directory crates/NAME with
 # src/main.rt.
+# Without the kit it is that of a release: one unpacked at the top of the checkout, or one on the PATH.
 #
 # If the program is missing or older than a source, the crate is proved and the program built first,
 # with progress on standard error (docs/CONTRIBUTING.md says how long). With BUILT=only in the environment a program that has to be built is an error.
 arguments='NAME'
 . "$(dirname "$0")/arguments.sh"
+. "$here/released.sh"
 name=$1
 crate=$top/crates/$name
 program=$crate/out/$name
@@ -61,7 +63,9 @@ build() {
     touch "$program"
 }
 
-if [ ! -x "$program" ] || [ -n "$(newer)" ]; then
+if [ ! -x "$program" ] && program_of_release=$(released "$name" "$top/$name"); then
+    program=$program_of_release
+elif [ ! -x "$program" ] || [ -n "$(newer)" ]; then
     if [ "${BUILT:-}" = only ]; then
         echo "$script: $name is not built" >&2
         exit 1
