@@ -1,8 +1,9 @@
 #!/bin/sh
-# install_needs.sh: installs what the gate needs beyond the kit, Python 3, bash and Debian's own tools. As root on
-# Debian it calls apt-get; otherwise, or if that fails, it names the packages that are missing, and ends with status 1.
+# install_needs.sh: installs what the gate needs beyond the kit, Python 3, bash and Debian's own tools, and with --release
+# what only a release needs. As root on Debian it calls apt-get; otherwise, or if that fails, it names the packages that
+# are missing, and ends with status 1.
 # If nothing is missing it takes a tenth of a second. Modules of Python are those of Debian's /usr/bin/python3.
-arguments=
+arguments='[--release]'
 . "$(dirname "$0")/arguments.sh"
 most_tries=30
 
@@ -30,6 +31,13 @@ chromium-driver command chromedriver
 python3-selenium module selenium
 cargo command cargo
 librust-encoding-rs-dev file /usr/share/cargo/registry/encoding_rs-*/Cargo.toml
+help2man command help2man
+debhelper command dh
+dh-python command dh_python3
+END
+    [ "${1:-}" != --release ] || cat << 'END'
+debootstrap command debootstrap
+lintian command lintian
 END
 }
 
@@ -43,7 +51,7 @@ look() {
             module) /usr/bin/python3 -c "import $name" 2> /dev/null || missing="$missing $package" ;;
         esac
     done << END
-$(needs)
+$(needs "$@")
 END
 }
 
@@ -64,11 +72,11 @@ install() {
     update && apt-get -qq -y -o DPkg::Lock::Timeout=120 --no-install-recommends install $missing
 }
 
-look
+look "$@"
 if [ -n "$missing" ] && [ "$(id -u)" = 0 ] && command -v apt-get > /dev/null; then
     echo "$script: installing$missing" >&2
     install > /dev/null || true
-    look
+    look "$@"
 fi
 [ -z "$missing" ] || {
     echo "$script: missing; on Debian root installs it by: apt-get install$missing" >&2
