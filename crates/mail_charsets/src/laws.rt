@@ -1,8 +1,11 @@
 //! The meaning of the definitions, as laws over all bytes and all indexes.
 //!
 //! Each function does nothing; its contract is the law.
-ghost use Rattle.std.specs.Prelude.{◌≡◌, true, ◌∷◌, [], ◌++◌, ℕ, ◌<◌, List, Option, drop, length, slice_index, encode_utf8_all};
+ghost use Rattle.std.specs.Prelude.{◌≡◌, is_some, true, ◌∷◌, [], ◌++◌, ℕ, ◌<◌, List, Option, drop, length, slice_index, encode_utf8_all};
+ghost use Rattle.mail_codec.specs.Charset.{four_charsets};
 ghost use Rattle.mail_codec.specs.Front.{Taken, text_by};
+ghost use Rattle.mail_charsets.specs.All.{all_known};
+ghost use Rattle.mail_charsets.specs.declared.all.AllCharsets.{AllCharsets};
 ghost use Rattle.mail_charsets.specs.Front.{TakesFew, front_by};
 ghost use Rattle.mail_charsets.specs.EucKr.{euc_kr_front};
 ghost use Rattle.mail_charsets.specs.ShiftJis.{shift_jis_front};
@@ -39,4 +42,11 @@ pub fn at_most_four_bytes_are_taken()
         → TakesFew (length bytes) (big5_front index plane bytes) }
     ensures euc_jp { (index second bytes : List ℕ) → 0 < length bytes
         → TakesFew (length bytes) (euc_jp_front index second bytes) }
+{}
+
+/// A label of UTF-8, windows-1252 or UTF-16 means that charset, whatever tables and indexes
+/// `AllCharsets` has. So a value that is written in encoded words of UTF-8 reads back under it.
+pub fn the_four_come_first()
+    ensures { (all : AllCharsets) (label : List ℕ) → is_some (four_charsets label) ≡ true
+        → all_known all label ≡ four_charsets label }
 {}
