@@ -234,3 +234,15 @@ unfolding safe_name
 safe_name-same name utf8 h =
     let same = front_name-same name utf8 h in
     cond-false (is_reserved (front_name name)) (codes "_") (front_name name) (ap is_reserved same ∙ safe_not_reserved name h) ∙ same
+
+-- ---- the name of which the front was made
+
+pub safe_name-reserved : (name front : List ℕ) → front ≡ front_name name → is_reserved front ≡ true → codes "_" ≡ safe_name name
+unfolding safe_name
+safe_name-reserved name front is reserved =
+    sym (cond-true (is_reserved (front_name name)) (codes "_") (front_name name) (sym (ap is_reserved is) ∙ reserved))
+
+pub safe_name-free : (name front : List ℕ) → front ≡ front_name name → is_reserved front ≡ false → front ≡ safe_name name
+unfolding safe_name
+safe_name-free name front is free =
+    is ∙ sym (cond-false (is_reserved (front_name name)) (codes "_") (front_name name) (sym (ap is_reserved is) ∙ free))

@@ -30,6 +30,10 @@ is_leaf-out m =
 pub ctype-out : (m : ParsedMail) → content_type (out-ParsedMail m).ctype ≡ (root (tree_of m)).ctype
 ctype-out m = ap (λ (t : Tree). (root t).ctype) (sym (fold_out-ParsedMail Tree tree_step m))
 
+-- its headers
+pub headers-out : (m : ParsedMail) → (out-ParsedMail m).headers.items ≡ (root (tree_of m)).headers
+headers-out m = ap (λ (t : Tree). (root t).headers) (sym (fold_out-ParsedMail Tree tree_step m))
+
 pub is_attachment-parts : (known : Charsets) (t : Tree) → false ≡ is_leaf t → is_attachment known t ≡ false
 unfolding is_attachment
 is_attachment-parts known t e = and_left (is_leaf t) (describes_attachment (shown_as_in known (root t)) (root t).ctype) (sym e)

@@ -28,18 +28,11 @@ const MOST_BYTES: usize = 255;
 /// assert_eq!(rt; safe_file_name(alloc, "..")?.as_str(), "_");
 /// assert_eq!(rt; safe_file_name(alloc, "résumé.pdf")?.as_str(), "résumé.pdf");
 /// ```
+#[tactic(auto, unfolding(crate::specs::FileNames::safe_name))]
 pub fn safe_file_name(alloc: Global, name: &str) -> Result<String, AllocError>
     ensures read { IfOk result (λ safe. string_bytes safe ≡ safe_name name.now) }
     ensures safe { IfOk result (λ safe. IsSafeName (string_bytes safe)) }
     ensures same { IsSafeName name.now → IfOk result (λ safe. string_bytes safe ≡ name.now) }
-{
-    safe_name(alloc, name)
-}
-
-/// Returns the leading characters made safe, or `_` if these are no name of a file.
-#[tactic(auto, unfolding(crate::specs::FileNames::safe_name))]
-fn safe_name(alloc: Global, name: &str) -> Result<String, AllocError>
-    ensures { IfOk result (λ safe. string_bytes safe ≡ safe_name name.now) }
 {
     let safe = front_name(alloc, name)?;
     if is_reserved(safe.as_str()) {

@@ -45,15 +45,6 @@ pub fn lenient_body<'m>(alloc: Global, part: &'m ParsedMail<'_>) -> Result<Body<
         IfOk result (IsBody (body_kind node) (content_of node)) }
     ensures only_memory { IfErr result IsMemory }
 {
-    body_named(alloc, part)
-}
-
-/// Returns the body of a part in that encoding.
-fn body_named<'m>(alloc: Global, part: &'m ParsedMail<'_>) -> Result<Body<'m>, MailParseError>
-    ensures read { let node = root (tree_of part.now) in
-        IfOk result (IsBody (lenient_body_kind node) (content_of node)) }
-    ensures only_memory { IfErr result IsMemory }
-{
     let raw = raw_body(alloc, part)?;
     let value = part
         .headers

@@ -1,12 +1,15 @@
 -- Lemmas on the names of transfer encodings.
-use Rattle.std.proofs.Common.{◌≡◌, ℕ, true, false, List, Option, Some, None, refl, sym, ap, ◌∙◌, inl, inr}
+use Rattle.std.proofs.Common.{◌≡◌, ℕ, true, false, List, Option, Some, None, refl, sym, ap, subst, ◌∙◌, inl, inr}
 use Rattle.std.specs.Prelude.{codes, option_map}
 use Rattle.std.specs.Str.{bytes_eq, str_to_ascii_lowercase}
 use Rattle.std.proofs.lemmas.Bool.{cond-false, cases_Bool}
 use Rattle.std.proofs.lemmas.Slice.Eq.{bytes_eq-Decides}
-use Rattle.mailparse.specs.Body.{in_7bit, kind_named}
+use Rattle.mailparse.specs.Body.{BodyKind, in_7bit, kind_named}
+use Rattle.mailparse.specs.BodyViews.{Content, IsBody, content_of}
+use Rattle.mailparse.specs.ContentType.{ContentType}
 use Rattle.mailparse.specs.Map.{first_value}
 use Rattle.mailparse.specs.Mail.{Node, body_kind}
+use Rattle.mailparse.specs.declared.body.Body.{Body}
 use Rattle.mail_data.specs.lenient.Encoding.{name_at, lenient_kind, lenient_body_kind}
 
 -- a text that is one of the names is that name
@@ -44,3 +47,15 @@ value-same (Some text) h = word-same (str_to_ascii_lowercase text) h
 -- an encoding that the strict reading finds is found
 pub lenient-same : (node : Node) → (body_kind node ≡ in_7bit → ⊥) → lenient_body_kind node ≡ body_kind node
 lenient-same node h = value-same (first_value (codes "Content-Transfer-Encoding") node.headers) h
+
+-- ---- a body that was made
+
+abbrev made : List ℕ → ContentType → Content
+made raw ctype = record { raw = raw; ctype = ctype }
+
+-- it is that of a message, in another kind that is the same
+pub is_body : (raw : List ℕ) (ctype : ContentType) (node : Node) (kind other : BodyKind) (body : Body) → raw ≡ node.body → ctype ≡ node.ctype → kind ≡ other
+    → IsBody kind (made raw ctype) body → IsBody other (content_of node) body
+is_body raw ctype node kind other body e f g h =
+    subst (λ (k : BodyKind). IsBody k (content_of node) body) g
+    (subst (λ (t : ContentType). IsBody kind (made node.body t) body) f (subst (λ (r : List ℕ). IsBody kind (made r ctype) body) e h))
