@@ -171,12 +171,17 @@ offset_at bytes =
     let n = digits_value 10 run.0 in
     if length run.0 == 4 && nat_lt (n % 100) 60 then Ok (zone_size n, run.1) else Err Zone
 
--- the seconds that a zone in the west adds, and one in the east
-abbrev pub west : ℕ × List ℕ → Dated (ℤ × List ℕ)
-west offset = Ok (pos offset.0, offset.1)
+-- a zone: the seconds that it adds, and whether it is known
+abbrev pub Zoned : Type 0
+Zoned = ℤ × Bool
 
-abbrev pub east : ℕ × List ℕ → Dated (ℤ × List ℕ)
-east offset = Ok (neg_ℤ (pos offset.0), offset.1)
+-- a zone in the west, and one in the east; `-0000` says that the zone is not known (RFC 5322,
+-- section 3.3)
+abbrev pub west : ℕ × List ℕ → Dated (Zoned × List ℕ)
+west offset = Ok ((pos offset.0, not (offset.0 == 0)), offset.1)
+
+abbrev pub east : ℕ × List ℕ → Dated (Zoned × List ℕ)
+east offset = Ok ((neg_ℤ (pos offset.0), true), offset.1)
 
 -- the signs of a zone
 abbrev pub plus_sign : ℕ
@@ -192,8 +197,8 @@ west_by minutes = pos (60 * minutes)
 abbrev pub east_by : ℕ → ℤ
 east_by minutes = neg_ℤ (pos (60 * minutes))
 
--- the known names of zones, with the seconds that each adds: those of the standard, those whose
--- abbreviation means one offset in the time zone database of IANA (RFC 6557), and the German names
+-- the known names of zones, with the seconds that each adds: those of the standard, those that have
+-- meant one offset since 1970 in the time zone database of IANA (RFC 6557), and the German names
 -- MEZ and MESZ
 abbrev pub zone_names : List (List ℕ × ℤ)
 zone_names =
@@ -203,24 +208,19 @@ zone_names =
     ∷ (codes "PDT", west_by 420) ∷ (codes "PST", west_by 480) ∷ (codes "NST", west_by 210)
     ∷ (codes "NDT", west_by 150) ∷ (codes "AST", west_by 240) ∷ (codes "ADT", west_by 180)
     ∷ (codes "AKST", west_by 540) ∷ (codes "AKDT", west_by 480) ∷ (codes "HST", west_by 600)
-    ∷ (codes "WET", pos 0) ∷ (codes "WEST", east_by 60) ∷ (codes "BST", east_by 60)
-    ∷ (codes "CET", east_by 60) ∷ (codes "CEST", east_by 120) ∷ (codes "MET", east_by 60)
-    ∷ (codes "MEST", east_by 120) ∷ (codes "MEZ", east_by 60) ∷ (codes "MESZ", east_by 120)
-    ∷ (codes "EET", east_by 120) ∷ (codes "EEST", east_by 180) ∷ (codes "MSK", east_by 180)
-    ∷ (codes "MSD", east_by 240) ∷ (codes "WAT", east_by 60) ∷ (codes "CAT", east_by 120)
-    ∷ (codes "SAST", east_by 120) ∷ (codes "EAT", east_by 180) ∷ (codes "PKT", east_by 300)
-    ∷ (codes "WIB", east_by 420) ∷ (codes "HKT", east_by 480) ∷ (codes "AWST", east_by 480)
-    ∷ (codes "JST", east_by 540) ∷ (codes "KST", east_by 540) ∷ (codes "ACST", east_by 570)
+    ∷ (codes "WET", pos 0) ∷ (codes "WEST", east_by 60) ∷ (codes "CET", east_by 60)
+    ∷ (codes "CEST", east_by 120) ∷ (codes "MET", east_by 60) ∷ (codes "MEST", east_by 120)
+    ∷ (codes "MEZ", east_by 60) ∷ (codes "MESZ", east_by 120) ∷ (codes "EET", east_by 120)
+    ∷ (codes "EEST", east_by 180) ∷ (codes "MSD", east_by 240) ∷ (codes "WAT", east_by 60)
+    ∷ (codes "CAT", east_by 120) ∷ (codes "SAST", east_by 120) ∷ (codes "EAT", east_by 180)
+    ∷ (codes "PKT", east_by 300) ∷ (codes "WIB", east_by 420) ∷ (codes "HKT", east_by 480)
+    ∷ (codes "AWST", east_by 480) ∷ (codes "JST", east_by 540) ∷ (codes "ACST", east_by 570)
     ∷ (codes "ACDT", east_by 630) ∷ (codes "AEST", east_by 600) ∷ (codes "AEDT", east_by 660)
     ∷ (codes "NZST", east_by 720) ∷ (codes "NZDT", east_by 780) ∷ []
 
--- a zone: the seconds that it adds, and whether it is known
-abbrev pub Zoned : Type 0
-Zoned = ℤ × Bool
-
 -- the digits after a sign, if there is one: after `+` a zone is in the east, after `-` in the west;
 -- a name after them is ignored
-unfoldable pub signed_at : List ℕ → Option (Dated (ℤ × List ℕ))
+unfoldable pub signed_at : List ℕ → Option (Dated (Zoned × List ℕ))
 signed_at bytes =
     option_map_or (λ rest. Some (offset_at rest >>= east)) (after_mark plus_sign bytes)
     (option_map (λ rest. offset_at rest >>= west) (after_mark minus_sign bytes))
@@ -237,16 +237,16 @@ named_zone name rest =
     if is_empty name && not (is_empty rest) then Err Zone
     else Ok ((unwrap_or (look_up zone_names name) (pos 0), is_some (look_up zone_names name)), rest)
 
--- a zone with digits is known; a name may follow them
-abbrev pub zone_of_digits : ℤ × List ℕ → Dated (Zoned × List ℕ)
-zone_of_digits offset = Ok ((offset.0, true), (run_at is_ascii_alphabetic offset.1).1)
+-- a name may follow the digits of a zone
+abbrev pub zone_of_digits : Zoned × List ℕ → Dated (Zoned × List ℕ)
+zone_of_digits zone = Ok (zone.0, (run_at is_ascii_alphabetic zone.1).1)
 
 -- the zone at the front: a sign and digits, perhaps after `GMT` or `UTC`, or a name, or nothing
 unfoldable pub zone_at : List ℕ → Dated (Zoned × List ℕ)
 zone_at bytes =
     let run = run_at is_ascii_alphabetic bytes in
     if is_empty run.0 || is_universal run.0
-    then option_map_or (λ offset. offset >>= zone_of_digits) (signed_at run.1)
+    then option_map_or (λ zone. zone >>= zone_of_digits) (signed_at run.1)
     (named_zone run.0 run.1)
     else named_zone run.0 run.1
 

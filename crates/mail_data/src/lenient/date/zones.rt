@@ -12,7 +12,7 @@ use mail_codec::names::look_up;
 
 /// The known names of zones, with the seconds that each adds: positive in the west of Greenwich,
 /// where clocks are slow.
-static ZONES: [(&str, i32); 48] = [
+static ZONES: [(&str, i32); 45] = [
     ("UTC", 0),
     ("UT", 0),
     ("GMT", 0),
@@ -34,7 +34,6 @@ static ZONES: [(&str, i32); 48] = [
     ("HST", 36_000),
     ("WET", 0),
     ("WEST", -3_600),
-    ("BST", -3_600),
     ("CET", -3_600),
     ("CEST", -7_200),
     ("MET", -3_600),
@@ -43,7 +42,6 @@ static ZONES: [(&str, i32); 48] = [
     ("MESZ", -7_200),
     ("EET", -7_200),
     ("EEST", -10_800),
-    ("MSK", -10_800),
     ("MSD", -14_400),
     ("WAT", -3_600),
     ("CAT", -7_200),
@@ -54,7 +52,6 @@ static ZONES: [(&str, i32); 48] = [
     ("HKT", -28_800),
     ("AWST", -28_800),
     ("JST", -32_400),
-    ("KST", -32_400),
     ("ACST", -34_200),
     ("ACDT", -37_800),
     ("AEST", -36_000),
@@ -74,31 +71,31 @@ pub(super) fn zone_at(text: &[u8]) -> Result<((i64, bool), &[u8]), DateError>
     let (name, rest) = letters_at(text);
     if name.is_empty() || is_universal(name) {
         if let Some(signed) = signed_at(rest) {
-            let (offset, rest) = signed?;
+            let (zone, rest) = signed?;
             let (_, rest) = letters_at(rest);
-            return Ok(((offset, true), rest));
+            return Ok((zone, rest));
         }
     }
     named_zone(name, rest)
 }
 
-/// Reads the digits after a sign: the seconds that they add, and the text after them, or `None` if
-/// there is no sign.
+/// Reads the digits after a sign: the seconds that they add, whether the zone is known, and the
+/// text after them, or `None` if there is no sign.
 #[tactic(auto, unfolding(crate::specs::lenient::Date::signed_at))]
-fn signed_at(text: &[u8]) -> Option<Result<(i64, &[u8]), DateError>>
+fn signed_at(text: &[u8]) -> Option<Result<((i64, bool), &[u8]), DateError>>
     ensures read { option_map part_read result ≡ signed_at text.now }
     ensures bounds { IfSome result (λ signed. IfOk signed (λ p.
-        (neg_ℤ (pos (10 ^ 11)) ≤ℤ p.0) × (p.0 ≤ℤ pos (10 ^ 11)))) }
+        (neg_ℤ (pos (10 ^ 11)) ≤ℤ p.0.0) × (p.0.0 ≤ℤ pos (10 ^ 11)))) }
 {
     if let Some(rest) = after_mark(text, b'+') {
         return match offset_at(rest) {
-            Ok((offset, rest)) => Some(Ok((-(offset as i64), rest))),
+            Ok((offset, rest)) => Some(Ok(((-(offset as i64), true), rest))),
             Err(error) => Some(Err(error)),
         };
     }
     if let Some(rest) = after_mark(text, b'-') {
         return match offset_at(rest) {
-            Ok((offset, rest)) => Some(Ok((offset as i64, rest))),
+            Ok((offset, rest)) => Some(Ok(((offset as i64, offset != 0), rest))),
             Err(error) => Some(Err(error)),
         };
     }
