@@ -4,13 +4,13 @@ ghost use Rattle.std.specs.Str.{is_utf8};
 ghost use Rattle.mailparse.specs.Mail.{root};
 ghost use Rattle.mailparse.specs.Outcome.{AnswersOrMemory, GivesText};
 ghost use Rattle.mailparse.specs.Views.{content_type, tree_of};
-ghost use Rattle.mail_data.specs.lenient.Texts.{body_text, charset_name, charset_used, is_default};
-ghost use Rattle.mail_data.specs.lenient.Texts.{is_read_as_utf8, lenient_text};
+ghost use Rattle.mail_data.specs.lenient.Texts.{body_text, charset_by_bytes, charset_name};
+ghost use Rattle.mail_data.specs.lenient.Texts.{charset_used, is_default, lenient_text, names_none};
 ghost use Rattle.mail_data.specs.lenient.TextViews.{text_view};
 
 use super::content::lenient_content;
 use super::encoding::lenient_body;
-use mail_codec::charset::{Charset, Decode, KnownCharsets, decode_ascii};
+use mail_codec::charset::{Charset, Decode, KnownCharsets};
 use mailparse::{MailParseError, ParsedContentType, ParsedMail};
 use std::alloc::Global;
 
@@ -67,9 +67,13 @@ pub fn body_text<K: KnownCharsets>(
     })
 }
 
-/// Returns the text of decoded bytes of this type. If the charset of the type is missing,
-/// `us-ascii` or unknown and the bytes are UTF-8, they are read as UTF-8; otherwise as
-/// `get_as_string_in` reads them (RFC 2045, section 5.2; RFC 2046, section 4.1.2).
+/// Returns the text of decoded bytes of this type. If its label of a charset is missing, means
+/// ASCII or is unknown, the bytes are read as UTF-8 if they are UTF-8, and otherwise as
+/// windows-1252. Under any other label they are read as `get_as_string_in` reads them (RFC 2045,
+/// section 5.2; RFC 2046, section 4.1.2).
+///
+/// The labels of ASCII are `us-ascii`, `ascii` and `ansi_x3.4-1968`, in any case and with
+/// whitespace around them. A byte order mark takes precedence over the label.
 ///
 /// Allocates the text.
 ///
@@ -87,7 +91,7 @@ pub fn body_text<K: KnownCharsets>(
 /// let text = lenient_text(alloc, b"caf\xC3\xA9", &ctype, &())?;
 /// assert_eq!(rt; text.as_str(), "café");
 /// ```
-#[tactic(auto, unfolding(crate::specs::lenient::Texts::lenient_text, mailparse::specs::Body::text_under_in))]
+#[tactic(auto, unfolding(crate::specs::lenient::Texts::lenient_text, crate::specs::lenient::Texts::names_none, mailparse::specs::Body::text_under_in))]
 pub fn lenient_text<K: KnownCharsets>(
     alloc: Global,
     bytes: &[u8],
@@ -98,19 +102,19 @@ pub fn lenient_text<K: KnownCharsets>(
         (lenient_text (K.known known.now) (content_type ctype.now).charset bytes.now) }
 {
     let label = ctype.charset.as_str();
-    if is_read_as_utf8(bytes, label, known) {
-        return Ok(Charset::Utf8.decode(alloc, bytes)?);
+    if is_default(label) {
+        return Ok(charset_by_bytes(bytes).decode(alloc, bytes)?);
     }
     match known.for_label(label.as_bytes()) {
         Some(charset) => Ok(charset.decode(alloc, bytes)?),
-        None => Ok(decode_ascii(alloc, bytes)?.into_owned(alloc)?),
+        None => Ok(charset_by_bytes(bytes).decode(alloc, bytes)?),
     }
 }
 
 /// Returns the name of the charset in which `lenient_text` reads bytes of this type (RFC 2045,
-/// section 5.2): `utf-8` if they are read as UTF-8 in spite of their label, `us-ascii` if the label
-/// is unknown, since only ASCII is read then, that of a byte order mark, `windows-1252` for
-/// `us-ascii`, and otherwise the label. Does not allocate.
+/// section 5.2): that of a byte order mark; otherwise, if the label is missing, means ASCII or is
+/// unknown, `utf-8` or `windows-1252`; and otherwise the label, without whitespace around it. Does
+/// not allocate.
 ///
 /// # Examples
 ///
@@ -131,28 +135,34 @@ pub fn charset_used<'c, K: KnownCharsets>(
     ensures { result.now
         ≡ charset_used (K.known known.now) (content_type ctype.now).charset bytes.now }
 {
-    let label = ctype.charset.as_str();
-    if is_read_as_utf8(bytes, label, known) {
-        return "utf-8";
-    }
-    if !is_known(label, known) {
-        return "us-ascii";
-    }
     if let Some((charset, _)) = Charset::for_bom(bytes) {
         return charset_name(charset);
     }
-    if is_default(label) {
-        return "windows-1252";
+    let label = ctype.charset.as_str();
+    if names_none(label, known) {
+        return charset_name(charset_by_bytes(bytes));
     }
-    label
+    label.trim()
 }
 
-/// Returns whether bytes are read as UTF-8 in spite of their label.
-#[tactic(auto, unfolding(crate::specs::lenient::Texts::is_read_as_utf8))]
-fn is_read_as_utf8<K: KnownCharsets>(bytes: &[u8], label: &str, known: &K) -> bool
-    ensures { result ≡ is_read_as_utf8 (K.known known.now) label.now bytes.now }
+/// Returns the charset of bytes under a label that names none.
+#[tactic(auto, unfolding(crate::specs::lenient::Texts::charset_by_bytes))]
+fn charset_by_bytes(bytes: &[u8]) -> Charset
+    ensures { result ≡ charset_by_bytes bytes.now }
 {
-    (is_default(label) || !is_known(label, known)) && is_utf8(bytes)
+    if is_utf8(bytes) {
+        Charset::Utf8
+    } else {
+        Charset::Windows1252
+    }
+}
+
+/// Returns whether a label names no charset: it is missing, means ASCII or is unknown.
+#[tactic(auto, unfolding(crate::specs::lenient::Texts::names_none))]
+fn names_none<K: KnownCharsets>(label: &str, known: &K) -> bool
+    ensures { result ≡ names_none (K.known known.now) label.now }
+{
+    is_default(label) || !is_known(label, known)
 }
 
 /// Returns whether bytes are UTF-8.
@@ -162,11 +172,15 @@ fn is_utf8(bytes: &[u8]) -> bool
     str::from_utf8(bytes).is_ok()
 }
 
-/// Returns whether a label is the default, which means no charset.
+/// Returns whether a label is missing, which the port reports as `us-ascii`, or means ASCII.
+#[tactic(auto, unfolding(crate::specs::lenient::Texts::is_default))]
 fn is_default(label: &str) -> bool
     ensures { result ≡ is_default label.now }
 {
+    let label = label.trim();
     label.eq_ignore_ascii_case("us-ascii")
+        || label.eq_ignore_ascii_case("ascii")
+        || label.eq_ignore_ascii_case("ansi_x3.4-1968")
 }
 
 /// Returns whether the label of a charset is known.
