@@ -1,10 +1,12 @@
--- Message ids in any text (RFC 5322, section 3.6.4): each text in angle brackets that has an `@`;
--- the id that a mail gives itself may have none.
+-- Message ids in any text (RFC 5322, sections 3.6.4 and 4.5.4): each text in angle brackets that has
+-- an `@`; the id that a mail gives itself may have none.
 use Rattle.std.specs.Prelude.{ℕ, Bool, true, false, not, ◌&&◌, ◌==◌, List, [], ◌∷◌, drop, flat_map, if◌then◌else◌}
 use Rattle.std.specs.List.{slice_split, list_any, before_first}
+use Rattle.std.specs.Str.{trim}
 use Rattle.mail_codec.specs.Ascii.{less_than}
 use Rattle.mail_codec.specs.Places.{is_empty}
 use Rattle.mailparse.specs.MessageIds.{is_closing}
+use Rattle.mail_data.specs.lenient.Comments.{without_comments}
 
 -- a `<` opens an id
 abbrev pub is_opening : ℕ → Bool
@@ -23,13 +25,15 @@ abbrev pub is_id : Bool → List ℕ → Bool
 is_id true id = list_any is_at id
 is_id false id = not (is_empty id)
 
--- the id at the front of a text without `<`: up to the first `>`, if there is one
+-- the id at the front of a text without `<`: up to the first `>`, if there is one, without
+-- whitespace around it
 abbrev pub id_at : Bool → List ℕ → List (List ℕ)
 id_at needs_at text =
-    let id = before_first is_closing text in
+    let id = trim (before_first is_closing text) in
     if list_any is_closing text && is_id needs_at id then id ∷ [] else []
 
--- the ids in a text: of each piece from a `<` up to the next `<`
+-- the ids in a text without its comments: of each piece from a `<` up to the next `<`
 unfoldable pub found_ids : Bool → List ℕ → List (List ℕ)
 found_ids needs_at text =
-    flat_map (λ piece. id_at needs_at piece) (drop 1 (slice_split is_opening text))
+    flat_map (λ piece. id_at needs_at piece)
+    (drop 1 (slice_split is_opening (without_comments text)))

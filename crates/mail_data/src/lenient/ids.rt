@@ -1,10 +1,12 @@
 //! The message ids in any text.
 ghost use Rattle.std.specs.Prelude.{◌≡◌, ◌++◌, ◌<◌, true, false, [], ◌∷◌, length, map, string_bytes, IfOk, IfSome, MatchOption, OnOk};
 ghost use Rattle.std.specs.List.{before_first, list_any, slice_split};
+ghost use Rattle.std.specs.Str.{trim};
 ghost use Rattle.mailparse.specs.MessageIds.{is_closing};
 ghost use Rattle.mail_data.specs.lenient.Ids.{found_ids, id_at, is_id, is_opening};
 ghost use Rattle.mail_data.specs.lenient.IdViews.{needs_at};
 
+use super::comments::without_comments;
 use std::alloc::{AllocError, Global};
 
 /// Which texts in angle brackets are message ids.
@@ -17,12 +19,13 @@ pub enum IdRule {
 }
 
 /// Returns the message ids in a text, in order: the texts in angle brackets that are ids by this
-/// rule, without the brackets (following RFC 5322, section 3.6.4).
+/// rule, without the brackets, the whitespace around them and comments (following RFC 5322,
+/// sections 3.6.4 and 4.5.4).
 ///
 /// Other text is skipped, so of a broken list the intact ids are returned. An id goes from a `<` up
-/// to the first `>` and contains no `<`: of several in a row, the last one opens it. If
-/// `msgidparse` reads the text, the ids with an `@` are those of its list, each from its last `<`
-/// onwards, that have one. Allocates the list and the ids.
+/// to the first `>` and contains no `<`: of several in a row, the last one opens it. Text in a
+/// comment, which may be a part of an id, does not count. Allocates the text without its comments,
+/// the list and the ids.
 ///
 /// # Errors
 ///
@@ -45,7 +48,8 @@ pub fn find_ids(alloc: Global, text: &str, rule: IdRule) -> Result<Vec<String>, 
     ensures { IfOk result (λ ids. map string_bytes ids.items ≡ found_ids (needs_at rule) text.now) }
 {
     let mut ids = Vec::new(alloc);
-    let Some((_, first)) = cut_at_opening(text) else {
+    let kept = without_comments(alloc, text)?;
+    let Some((_, first)) = cut_at_opening(kept.as_str()) else {
         return Ok(ids);
     };
     let mut rest = first;
@@ -86,16 +90,17 @@ fn id_at(text: &str, rule: IdRule) -> Option<&str>
     if is_id(id, rule) { Some(id) } else { None }
 }
 
-/// Returns the text before the first `>`, or `None` if there is no `>`.
+/// Returns the text before the first `>`, without whitespace around it, or `None` if there is no
+/// `>`.
 fn before_closing(text: &str) -> Option<&str>
     ensures closed { MatchOption result (list_any is_closing text.now ≡ false)
         (λ id. list_any is_closing text.now ≡ true) }
-    ensures before { IfSome result (λ id. id.now ≡ before_first is_closing text.now) }
+    ensures before { IfSome result (λ id. id.now ≡ trim (before_first is_closing text.now)) }
 {
     let Some((id, _)) = text.split_once('>') else {
         return None;
     };
-    Some(id)
+    Some(id.trim())
 }
 
 /// Returns whether a text in brackets is an id.

@@ -10,6 +10,7 @@ use Rattle.std.proofs.lemmas.List.Splits.{slice_split_first, slice_split_none}
 use Rattle.std.proofs.lemmas.List.Sums.{fails_before_first}
 use Rattle.mailparse.proofs.lemmas.EncodedWord.{any_from_place}
 use Rattle.mailparse.specs.MessageIds.{is_closing}
+use Rattle.mail_data.specs.lenient.Comments.{without_comments}
 use Rattle.mail_data.specs.lenient.Ids.{found_ids, id_at, is_opening}
 
 -- ---- a text cut at a byte
@@ -38,11 +39,13 @@ closing-none bytes h = any_from_place is_closing bytes ∙ le-ltb _ _ (omega ari
 abbrev pub ids_with : Bool → List (List ℕ) → List ℕ → List (List ℕ)
 ids_with needs ids rest = ids ++ flat_map (id_at needs) (slice_split is_opening rest)
 
-pub ids-none : (needs : Bool) (text : List ℕ) → slice_split is_opening text ≡ text ∷ [] → [] ≡ found_ids needs text
+pub ids-none : (needs : Bool) (text kept : List ℕ) → kept ≡ without_comments text → slice_split is_opening kept ≡ kept ∷ [] → [] ≡ found_ids needs text
 unfolding found_ids
-ids-none needs text h = sym (ap (λ (ps : List (List ℕ)). flat_map (id_at needs) (drop 1 ps)) h)
+ids-none needs text kept is h = sym (ap (λ (ps : List (List ℕ)). flat_map (id_at needs) (drop 1 ps)) (ap (slice_split is_opening) (sym is) ∙ h))
 
-pub ids-start : (needs : Bool) (text piece rest : List ℕ) (ids : List (List ℕ)) → slice_split is_opening text ≡ piece ∷ slice_split is_opening rest → ids ≡ [] → ids_with needs ids rest ≡ found_ids needs text
+pub ids-start : (needs : Bool) (text kept piece rest : List ℕ) (ids : List (List ℕ)) → kept ≡ without_comments text
+    → slice_split is_opening kept ≡ piece ∷ slice_split is_opening rest → ids ≡ [] → ids_with needs ids rest ≡ found_ids needs text
 unfolding found_ids
-ids-start needs text piece rest ids h none =
-    ap (λ (i : List (List ℕ)). i ++ flat_map (id_at needs) (slice_split is_opening rest)) none ∙ sym (ap (λ (ps : List (List ℕ)). flat_map (id_at needs) (drop 1 ps)) h)
+ids-start needs text kept piece rest ids is h none =
+    ap (λ (i : List (List ℕ)). i ++ flat_map (id_at needs) (slice_split is_opening rest)) none
+    ∙ sym (ap (λ (ps : List (List ℕ)). flat_map (id_at needs) (drop 1 ps)) (ap (slice_split is_opening) (sym is) ∙ h))
