@@ -61,11 +61,12 @@ abbrev pub is_leaf : Tree → Bool
 is_leaf (tree node no_parts) = true
 is_leaf (tree node (part_and t ts)) = false
 
--- a message is a text that mail readers show: plain text, including `text` without a subtype, or
--- HTML
+-- a message is a text that mail readers show: plain text, including `text` without a subtype and an
+-- empty type, or HTML
 abbrev pub is_shown : Node → Bool
 is_shown node =
-    bytes_eq node.ctype.mimetype (codes "text/plain")
+    is_empty node.ctype.mimetype
+    || bytes_eq node.ctype.mimetype (codes "text/plain")
     || bytes_eq node.ctype.mimetype (codes "text/html")
     || bytes_eq node.ctype.mimetype (codes "text")
 

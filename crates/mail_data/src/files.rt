@@ -281,8 +281,8 @@ pub fn is_attachment_disposition(disposition: &DispositionType) -> bool
 }
 
 /// Returns whether a part is saved when the files of a mail are extracted: it is a file by
-/// `is_attachment`, or another part without parts of its own whose type is not `text/plain`,
-/// `text/html` or `text`, which mail readers show as the text of a mail (RFC 2183, section 2.1).
+/// `is_attachment`, or another part without parts of its own that mail readers do not show as the
+/// text of a mail, by `is_shown` (RFC 2183, section 2.1).
 ///
 /// So an image without a name, a forwarded message and the status in a delivery report count. The
 /// disposition is read in the charsets `known` (RFC 2231, section 4). Allocates the disposition.
@@ -318,10 +318,9 @@ pub fn is_extracted<K: KnownCharsets>(
     is_attachment(alloc, part, known)
 }
 
-/// Returns whether the type of a part is that of a text that mail readers show: `text/plain`, also
-/// `text` without a subtype, or `text/html`.
-///
-/// Does not allocate.
+/// Returns whether the type of a part is that of a text that mail readers show: `text/plain` or
+/// `text/html`, or `text` alone or an empty type, which count as plain text (RFC 2045, section
+/// 5.2). Does not allocate.
 ///
 /// # Examples
 ///
@@ -329,14 +328,14 @@ pub fn is_extracted<K: KnownCharsets>(
 /// use mail_data::files::is_shown;
 /// use mailparse::parse_mail;
 ///
-/// assert!(rt; is_shown(&parse_mail(alloc, b"Content-Type: text/html\n\n")?));
-/// assert!(rt; !is_shown(&parse_mail(alloc, b"Content-Type: text/calendar\n\n")?));
+/// assert!(rt; is_shown(&parse_mail(alloc, b"Content-Type:\n\nHi")?));
+/// assert!(rt; !is_shown(&parse_mail(alloc, b"Content-Type: text/csv\n\n1,2")?));
 /// ```
 pub fn is_shown(part: &ParsedMail<'_>) -> bool
     ensures { result ≡ is_shown (root (tree_of part.now)) }
 {
     let mimetype = part.ctype.mimetype.as_str();
-    mimetype == "text/plain" || mimetype == "text/html" || mimetype == "text"
+    mimetype.is_empty() || mimetype == "text/plain" || mimetype == "text/html" || mimetype == "text"
 }
 
 /// Returns the files of a mail (RFC 2183, section 2), in the order in which they appear, each with

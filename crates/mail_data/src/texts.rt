@@ -3,21 +3,22 @@ ghost use Rattle.std.specs.Prelude.{◌≡◌, Ok};
 ghost use Rattle.mailparse.specs.Outcome.{AnswersOrMemory};
 ghost use Rattle.mailparse.specs.Views.{tree_of};
 ghost use Rattle.mail_data.specs.Texts.{first_text, first_text_of_type, is_no_text};
-ghost use Rattle.mail_data.specs.Texts.{is_text_of_type, text_part, text_type};
+ghost use Rattle.mail_data.specs.Texts.{is_text_of_type, own_text, shown_text, text_part, text_type};
 ghost use Rattle.mail_data.specs.TextViews.{tree_found};
 
 use crate::files::{is_attachment, is_attachment_disposition};
+use crate::reports::has_type;
 use mail_codec::charset::KnownCharsets;
 use mailparse::{MailParseError, ParsedMail};
 use std::alloc::Global;
 
 /// Returns the part of a mail that is to be read as its text, or `None` if there is no text: the
-/// first `text/plain`, otherwise the first `text/html` (RFC 2046, sections 4.1 and 5.1.4).
+/// first that is `text/plain` or `text/html`, but of a `multipart/alternative` the first
+/// `text/plain`, if there is one (RFC 2046, sections 4.1 and 5.1.4).
 ///
-/// The mail itself comes first, and then its parts, each before its own parts. So for a
-/// `multipart/alternative` it is the plain text, if there is one. In any other multipart, too, a
-/// plain text without a file name, such as a mailing-list footer, takes precedence over an HTML
-/// text beside it. A text with a file name is a file by `files::is_attachment`, and counts only if
+/// The mail itself comes first, and then its parts, each before its own parts. So in a
+/// `multipart/mixed` an HTML text takes precedence over the plain footer of a mailing list that
+/// follows it. A text with a file name is a file by `files::is_attachment`, and counts only if
 /// there is no other text and its disposition is not `attachment` (RFC 2183, section 2.1).
 /// Dispositions are read in the charsets `known` (RFC 2231, section 4). The type `text` alone is
 /// plain text. `lenient::body_text` returns the text of the part. Allocates the list of parts and
@@ -53,10 +54,53 @@ pub fn text_part<'m, 'a, K: KnownCharsets>(
     ensures { AnswersOrMemory tree_found result
         (Ok (text_part (K.known known.now) (tree_of mail.now))) }
 {
-    if let Some(part) = first_text(alloc, mail, false, known)? {
+    if let Some(part) = shown_text(alloc, mail, false, known)? {
         return Ok(Some(part));
     }
-    first_text(alloc, mail, true, known)
+    shown_text(alloc, mail, true, known)
+}
+
+/// Returns the text of the first part that has one.
+#[tactic(auto, unfolding(crate::specs::Texts::shown_text))]
+fn shown_text<'m, 'a, K: KnownCharsets>(
+    alloc: Global,
+    mail: &'m ParsedMail<'a>,
+    may_have_name: bool,
+    known: &K,
+) -> Result<Option<&'m ParsedMail<'a>>, MailParseError>
+    ensures { AnswersOrMemory tree_found result
+        (Ok (shown_text (K.known known.now) may_have_name (tree_of mail.now))) }
+{
+    for part in mail.parts(alloc)? {
+        if let Some(text) = own_text(alloc, part, may_have_name, known)? {
+            return Ok(Some(text));
+        }
+    }
+    Ok(None)
+}
+
+/// Returns the text of a part: of a `multipart/alternative` the preferred one in it, and the part
+/// itself if it is a text.
+#[tactic(auto, unfolding(crate::specs::Texts::own_text))]
+fn own_text<'m, 'a, K: KnownCharsets>(
+    alloc: Global,
+    part: &'m ParsedMail<'a>,
+    may_have_name: bool,
+    known: &K,
+) -> Result<Option<&'m ParsedMail<'a>>, MailParseError>
+    ensures { AnswersOrMemory tree_found result
+        (Ok (own_text (K.known known.now) may_have_name (tree_of part.now))) }
+{
+    if has_type(part, "multipart/alternative") {
+        return first_text(alloc, part, may_have_name, known);
+    }
+    if is_text_of_type(alloc, part, may_have_name, "text/plain", known)? {
+        return Ok(Some(part));
+    }
+    if is_text_of_type(alloc, part, may_have_name, "text/html", known)? {
+        return Ok(Some(part));
+    }
+    Ok(None)
 }
 
 /// Returns the first plain text, otherwise the first HTML text.
@@ -133,8 +177,8 @@ fn is_no_text<K: KnownCharsets>(
     Ok(is_attachment_disposition(&disposition.disposition))
 }
 
-/// Returns the type of a text: `text` alone is `text/plain` (RFC 2045, section 5.2), and any other
-/// type is itself. Does not allocate.
+/// Returns the type of a text: `text` alone and an empty type are `text/plain` (RFC 2045, section
+/// 5.2), and any other type is itself. Does not allocate.
 ///
 /// # Examples
 ///
@@ -142,12 +186,13 @@ fn is_no_text<K: KnownCharsets>(
 /// use mail_data::texts::text_type;
 ///
 /// assert_eq!(rt; text_type("text"), "text/plain");
+/// assert_eq!(rt; text_type(""), "text/plain");
 /// assert_eq!(rt; text_type("text/html"), "text/html");
 /// ```
 pub fn text_type(mimetype: &str) -> &str
     ensures { result.now ≡ text_type mimetype.now }
 {
-    if mimetype == "text" {
+    if mimetype.is_empty() || mimetype == "text" {
         "text/plain"
     } else {
         mimetype

@@ -34,7 +34,9 @@ use crate::members::{
 };
 use crate::options::LineOptions;
 use crate::reports::{write_pair, write_report};
-use mail_data::files::{describes_attachment, is_attachment_disposition, is_leaf, named_file};
+use mail_data::files::{
+    describes_attachment, is_attachment_disposition, is_leaf, is_shown, named_file,
+};
 use mail_data::flowed::flowed_text;
 use mail_data::lenient::{Content, charset_used, lenient_body, lenient_content, lenient_text};
 use mail_data::places::{Place, places};
@@ -185,14 +187,6 @@ fn is_extracted(part: &ParsedMail<'_>, is_attachment: bool) -> bool
         result ≡ ((is_leaf tree && not (is_shown (root tree))) || is_attachment) }
 {
     (is_leaf(part) && !is_shown(part)) || is_attachment
-}
-
-/// Returns whether a part is a text that mail readers show.
-fn is_shown(part: &ParsedMail<'_>) -> bool
-    ensures { result ≡ is_shown (root (tree_of part.now)) }
-{
-    let mimetype = part.ctype.mimetype.as_str();
-    mimetype == "text/plain" || mimetype == "text/html" || mimetype == "text"
 }
 
 /// Returns whether a part has its hash: one that is extracted has, if hashes are asked for.
