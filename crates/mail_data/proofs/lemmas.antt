@@ -1,3 +1,4 @@
+pub mod AddressEscapes
 pub mod Archive
 pub mod Reports
 pub mod Bounce

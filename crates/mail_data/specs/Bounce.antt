@@ -11,6 +11,7 @@ use Rattle.mail_codec.specs.Places.{is_empty}
 use Rattle.mailparse.specs.Header.{Header}
 use Rattle.mailparse.specs.Mail.{Node, Tree, Forest, tree, no_parts, part_and, root, trees_within}
 use Rattle.mailparse.specs.Map.{all_values_in, first_value_in}
+use Rattle.mail_data.specs.AddressEscapes.{typed_address}
 use Rattle.mail_data.specs.Archive.{id_among}
 use Rattle.mail_data.specs.lenient.Comments.{without_comments}
 use Rattle.mail_data.specs.lenient.Content.{message_content}
@@ -48,7 +49,7 @@ typed_text text = trim (after_type text)
 
 -- the address in a field: its text without comments and then without its type
 abbrev pub address_text : List ℕ → List ℕ
-address_text text = trim (after_type (without_comments text))
+address_text text = trim (typed_address (without_comments text))
 
 -- the text of the first field with this name, cleaned so
 abbrev pub field : (List ℕ → List ℕ) → Charsets → List ℕ → List Header → Option (List ℕ)

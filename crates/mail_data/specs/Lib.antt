@@ -20,6 +20,7 @@ pub mod InnerMails
 pub mod InnerMailViews
 pub mod Reports
 pub mod ReportViews
+pub mod AddressEscapes
 pub mod Bounce
 pub mod BounceViews
 pub mod Archive

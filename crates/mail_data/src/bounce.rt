@@ -11,9 +11,12 @@ ghost use Rattle.mail_data.specs.Bounce.{original_message_id, recipients, report
 ghost use Rattle.mail_data.specs.BounceViews.{cleaned, delivery};
 ghost use Rattle.mail_data.specs.TextViews.{tree_found};
 
+mod address_escapes;
+
 use crate::archive::id_among;
 use crate::lenient::{part_content, without_comments};
 use crate::reports::{blocks, fields, has_status, has_type, trimmed};
+use address_escapes::typed_address;
 use mail_codec::charset::KnownCharsets;
 use mailparse::{MailHeader, MailHeaderMap, MailParseError, ParsedMail};
 use std::alloc::{AllocError, Global};
@@ -53,7 +56,8 @@ enum Kind {
 /// each block that has a `Final-Recipient` is about one recipient. A field is found by its name,
 /// ignoring ASCII case. Its text is read like the value of a header in the charsets `known`,
 /// without whitespace around it. In an address or a diagnostic code, the text up to the first `;`
-/// is its type and is left out. Comments in parentheses are left out of addresses, actions and
+/// is its type and is left out. In an address of the type `utf-8` the characters that are written
+/// in ASCII, as `\x{E9}`, are read. Comments in parentheses are left out of addresses, actions and
 /// status codes. In the headers, which no standard defines, a comma separates addresses; such a
 /// recipient has no other field. Allocates the blocks, their headers and the texts.
 ///
@@ -264,7 +268,10 @@ fn cleaned(alloc: Global, text: &str, kind: Kind) -> Result<String, AllocError>
     match kind {
         Kind::Plain => trimmed(alloc, without_comments(alloc, text)?.as_str()),
         Kind::Typed => trimmed(alloc, after_type(text)),
-        Kind::Address => trimmed(alloc, after_type(without_comments(alloc, text)?.as_str())),
+        Kind::Address => {
+            let kept = without_comments(alloc, text)?;
+            trimmed(alloc, typed_address(alloc, kept.as_str())?.as_str())
+        }
     }
 }
 
