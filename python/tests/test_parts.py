@@ -130,21 +130,24 @@ def test_headers_of_parts(mails):
 
 
 DAMAGE = ["*", "=", "Zm=v", "\x80", "Z===", "_"]
+IGNORED = ["*", "\x80", "_"]
 
 
 def test_damaged_bodies():
-    """What is before the damage, whatever its bytes are, and that `is_damaged` says so."""
+    """What can be read, whatever its bytes are, and that `is_damaged` says so."""
     chance = random.Random(5)
     fronts = [bytes(range(256)), b"\xef\xbb\xbfa", b"\xff\xfe\x00", b"\xfe\xff", b"", b"%PDF-1.4\n\r\n\0"]
     fronts += [bytes(chance.randrange(256) for _ in range(3 * chance.randrange(40))) for _ in range(200)]
     for front in fronts:
         front = front[: len(front) // 3 * 3]
         body = base64.encodebytes(front).replace(b"\n", chance.choice([b"\n", b"\r\n", b" "]))
-        body += chance.choice(DAMAGE).encode("latin-1") * 4 + base64.b64encode(b"after it")
+        damage = chance.choice(DAMAGE)
+        body += damage.encode("latin-1") * 4 + base64.b64encode(b"after it")
+        after = b"after it" if damage in IGNORED else b""
         for head in (b"Content-Type: application/pdf; name=a", b"Content-Type: text/plain; charset=utf-16", b"Content-Type: message/rfc822"):
             part = next(rocktray.parse(head + b"\nContent-Transfer-Encoding: base64\n\n" + body).walk())
             assert part.is_damaged and part.decoded_size is None
-            assert part.extracted_content() == front, body
+            assert part.extracted_content() == front + after, body
             with pytest.raises(rocktray.Refused, match=f"group {len(front) // 3} is no Base64 group"):
                 part.content
     assert not any(part.is_damaged for part in rocktray.parse(NESTED).walk())

@@ -25,6 +25,7 @@ pub fn content_of<'m>(
         return Ok(Content {
             bytes: CowSlice::Borrowed(after_headers(part)),
             fault: None,
+            ignored: 0,
         });
     }
     lenient_content(alloc, &body)

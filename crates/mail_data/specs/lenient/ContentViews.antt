@@ -17,7 +17,10 @@ fault_view (Base64 fault) = base64_fault fault.group
 abbrev pub error_of : ContentFault → MailParseError
 error_of (Base64 fault) = Base64DecodeError fault
 
--- the bytes and the fault
+-- the bytes, the fault and the number of bytes that were ignored
 abbrev pub content_view : Content → words.Content
-content_view content =
-    record { bytes = cow_slice_items content.bytes; fault = option_map fault_view content.fault }
+content_view content = record {
+  bytes = cow_slice_items content.bytes;
+  fault = option_map fault_view content.fault;
+  ignored = content.ignored;
+}

@@ -20,10 +20,12 @@ use std::borrow::CowSlice;
 /// The bytes of a body, as `lenient_content` returns them.
 #[derive(Debug, Drop)]
 pub struct Content<'b> {
-    /// The decoded bytes: all of them, or those before the damage.
+    /// The decoded bytes: all of them, or those that could be read.
     pub bytes: CowSlice<'b, u8>,
     /// The damage, or `None` if `Body::decoded` reads the body.
     pub fault: Option<ContentFault>,
+    /// The number of bytes of a damaged body that were ignored, as `base64_front` counts them.
+    pub ignored: usize,
 }
 
 /// The damage of a body.
@@ -46,8 +48,8 @@ impl From<ContentFault> for MailParseError {
 }
 
 /// Returns the bytes of a body without its transfer encoding (RFC 2045, section 6): those that
-/// `Body::decoded` returns, or if that refuses damaged Base64, those that `base64_front` returns
-/// and the fault.
+/// `Body::decoded` returns, or if that refuses damaged Base64, those that `base64_front` returns,
+/// the fault, and how many bytes were ignored.
 ///
 /// Borrows the body if it is not encoded, and otherwise allocates the bytes.
 ///
@@ -61,11 +63,12 @@ impl From<ContentFault> for MailParseError {
 /// use mail_data::lenient::{ContentFault, lenient_body, lenient_content};
 /// use mailparse::{Base64Fault, parse_mail};
 ///
-/// let mail = parse_mail(alloc, b"Content-Transfer-Encoding: base64\n\naGVs**8=")?;
+/// let mail = parse_mail(alloc, b"Content-Transfer-Encoding: base64\n\naGVs!\nbG8=")?;
 /// let body = lenient_body(alloc, &mail)?;
 /// let content = lenient_content(alloc, &body)?;
-/// assert_eq!(rt; content.bytes.as_slice(), b"hel".as_slice());
+/// assert_eq!(rt; content.bytes.as_slice(), b"hello".as_slice());
 /// assert_eq!(rt; content.fault, Some(ContentFault::Base64(Base64Fault { group: 1 })));
+/// assert_eq!(rt; content.ignored, 1);
 /// ```
 pub fn lenient_content<'b>(alloc: Global, body: &Body<'b>) -> Result<Content<'b>, MailParseError>
     ensures read { (kind : BodyKind) (given : bodies.Content) → IsBody kind given body.now →
@@ -73,14 +76,24 @@ pub fn lenient_content<'b>(alloc: Global, body: &Body<'b>) -> Result<Content<'b>
     ensures only_memory { IfErr result IsMemory }
 {
     let error = match body.decoded(alloc) {
-        Ok(bytes) => return Ok(Content { bytes, fault: None }),
+        Ok(bytes) => {
+            return Ok(Content {
+                bytes,
+                fault: None,
+                ignored: 0,
+            });
+        }
         Err(error) => error,
     };
     match error {
-        MailParseError::Base64DecodeError(fault) => Ok(Content {
-            bytes: CowSlice::Owned(base64_front(alloc, body.get_raw())?.bytes),
-            fault: Some(ContentFault::Base64(fault)),
-        }),
+        MailParseError::Base64DecodeError(fault) => {
+            let front = base64_front(alloc, body.get_raw())?;
+            Ok(Content {
+                bytes: CowSlice::Owned(front.bytes),
+                fault: Some(ContentFault::Base64(fault)),
+                ignored: front.ignored,
+            })
+        }
         error => Err(error),
     }
 }

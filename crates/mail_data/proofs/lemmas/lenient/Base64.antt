@@ -1,5 +1,5 @@
 -- Lemmas on the front of a Base64 body.
-use Rattle.std.proofs.Common.{◌≡◌, ℕ, zero, suc, ◌+◌, ◌*◌, ◌≤◌, Bool, true, false, not, List, [], ◌∷◌, ◌++◌, length, take, drop, get_or, Option, Some, None, Result, Ok, Err, refl, sym, ap, ◌∙◌, arith, append_assoc}
+use Rattle.std.proofs.Common.{◌≡◌, ℕ, zero, suc, ◌+◌, ◌-◌, ◌*◌, ◌≤◌, Bool, true, false, not, List, [], ◌∷◌, ◌++◌, length, take, drop, get_or, Option, Some, None, Result, Ok, Err, refl, sym, ap, ◌∙◌, arith, append_assoc}
 use Rattle.std.specs.Prelude.{All, ◌==◌, if◌then◌else◌}
 use Rattle.std.specs.Char.{is_ascii_whitespace}
 use Rattle.std.proofs.lemmas.Bool.{cond-true, false≢true}
@@ -8,7 +8,7 @@ use Rattle.std.proofs.lemmas.List.Elements.{All-drop, All-head, All-same, All-ta
 use Rattle.mail_codec.specs.Base64.{base64, group_bytes, groups_from, after_group, prepend, padding}
 use Rattle.mail_codec.specs.Places.{without_ascii_whitespace}
 use Rattle.mail_codec.proofs.lemmas.Base64Groups.{after_group_ok, prepend_err, base64_without_whitespace}
-use Rattle.mail_data.specs.lenient.Base64.{Front, all_read, before, group_then, front_from, base64_front}
+use Rattle.mail_data.specs.lenient.Base64.{Front, Recovered, all_read, base64_front, before, data_of, front_from, group_then, read_or_recovered, recovered, text_front}
 
 -- ---- texts without whitespace
 
@@ -63,9 +63,9 @@ front_from-ok n (p ∷ q ∷ r ∷ s ∷ l) bytes h =
     ap (λ (g : Option (List ℕ)). group_then n g (front_from (suc n) l)) parts.2
     ∙ ap (before c) (front_from-ok (suc n) l d parts.3) ∙ ap whole parts.4
 
-pub base64_front-ok : (body bytes : List ℕ) → base64 (without_ascii_whitespace body) ≡ Ok bytes → base64_front body ≡ whole bytes
-unfolding base64_front
-base64_front-ok body bytes h =
+pub text_front-ok : (body bytes : List ℕ) → base64 (without_ascii_whitespace body) ≡ Ok bytes → text_front body ≡ whole bytes
+unfolding text_front
+text_front-ok body bytes h =
     front_from-ok 0 (without_ascii_whitespace body) bytes (sym (base64_without_whitespace body) ∙ h)
 
 -- ---- the groups before the first invalid one
@@ -235,8 +235,8 @@ strict-err body letters n e is = ap (groups_from 0) is ∙ sym (base64_without_w
 pub clean-is : (l m body : List ℕ) → l ≡ m → m ≡ without_ascii_whitespace body → Clean l
 clean-is l m body e f = clean-from l (All-same IsKept l (without_ascii_whitespace body) (e ∙ f) (filter_passes (λ b. not (is_ascii_whitespace b)) body))
 
-pub letters-front : (body letters : List ℕ) → letters ≡ without_ascii_whitespace body → front_from 0 letters ≡ base64_front body
-unfolding base64_front
+pub letters-front : (body letters : List ℕ) → letters ≡ without_ascii_whitespace body → front_from 0 letters ≡ text_front body
+unfolding text_front
 letters-front body letters e = ap (front_from 0) e
 
 -- the front after the last group, by whether that was read
@@ -249,3 +249,25 @@ pub branch-left : (items : List ℕ) (n : ℕ) (b : Bool) (g : Front) → b ≡ 
     → ◌≡◌ {A = Front} (record { bytes = items; fault = (if b then None else Some n) }) g → ◌≡◌ {A = Front} (record { bytes = items; fault = Some n }) g
 branch-left items n false g e h = h
 branch-left items n true g e h = absurd (false≢true (sym e))
+
+-- ---- the data of a body
+
+pub base64_front-ok : (body bytes : List ℕ) → base64 (without_ascii_whitespace body) ≡ Ok bytes
+    → ◌≡◌ {A = Recovered} (base64_front body) (record { bytes = bytes; fault = None; ignored = 0 })
+unfolding base64_front
+base64_front-ok body bytes h = ap (read_or_recovered body) h
+
+pub base64_front-err : (body : List ℕ) (n : ℕ) → Err n ≡ base64 (without_ascii_whitespace body) → recovered body ≡ base64_front body
+unfolding base64_front
+base64_front-err body n h = ap (read_or_recovered body) h
+
+front_and : ℕ → Front → Recovered
+front_and n f = record { bytes = f.bytes; fault = f.fault; ignored = n }
+
+pub recovered-is : (body text kept : List ℕ) (front : Front) (n : ℕ) → text ≡ without_ascii_whitespace body → kept ≡ data_of text → front ≡ text_front kept
+    → n ≡ length text - length kept → ◌≡◌ {A = Recovered} (record { bytes = front.bytes; fault = front.fault; ignored = n }) (recovered body)
+unfolding recovered front_and
+recovered-is body text kept front n is made read count =
+    ap (λ (k : ℕ). front_and k front) count ∙ ap (front_and (length text - length kept)) (read ∙ ap text_front made)
+    ∙ ap (λ (d : List ℕ). front_and (length text - length d) (text_front (data_of text))) made
+    ∙ ap (λ (t : List ℕ). front_and (length t - length (data_of t)) (text_front (data_of t))) is

@@ -9,24 +9,21 @@ use Rattle.mailparse.specs.Refusal.{Reads, Refusal, generic, encoding, base64_fa
 use Rattle.mailparse.specs.declared.error.Base64Fault.{Base64Fault}
 use Rattle.mailparse.specs.declared.error.MailParseError.{MailParseError}
 use Rattle.mailparse.specs.declared.error.MailParseError.TheVariants.{QuotedPrintableDecodeError, Base64DecodeError, EncodingError, Generic, Memory}
-use Rattle.mail_data.specs.lenient.Base64.{base64_front}
-use Rattle.mail_data.specs.lenient.Content.{Content, lenient_content, read_or_front}
+use Rattle.mail_data.specs.lenient.Base64.{Recovered, base64_front}
+use Rattle.mail_data.specs.lenient.Content.{Content, front_of, lenient_content, read_or_front}
 use Rattle.mail_data.specs.lenient.ContentViews.{error_of, fault_view}
 use Rattle.mail_data.specs.declared.lenient.content.ContentFault.{ContentFault}
 use Rattle.mail_data.specs.declared.lenient.content.ContentFault.TheVariants.{Base64}
 
 pub content-whole : (kind : BodyKind) (raw bytes : List ℕ) → decoded kind raw ≡ Ok bytes
-    → ◌≡◌ {A = Content} (lenient_content kind raw) (record { bytes = bytes; fault = None })
+    → ◌≡◌ {A = Content} (lenient_content kind raw) (record { bytes = bytes; fault = None; ignored = 0 })
 unfolding lenient_content
 content-whole kind raw bytes e = ap (read_or_front raw) e
 
-front_with : Refusal → List ℕ → Content
-front_with refusal bytes = record { bytes = bytes; fault = Some refusal }
-
-pub content-front : (kind : BodyKind) (raw front : List ℕ) (refusal : Refusal) → decoded kind raw ≡ Err refusal → front ≡ (base64_front raw).bytes
-    → ◌≡◌ {A = Content} (lenient_content kind raw) (record { bytes = front; fault = Some refusal })
-unfolding lenient_content front_with
-content-front kind raw front refusal e is = ap (read_or_front raw) e ∙ ap (front_with refusal) (sym is)
+pub content-front : (kind : BodyKind) (raw : List ℕ) (front : Recovered) (refusal : Refusal) → decoded kind raw ≡ Err refusal → front ≡ base64_front raw
+    → lenient_content kind raw ≡ front_of refusal front
+unfolding lenient_content
+content-front kind raw front refusal e is = ap (read_or_front raw) e ∙ ap (front_of refusal) (sym is)
 
 -- the refusal that an error for a fault reports
 pub fault-refused : (error : MailParseError) (fault : Base64Fault) (given : Reads (List ℕ)) → error ≡ Base64DecodeError fault
