@@ -53,7 +53,8 @@ pub fn date_of(text: &str) -> Result<i64, DateError>
 }
 
 /// Returns the seconds that `date_of` returns, and whether the zone of the date is known (RFC 5322,
-/// section 4.3): false if there is no zone, or if `date_of` does not know its name.
+/// sections 3.3 and 4.3): false if there is no zone, if it is `-0000`, or if `date_of` does not know
+/// its name.
 ///
 /// Does not allocate.
 ///

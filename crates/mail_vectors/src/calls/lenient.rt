@@ -28,11 +28,13 @@ pub fn make(row: &Row, answer: &mut Answer) -> Decision {
     Ok(true)
 }
 
-/// `base64_front BODY => BYTES GROUP`, GROUP the index of the first invalid group or `none`.
+/// `base64_front BODY => BYTES GROUP IGNORED`, GROUP the index of the first invalid group or `none`,
+/// and IGNORED the number of bytes that were ignored.
 fn read_front(row: &Row, answer: &mut Answer) -> Outcome {
     let front = base64_front(row.alloc, row.bytes(0))?;
     answer.put(front.bytes.as_slice());
     answer.put(front.fault);
+    answer.put(front.ignored);
     Ok(())
 }
 
@@ -62,8 +64,8 @@ fn read_text(row: &Row, answer: &mut Answer) -> Outcome {
     Ok(())
 }
 
-/// `lenient_content MAIL => BYTES GROUP` of the whole mail, GROUP the index of the group that is
-/// refused or `none`.
+/// `lenient_content MAIL => BYTES GROUP IGNORED` of the whole mail, GROUP the index of the group
+/// that is refused or `none`, and IGNORED the number of bytes that were ignored.
 fn read_content(row: &Row, answer: &mut Answer) -> Outcome {
     let mail = parse_mail(row.alloc, row.bytes(0))?;
     let body = lenient_body(row.alloc, &mail)?;
@@ -73,6 +75,7 @@ fn read_content(row: &Row, answer: &mut Answer) -> Outcome {
         Some(ContentFault::Base64(fault)) => answer.put(fault.group),
         None => answer.word("none"),
     }
+    answer.put(content.ignored);
     Ok(())
 }
 
