@@ -189,7 +189,7 @@ uint32_t rocktray_file_name(const void *raw_disposition, size_t raw_disposition_
 uint32_t rocktray_safe_name(const void *name, size_t name_length, void *buffer, size_t capacity, size_t *needed);
 
 /* Writes the decoded bytes of a body: the file, if it is one. `encoding` is that of the part's record; any other number
- * is as ROCKTRAY_7BIT. Sets *is_damaged to whether the body is damaged: then the result is the bytes before the damage.
+ * is as ROCKTRAY_7BIT. Sets *is_damaged to whether the body is damaged: then the result is the bytes that can be read.
  * Only Base64 can be damaged. *is_damaged is unchanged after any code but ROCKTRAY_DONE and ROCKTRAY_TOO_SHORT. */
 uint32_t rocktray_body(uint64_t encoding, const void *body, size_t body_length, void *buffer, size_t capacity,
                        size_t *needed, bool *is_damaged);
@@ -223,8 +223,9 @@ uint32_t rocktray_json(const void *mail, size_t mail_length, void *buffer, size_
  * `part` is the part's own bytes. Refuses as rocktray_json does, and with ROCKTRAY_NOT_BASE64. */
 uint32_t rocktray_content(const void *part, size_t part_length, void *buffer, size_t capacity, size_t *needed);
 
-/* Writes the text of the body of a mail or a part in UTF-8. It is decoded leniently: damaged Base64 is decoded up to
- * the damage, and text without a known charset is decoded as UTF-8 if it is valid. Refuses as rocktray_json does. */
+/* Writes the text of the body of a mail or a part in UTF-8. It is decoded leniently: bytes outside the alphabet of
+ * Base64 are ignored, damaged Base64 is decoded up to the damage, and text without a known charset is decoded as UTF-8
+ * if it is valid, and otherwise as windows-1252. Refuses as rocktray_json does. */
 uint32_t rocktray_text(const void *part, size_t part_length, void *buffer, size_t capacity, size_t *needed);
 
 /* Writes the value of a header in UTF-8: unfolded, with its encoded words decoded. `number` selects one of the headers

@@ -60,7 +60,7 @@ _CHARACTERS = codecs.charmap_build("".join(bytes((n,)).decode("cp1252", "ignore"
 
 
 def base64_front(body: bytes) -> bytes:
-    """The bytes of a body in Base64 up to the damage. Of all calls `rocktray_text` alone returns them, as a text."""
+    """The bytes of a body in Base64 that can be read. Of all calls `rocktray_text` alone returns them, as a text."""
     # the group before it keeps its first bytes from being a byte order mark
     characters = text(_EACH_BYTE + b"AAAA" + body)[3:]
     return codecs.charmap_encode(characters, "strict", _CHARACTERS)[0]

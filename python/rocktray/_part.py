@@ -252,7 +252,7 @@ class Part:
         return _library.content(raw[start:end])
 
     def extracted_content(self) -> bytes:
-        """The bytes that `rocktray extract` saves: the content, or of damaged Base64 the bytes before the damage. If the
+        """The bytes that `rocktray extract` saves: the content, or of damaged Base64 the bytes that can be read. If the
         body is empty, as that of a multipart without parts, they are all bytes after the headers.
 
         >>> part = next(parse(b"Content-Type: image/png\\nContent-Transfer-Encoding: base64\\n\\niVBORw0K*").walk())
@@ -290,7 +290,7 @@ class Part:
 
     @property
     def is_damaged(self) -> bool:
-        """Whether the body is damaged Base64: `content` is refused, and a text is that before the damage."""
+        """Whether the body is damaged Base64: `content` is refused, and a text is what can be read of it."""
         return "error" in self._object
 
     def __eq__(self, other: object) -> bool:
