@@ -77,8 +77,9 @@ def addresses_of(mail, name):
 
 
 def ids(value, needs_at):
-    """The message ids of a value, each with an `@` where one is needed."""
-    return re.findall(r"<([^<>]*@[^<>]*)>" if needs_at else r"<([^<>]+)>", shown(value) or "")
+    """The message ids of a value without its comments, each with an `@` where one is needed."""
+    found = map(str.strip, re.findall(r"<([^<>]*)>", without_comments(shown(value) or "")))
+    return [one for one in found if ("@" in one if needs_at else one)]
 
 
 def seconds(value):

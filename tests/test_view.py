@@ -11,7 +11,7 @@ import pytest
 
 from support import FROM, SAMPLES, command, multipart, run
 
-from by_email import addresses_of, body_of, file_name, has_parts, parts_of, text_of, value_of
+from by_email import addresses_of, body_of, file_name, has_parts, parts_of, text_of, value_of, walk
 
 ADDRESSES = {"from": "From:     ", "reply-to": "Reply-To: ", "to": "To:       ", "cc": "Cc:       "}
 VALUES = {"date": "Date:     ", "subject": "Subject:  "}
@@ -52,13 +52,16 @@ def address_text(found):
 
 
 def read_text(mail):
-    """The text of a mail: the first plain text that is no file, otherwise the first HTML text, or None."""
-    for kind in ("text/plain", "text/html"):
-        for may_have_name in (False, True):
-            for _, part in parts_of(mail):
-                named = file_name(part) is not None and not may_have_name
-                if part.get_content_type() == kind and not named and part.get_content_disposition() != "attachment":
-                    return text_of(part, body_of(part))["text"]
+    """The text of a mail: the first plain or HTML text that is no file, or None. Of the versions in a
+    multipart/alternative the first plain text is preferred."""
+    for may_have_name in (False, True):
+        for _, part in parts_of(mail):
+            versions = [part] if part.get_content_type() != "multipart/alternative" else [one for _, one in walk(part, "")]
+            for kind in ("text/plain", "text/html"):
+                for one in versions:
+                    named = file_name(one) is not None and not may_have_name
+                    if one.get_content_type() == kind and not named and one.get_content_disposition() != "attachment":
+                        return text_of(one, body_of(one))["text"]
     return None
 
 
