@@ -290,6 +290,12 @@ def test_manuals_of_the_program(tmp_path, prefix):
     assert check_manuals(tmp_path, binaries) == {*OPTIONS, "help", "version"} - {"inputs"}
 
 
+def test_example():
+    """The first example of the README."""
+    command, _, wanted = re.search(r"^```console\n\$ rocktray (.*?)^```$", text_of("README.md"), re.M | re.S)[1].partition("\n")
+    assert run([program("rocktray"), *command.split()], cwd=TOP).stdout.decode() == wanted
+
+
 @pytest.mark.quick
 @pytest.mark.parametrize("where", ["PATH", "unpacked"])
 @pytest.mark.parametrize("name", ["rocktray", "mail_show"])

@@ -3,8 +3,8 @@
 #
 # lintian must find no fault in its Debian packages. Then each form of the release is installed, used and removed in a new
 # system of each Debian release (bullseye, bookworm and trixie), which has no Rattle kit: packaging/try_in_tree.sh says
-# how. The systems are made by debootstrap in a directory that is removed at the end. It needs root, and what
-# tools/install_needs.sh --release installs.
+# how. The systems are made by debootstrap in a directory that is removed at the end; if TREES is in the environment,
+# TREES/SUITE is copied instead. It needs root, and what tools/install_needs.sh --release installs.
 arguments='RELEASE [SUITE..]'
 . "$(dirname "$0")/arguments.sh"
 [ -f "$1/BUILD.json" ] || usage "there is no release in $1"
@@ -22,12 +22,21 @@ fail() {
     failed=1
 }
 
+# make_system SUITE: makes a system
+make_system() {
+    if [ -n "${TREES:-}" ]; then
+        cp -a "$TREES/$1" "$work/$1"
+    else
+        debootstrap --variant=minbase "$1" "$work/$1" "$mirror" > "$work/log" 2>&1 || {
+            tail -n 5 "$work/log" >&2
+            return 1
+        }
+    fi
+}
+
 # try SUITE: makes a system and tries the release there
 try() {
-    debootstrap --variant=minbase "$1" "$work/$1" "$mirror" > "$work/log" 2>&1 || {
-        tail -n 5 "$work/log" >&2
-        return 1
-    }
+    make_system "$1" || return 1
     mkdir "$work/$1/release"
     cp "$release"/* "$top/packaging/try_in_tree.sh" "$top/docs/C.md" "$work/$1/release/"
     chroot "$work/$1" /usr/bin/env -i PATH=/usr/sbin:/usr/bin:/sbin:/bin HOME=/root LC_ALL=C.UTF-8 \
