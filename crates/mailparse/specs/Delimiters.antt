@@ -2,11 +2,12 @@
 -- as mail is written). The dash-boundary is `--` and the boundary; a line that begins with it is a delimiter, and the rest of the
 -- line matters only for which delimiter is the close-delimiter. The preamble comes before the first delimiter; the epilogue
 -- follows the close-delimiter and is in no part. Offsets are counted from the first byte.
-use Rattle.std.specs.Prelude.{ℕ, zero, suc, ◌+◌, ◌-◌, Bool, ◌||◌, ◌&&◌, ◌==◌, nat_lt, List, length, drop, map, filter_map, Option, Some, None, option_map, codes, if◌then◌else◌}
+use Rattle.std.specs.Prelude.{ℕ, zero, suc, ◌+◌, ◌-◌, Bool, false, not, ◌||◌, ◌&&◌, ◌==◌, nat_lt, List, length, drop, map, filter_map, Option, Some, None, option_map, codes, if◌then◌else◌}
 use Rattle.std.specs.Option.{option_map_or}
-use Rattle.mail_codec.specs.Ascii.{line_feed, carriage_return}
-use Rattle.mail_codec.specs.Places.{begins, has_prefix, byte_place, least, values_below}
+use Rattle.mail_codec.specs.Ascii.{is_blank, line_feed, carriage_return}
+use Rattle.mail_codec.specs.Places.{begins, has_prefix, byte_place, least, values_below, first_place}
 use Rattle.mailparse.specs.Header.{is_line_feed}
+use Rattle.mailparse.specs.Block.{headers_end}
 use Rattle.mailparse.specs.Options.{◌>>=◌}
 use Rattle.mailparse.specs.Ranges.{Range}
 
@@ -42,29 +43,6 @@ is_close_delimiter dash_boundary bytes p =
     let rest = drop (p + length dash_boundary) bytes in
     nat_lt (length rest) 2 || has_prefix (codes "--") rest
 
--- the start of the first part after a preamble that starts at i: after the first delimiter, which may look like a close-delimiter
-abbrev pub first_part : List ℕ → List ℕ → ℕ → Option ℕ
-first_part dash_boundary bytes i = do
-  p ← delimiter_from dash_boundary bytes i
-  part_after dash_boundary bytes p
-
--- the start of the part after the one that starts at s: after its delimiter, unless that is the close-delimiter
-abbrev pub next_part : List ℕ → List ℕ → ℕ → Option ℕ
-next_part dash_boundary bytes s = do
-  p ← delimiter_from dash_boundary bytes s
-  if is_close_delimiter dash_boundary bytes p then None else part_after dash_boundary bytes p
-
--- the start of the part with this number, if there is one, given the start of the first
-abbrev pub part_start : List ℕ → List ℕ → Option ℕ → ℕ → Option ℕ
-part_start dash_boundary bytes first zero = first
-part_start dash_boundary bytes first (suc j) = do
-  s ← part_start dash_boundary bytes first j
-  next_part dash_boundary bytes s
-
--- the starts of the parts, in order; no part has a number above the number of bytes
-unfoldable pub part_starts : List ℕ → List ℕ → Option ℕ → List ℕ
-part_starts dash_boundary bytes first = filter_map (λ start. start) (values_below (suc (length bytes)) (part_start dash_boundary bytes first))
-
 -- p, or p - 1 if the byte there is b and not before the start
 abbrev pub before_byte : ℕ → List ℕ → ℕ → ℕ → ℕ
 before_byte b bytes start p = if nat_lt start p && begins (λ x. x == b) (drop (p - 1) bytes) then p - 1 else p
@@ -73,26 +51,98 @@ before_byte b bytes start p = if nat_lt start p && begins (λ x. x == b) (drop (
 abbrev pub before_line_end : List ℕ → ℕ → ℕ → ℕ
 before_line_end bytes start p = before_byte carriage_return bytes start (before_byte line_feed bytes start p)
 
--- the end of a part or preamble that starts at s: before the line end before the next delimiter, otherwise at the given offset
-abbrev pub end_from : List ℕ → List ℕ → ℕ → ℕ → ℕ
-end_from dash_boundary bytes s otherwise = option_map_or (before_line_end bytes s) (delimiter_from dash_boundary bytes s) otherwise
-
--- the range of the preamble that starts at i: up to the first delimiter; without a delimiter it is empty
-abbrev pub preamble_range : List ℕ → List ℕ → ℕ → Range
-preamble_range dash_boundary bytes i = record { start = i; end = end_from dash_boundary bytes i i }
-
--- the range of the part that starts at s: up to its delimiter, or to the end of the bytes
-abbrev pub part_range : List ℕ → List ℕ → ℕ → Range
-part_range dash_boundary bytes s = record { start = s; end = end_from dash_boundary bytes s (length bytes) }
-
 -- a body and its parts, as ranges of the bytes
 pub record Cut : Type 0 where
   pub body : Range
   pub parts : List Range
 
--- how the delimiters split the bytes from i onwards: the body is the preamble, and the parts follow; without a delimiter there is neither
-unfoldable pub cut_parts : List ℕ → List ℕ → ℕ → Cut
-cut_parts dash_boundary bytes i = record {
-  body = preamble_range dash_boundary bytes i;
-  parts = map (part_range dash_boundary bytes) (part_starts dash_boundary bytes (first_part dash_boundary bytes i));
-}
+-- only blanks precede the end of the line
+unfoldable pub is_blank_line : List ℕ → Bool
+is_blank_line rest = headers_end (drop (first_place (begins (λ b. not (is_blank b))) rest) rest)
+
+-- only `--`, or nothing, and then blanks precede the end of the line
+unfoldable pub ends_line : List ℕ → Bool
+ends_line rest = if has_prefix (codes "--") rest then is_blank_line (drop 2 rest) else is_blank_line rest
+
+-- If whole lines are asked for, a delimiter is a line on which only that follows the dash-boundary.
+module _ (whole : Bool) where
+  -- such a delimiter is at p
+  abbrev pub is_delimiter_as : List ℕ → List ℕ → ℕ → ℕ → Bool
+  is_delimiter_as dash_boundary bytes start p =
+      if whole
+      then is_delimiter dash_boundary bytes start p && ends_line (drop (p + length dash_boundary) bytes)
+      else is_delimiter dash_boundary bytes start p
+
+  -- the first one at or after a start
+  abbrev pub delimiter_from_as : List ℕ → List ℕ → ℕ → Option ℕ
+  delimiter_from_as dash_boundary bytes start =
+      if whole
+      then least_from (λ p. is_delimiter dash_boundary bytes start p && ends_line (drop (p + length dash_boundary) bytes)) start (length bytes)
+      else delimiter_from dash_boundary bytes start
+
+  -- the start of the first part after a preamble that starts at i: after the first delimiter, which may look like a close-delimiter
+  abbrev pub first_part_as : List ℕ → List ℕ → ℕ → Option ℕ
+  first_part_as dash_boundary bytes i = do
+    p ← delimiter_from_as dash_boundary bytes i
+    part_after dash_boundary bytes p
+
+  -- the start of the part after the one that starts at s: after its delimiter, unless that is the close-delimiter
+  abbrev pub next_part_as : List ℕ → List ℕ → ℕ → Option ℕ
+  next_part_as dash_boundary bytes s = do
+    p ← delimiter_from_as dash_boundary bytes s
+    if is_close_delimiter dash_boundary bytes p then None else part_after dash_boundary bytes p
+
+  -- the start of the part with this number, if there is one, given the start of the first
+  abbrev pub part_start_as : List ℕ → List ℕ → Option ℕ → ℕ → Option ℕ
+  part_start_as dash_boundary bytes first zero = first
+  part_start_as dash_boundary bytes first (suc j) = do
+    s ← part_start_as dash_boundary bytes first j
+    next_part_as dash_boundary bytes s
+
+  -- the starts of the parts, in order; no part has a number above the number of bytes
+  unfoldable pub part_starts_as : List ℕ → List ℕ → Option ℕ → List ℕ
+  part_starts_as dash_boundary bytes first = filter_map (λ start. start) (values_below (suc (length bytes)) (part_start_as dash_boundary bytes first))
+
+  -- the end of a part or preamble that starts at s: before the line end before the next delimiter, otherwise at the given offset
+  abbrev pub end_from_as : List ℕ → List ℕ → ℕ → ℕ → ℕ
+  end_from_as dash_boundary bytes s otherwise = option_map_or (before_line_end bytes s) (delimiter_from_as dash_boundary bytes s) otherwise
+
+  -- the range of the preamble that starts at i: up to the first delimiter; without a delimiter it is empty
+  abbrev pub preamble_range_as : List ℕ → List ℕ → ℕ → Range
+  preamble_range_as dash_boundary bytes i = record { start = i; end = end_from_as dash_boundary bytes i i }
+
+  -- the range of the part that starts at s: up to its delimiter, or to the end of the bytes
+  abbrev pub part_range_as : List ℕ → List ℕ → ℕ → Range
+  part_range_as dash_boundary bytes s = record { start = s; end = end_from_as dash_boundary bytes s (length bytes) }
+
+  -- how the delimiters split the bytes from i onwards: the body is the preamble, and the parts follow; without a delimiter there is neither
+  unfoldable pub cut_parts_as : List ℕ → List ℕ → ℕ → Cut
+  cut_parts_as dash_boundary bytes i = record {
+    body = preamble_range_as dash_boundary bytes i;
+    parts = map (part_range_as dash_boundary bytes) (part_starts_as dash_boundary bytes (first_part_as dash_boundary bytes i));
+  }
+
+-- the same if whole lines are not asked for
+abbrev pub first_part : List ℕ → List ℕ → ℕ → Option ℕ
+first_part dash_boundary bytes i = first_part_as false dash_boundary bytes i
+
+abbrev pub next_part : List ℕ → List ℕ → ℕ → Option ℕ
+next_part dash_boundary bytes s = next_part_as false dash_boundary bytes s
+
+abbrev pub part_start : List ℕ → List ℕ → Option ℕ → ℕ → Option ℕ
+part_start dash_boundary bytes first j = part_start_as false dash_boundary bytes first j
+
+abbrev pub part_starts : List ℕ → List ℕ → Option ℕ → List ℕ
+part_starts dash_boundary bytes first = part_starts_as false dash_boundary bytes first
+
+abbrev pub end_from : List ℕ → List ℕ → ℕ → ℕ → ℕ
+end_from dash_boundary bytes s otherwise = end_from_as false dash_boundary bytes s otherwise
+
+abbrev pub preamble_range : List ℕ → List ℕ → ℕ → Range
+preamble_range dash_boundary bytes i = preamble_range_as false dash_boundary bytes i
+
+abbrev pub part_range : List ℕ → List ℕ → ℕ → Range
+part_range dash_boundary bytes s = part_range_as false dash_boundary bytes s
+
+abbrev pub cut_parts : List ℕ → List ℕ → ℕ → Cut
+cut_parts dash_boundary bytes i = cut_parts_as false dash_boundary bytes i

@@ -1,16 +1,18 @@
 -- Reading a message: its header block, its type, its body and its parts, each of which is a message itself (RFC 5322,
 -- section 2.1; RFC 2046, section 5.1).
-use Rattle.std.specs.Prelude.{ℕ, zero, suc, Bool, false, List, [], ◌∷◌, ◌++◌, length, take, map, Option, None, option_map, Ok, Err, codes, if◌then◌else◌}
+use Rattle.std.specs.Prelude.{ℕ, zero, suc, Bool, false, List, [], ◌∷◌, ◌++◌, length, take, map, ◌&&◌, Option, None, is_none, option_map, Ok, Err, codes, if◌then◌else◌}
 use Rattle.std.specs.Option.{option_map_or}
 use Rattle.std.specs.Str.{bytes_eq, str_to_ascii_lowercase}
 use Rattle.mail_codec.specs.Charset.{Charsets, four_charsets}
-use Rattle.mail_codec.specs.Places.{has_prefix}
+use Rattle.mail_codec.specs.Ascii.{line_feed}
+use Rattle.mail_codec.specs.Places.{byte_place, has_prefix}
 use Rattle.mailparse.specs.Refusal.{◌>>=◌, recursion_limit, Reads}
 use Rattle.mailparse.specs.Header.{Header}
 use Rattle.mailparse.specs.Block.{HeaderList, read_headers}
 use Rattle.mailparse.specs.ContentType.{ContentType, default_type, content_type_in}
+use Rattle.mailparse.specs.Manner.{Manner}
 use Rattle.mailparse.specs.Disposition.{Disposition, disposition_in, default_disposition}
-use Rattle.mailparse.specs.Delimiters.{Cut, cut_parts}
+use Rattle.mailparse.specs.Delimiters.{Cut, cut_parts_as}
 use Rattle.mailparse.specs.Body.{BodyKind, kind_named, decoded, decoded_text_in}
 use Rattle.mailparse.specs.Map.{first_with_key, first_value, first_value_in}
 use Rattle.mailparse.specs.Ranges.{slice}
@@ -110,10 +112,19 @@ dash_boundary_of ctype =
     then option_map (λ boundary. codes "--" ++ boundary) (ctype.params (codes "boundary"))
     else None
 
+-- whole lines are asked for, but only of a dash-boundary without a LF
+abbrev pub whole_lines_for : Bool → List ℕ → Bool
+whole_lines_for whole dash_boundary = whole && is_none (byte_place dash_boundary line_feed)
+
 -- how a message of this type is split whose body starts at i: at its delimiters; without a dash-boundary the body is all that follows
+abbrev pub cut_of_as : Bool → ContentType → List ℕ → ℕ → Cut
+cut_of_as whole ctype bytes i =
+    option_map_or (λ dash_boundary. cut_parts_as (whole_lines_for whole dash_boundary) dash_boundary bytes i) (dash_boundary_of ctype)
+    (record { body = record { start = i; end = length bytes }; parts = [] })
+
+-- the same if whole lines are not asked for
 abbrev pub cut_of : ContentType → List ℕ → ℕ → Cut
-cut_of ctype bytes i =
-    option_map_or (λ dash_boundary. cut_parts dash_boundary bytes i) (dash_boundary_of ctype) (record { body = record { start = i; end = length bytes }; parts = [] })
+cut_of ctype bytes i = cut_of_as false ctype bytes i
 
 -- the message with this block and this type that is split this way
 abbrev pub node_with : List ℕ → HeaderList → ContentType → Cut → Node
@@ -141,24 +152,51 @@ module _ (known : Charsets) where
       option_map_or (λ h. content_type_in known (lenient_value_in known h.value))
       (first_with_key (codes "Content-Type") headers) (part_type in_digest)
 
+  -- the manner of the port
+  abbrev pub strict : Manner
+  strict = record { type_of = node_type; keeps_refused = false; whole_lines = false }
+
+-- a refused message that is kept: plain text without headers, with all its bytes as its body
+abbrev pub kept_message : List ℕ → Tree
+kept_message bytes = tree (record { bytes = bytes; block = []; headers = []; ctype = default_type; body = bytes }) no_parts
+
+-- the reading of these bytes, or the message that is kept if they are refused
+abbrev pub kept_if_refused : List ℕ → Reads Tree → Reads Tree
+kept_if_refused bytes (Ok t) = Ok t
+kept_if_refused bytes (Err refusal) = Ok (kept_message bytes)
+
+-- In this manner.
+module _ (manner : Manner) where
+  -- the same if refused messages are kept, otherwise the reading itself
+  abbrev pub or_kept : List ℕ → Reads Tree → Reads Tree
+  or_kept bytes reading = if manner.keeps_refused then kept_if_refused bytes reading else reading
+
   -- the message with this block and this type; `read` reads its parts, and is given whether it is a digest
   abbrev pub read_parts : (Bool → List ℕ → Reads Tree) → List ℕ → HeaderList → ContentType → Reads Tree
   read_parts read bytes block ctype = do
-    let cut = cut_of ctype bytes block.index
+    let cut = cut_of_as manner.whole_lines ctype bytes block.index
     parts ← read_each (read (is_digest ctype)) (map (slice bytes) cut.parts)
     Ok (tree (node_with bytes block ctype cut) parts)
+
+  -- the message in the bytes, if its own level is left; `read` reads its parts
+  abbrev pub read_message : (Bool → List ℕ → Reads Tree) → Bool → List ℕ → Reads Tree
+  read_message read in_digest bytes = do
+    block ← read_headers bytes
+    read_parts read bytes block (manner.type_of in_digest block.headers)
 
   -- the message in the bytes, with at most `levels` levels, including its own; it is refused if that is 0, otherwise for its own
   -- headers, otherwise for the first of its parts that is refused
   unfoldable pub read_levels : ℕ → Bool → List ℕ → Reads Tree
-  read_levels zero in_digest bytes = Err recursion_limit
-  read_levels (suc levels) in_digest bytes = do
-    block ← read_headers bytes
-    read_parts (read_levels levels) bytes block (node_type in_digest block.headers)
+  read_levels zero in_digest bytes = or_kept bytes (Err recursion_limit)
+  read_levels (suc levels) in_digest bytes = or_kept bytes (read_message (read_levels levels) in_digest bytes)
 
   -- the message in the bytes, with parts down to a greatest level; the message itself is at level 0
-  unfoldable pub read_mail_in : ℕ → List ℕ → Reads Tree
-  read_mail_in greatest bytes = read_levels (suc greatest) false bytes
+  abbrev pub read_mail_as : ℕ → List ℕ → Reads Tree
+  read_mail_as greatest bytes = read_levels (suc greatest) false bytes
+
+-- the same in the manner of the port, under the charsets that are known
+unfoldable pub read_mail_in : Charsets → ℕ → List ℕ → Reads Tree
+read_mail_in known greatest bytes = read_mail_as (strict known) greatest bytes
 
 -- the message in the bytes, with parts down to level 100, or the first refusal
 unfoldable pub read_mail : List ℕ → Reads Tree

@@ -22,6 +22,7 @@ mod header;
 pub mod headers;
 mod lossy_text;
 mod mail;
+mod manner;
 mod message_ids;
 mod parameters;
 mod tables;
@@ -38,9 +39,10 @@ pub use header::{MailHeader, value_text, value_text_in};
 pub use headers::block::parse_headers;
 pub use headers::map::MailHeaderMap;
 pub use mail::{
-    MAX_LEVELS, ParsedMail, PartsIterator, parse_mail, parse_mail_in, parse_mail_limited,
-    parse_mail_limited_in,
+    MAX_LEVELS, ParsedMail, PartsIterator, parse_mail, parse_mail_as, parse_mail_in,
+    parse_mail_limited, parse_mail_limited_in,
 };
 pub use mail_codec::charset::{Decode, KnownCharsets, SingleByteTable, table_for_label};
+pub use manner::{ReadingManner, Strict};
 pub use message_ids::{MessageIdList, msgidparse};
 pub use tables::{parse_content_disposition_with, parse_content_type_with, parse_mail_with};

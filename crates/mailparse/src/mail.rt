@@ -1,27 +1,31 @@
 //! Reads a message: its header block, its type, its body and its parts.
-ghost use Rattle.std.specs.Prelude.{◌≡◌, ◌<◌, ◌≤◌, ◌+◌, ◌^◌, ◌∷◌, length, map, slice_range, take, IfOk, IsErr, Ok};
+ghost use Rattle.std.specs.Prelude.{◌≡◌, Bool, false, ◌<◌, ◌≤◌, ◌+◌, ◌^◌, ◌∷◌, length, drop, map, slice_range, take, IfOk, IsErr, Ok};
 ghost use Rattle.std.specs.List.{flat_map};
 ghost use Rattle.mail_codec.specs.Charset.{four_charsets};
 ghost use Rattle.mailparse.specs.Block.{header_count, read_headers};
 ghost use Rattle.mailparse.specs.Bound.{IsBounded};
-ghost use Rattle.mailparse.specs.Mail.{forest, read_levels, read_mail, read_mail_in, tree};
-ghost use Rattle.mailparse.specs.Outcome.{Answers, AnswersOrMemory};
-ghost use Rattle.mailparse.specs.Placement.{placements};
+ghost use Rattle.mailparse.specs.Mail.{forest, or_kept, read_levels, read_mail, read_mail_as, read_mail_in, tree, Tree, whole_lines_for};
+ghost use Rattle.mailparse.specs.Outcome.{Answers, AnswersOrMemory, IsRefusal, IsRefusalOrMemory};
+ghost use Rattle.mailparse.specs.Placement.{placements, placements_as};
+ghost use Rattle.mailparse.specs.Refusal.{Reads};
 ghost use Rattle.mailparse.specs.Views.{content_type, placements_of, tree_of};
+ghost use Rattle.mailparse.specs.private.Delimiters.{IsLineDelimiter};
 
 mod delimiters;
 mod message;
-mod types;
+pub(crate) mod types;
 
 use crate::content_type::ParsedContentType;
 use crate::error::MailParseError;
 use crate::header::MailHeader;
 use crate::headers::block::parse_headers;
+use crate::manner::{ReadingManner, Strict};
 use delimiters::{cut_part, cut_preamble};
+use mail_codec::bytescan::find_byte;
 use mail_codec::charset::KnownCharsets;
 pub use message::{ParsedMail, PartsIterator};
 use std::alloc::Global;
-use types::{is_digest, line_delimiter_of, node_type};
+use types::{is_digest, line_delimiter_of, part_type};
 
 /// The number of levels of parts that `parse_mail` reads below a message, and the greatest limit
 /// that `parse_mail_limited` accepts.
@@ -180,47 +184,142 @@ pub fn parse_mail_limited_in<'a, K: KnownCharsets>(
     ensures no_alloc { header_count raw.now ≡ 0 → IsErr (read_headers raw.now) →
         Answers tree_of result (read_mail_in (K.known known.now) levels raw.now) }
 {
-    parse_mail_recursive(alloc, raw, 0, false, levels + 1, known)
+    parse_mail_as(alloc, raw, levels, &Strict(known))
+}
+
+/// Reads a message as `parse_mail_limited` does, but in this manner where readers differ (RFC 2046,
+/// section 5.1).
+///
+/// The caller proves that `levels` is at most `MAX_LEVELS`. Allocates as `parse_mail` does.
+///
+/// # Errors
+///
+/// Those of `parse_mail_limited`; if the manner keeps refused messages, only
+/// `MailParseError::Memory` if it runs out of memory.
+///
+/// # Examples
+///
+/// ```rust
+/// use mailparse::{Strict, parse_mail_as};
+///
+/// let raw = b"Content-Type: multipart/mixed; boundary=b\n\n--b\n\none\n--b--\n";
+/// let mail = parse_mail_as(alloc, raw, 1, &Strict(&()))?;
+/// assert_eq!(rt; mail.subparts.len(), 1);
+/// assert!(rt; parse_mail_as(alloc, raw, 0, &Strict(&())).is_err());
+/// ```
+#[tactic(auto, using(crate::proofs::lemmas::Bound::bounds))]
+pub fn parse_mail_as<'a, M: ReadingManner>(
+    alloc: Global,
+    raw: &'a [u8],
+    levels: u8,
+    manner: &M,
+) -> Result<ParsedMail<'a>, MailParseError>
+    requires { levels ≤ MAX_LEVELS }
+    ensures read { AnswersOrMemory tree_of result
+        (read_mail_as (M.manner manner.now) levels raw.now) }
+    ensures bounded { IfOk result (λ mail. IsBounded (tree_of mail) (length raw.now)) }
+    ensures places { IfOk result (λ mail. placements_of mail
+        ≡ placements_as (M.manner manner.now).whole_lines 0 (tree_of mail)) }
+    ensures no_alloc { (M.manner manner.now).keeps_refused ≡ false → header_count raw.now ≡ 0 →
+        IsErr (read_headers raw.now) →
+        Answers tree_of result (read_mail_as (M.manner manner.now) levels raw.now) }
+{
+    parse_mail_recursive(alloc, raw, 0, false, levels + 1, manner)
 }
 
 /// Reads a message that starts at `offset` of the mail and has at most `levels` levels, counting
 /// its own.
-fn parse_mail_recursive<'a, K: KnownCharsets>(
+fn parse_mail_recursive<'a, M: ReadingManner>(
     alloc: Global,
     raw: &'a [u8],
     offset: usize,
     in_digest: bool,
     levels: u8,
-    known: &K,
+    manner: &M,
 ) -> Result<ParsedMail<'a>, MailParseError>
     requires within { offset + length raw.now < 2 ^ 64 }
     ensures read { AnswersOrMemory tree_of result
-        (read_levels (K.known known.now) levels in_digest raw.now) }
-    ensures places { IfOk result (λ mail. placements_of mail ≡ placements offset (tree_of mail)) }
-    ensures no_alloc { 0 < levels → header_count raw.now ≡ 0 → IsErr (read_headers raw.now) →
-        Answers tree_of result (read_levels (K.known known.now) levels in_digest raw.now) }
+        (read_levels (M.manner manner.now) levels in_digest raw.now) }
+    ensures places { IfOk result (λ mail. placements_of mail
+        ≡ placements_as (M.manner manner.now).whole_lines offset (tree_of mail)) }
+    ensures no_alloc { (M.manner manner.now).keeps_refused ≡ false → 0 < levels →
+        header_count raw.now ≡ 0 → IsErr (read_headers raw.now) →
+        Answers tree_of result (read_levels (M.manner manner.now) levels in_digest raw.now) }
 {
     if levels == 0 {
-        return Err(MailParseError::Generic("Recursion limit reached"));
+        let refusal = MailParseError::Generic("Recursion limit reached");
+        return refused_or_kept(alloc, raw, offset, refusal, manner);
     }
-    let (headers, body_offset) = parse_headers(alloc, raw)?;
-    let ctype = node_type(alloc, &headers, in_digest, known)?;
+    let (headers, body_offset) = match parse_headers(alloc, raw) {
+        Ok(block) => block,
+        Err(refusal) => return refused_or_kept(alloc, raw, offset, refusal, manner),
+    };
+    let ctype = manner.content_type(alloc, &headers, in_digest)?;
     let Some(line_delimiter) = line_delimiter_of(alloc, &ctype)? else {
         let parts = Vec::new(alloc);
         return Ok(message_of(raw, offset, headers, ctype, body_offset, raw.len(), parts));
     };
     let is_digest = is_digest(&ctype);
-    let (end, first) = cut_preamble(raw, body_offset, line_delimiter.as_slice());
+    let whole = has_whole_lines(&line_delimiter, manner);
+    let (end, first) = cut_preamble(raw, body_offset, line_delimiter.as_slice(), whole);
     let mut subparts = Vec::new(alloc);
     let mut next = first;
     while let Some(start) = next {
-        let (part_end, after) = cut_part(raw, start, line_delimiter.as_slice());
+        let (part_end, after) = cut_part(raw, start, line_delimiter.as_slice(), whole);
         let part = &raw[start..part_end];
         let begin = offset + start;
-        subparts.push(parse_mail_recursive(alloc, part, begin, is_digest, levels - 1, known)?)?;
+        subparts.push(parse_mail_recursive(alloc, part, begin, is_digest, levels - 1, manner)?)?;
         next = after;
     }
     Ok(message_of(raw, offset, headers, ctype, body_offset, end, subparts))
+}
+
+/// Returns the refusal of the message that starts at `offset` of the mail; if the manner keeps
+/// refused messages, the message as plain text instead, without headers.
+fn refused_or_kept<'a, M: ReadingManner>(
+    alloc: Global,
+    raw: &'a [u8],
+    offset: usize,
+    refusal: MailParseError,
+    manner: &M,
+) -> Result<ParsedMail<'a>, MailParseError>
+    requires within { offset + length raw.now < 2 ^ 64 }
+    ensures read { (reading : Reads Tree) → IsRefusalOrMemory refusal reading →
+        AnswersOrMemory tree_of result (or_kept (M.manner manner.now) raw.now reading) }
+    ensures places { (whole : Bool) →
+        IfOk result (λ mail. placements_of mail ≡ placements_as whole offset (tree_of mail)) }
+    ensures no_alloc { (M.manner manner.now).keeps_refused ≡ false → (reading : Reads Tree) →
+        IsRefusal refusal reading →
+        Answers tree_of result (or_kept (M.manner manner.now) raw.now reading) }
+{
+    if !manner.keeps_refused() {
+        return Err(refusal);
+    }
+    if let MailParseError::Memory(e) = refusal {
+        return Err(MailParseError::Memory(e));
+    }
+    let ctype = part_type(alloc, false)?;
+    Ok(message_of(
+        raw,
+        offset,
+        Vec::new(alloc),
+        ctype,
+        0,
+        raw.len(),
+        Vec::new(alloc),
+    ))
+}
+
+/// Whether whole lines are asked for: never of a dash-boundary that contains a LF.
+fn has_whole_lines<M: ReadingManner>(line_delimiter: &Vec<u8>, manner: &M) -> bool
+    requires line_delimiter { IsLineDelimiter line_delimiter.now.items }
+    ensures { result ≡ whole_lines_for (M.manner manner.now).whole_lines
+        (drop 1 line_delimiter.now.items) }
+{
+    if !manner.has_whole_lines() {
+        return false;
+    }
+    find_byte(&line_delimiter[1..], b'\n').is_none()
 }
 
 /// Returns the message that starts at `offset` of the mail and has these headers, type and parts.

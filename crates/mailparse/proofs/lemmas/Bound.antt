@@ -1,21 +1,23 @@
 -- A message that was read, with its parts, takes no more than its bytes.
-use Rattle.std.proofs.Common.{length-take, ◌≡◌, ℕ, zero, suc, ◌+◌, ◌-◌, ◌*◌, ◌≤◌, Bool, false, List, [], ◌∷◌, ◌++◌, length, map, take, drop, Result, Ok, Err, IfOk, refl, ap, ◌∙◌, subst, arith}
+use Rattle.std.proofs.Common.{length-take, ◌≡◌, ℕ, zero, suc, ◌+◌, ◌-◌, ◌*◌, ◌≤◌, Bool, true, false, List, [], ◌∷◌, ◌++◌, length, map, take, drop, Result, Ok, Err, IfOk, refl, ap, ◌∙◌, subst, arith}
+use Rattle.std.specs.Prelude.{if◌then◌else◌}
 use Rattle.std.specs.List.{sum_by}
 use Rattle.std.proofs.lemmas.List.{map-append}
 use Rattle.std.proofs.lemmas.List.Sums.{sum_by-cons, sum_by-append}
 use Rattle.mail_codec.specs.Charset.{Charsets}
-use Rattle.mailparse.specs.Refusal.{◌>>=◌, Reads}
+use Rattle.mailparse.specs.Refusal.{◌>>=◌, recursion_limit, Reads}
 use Rattle.mailparse.specs.Outcome.{AnswersOrMemory}
 use Rattle.mailparse.specs.Block.{HeaderList, read_headers}
-use Rattle.mailparse.specs.ContentType.{ContentType}
+use Rattle.mailparse.specs.ContentType.{ContentType, default_type}
+use Rattle.mailparse.specs.Manner.{Manner}
 use Rattle.mailparse.specs.Ranges.{Range, slice}
-use Rattle.mailparse.specs.Mail.{Node, Tree, tree, Forest, no_parts, part_and, root, trees_within, trees_in, nodes, is_digest, cut_of, node_with, read_each, read_parts, node_type, read_levels, read_mail_in}
+use Rattle.mailparse.specs.Mail.{Node, Tree, tree, Forest, no_parts, part_and, root, trees_within, trees_in, nodes, is_digest, cut_of_as, node_with, read_each, kept_message, kept_if_refused, or_kept, read_parts, read_message, read_levels, read_mail_as, read_mail_in, strict}
 use Rattle.mailparse.specs.Bound.{IsBounded}
 use Rattle.mailparse.specs.Views.{tree_of}
 use Rattle.mailparse.specs.declared.error.MailParseError.{MailParseError}
 use Rattle.mailparse.specs.declared.mail.message.ParsedMail.{ParsedMail}
 use Rattle.mailparse.proofs.lemmas.Refusal.{read_map}
-use Rattle.mailparse.proofs.lemmas.Ranges.{cut_of-apart, Apart-sum}
+use Rattle.mailparse.proofs.lemmas.Ranges.{cut_of_as-apart, Apart-sum}
 use Rattle.mailparse.proofs.lemmas.Block.{Bounded, read_headers-bounded}
 
 -- ---- what messages take together
@@ -106,51 +108,76 @@ read_each-fits read fits bytes (range ∷ ranges) parts e =
         subst (λ (f : Forest). weight_in f ≤ sum_by (λ r. r.end - r.start + 3) (range ∷ ranges)) same (omega (arith, both, first, size, more, sum))
 
 -- a message with this block, this type and these parts
-node-fits : (bytes : List ℕ) (block : HeaderList) (ctype : ContentType) (parts : Forest) → Bounded bytes block
-    → weight_in parts ≤ sum_by (λ r. r.end - r.start + 3) (cut_of ctype bytes block.index).parts
-    → weight (nodes (tree (node_with bytes block ctype (cut_of ctype bytes block.index)) parts)) ≤ length bytes + 3
-node-fits bytes block ctype parts bounded fits =
-    let cut = cut_of ctype bytes block.index in
-    let apart = cut_of-apart ctype bytes block.index bounded.index in
+node-fits : (whole : Bool) (bytes : List ℕ) (block : HeaderList) (ctype : ContentType) (parts : Forest) → Bounded bytes block
+    → weight_in parts ≤ sum_by (λ r. r.end - r.start + 3) (cut_of_as whole ctype bytes block.index).parts
+    → weight (nodes (tree (node_with bytes block ctype (cut_of_as whole ctype bytes block.index)) parts)) ≤ length bytes + 3
+node-fits whole bytes block ctype parts bounded fits =
+    let cut = cut_of_as whole ctype bytes block.index in
+    let apart = cut_of_as-apart whole ctype bytes block.index bounded.index in
     let ranges = Apart-sum 3 cut.body.end cut.parts (length bytes) apart.2 in
     let body = slice-length bytes cut.body in
     let whole = weight-tree (node_with bytes block ctype cut) parts in
     omega (arith, bounded.headers, apart.0, apart.1, ranges, body, whole, fits)
 
--- Under the charsets that are known.
-module _ (known : Charsets) where
-  read_levels-fits : (levels : ℕ) (in_digest : Bool) → Fits (read_levels known levels in_digest)
+-- In a manner of reading.
+module _ (manner : Manner) where
+  -- a refused message that is kept has only its body
+  kept-fits : (bytes : List ℕ) → weight (nodes (kept_message bytes)) ≤ length bytes + 3
+  kept-fits bytes =
+      let all = weight-tree (record { bytes = bytes; block = []; headers = []; ctype = default_type; body = bytes }) no_parts in
+      let none = weight_in-none in
+      omega (arith, all, none)
+
+  -- a message fits if its reading does
+  or_kept-fits : (bytes : List ℕ) (reading : Reads Tree) (t : Tree) → or_kept manner bytes reading ≡ Ok t
+      → (reading ≡ Ok t → weight (nodes t) ≤ length bytes + 3) → weight (nodes t) ≤ length bytes + 3
+  or_kept-fits bytes reading t e fits = by_manner manner.keeps_refused reading e fits
+    where
+      by_manner : (k : Bool) (r : Reads Tree) → if k then kept_if_refused bytes r else r ≡ Ok t → (r ≡ Ok t → weight (nodes t) ≤ length bytes + 3) → weight (nodes t) ≤ length bytes + 3
+      by_manner false r h fits = fits h
+      by_manner true (Ok u) h fits = fits h
+      by_manner true (Err refusal) h fits =
+          let here : ◌≡◌ {A = Reads Tree} (Ok (kept_message bytes)) (Ok t) = h in
+          let same : kept_message bytes ≡ t = cc in
+          subst (λ (u : Tree). weight (nodes u) ≤ length bytes + 3) same (kept-fits bytes)
+
+  read_levels-fits : (levels : ℕ) (in_digest : Bool) → Fits (read_levels manner levels in_digest)
   unfolding read_levels
-  read_levels-fits zero in_digest bytes t e = absurd (cc)
-  read_levels-fits (suc levels) in_digest bytes t e = by_block (read_headers bytes) refl e (λ digest. read_levels-fits levels digest)
+  read_levels-fits zero in_digest bytes t e = or_kept-fits bytes (Err recursion_limit) t e (λ h. absurd (cc))
+  read_levels-fits (suc levels) in_digest bytes t e =
+      or_kept-fits bytes (read_message manner (read_levels manner levels) in_digest bytes) t e (λ h. by_block (read_headers bytes) refl h (λ digest. read_levels-fits levels digest))
     where
       by_parts : (block : HeaderList) (ctype : ContentType) → read_headers bytes ≡ Ok block → (parts : Reads Forest)
-          → read_each (read_levels known levels (is_digest ctype)) (map (slice bytes) (cut_of ctype bytes block.index).parts) ≡ parts
-          → read_map (tree (node_with bytes block ctype (cut_of ctype bytes block.index))) parts ≡ Ok t
-          → Fits (read_levels known levels (is_digest ctype)) → weight (nodes t) ≤ length bytes + 3
+          → read_each (read_levels manner levels (is_digest ctype)) (map (slice bytes) (cut_of_as manner.whole_lines ctype bytes block.index).parts) ≡ parts
+          → read_map (tree (node_with bytes block ctype (cut_of_as manner.whole_lines ctype bytes block.index))) parts ≡ Ok t
+          → Fits (read_levels manner levels (is_digest ctype)) → weight (nodes t) ≤ length bytes + 3
       by_parts block ctype read (Err refusal) f h ih = absurd (cc)
       by_parts block ctype read (Ok parts) f h ih =
-          let cut = cut_of ctype bytes block.index in
+          let cut = cut_of_as manner.whole_lines ctype bytes block.index in
           let same : tree (node_with bytes block ctype cut) parts ≡ t = cc in
-          let all = read_each-fits (read_levels known levels (is_digest ctype)) ih bytes cut.parts parts f in
-          subst (λ (u : Tree). weight (nodes u) ≤ length bytes + 3) same (node-fits bytes block ctype parts (read_headers-bounded bytes block read) all)
+          let all = read_each-fits (read_levels manner levels (is_digest ctype)) ih bytes cut.parts parts f in
+          subst (λ (u : Tree). weight (nodes u) ≤ length bytes + 3) same (node-fits manner.whole_lines bytes block ctype parts (read_headers-bounded bytes block read) all)
 
       by_block : (block : Reads HeaderList) → read_headers bytes ≡ block
-          → ◌>>=◌ block (λ b. read_parts known (read_levels known levels) bytes b (node_type known in_digest b.headers)) ≡ Ok t
-          → ((digest : Bool) → Fits (read_levels known levels digest)) → weight (nodes t) ≤ length bytes + 3
+          → ◌>>=◌ block (λ b. read_parts manner (read_levels manner levels) bytes b (manner.type_of in_digest b.headers)) ≡ Ok t
+          → ((digest : Bool) → Fits (read_levels manner levels digest)) → weight (nodes t) ≤ length bytes + 3
       by_block (Err refusal) read h ih = absurd (cc)
-      by_block (Ok block) read h ih = by_parts block (node_type known in_digest block.headers) read _ refl h (ih (is_digest (node_type known in_digest block.headers)))
+      by_block (Ok block) read h ih = by_parts block (manner.type_of in_digest block.headers) read _ refl h (ih (is_digest (manner.type_of in_digest block.headers)))
 
-  -- whatever charsets are known, and however deep parts may be nested
-  pub read_mail_in-bounded : (greatest : ℕ) (bytes : List ℕ) (t : Tree) → read_mail_in known greatest bytes ≡ Ok t → IsBounded t (length bytes)
-  unfolding read_mail_in
-  read_mail_in-bounded greatest bytes t e = IsBounded-by_weight (length bytes) t (read_levels-fits (suc greatest) false bytes t e)
+-- however deep parts may be nested
+pub read_mail_as-bounded : (manner : Manner) (greatest : ℕ) (bytes : List ℕ) (t : Tree) → read_mail_as manner greatest bytes ≡ Ok t → IsBounded t (length bytes)
+read_mail_as-bounded manner greatest bytes t e = IsBounded-by_weight (length bytes) t (read_levels-fits manner (suc greatest) false bytes t e)
+
+-- and whatever charsets are known
+pub read_mail_in-bounded : (known : Charsets) (greatest : ℕ) (bytes : List ℕ) (t : Tree) → read_mail_in known greatest bytes ≡ Ok t → IsBounded t (length bytes)
+unfolding read_mail_in
+read_mail_in-bounded known greatest bytes t e = read_mail_as-bounded (strict known) greatest bytes t e
 
 -- and so what a call returned that reads a message
-pub answer-bounded : (known : Charsets) (result : Result ParsedMail MailParseError) (levels : ℕ) (in_digest : Bool) (bytes : List ℕ)
-    → AnswersOrMemory tree_of result (read_levels known levels in_digest bytes) → IfOk result (λ mail. IsBounded (tree_of mail) (length bytes))
-answer-bounded known (Err e) levels in_digest bytes h = tt
-answer-bounded known (Ok mail) levels in_digest bytes h = IsBounded-by_weight (length bytes) (tree_of mail) (read_levels-fits known levels in_digest bytes (tree_of mail) h)
+pub answer-bounded : (manner : Manner) (result : Result ParsedMail MailParseError) (levels : ℕ) (in_digest : Bool) (bytes : List ℕ)
+    → AnswersOrMemory tree_of result (read_levels manner levels in_digest bytes) → IfOk result (λ mail. IsBounded (tree_of mail) (length bytes))
+answer-bounded manner (Err e) levels in_digest bytes h = tt
+answer-bounded manner (Ok mail) levels in_digest bytes h = IsBounded-by_weight (length bytes) (tree_of mail) (read_levels-fits manner levels in_digest bytes (tree_of mail) h)
 
 -- the bound of an answer
 pub ruleset bounds = (answer-bounded)

@@ -8,7 +8,7 @@ use Rattle.bstr.specs.Find.{OccursAt, FindsNeedle}
 use Rattle.mail_codec.specs.Places.{has_prefix, begins, first_place, least, byte_place, text_place, values_below}
 use Rattle.mail_codec.proofs.lemmas.Places.{least-is, least-before, least-passes, first_place-before, first_place-passes}
 use Rattle.mailparse.specs.Header.{is_line_feed}
-use Rattle.mailparse.specs.Delimiters.{least_from, starts_line, is_delimiter, delimiter_from, line_after, part_after, is_close_delimiter, next_part, part_start, part_starts, part_range}
+use Rattle.mailparse.specs.Delimiters.{least_from, starts_line, is_delimiter, is_delimiter_as, delimiter_from, delimiter_from_as, ends_line, line_after, part_after, is_close_delimiter, next_part, next_part_as, part_start_as, part_starts_as, part_range, part_range_as}
 use Rattle.mail_codec.proofs.lemmas.PlacesSearches.{place_none, place_some}
 use Rattle.mailparse.specs.Ranges.{Range}
 use Rattle.mailparse.proofs.lemmas.Block.{values_below-same}
@@ -264,109 +264,249 @@ line_after-bounds bytes p next within e =
     let len = length-drop p bytes in
     (omega arith, omega arith)
 
--- the next part starts on the line after a delimiter
-pub next_part-delimiter : (dash_boundary bytes : List ℕ) (s next : ℕ) → next_part dash_boundary bytes s ≡ Some next
-    → (p : ℕ) × (delimiter_from dash_boundary bytes s ≡ Some p) × (part_after dash_boundary bytes p ≡ Some next)
-next_part-delimiter dash_boundary bytes s next e = by_delimiter (delimiter_from dash_boundary bytes s) refl e
-  where
-    by_last : (p : ℕ) → delimiter_from dash_boundary bytes s ≡ Some p → (t : Bool) → if t then None else part_after dash_boundary bytes p ≡ Some next
-        → (p : ℕ) × (delimiter_from dash_boundary bytes s ≡ Some p) × (part_after dash_boundary bytes p ≡ Some next)
-    by_last p f true h = absurd (cc)
-    by_last p f false h = (p, f, h)
+-- If whole lines are asked for, or not.
+module _ (whole : Bool) where
+  -- each such delimiter is one without this
+  pub is_delimiter_as-out : (dash_boundary bytes : List ℕ) (start p : ℕ) → is_delimiter_as whole dash_boundary bytes start p ≡ true → is_delimiter dash_boundary bytes start p ≡ true
+  is_delimiter_as-out dash_boundary bytes start p h = by_lines whole h
+    where
+      by_lines : (w : Bool) → is_delimiter_as w dash_boundary bytes start p ≡ true → is_delimiter dash_boundary bytes start p ≡ true
+      by_lines true e = (and_parts (is_delimiter dash_boundary bytes start p) (ends_line (drop (p + length dash_boundary) bytes)) e).0
+      by_lines false e = e
 
-    by_delimiter : (o : Option ℕ) → delimiter_from dash_boundary bytes s ≡ o → option_and_then (λ p. if is_close_delimiter dash_boundary bytes p then None else part_after dash_boundary bytes p) o ≡ Some next
-        → (p : ℕ) × (delimiter_from dash_boundary bytes s ≡ Some p) × (part_after dash_boundary bytes p ≡ Some next)
-    by_delimiter None f h = absurd (cc)
-    by_delimiter (Some p) f h = by_last p f (is_close_delimiter dash_boundary bytes p) h
+  pub delimiter_from_as-out : (dash_boundary bytes : List ℕ) (start p : ℕ) → delimiter_from_as whole dash_boundary bytes start ≡ Some p
+      → IsLeastFrom (is_delimiter_as whole dash_boundary bytes start) start (length bytes) p
+  delimiter_from_as-out dash_boundary bytes start p h = by_lines whole h
+    where
+      by_lines : (w : Bool) → delimiter_from_as w dash_boundary bytes start ≡ Some p → IsLeastFrom (is_delimiter_as w dash_boundary bytes start) start (length bytes) p
+      by_lines true e = least_from-out (is_delimiter_as true dash_boundary bytes start) start (length bytes) p e
+      by_lines false e = delimiter_from-out dash_boundary bytes start p e
 
--- after this one does, within the bytes
-pub next_part-bounds : (dash_boundary bytes : List ℕ) (s next : ℕ) → next_part dash_boundary bytes s ≡ Some next → (s < next) × (next ≤ length bytes)
-next_part-bounds dash_boundary bytes s next e =
-    let at = next_part-delimiter dash_boundary bytes s next e in
-    let least = delimiter_from-out dash_boundary bytes s at.0 at.1 in
-    let low = least.low in
-    let high = least.high in
-    let fits = is_delimiter-fits dash_boundary bytes s at.0 (omega arith) least.passes in
-    let after = line_after-bounds bytes (at.0 + length dash_boundary) next fits at.2 in
-    (omega (arith, after.0), after.1)
+  -- the next part starts on the line after a delimiter
+  pub next_part_as-delimiter : (dash_boundary bytes : List ℕ) (s next : ℕ) → next_part_as whole dash_boundary bytes s ≡ Some next
+      → (p : ℕ) × (delimiter_from_as whole dash_boundary bytes s ≡ Some p) × (part_after dash_boundary bytes p ≡ Some next)
+  next_part_as-delimiter dash_boundary bytes s next e = by_delimiter (delimiter_from_as whole dash_boundary bytes s) refl e
+    where
+      by_last : (p : ℕ) → delimiter_from_as whole dash_boundary bytes s ≡ Some p → (t : Bool) → if t then None else part_after dash_boundary bytes p ≡ Some next
+          → (p : ℕ) × (delimiter_from_as whole dash_boundary bytes s ≡ Some p) × (part_after dash_boundary bytes p ≡ Some next)
+      by_last p f true h = absurd (cc)
+      by_last p f false h = (p, f, h)
 
-part_start-more : (dash_boundary bytes : List ℕ) (s j : ℕ) → part_start dash_boundary bytes (Some s) (suc j) ≡ part_start dash_boundary bytes (next_part dash_boundary bytes s) j
-part_start-more dash_boundary bytes s zero = refl
-part_start-more dash_boundary bytes s (suc j) = ap (option_and_then (next_part dash_boundary bytes)) (part_start-more dash_boundary bytes s j)
+      by_delimiter : (o : Option ℕ) → delimiter_from_as whole dash_boundary bytes s ≡ o → option_and_then (λ p. if is_close_delimiter dash_boundary bytes p then None else part_after dash_boundary bytes p) o ≡ Some next
+          → (p : ℕ) × (delimiter_from_as whole dash_boundary bytes s ≡ Some p) × (part_after dash_boundary bytes p ≡ Some next)
+      by_delimiter None f h = absurd (cc)
+      by_delimiter (Some p) f h = by_last p f (is_close_delimiter dash_boundary bytes p) h
 
-part_start-bounds : (dash_boundary bytes : List ℕ) (s j p : ℕ) → s ≤ length bytes → part_start dash_boundary bytes (Some s) j ≡ Some p → (s + j ≤ p) × (p ≤ length bytes)
-part_start-bounds dash_boundary bytes s zero p within e = let here : Some s ≡ Some p = e in let same : s ≡ p = cc in (omega arith, omega arith)
-part_start-bounds dash_boundary bytes s (suc j) p within e = by_part (part_start dash_boundary bytes (Some s) j) refl (λ q. part_start-bounds dash_boundary bytes s j q within) e
-  where
-    by_part : (o : Option ℕ) → part_start dash_boundary bytes (Some s) j ≡ o → ((q : ℕ) → part_start dash_boundary bytes (Some s) j ≡ Some q → (s + j ≤ q) × (q ≤ length bytes))
-        → option_and_then (next_part dash_boundary bytes) o ≡ Some p → (s + suc j ≤ p) × (p ≤ length bytes)
-    by_part None f ih h = let clash : None ≡ Some p = h in absurd (cc)
-    by_part (Some q) f ih h =
-        let before = (ih q f).0 in
-        let more = next_part-bounds dash_boundary bytes q p h in
-        (omega (arith, more.0), more.1)
+  -- after this one does, within the bytes
+  pub next_part_as-bounds : (dash_boundary bytes : List ℕ) (s next : ℕ) → next_part_as whole dash_boundary bytes s ≡ Some next → (s < next) × (next ≤ length bytes)
+  next_part_as-bounds dash_boundary bytes s next e =
+      let at = next_part_as-delimiter dash_boundary bytes s next e in
+      let least = delimiter_from_as-out dash_boundary bytes s at.0 at.1 in
+      let low = least.low in
+      let high = least.high in
+      let fits = is_delimiter-fits dash_boundary bytes s at.0 (omega arith) (is_delimiter_as-out dash_boundary bytes s at.0 least.passes) in
+      let after = line_after-bounds bytes (at.0 + length dash_boundary) next fits at.2 in
+      (omega (arith, after.0), after.1)
 
--- the ranges of the parts, by where the first one starts
+  part_start-more : (dash_boundary bytes : List ℕ) (s j : ℕ) → part_start_as whole dash_boundary bytes (Some s) (suc j) ≡ part_start_as whole dash_boundary bytes (next_part_as whole dash_boundary bytes s) j
+  part_start-more dash_boundary bytes s zero = refl
+  part_start-more dash_boundary bytes s (suc j) = ap (option_and_then (next_part_as whole dash_boundary bytes)) (part_start-more dash_boundary bytes s j)
+
+  part_start-bounds : (dash_boundary bytes : List ℕ) (s j p : ℕ) → s ≤ length bytes → part_start_as whole dash_boundary bytes (Some s) j ≡ Some p → (s + j ≤ p) × (p ≤ length bytes)
+  part_start-bounds dash_boundary bytes s zero p within e = let here : Some s ≡ Some p = e in let same : s ≡ p = cc in (omega arith, omega arith)
+  part_start-bounds dash_boundary bytes s (suc j) p within e = by_part (part_start_as whole dash_boundary bytes (Some s) j) refl (λ q. part_start-bounds dash_boundary bytes s j q within) e
+    where
+      by_part : (o : Option ℕ) → part_start_as whole dash_boundary bytes (Some s) j ≡ o → ((q : ℕ) → part_start_as whole dash_boundary bytes (Some s) j ≡ Some q → (s + j ≤ q) × (q ≤ length bytes))
+          → option_and_then (next_part_as whole dash_boundary bytes) o ≡ Some p → (s + suc j ≤ p) × (p ≤ length bytes)
+      by_part None f ih h = let clash : None ≡ Some p = h in absurd (cc)
+      by_part (Some q) f ih h =
+          let before = (ih q f).0 in
+          let more = next_part_as-bounds dash_boundary bytes q p h in
+          (omega (arith, more.0), more.1)
+
+  -- the ranges of the parts, by where the first one starts
+  abbrev pub part_ranges_as : List ℕ → List ℕ → Option ℕ → List Range
+  part_ranges_as dash_boundary bytes first = map (part_range_as whole dash_boundary bytes) (part_starts_as whole dash_boundary bytes first)
+
+  -- if there is none, none follows
+  part_start-none : (dash_boundary bytes : List ℕ) (j : ℕ) → part_start_as whole dash_boundary bytes None j ≡ None
+  part_start-none dash_boundary bytes zero = refl
+  part_start-none dash_boundary bytes (suc j) = ap (option_and_then (next_part_as whole dash_boundary bytes)) (part_start-none dash_boundary bytes j)
+
+  -- the values that are there
+  abbrev present : List (Option ℕ) → List ℕ
+  present = filter_map (λ start. start)
+
+  present-none : (n : ℕ) (f : ℕ → Option ℕ) → ((j : ℕ) → f j ≡ None) → present (values_below n f) ≡ []
+  present-none zero f none = refl
+  present-none (suc n) f none =
+      ap (λ (o : Option ℕ). present (o ∷ values_below n (λ j. f (suc j)))) (none 0) ∙ present-none n (λ j. f (suc j)) (λ j. none (suc j))
+
+  -- a last value that is not there does not count
+  present-last : (n : ℕ) (f : ℕ → Option ℕ) → f n ≡ None → present (values_below (suc n) f) ≡ present (values_below n f)
+  present-last zero f none = ap (λ (o : Option ℕ). present (o ∷ [])) none
+  present-last (suc n) f none = go (f 0) (present-last n (λ j. f (suc j)) none)
+    where
+      go : (o : Option ℕ) → present (values_below (suc n) (λ j. f (suc j))) ≡ present (values_below n (λ j. f (suc j)))
+          → present (o ∷ values_below (suc n) (λ j. f (suc j))) ≡ present (o ∷ values_below n (λ j. f (suc j)))
+      go None same = same
+      go (Some x) same = ap (λ (rest : List ℕ). x ∷ rest) same
+
+  pub part_ranges_as-none : (dash_boundary bytes : List ℕ) → part_ranges_as dash_boundary bytes None ≡ []
+  unfolding part_starts_as
+  part_ranges_as-none dash_boundary bytes =
+      ap (map (part_range_as whole dash_boundary bytes)) (present-none (suc (length bytes)) (part_start_as whole dash_boundary bytes None) (part_start-none dash_boundary bytes))
+
+  -- no part that follows another one has the number of bytes as its number
+  no_part_past : (dash_boundary bytes : List ℕ) (s : ℕ) → part_start_as whole dash_boundary bytes (next_part_as whole dash_boundary bytes s) (length bytes) ≡ None
+  no_part_past dash_boundary bytes s = by_next (next_part_as whole dash_boundary bytes s) refl
+    where
+      by_part : (next : ℕ) → next_part_as whole dash_boundary bytes s ≡ Some next → (o : Option ℕ) → part_start_as whole dash_boundary bytes (Some next) (length bytes) ≡ o → o ≡ None
+      by_part next e None f = refl
+      by_part next e (Some p) f =
+          let here = next_part_as-bounds dash_boundary bytes s next e in
+          let there = part_start-bounds dash_boundary bytes next (length bytes) p here.1 f in
+          absurd (omega (arith, here.0, there.0, there.1))
+
+      by_next : (o : Option ℕ) → next_part_as whole dash_boundary bytes s ≡ o → part_start_as whole dash_boundary bytes o (length bytes) ≡ None
+      by_next None e = part_start-none dash_boundary bytes (length bytes)
+      by_next (Some next) e = by_part next e (part_start_as whole dash_boundary bytes (Some next) (length bytes)) refl
+
+  part_starts-some : (dash_boundary bytes : List ℕ) (s : ℕ)
+      → part_starts_as whole dash_boundary bytes (Some s) ≡ s ∷ part_starts_as whole dash_boundary bytes (next_part_as whole dash_boundary bytes s)
+  unfolding part_starts_as
+  part_starts-some dash_boundary bytes s =
+      let more = values_below-same (length bytes) (λ j. part_start_as whole dash_boundary bytes (Some s) (suc j)) (part_start_as whole dash_boundary bytes (next_part_as whole dash_boundary bytes s))
+      (part_start-more dash_boundary bytes s) in
+      ap (λ (rest : List (Option ℕ)). s ∷ present rest) more
+      ∙ ap (λ (rest : List ℕ). s ∷ rest)
+      (sym (present-last (length bytes) (part_start_as whole dash_boundary bytes (next_part_as whole dash_boundary bytes s)) (no_part_past dash_boundary bytes s)))
+
+  -- the parts from one on are it and those from the next one on
+  pub part_ranges_as-some : (dash_boundary bytes : List ℕ) (s : ℕ) → part_ranges_as dash_boundary bytes (Some s) ≡ part_range_as whole dash_boundary bytes s ∷ part_ranges_as dash_boundary bytes (next_part_as whole dash_boundary bytes s)
+  part_ranges_as-some dash_boundary bytes s = ap (map (part_range_as whole dash_boundary bytes)) (part_starts-some dash_boundary bytes s)
+
+-- the same if whole lines are not asked for
 abbrev pub part_ranges : List ℕ → List ℕ → Option ℕ → List Range
-part_ranges dash_boundary bytes first = map (part_range dash_boundary bytes) (part_starts dash_boundary bytes first)
-
--- if there is none, none follows
-part_start-none : (dash_boundary bytes : List ℕ) (j : ℕ) → part_start dash_boundary bytes None j ≡ None
-part_start-none dash_boundary bytes zero = refl
-part_start-none dash_boundary bytes (suc j) = ap (option_and_then (next_part dash_boundary bytes)) (part_start-none dash_boundary bytes j)
-
--- the values that are there
-abbrev present : List (Option ℕ) → List ℕ
-present = filter_map (λ start. start)
-
-present-none : (n : ℕ) (f : ℕ → Option ℕ) → ((j : ℕ) → f j ≡ None) → present (values_below n f) ≡ []
-present-none zero f none = refl
-present-none (suc n) f none =
-    ap (λ (o : Option ℕ). present (o ∷ values_below n (λ j. f (suc j)))) (none 0) ∙ present-none n (λ j. f (suc j)) (λ j. none (suc j))
-
--- a last value that is not there does not count
-present-last : (n : ℕ) (f : ℕ → Option ℕ) → f n ≡ None → present (values_below (suc n) f) ≡ present (values_below n f)
-present-last zero f none = ap (λ (o : Option ℕ). present (o ∷ [])) none
-present-last (suc n) f none = go (f 0) (present-last n (λ j. f (suc j)) none)
-  where
-    go : (o : Option ℕ) → present (values_below (suc n) (λ j. f (suc j))) ≡ present (values_below n (λ j. f (suc j)))
-        → present (o ∷ values_below (suc n) (λ j. f (suc j))) ≡ present (o ∷ values_below n (λ j. f (suc j)))
-    go None same = same
-    go (Some x) same = ap (λ (rest : List ℕ). x ∷ rest) same
+part_ranges dash_boundary bytes first = part_ranges_as false dash_boundary bytes first
 
 pub part_ranges-none : (dash_boundary bytes : List ℕ) → part_ranges dash_boundary bytes None ≡ []
-unfolding part_starts
-part_ranges-none dash_boundary bytes =
-    ap (map (part_range dash_boundary bytes)) (present-none (suc (length bytes)) (part_start dash_boundary bytes None) (part_start-none dash_boundary bytes))
+part_ranges-none dash_boundary bytes = part_ranges_as-none false dash_boundary bytes
 
--- no part that follows another one has the number of bytes as its number
-no_part_past : (dash_boundary bytes : List ℕ) (s : ℕ) → part_start dash_boundary bytes (next_part dash_boundary bytes s) (length bytes) ≡ None
-no_part_past dash_boundary bytes s = by_next (next_part dash_boundary bytes s) refl
-  where
-    by_part : (next : ℕ) → next_part dash_boundary bytes s ≡ Some next → (o : Option ℕ) → part_start dash_boundary bytes (Some next) (length bytes) ≡ o → o ≡ None
-    by_part next e None f = refl
-    by_part next e (Some p) f =
-        let here = next_part-bounds dash_boundary bytes s next e in
-        let there = part_start-bounds dash_boundary bytes next (length bytes) p here.1 f in
-        absurd (omega (arith, here.0, there.0, there.1))
-
-    by_next : (o : Option ℕ) → next_part dash_boundary bytes s ≡ o → part_start dash_boundary bytes o (length bytes) ≡ None
-    by_next None e = part_start-none dash_boundary bytes (length bytes)
-    by_next (Some next) e = by_part next e (part_start dash_boundary bytes (Some next) (length bytes)) refl
-
-part_starts-some : (dash_boundary bytes : List ℕ) (s : ℕ)
-    → part_starts dash_boundary bytes (Some s) ≡ s ∷ part_starts dash_boundary bytes (next_part dash_boundary bytes s)
-unfolding part_starts
-part_starts-some dash_boundary bytes s =
-    let more = values_below-same (length bytes) (λ j. part_start dash_boundary bytes (Some s) (suc j)) (part_start dash_boundary bytes (next_part dash_boundary bytes s))
-    (part_start-more dash_boundary bytes s) in
-    ap (λ (rest : List (Option ℕ)). s ∷ present rest) more
-    ∙ ap (λ (rest : List ℕ). s ∷ rest)
-    (sym (present-last (length bytes) (part_start dash_boundary bytes (next_part dash_boundary bytes s)) (no_part_past dash_boundary bytes s)))
-
--- the parts from one on are it and those from the next one on
 pub part_ranges-some : (dash_boundary bytes : List ℕ) (s : ℕ) → part_ranges dash_boundary bytes (Some s) ≡ part_range dash_boundary bytes s ∷ part_ranges dash_boundary bytes (next_part dash_boundary bytes s)
-part_ranges-some dash_boundary bytes s = ap (map (part_range dash_boundary bytes)) (part_starts-some dash_boundary bytes s)
+part_ranges-some dash_boundary bytes s = part_ranges_as-some false dash_boundary bytes s
+
+-- ---- a search from one delimiter to the next, until one is a whole line
+
+-- no delimiter from a start up to an offset is a whole line
+abbrev pub NoWhole : List ℕ → List ℕ → ℕ → ℕ → Type 0
+NoWhole dash_boundary bytes start to = (k : ℕ) → start ≤ k → k < to → is_delimiter_as true dash_boundary bytes start k ≡ false
+
+pub whole-none : (dash_boundary bytes : List ℕ) (start : ℕ) → NoWhole dash_boundary bytes start (length bytes) → None ≡ delimiter_from_as true dash_boundary bytes start
+whole-none dash_boundary bytes start none = sym (least_from-none (is_delimiter_as true dash_boundary bytes start) start (length bytes) none)
+
+pub whole-some : (dash_boundary bytes : List ℕ) (start p : ℕ) → start ≤ p → p < length bytes → is_delimiter_as true dash_boundary bytes start p ≡ true
+    → NoWhole dash_boundary bytes start p → Some p ≡ delimiter_from_as true dash_boundary bytes start
+whole-some dash_boundary bytes start p low high at none =
+    sym (least_from-some (is_delimiter_as true dash_boundary bytes start) start (length bytes) p (record { low = low; high = high; passes = at; before = none }))
+
+-- where there is no delimiter, none is a whole line
+not_whole : (dash_boundary bytes : List ℕ) (start k : ℕ) → is_delimiter dash_boundary bytes start k ≡ false → is_delimiter_as true dash_boundary bytes start k ≡ false
+not_whole dash_boundary bytes start k e = ap (λ t. t && ends_line (drop (k + length dash_boundary) bytes)) e
+
+-- the delimiters are the same from an offset where a line starts
+pub from_a_line : (dash_boundary bytes : List ℕ) (start from k : ℕ) → start ≤ from → starts_line bytes start from ≡ true → from ≤ k
+    → is_delimiter dash_boundary bytes start k ≡ is_delimiter dash_boundary bytes from k
+from_a_line dash_boundary bytes start from k low starts later =
+    ⊎_elim (λ same.
+    subst (λ q. is_delimiter dash_boundary bytes start q ≡ is_delimiter dash_boundary bytes from q) same
+    (ap (λ t. t && has_prefix dash_boundary (drop from bytes)) starts ∙ sym (is_delimiter-start dash_boundary bytes from)))
+    (λ other. is_delimiter-line dash_boundary bytes start k (omega (arith, other)) ∙ sym (is_delimiter-line dash_boundary bytes from k (omega (arith, other))))
+    (cases_eq from k)
+
+-- there is none from the start of a line up to the next delimiter
+whole_to : (dash_boundary bytes : List ℕ) (start from to : ℕ) → start ≤ from → starts_line bytes start from ≡ true → NoWhole dash_boundary bytes start from
+    → ((k : ℕ) → from ≤ k → k < to → is_delimiter dash_boundary bytes from k ≡ false) → NoWhole dash_boundary bytes start to
+whole_to dash_boundary bytes start from to low starts before none k least small =
+    ⊎_elim (λ below. before k least below)
+    (λ above. not_whole dash_boundary bytes start k (from_a_line dash_boundary bytes start from k low starts above ∙ none k above small))
+    (cases_lt k from)
+
+-- no line starts between an offset and the line after it
+no_line_between : (dash_boundary bytes : List ℕ) (start at j : ℕ) → start ≤ at → first_place (begins is_line_feed) (drop at bytes) ≡ j
+    → (k : ℕ) → at < k → k < suc (at + j) → is_delimiter dash_boundary bytes start k ≡ false
+no_line_between dash_boundary bytes start at j low first k above below =
+    let i = k - 1 - at in
+    let there : drop i (drop at bytes) ≡ drop (k - 1) bytes = drop-drop i at bytes ∙ ap (λ n. drop n bytes) (omega arith) in
+    let fails : begins is_line_feed (drop (k - 1) bytes) ≡ false = ap (begins is_line_feed) (sym there) ∙ first_place-before (begins is_line_feed) (drop at bytes) i (omega (arith, first)) in
+    let other : eqb k start ≡ false = ne_eqb k start (λ e. absurd (omega (arith, e, above, low))) in
+    ap (λ t. (t || begins is_line_feed (drop (k - 1) bytes)) && has_prefix dash_boundary (drop k bytes)) other
+    ∙ ap (λ t. t && has_prefix dash_boundary (drop k bytes)) fails
+
+-- the delimiter at an offset is not a whole line: none is up to the line after it
+pub whole_past : (dash_boundary bytes : List ℕ) (start from at j : ℕ) → start ≤ from → from ≤ at → starts_line bytes start from ≡ true → NoWhole dash_boundary bytes start from
+    → ((k : ℕ) → from ≤ k → k < at → is_delimiter dash_boundary bytes from k ≡ false) → ends_line (drop (at + length dash_boundary) bytes) ≡ false
+    → first_place (begins is_line_feed) (drop at bytes) ≡ j → NoWhole dash_boundary bytes start (suc (at + j))
+whole_past dash_boundary bytes start from at j low on starts before none more first k least small =
+    ⊎_elim (λ below. whole_to dash_boundary bytes start from at low starts before none k least below)
+    (λ above. ⊎_elim (λ same. subst (λ p. is_delimiter_as true dash_boundary bytes start p ≡ false) (sym same)
+    (ap (λ t. is_delimiter dash_boundary bytes start at && t) more ∙ and-false (is_delimiter dash_boundary bytes start at)))
+    (λ other. not_whole dash_boundary bytes start k (no_line_between dash_boundary bytes start at j (omega arith) first k (omega (arith, other)) small))
+    (cases_eq k at))
+    (cases_lt k at)
+
+-- there is no delimiter where none is found
+nowhere_from : (dash_boundary bytes : List ℕ) (start : ℕ) → None ≡ delimiter_from dash_boundary bytes start → NoDelimiter dash_boundary bytes start (length bytes)
+unfolding delimiter_from pick
+nowhere_from dash_boundary bytes start e k low high =
+    let test : ℕ → Bool = λ n. is_delimiter dash_boundary bytes start (start + n) in
+    let size = length bytes - start in
+    ⊎_elim (λ small.
+    let clash : None ≡ Some (start + least test size) = e ∙ cond-true (nat_lt (least test size) size) (Some (start + least test size)) None (lt-ltb (least test size) size small) in absurd (cc))
+    (λ ge. ap (is_delimiter dash_boundary bytes start) (omega arith) ∙ least-before test size (k - start) (omega (arith, ge)))
+    (cases_lt (least test size) size)
+
+-- In a search that has come to the start of a line.
+module _ (dash_boundary bytes : List ℕ) (start from : ℕ) (low : start ≤ from) (starts : starts_line bytes start from ≡ true) (none : NoWhole dash_boundary bytes start from) where
+  -- no delimiter is left
+  pub whole_left : None ≡ delimiter_from dash_boundary bytes from → None ≡ delimiter_from_as true dash_boundary bytes start
+  whole_left e = whole-none dash_boundary bytes start (whole_to dash_boundary bytes start from (length bytes) low starts none (nowhere_from dash_boundary bytes from e))
+
+  module _ (at : ℕ) (found : Some at ≡ delimiter_from dash_boundary bytes from) where
+    -- the next one is a whole line
+    pub whole_found : ends_line (drop (at + length dash_boundary) bytes) ≡ true → Some at ≡ delimiter_from_as true dash_boundary bytes start
+    whole_found ends =
+        let least = delimiter_from-out dash_boundary bytes from at (sym found) in
+        let on = least.low in
+        let here : is_delimiter dash_boundary bytes start at ≡ true = from_a_line dash_boundary bytes start from at low starts on ∙ least.passes in
+        whole-some dash_boundary bytes start at (omega arith) least.high (and_from (is_delimiter dash_boundary bytes start at) (ends_line (drop (at + length dash_boundary) bytes)) here ends)
+        (whole_to dash_boundary bytes start from at low starts none least.before)
+
+    -- it is not, and no line follows
+    pub whole_last : ends_line (drop (at + length dash_boundary) bytes) ≡ false → None ≡ line_after bytes at → None ≡ delimiter_from_as true dash_boundary bytes start
+    whole_last more e =
+        let least = delimiter_from-out dash_boundary bytes from at (sym found) in
+        let high = least.high in
+        let len = length-drop at bytes in
+        let past = whole_past dash_boundary bytes start from at (length (drop at bytes)) low least.low starts none least.before more
+        (place_none (begins is_line_feed) (drop at bytes) (nowhere (λ k. suc (at + k)) (byte_place (drop at bytes) 10) e)) in
+        whole-none dash_boundary bytes start (λ k low high. past k low (omega arith))
+
+    -- it is not, and this is the line after it
+    pub whole_next : (next : ℕ) → ends_line (drop (at + length dash_boundary) bytes) ≡ false → Some next ≡ line_after bytes at
+        → (starts_line bytes start next ≡ true) × NoWhole dash_boundary bytes start next
+    whole_next next more e =
+        let least = delimiter_from-out dash_boundary bytes from at (sym found) in
+        let on = least.low in
+        let there = somewhere (λ k. suc (at + k)) next (byte_place (drop at bytes) 10) e in
+        let place = place_some (begins is_line_feed) (drop at bytes) there.0 there.1 in
+        let passes : begins is_line_feed (drop there.0 (drop at bytes)) ≡ true =
+        subst (λ n. begins is_line_feed (drop n (drop at bytes)) ≡ true) (sym place.0) (first_place-passes (begins is_line_feed) (drop at bytes) place.1) in
+        let feed : begins is_line_feed (drop (next - 1) bytes) ≡ true = ap (λ n. begins is_line_feed (drop n bytes)) (omega (arith, there.2)) ∙ ap (begins is_line_feed) (sym (drop-drop there.0 at bytes)) ∙ passes in
+        let other : eqb next start ≡ false = ne_eqb next start (λ e. absurd (omega (arith, e, there.2))) in (
+          ap (λ t. t || begins is_line_feed (drop (next - 1) bytes)) other ∙ feed,
+          subst (NoWhole dash_boundary bytes start) (sym there.2) (whole_past dash_boundary bytes start from at there.0 low on starts none least.before more (sym place.0)),
+        )
 
 -- ---- searches for texts that no delimiter has: by their contracts, what the searches for a byte, for a line
 -- that begins with it and for a line that begins with a text return on short texts

@@ -2,11 +2,11 @@
 //! 5.1.1).
 //!
 //! The dash-boundary is `--` and the boundary. A line delimiter is a LF and the dash-boundary.
-ghost use Rattle.std.specs.Prelude.{◌≡◌, ℕ, suc, ◌+◌, ◌<◌, ◌≤◌, List, [], ◌∷◌, length, drop, option_map, IfSome};
-ghost use Rattle.mail_codec.specs.Ascii.{line_feed};
-ghost use Rattle.mail_codec.specs.Places.{text_place};
-ghost use Rattle.mailparse.specs.Delimiters.{starts_line, is_delimiter, delimiter_from, line_after, is_close_delimiter};
-ghost use Rattle.mailparse.specs.Delimiters.{before_byte, before_line_end, end_from, first_part, next_part};
+ghost use Rattle.std.specs.Prelude.{◌≡◌, true, not, ℕ, suc, ◌+◌, ◌<◌, ◌≤◌, List, [], ◌∷◌, length, drop, option_map, IfSome};
+ghost use Rattle.mail_codec.specs.Ascii.{is_blank, line_feed};
+ghost use Rattle.mail_codec.specs.Places.{begins, first_place, text_place};
+ghost use Rattle.mailparse.specs.Delimiters.{starts_line, is_delimiter, delimiter_from, delimiter_from_as, ends_line, is_blank_line, line_after, is_close_delimiter};
+ghost use Rattle.mailparse.specs.Delimiters.{before_byte, before_line_end, end_from_as, first_part_as, next_part_as};
 ghost use Rattle.mailparse.specs.private.Delimiters.{IsLineDelimiter};
 
 use bstr::ByteSlice;
@@ -18,15 +18,16 @@ pub(super) fn cut_preamble(
     raw: &[u8],
     start: usize,
     line_delimiter: &[u8],
+    whole: bool,
 ) -> (usize, Option<usize>)
     requires line_delimiter { IsLineDelimiter line_delimiter.now }
     requires within { start ≤ length raw.now }
-    ensures end { result.0 ≡ end_from (drop 1 line_delimiter.now) raw.now start start }
-    ensures first { result.1 ≡ first_part (drop 1 line_delimiter.now) raw.now start }
+    ensures end { result.0 ≡ end_from_as whole (drop 1 line_delimiter.now) raw.now start start }
+    ensures first { result.1 ≡ first_part_as whole (drop 1 line_delimiter.now) raw.now start }
     ensures bounds { (start ≤ result.0) × (result.0 ≤ length raw.now)
         × IfSome result.1 (λ next. (start < next) × (next ≤ length raw.now)) }
 {
-    let Some(at) = find_delimiter(raw, start, line_delimiter) else {
+    let Some(at) = find_delimiter_as(raw, start, line_delimiter, whole) else {
         return (start, None);
     };
     let end = before_line_end(raw, start, at);
@@ -36,16 +37,21 @@ pub(super) fn cut_preamble(
 
 /// Returns the end of the part that starts at `start`, and the start of the next part if there is
 /// one.
-pub(super) fn cut_part(raw: &[u8], start: usize, line_delimiter: &[u8]) -> (usize, Option<usize>)
+pub(super) fn cut_part(
+    raw: &[u8],
+    start: usize,
+    line_delimiter: &[u8],
+    whole: bool,
+) -> (usize, Option<usize>)
     requires line_delimiter { IsLineDelimiter line_delimiter.now }
     requires within { start ≤ length raw.now }
     ensures end { result.0
-        ≡ end_from (drop 1 line_delimiter.now) raw.now start (length raw.now) }
-    ensures next { result.1 ≡ next_part (drop 1 line_delimiter.now) raw.now start }
+        ≡ end_from_as whole (drop 1 line_delimiter.now) raw.now start (length raw.now) }
+    ensures next { result.1 ≡ next_part_as whole (drop 1 line_delimiter.now) raw.now start }
     ensures bounds { (start ≤ result.0) × (result.0 ≤ length raw.now)
         × IfSome result.1 (λ next. (start < next) × (next ≤ length raw.now)) }
 {
-    let Some(at) = find_delimiter(raw, start, line_delimiter) else {
+    let Some(at) = find_delimiter_as(raw, start, line_delimiter, whole) else {
         return (raw.len(), None);
     };
     let end = before_line_end(raw, start, at);
@@ -67,6 +73,84 @@ fn is_close_delimiter(raw: &[u8], after: usize) -> bool
         return true;
     }
     raw[after..].starts_with(b"--")
+}
+
+/// Returns the offset of the first delimiter at or after `start`, where `start` counts as the start
+/// of a line; if whole lines are asked for, of the first one that is a whole line.
+fn find_delimiter_as(raw: &[u8], start: usize, line_delimiter: &[u8], whole: bool) -> Option<usize>
+    requires line_delimiter { IsLineDelimiter line_delimiter.now }
+    requires within { start ≤ length raw.now }
+    ensures least { result
+        ≡ delimiter_from_as whole (drop 1 line_delimiter.now) raw.now start }
+    ensures bounds { IfSome result (λ at.
+        (start ≤ at) × (at + length (drop 1 line_delimiter.now) ≤ length raw.now)) }
+{
+    if !whole {
+        return find_delimiter(raw, start, line_delimiter);
+    }
+    find_whole_line(raw, start, line_delimiter)
+}
+
+/// Returns the offset of the first delimiter at or after `start` that is a whole line, where
+/// `start` counts as the start of a line.
+fn find_whole_line(raw: &[u8], start: usize, line_delimiter: &[u8]) -> Option<usize>
+    requires line_delimiter { IsLineDelimiter line_delimiter.now }
+    requires within { start ≤ length raw.now }
+    ensures least { result
+        ≡ delimiter_from_as true (drop 1 line_delimiter.now) raw.now start }
+    ensures bounds { IfSome result (λ at.
+        (start ≤ at) × (at + length (drop 1 line_delimiter.now) ≤ length raw.now)) }
+{
+    let mut from = start;
+    'delimiters: while let Some(at) = find_delimiter(raw, from, line_delimiter) {
+        if ends_line(&raw[at + (line_delimiter.len() - 1)..]) {
+            return Some(at);
+        }
+        let Some(next) = line_after(raw, at) else {
+            return None;
+        };
+        from = next;
+    }
+    None
+}
+
+/// Whether only `--`, or nothing, and then blanks precede the end of the line.
+#[tactic(auto, unfolding(crate::specs::Delimiters::ends_line))]
+fn ends_line(rest: &[u8]) -> bool
+    ensures { result ≡ ends_line rest.now }
+{
+    if rest.starts_with(b"--") {
+        return is_blank_line(&rest[2..]);
+    }
+    is_blank_line(rest)
+}
+
+/// Whether only blanks precede the end of the line.
+#[tactic(auto, unfolding(crate::specs::Delimiters::is_blank_line, crate::specs::Block::headers_end, crate::specs::Block::blank_line))]
+fn is_blank_line(rest: &[u8]) -> bool
+    ensures { result ≡ is_blank_line rest.now }
+{
+    let end = trim_blanks(rest);
+    if end.is_empty() {
+        return true;
+    }
+    if end.starts_with(b"\n") {
+        return true;
+    }
+    end.starts_with(b"\r\n")
+}
+
+/// Returns the bytes without the blanks at their front.
+fn trim_blanks(bytes: &[u8]) -> &[u8]
+    ensures { result.now
+        ≡ drop (first_place (begins (λ b. not (is_blank b))) bytes.now) bytes.now }
+{
+    for (place, byte) in bytes.iter().enumerate() {
+        if *byte != b' ' && *byte != b'\t' {
+            return &bytes[place..];
+        }
+    }
+    &bytes[bytes.len()..]
 }
 
 /// Returns the offset of the first delimiter at or after `start`, where `start` counts as the start

@@ -16,7 +16,7 @@ use std::collections::BTreeMap;
 /// Returns the type of a message with these headers: that of its first `Content-Type`, otherwise
 /// the default.
 #[tactic(auto, using(crate::proofs::lemmas::Mail::node_types))]
-pub(super) fn node_type<K: KnownCharsets>(
+pub(crate) fn node_type<K: KnownCharsets>(
     alloc: Global,
     headers: &Vec<MailHeader<'_>>,
     in_digest: bool,
@@ -35,7 +35,7 @@ pub(super) fn node_type<K: KnownCharsets>(
 }
 
 /// Returns the default type of a part: a message in a digest, otherwise plain text.
-fn part_type(alloc: Global, in_digest: bool) -> Result<ParsedContentType, AllocError>
+pub(super) fn part_type(alloc: Global, in_digest: bool) -> Result<ParsedContentType, AllocError>
     ensures { IfOk result (λ ctype. content_type ctype ≡ part_type in_digest) }
 {
     let mimetype = if in_digest {
