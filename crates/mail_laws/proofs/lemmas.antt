@@ -15,6 +15,7 @@ pub mod Least
 pub mod DelimiterPlaces
 pub mod RangeTree
 pub mod Placement
+pub mod Manners
 pub mod RenderViews
 pub mod RenderConditions
 pub mod RenderHeaders

@@ -6,6 +6,7 @@ pub mod Percent
 pub mod Least
 pub mod DelimiterPlaces
 pub mod RangeTree
+pub mod Manners
 pub use Rattle.mailparse.specs.Refusal
 pub use Rattle.mailparse.specs.Outcome
 pub use Rattle.mailparse.specs.Ranges
@@ -25,6 +26,7 @@ pub mod CharsetSources
 pub mod Escapes
 pub mod IdGrammar
 pub use Rattle.mailparse.specs.Delimiters
+pub use Rattle.mailparse.specs.Manner
 pub use Rattle.mailparse.specs.Mail
 pub use Rattle.mailparse.specs.Bound
 pub use Rattle.mailparse.specs.Date

@@ -1,15 +1,16 @@
 -- The tree of a message as ranges of the mail: those of the message and of each of its parts, and in each those of its header block with the
 -- blank line, of the keys and values of its headers, and of its body. All places are counted from the first byte of the mail.
-use Rattle.std.specs.Prelude.{◌≡◌, ℕ, zero, suc, ◌<◌, ◌≤◌, Bool, false, List, [], ◌∷◌, ◌++◌, length, map, Ok, Err}
+use Rattle.std.specs.Prelude.{◌≡◌, ℕ, zero, suc, ◌<◌, ◌≤◌, Bool, false, List, [], ◌∷◌, ◌++◌, length, map, Ok, Err, if◌then◌else◌}
 use Rattle.std.specs.List.{flat_map}
 use Rattle.mail_codec.specs.Charset.{Charsets}
 use Rattle.mail_codec.specs.Places.{values_below}
 use Rattle.mailparse.specs.Refusal.{◌>>=◌, recursion_limit, Reads}
 use Rattle.mailparse.specs.Header.{Header}
 use Rattle.mailparse.specs.Block.{HeaderList, header_count, read_headers}
-use Rattle.mailparse.specs.ContentType.{ContentType}
+use Rattle.mailparse.specs.ContentType.{ContentType, default_type}
+use Rattle.mailparse.specs.Manner.{Manner}
 use Rattle.mailparse.specs.Delimiters.{Cut}
-use Rattle.mailparse.specs.Mail.{Node, Tree, tree, Forest, no_parts, part_and, cut_of, is_digest, node_type}
+use Rattle.mailparse.specs.Mail.{Node, Tree, tree, Forest, no_parts, part_and, cut_of_as, is_digest, strict}
 use Rattle.mailparse.specs.Placement.{Placement}
 use Rattle.mailparse.specs.Ranges.{Range, Apart, moved, slice}
 use Rattle.mail_laws.specs.Spans.{key_range, value_range}
@@ -99,25 +100,46 @@ range_each read (part ∷ parts) = do
   others ← range_each read parts
   Ok (ranges_and first others)
 
--- Of a mail, under the charsets that are known.
-module _ (known : Charsets) (mail : List ℕ) where
+-- a refused message that is kept, at this range: without headers, with all its bytes as its body
+abbrev pub kept_range : Range → RangeTree
+kept_range whole = range_tree (record { whole = whole; block = record { start = whole.start; end = whole.start }; headers = []; ctype = default_type; body = whole }) no_ranges
+
+-- the reading at this range, or the message that is kept if it is refused
+abbrev pub kept_if_refused_at : Range → Reads RangeTree → Reads RangeTree
+kept_if_refused_at whole (Ok t) = Ok t
+kept_if_refused_at whole (Err refusal) = Ok (kept_range whole)
+
+-- Of a mail, in this manner.
+module _ (manner : Manner) (mail : List ℕ) where
+  -- the same if refused messages are kept, otherwise the reading itself
+  abbrev pub or_kept_at : Range → Reads RangeTree → Reads RangeTree
+  or_kept_at whole reading = if manner.keeps_refused then kept_if_refused_at whole reading else reading
+
   -- the message at this range, with this block and this type
   abbrev pub range_parts : (Bool → Range → Reads RangeTree) → Range → HeaderList → ContentType → Reads RangeTree
   range_parts read whole block ctype = do
-    let cut = cut_of ctype (slice mail whole) block.index
+    let cut = cut_of_as manner.whole_lines ctype (slice mail whole) block.index
     parts ← range_each (read (is_digest ctype)) (map (moved whole.start) cut.parts)
     Ok (range_tree (range_node whole (slice mail whole) block ctype cut) parts)
 
+  -- the message at this range, if its own level is left
+  abbrev pub range_message : (Bool → Range → Reads RangeTree) → Bool → Range → Reads RangeTree
+  range_message read in_digest whole = do
+    block ← read_headers (slice mail whole)
+    range_parts read whole block (manner.type_of in_digest block.headers)
+
   -- the message at a range, with at most `levels` levels, its own included
   unfoldable pub range_levels : ℕ → Bool → Range → Reads RangeTree
-  range_levels zero in_digest whole = Err recursion_limit
-  range_levels (suc levels) in_digest whole = do
-    block ← read_headers (slice mail whole)
-    range_parts (range_levels levels) whole block (node_type known in_digest block.headers)
+  range_levels zero in_digest whole = or_kept_at whole (Err recursion_limit)
+  range_levels (suc levels) in_digest whole = or_kept_at whole (range_message (range_levels levels) in_digest whole)
 
   -- the tree of ranges of the mail, whose parts may be down to a greatest level
-  unfoldable pub ranges_in : ℕ → Reads RangeTree
-  ranges_in greatest = range_levels (suc greatest) false (record { start = 0; end = length mail })
+  unfoldable pub ranges_as : ℕ → Reads RangeTree
+  ranges_as greatest = range_levels (suc greatest) false (record { start = 0; end = length mail })
+
+-- the same in the manner of the port, under the charsets that are known
+unfoldable pub ranges_in : Charsets → List ℕ → ℕ → Reads RangeTree
+ranges_in known mail greatest = ranges_as (strict known) mail greatest
 
 -- ---- how the ranges of a tree lie
 

@@ -3,6 +3,7 @@ mod dates;
 mod headers;
 mod ids;
 mod mails;
+mod manners;
 mod parameters;
 mod values;
 mod writing;
@@ -13,6 +14,9 @@ pub use ids::{message_ids_have_a_form, message_ids_read_back};
 pub use mails::{
     levels_agree, nodes_bounded, one_list_of_delimiters_fits, parts_apart, placements_are_exact,
     ranges_apart, ranges_give_tree,
+};
+pub use manners::{
+    manners_agree, manners_keep_placements, manners_keep_ranges, nothing_is_refused,
 };
 pub use parameters::{
     candidates_have_a_form, charset_source_is_the_greatest, dispositions_equal_by_kind,

@@ -12,7 +12,7 @@ use Rattle.mail_codec.proofs.lemmas.Places.{begins-at, least-before, true_not_fa
 use Rattle.mail_codec.proofs.lemmas.PlacesLaw.{byte_place-says}
 use Rattle.mailparse.specs.Header.{is_line_feed}
 use Rattle.mailparse.specs.Ranges.{Range}
-use Rattle.mailparse.specs.Delimiters.{least_from, starts_line, is_delimiter, delimiter_from, part_after, is_close_delimiter, before_byte, before_line_end, Cut, cut_parts}
+use Rattle.mailparse.specs.Delimiters.{cut_parts_as, least_from, starts_line, is_delimiter, delimiter_from, part_after, is_close_delimiter, before_byte, before_line_end, Cut, cut_parts}
 use Rattle.mailparse.proofs.lemmas.Delimiters.{delimiter_from-some, delimiter_from-none, delimiter_from-out, somewhere, part_ranges, part_ranges-none, part_ranges-some}
 use Rattle.mail_laws.specs.DelimiterPlaces.{range, EndsBefore, nothing_between, line_feed_before, both_before, HasDelimiterAt, NoneBetween, IsFirstFrom, EndsLine, NeverEnds, Closes, Follow, line_never_ends, last_delimiter, close_delimiter, next_delimiter, IsCutAt, no_delimiter, first_delimiter, delimiters}
 
@@ -344,7 +344,7 @@ module _ (d bytes : List ℕ) (body : ℕ) where
   first_after o = option_and_then (part_after d bytes) o
 
   pub cut-fits : IsCutAt d bytes body (delimiters d bytes body) (cut_parts d bytes body)
-  unfolding cut_parts
+  unfolding cut_parts_as
   cut-fits = by_delimiter (delimiter_from d bytes body) refl
     where
       by_delimiter : (o : Option ℕ) → delimiter_from d bytes body ≡ o
@@ -359,7 +359,7 @@ module _ (d bytes : List ℕ) (body : ℕ) where
   cut-by : (o : Option ℕ) → delimiter_from d bytes body ≡ o
       → (delimiters d bytes body ≡ cons_option o (found (part_ranges d bytes (first_after o))))
       × (cut_parts d bytes body ≡ record { body = preamble_to o; parts = part_ranges d bytes (first_after o) })
-  unfolding cut_parts cut
+  unfolding cut_parts_as cut
   cut-by o e = (
     ap (λ x. cons_option x (found (part_ranges d bytes (first_after x)))) e,
     ap (λ x. cut (preamble_to x) (part_ranges d bytes (first_after x))) e,

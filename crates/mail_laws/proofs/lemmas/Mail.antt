@@ -3,7 +3,7 @@ use Rattle.std.proofs.Common.{◌≡◌, ◌⊎◌, inl, inr, ℕ, zero, suc, �
 use Rattle.mail_codec.specs.Charset.{Charsets}
 use Rattle.mailparse.specs.Block.{HeaderList, read_headers}
 use Rattle.mailparse.specs.ContentType.{ContentType}
-use Rattle.mailparse.specs.Mail.{Tree, tree, part_and, cut_of, is_digest, node_type, node_with, read_each, read_levels, read_mail_in, read_parts}
+use Rattle.mailparse.specs.Mail.{strict, Tree, tree, part_and, cut_of, is_digest, node_type, node_with, read_each, read_levels, read_mail_in, read_parts}
 use Rattle.mailparse.specs.Ranges.{slice}
 use Rattle.mailparse.specs.Refusal.{◌>>=◌, Reads, recursion_limit}
 
@@ -31,7 +31,7 @@ read_each-limited read more each (part ∷ parts) =
 -- Under the charsets that are known.
 module _ (known : Charsets) where
   parts-limited : (read more : Bool → List ℕ → Reads Tree) → ((in_digest : Bool) (bytes : List ℕ) → Limited (read in_digest bytes) (more in_digest bytes))
-      → (bytes : List ℕ) (block : HeaderList) (ctype : ContentType) → Limited (read_parts known read bytes block ctype) (read_parts known more bytes block ctype)
+      → (bytes : List ℕ) (block : HeaderList) (ctype : ContentType) → Limited (read_parts (strict known) read bytes block ctype) (read_parts (strict known) more bytes block ctype)
   parts-limited read more each bytes block ctype =
       let cut = cut_of ctype bytes block.index in
       let parts = map (slice bytes) cut.parts in
@@ -40,16 +40,16 @@ module _ (known : Charsets) where
       (read_each-limited (read (is_digest ctype)) (more (is_digest ctype)) (each (is_digest ctype)) parts) (λ found. inr refl)
 
   levels-limited : (lower greater : ℕ) → lower ≤ greater → (in_digest : Bool) (bytes : List ℕ)
-      → Limited (read_levels known lower in_digest bytes) (read_levels known greater in_digest bytes)
+      → Limited (read_levels (strict known) lower in_digest bytes) (read_levels (strict known) greater in_digest bytes)
   unfolding read_levels
   levels-limited zero greater order in_digest bytes = inl refl
   levels-limited (suc lower) zero order in_digest bytes = absurd (omega (arith, order))
   levels-limited (suc lower) (suc greater) order in_digest bytes =
       let each = levels-limited lower greater (omega (arith, order)) in
       then-limited (read_headers bytes) (read_headers bytes)
-      (λ block. read_parts known (read_levels known lower) bytes block (node_type known in_digest block.headers))
-      (λ block. read_parts known (read_levels known greater) bytes block (node_type known in_digest block.headers))
-      (inr refl) (λ block. parts-limited (read_levels known lower) (read_levels known greater) each bytes block (node_type known in_digest block.headers))
+      (λ block. read_parts (strict known) (read_levels (strict known) lower) bytes block (node_type known in_digest block.headers))
+      (λ block. read_parts (strict known) (read_levels (strict known) greater) bytes block (node_type known in_digest block.headers))
+      (inr refl) (λ block. parts-limited (read_levels (strict known) lower) (read_levels (strict known) greater) each bytes block (node_type known in_digest block.headers))
 
   -- a message is read the same, or the lower limit refuses it
   pub read_mail_in-limited : (lower greater : ℕ) (bytes : List ℕ) → lower ≤ greater

@@ -1,19 +1,21 @@
 -- The ranges of a message give its tree, and are disjoint in the mail.
-use Rattle.std.proofs.Common.{◌≡◌, ℕ, zero, suc, ◌+◌, ◌-◌, ◌<◌, ◌≤◌, Bool, false, List, [], ◌∷◌, ◌++◌, length, map, take, drop, get_or, Ok, Err, refl, sym, ap, ◌∙◌, subst, arith}
+use Rattle.std.proofs.Common.{◌≡◌, ℕ, zero, suc, ◌+◌, ◌-◌, ◌<◌, ◌≤◌, Bool, true, false, List, [], ◌∷◌, ◌++◌, length, map, take, drop, get_or, Ok, Err, refl, sym, ap, ◌∙◌, subst, arith}
+use Rattle.std.specs.Prelude.{if◌then◌else◌}
 use Rattle.std.proofs.lemmas.List.{length-take, take_all, take-take, drop-take, drop-drop}
 use Rattle.mail_codec.specs.Charset.{Charsets}
 use Rattle.mail_codec.specs.Places.{values_below}
-use Rattle.mailparse.specs.Refusal.{◌>>=◌, Reads}
+use Rattle.mailparse.specs.Refusal.{◌>>=◌, recursion_limit, Reads}
 use Rattle.mailparse.specs.Header.{Header}
 use Rattle.mailparse.specs.Block.{HeaderList, header_count, header_place, read_headers}
-use Rattle.mailparse.specs.ContentType.{ContentType}
-use Rattle.mailparse.specs.Mail.{Node, Tree, tree, Forest, part_and, cut_of, is_digest, node_type, node_with, read_each, read_levels, read_mail_in, read_parts}
+use Rattle.mailparse.specs.ContentType.{ContentType, default_type}
+use Rattle.mailparse.specs.Manner.{Manner}
+use Rattle.mailparse.specs.Mail.{strict, Node, Tree, tree, Forest, no_parts, part_and, cut_of_as, is_digest, node_with, read_each, kept_message, kept_if_refused, or_kept, read_levels, read_mail_as, read_mail_in, read_message, read_parts}
 use Rattle.mailparse.specs.Ranges.{Range, Apart, moved, slice}
 use Rattle.mailparse.proofs.lemmas.Block.{header_place-≤, header_place-first, read_headers-bounded, read_headers-index, values_below-same}
-use Rattle.mailparse.proofs.lemmas.Ranges.{cut_of-apart}
+use Rattle.mailparse.proofs.lemmas.Ranges.{cut_of_as-apart}
 use Rattle.mailparse.proofs.lemmas.Refusal.{read_map}
 use Rattle.mail_laws.specs.Spans.{AreOrderedBefore, header_at, key_range, value_range}
-use Rattle.mail_laws.specs.RangeTree.{HeaderRanges, RangeNode, RangeTree, range_tree, RangeForest, no_ranges, ranges_and, range_root, header_there, node_there, tree_there, forest_there, headers_at, range_node, range_each, range_parts, range_levels, ranges_in, header_fields, wholes, LieInOrder, AreNested, AllNested, blocks_and_bodies, blocks_and_bodies_in, IsInRange}
+use Rattle.mail_laws.specs.RangeTree.{HeaderRanges, RangeNode, RangeTree, range_tree, RangeForest, no_ranges, ranges_and, range_root, header_there, node_there, tree_there, forest_there, headers_at, range_node, range_each, kept_range, kept_if_refused_at, or_kept_at, range_parts, range_message, range_levels, ranges_as, ranges_in, header_fields, wholes, LieInOrder, AreNested, AllNested, blocks_and_bodies, blocks_and_bodies_in, IsInRange}
 use Rattle.mail_laws.proofs.lemmas.Spans.{headers-at_ranges, ranges-in_order}
 
 -- ---- slices of slices
@@ -84,15 +86,15 @@ node_of : List ℕ → List ℕ → List Header → ContentType → List ℕ →
 node_of bytes block headers ctype body = record { bytes = bytes; block = block; headers = headers; ctype = ctype; body = body }
 
 -- the message with this block, without its parts
-node-there : (mail : List ℕ) (whole : Range) (block : HeaderList) (ctype : ContentType) → read_headers (slice mail whole) ≡ Ok block
-    → node_there mail (range_node whole (slice mail whole) block ctype (cut_of ctype (slice mail whole) block.index))
-    ≡ node_with (slice mail whole) block ctype (cut_of ctype (slice mail whole) block.index)
+node-there : (lines : Bool) (mail : List ℕ) (whole : Range) (block : HeaderList) (ctype : ContentType) → read_headers (slice mail whole) ≡ Ok block
+    → node_there mail (range_node whole (slice mail whole) block ctype (cut_of_as lines ctype (slice mail whole) block.index))
+    ≡ node_with (slice mail whole) block ctype (cut_of_as lines ctype (slice mail whole) block.index)
 unfolding node_of
-node-there mail whole block ctype read =
+node-there lines mail whole block ctype read =
     let raw = slice mail whole in
     let index = (read_headers-bounded raw block read).index in
-    let cut = cut_of ctype raw block.index in
-    let apart = cut_of-apart ctype raw block.index index in
+    let cut = cut_of_as lines ctype raw block.index in
+    let apart = cut_of_as-apart lines ctype raw block.index index in
     let front = slice mail (moved whole.start (record { start = 0; end = block.index })) in
     let fields = map (header_there mail) (headers_at whole.start raw) in
     let order : cut.body.start ≤ cut.body.end = omega (arith, apart.0, apart.1) in
@@ -130,37 +132,60 @@ each-there mail ranges read gives whole gap from (r ∷ rs) apart =
     ∙ ap (λ (x : Reads Tree). ◌>>=◌ x (λ t. read_map (part_and t) (read_map (forest_there mail) (range_each ranges (map (moved whole.start) rs))))) here
     ∙ ap (λ (x : Reads Forest). ◌>>=◌ (read (slice (slice mail whole) r)) (λ t. read_map (part_and t) x)) rest
 
--- Under the charsets that are known.
-module _ (known : Charsets) (mail : List ℕ) where
+-- a refused message that is kept
+kept-there : (mail : List ℕ) (whole : Range) → tree_there mail (kept_range whole) ≡ kept_message (slice mail whole)
+unfolding node_of
+kept-there mail whole =
+    let none : whole.start - whole.start ≡ 0 = omega arith in
+    ap (λ n. tree (node_of (slice mail whole) (take n (drop whole.start mail)) [] default_type (slice mail whole)) no_parts) none
+
+-- In a manner of reading.
+module _ (manner : Manner) (mail : List ℕ) where
+  or_kept-there : (whole : Range) (ranges : Reads RangeTree) (reading : Reads Tree) → read_map (tree_there mail) ranges ≡ reading
+      → read_map (tree_there mail) (or_kept_at manner mail whole ranges) ≡ or_kept manner (slice mail whole) reading
+  or_kept-there whole ranges reading e = by_manner manner.keeps_refused ranges e
+    where
+      by_manner : (k : Bool) (r : Reads RangeTree) → read_map (tree_there mail) r ≡ reading
+          → read_map (tree_there mail) (if k then kept_if_refused_at whole r else r) ≡ (if k then kept_if_refused (slice mail whole) reading else reading)
+      by_manner false r h = h
+      by_manner true (Ok t) h = ap (kept_if_refused (slice mail whole)) h
+      by_manner true (Err refusal) h = ap Ok (kept-there mail whole) ∙ ap (kept_if_refused (slice mail whole)) h
+
   parts-there : (ranges : Bool → Range → Reads RangeTree) (read : Bool → List ℕ → Reads Tree) → ((digest : Bool) → Gives mail (ranges digest) (read digest))
       → (whole : Range) (block : HeaderList) (ctype : ContentType) → read_headers (slice mail whole) ≡ Ok block
-      → read_map (tree_there mail) (range_parts known mail ranges whole block ctype) ≡ read_parts known read (slice mail whole) block ctype
+      → read_map (tree_there mail) (range_parts manner mail ranges whole block ctype) ≡ read_parts manner read (slice mail whole) block ctype
   parts-there ranges read gives whole block ctype headers =
       let raw = slice mail whole in
-      let cut = cut_of ctype raw block.index in
-      let apart = cut_of-apart ctype raw block.index (read_headers-bounded raw block headers).index in
-      tree-there mail (range_node whole raw block ctype cut) (node_with raw block ctype cut) (node-there mail whole block ctype headers)
+      let cut = cut_of_as manner.whole_lines ctype raw block.index in
+      let apart = cut_of_as-apart manner.whole_lines ctype raw block.index (read_headers-bounded raw block headers).index in
+      tree-there mail (range_node whole raw block ctype cut) (node_with raw block ctype cut) (node-there manner.whole_lines mail whole block ctype headers)
       (range_each (ranges (is_digest ctype)) (map (moved whole.start) cut.parts))
       ∙ ap (read_map (tree (node_with raw block ctype cut)))
       (each-there mail (ranges (is_digest ctype)) (read (is_digest ctype)) (gives (is_digest ctype)) whole 3 cut.body.end cut.parts apart.2)
 
-  levels-there : (levels : ℕ) (in_digest : Bool) → Gives mail (range_levels known mail levels in_digest) (read_levels known levels in_digest)
+  levels-there : (levels : ℕ) (in_digest : Bool) → Gives mail (range_levels manner mail levels in_digest) (read_levels manner levels in_digest)
   unfolding range_levels read_levels
-  levels-there zero in_digest whole = refl
-  levels-there (suc levels) in_digest whole = by_block (read_headers (slice mail whole)) refl (λ digest. levels-there levels digest)
+  levels-there zero in_digest whole = or_kept-there whole (Err recursion_limit) (Err recursion_limit) refl
+  levels-there (suc levels) in_digest whole =
+      or_kept-there whole (range_message manner mail (range_levels manner mail levels) in_digest whole) (read_message manner (read_levels manner levels) in_digest (slice mail whole))
+      (by_block (read_headers (slice mail whole)) refl (λ digest. levels-there levels digest))
     where
       by_block : (block : Reads HeaderList) → read_headers (slice mail whole) ≡ block
-          → ((digest : Bool) → Gives mail (range_levels known mail levels digest) (read_levels known levels digest))
-          → read_map (tree_there mail) (◌>>=◌ block (λ b. range_parts known mail (range_levels known mail levels) whole b (node_type known in_digest b.headers)))
-          ≡ ◌>>=◌ block (λ b. read_parts known (read_levels known levels) (slice mail whole) b (node_type known in_digest b.headers))
+          → ((digest : Bool) → Gives mail (range_levels manner mail levels digest) (read_levels manner levels digest))
+          → read_map (tree_there mail) (◌>>=◌ block (λ b. range_parts manner mail (range_levels manner mail levels) whole b (manner.type_of in_digest b.headers)))
+          ≡ ◌>>=◌ block (λ b. read_parts manner (read_levels manner levels) (slice mail whole) b (manner.type_of in_digest b.headers))
       by_block (Err refusal) headers ih = refl
       by_block (Ok block) headers ih =
-          parts-there (range_levels known mail levels) (read_levels known levels) ih whole block (node_type known in_digest block.headers) headers
+          parts-there (range_levels manner mail levels) (read_levels manner levels) ih whole block (manner.type_of in_digest block.headers) headers
 
-  pub ranges_in-there : (greatest : ℕ) → read_map (tree_there mail) (ranges_in known mail greatest) ≡ read_mail_in known greatest mail
-  unfolding ranges_in read_mail_in
-  ranges_in-there greatest = levels-there (suc greatest) false (record { start = 0; end = length mail })
-      ∙ ap (read_levels known (suc greatest) false) (take_all (length mail - 0) mail (omega arith))
+  pub ranges_as-there : (greatest : ℕ) → read_map (tree_there mail) (ranges_as manner mail greatest) ≡ read_mail_as manner greatest mail
+  unfolding ranges_as
+  ranges_as-there greatest = levels-there (suc greatest) false (record { start = 0; end = length mail })
+      ∙ ap (read_levels manner (suc greatest) false) (take_all (length mail - 0) mail (omega arith))
+
+pub ranges_in-there : (known : Charsets) (mail : List ℕ) (greatest : ℕ) → read_map (tree_there mail) (ranges_in known mail greatest) ≡ read_mail_in known greatest mail
+unfolding ranges_in read_mail_in
+ranges_in-there known mail greatest = ranges_as-there (strict known) mail greatest
 
 -- ---- the ranges are disjoint
 
@@ -212,13 +237,13 @@ module _ (mail : List ℕ) (whole : Range) (block : HeaderList) (read : read_hea
       Apart-wider 0 (whole.start + header_place raw 0) (header_fields (headers_at whole.start raw)) (whole.start + header_place raw (header_count raw))
       (whole.start + 0) (whole.start + block.index) (omega arith) (omega arith) (fields-apart (header_count raw) f (λ j. whole.start + header_place raw j) fit)
 
-  node-in_order : (ctype : ContentType) → whole.start ≤ whole.end
-      → LieInOrder (range_node whole (slice mail whole) block ctype (cut_of ctype (slice mail whole) block.index))
-      (map (moved whole.start) (cut_of ctype (slice mail whole) block.index).parts)
-  node-in_order ctype order =
+  node-in_order : (lines : Bool) (ctype : ContentType) → whole.start ≤ whole.end
+      → LieInOrder (range_node whole (slice mail whole) block ctype (cut_of_as lines ctype (slice mail whole) block.index))
+      (map (moved whole.start) (cut_of_as lines ctype (slice mail whole) block.index).parts)
+  node-in_order lines ctype order =
       let raw = slice mail whole in
-      let cut = cut_of ctype raw block.index in
-      let apart = cut_of-apart ctype raw block.index (read_headers-bounded raw block read).index in
+      let cut = cut_of_as lines ctype raw block.index in
+      let apart = cut_of_as-apart lines ctype raw block.index (read_headers-bounded raw block read).index in
       let size = slice-length mail whole in
       let start = apart.0 in
       let end = apart.1 in
@@ -237,7 +262,7 @@ FitEach Fits [] no_ranges = Unit {0}
 FitEach Fits (r ∷ rs) (ranges_and t ts) = Fits r t × FitEach Fits rs ts
 FitEach Fits _ _ = ⊥
 
-module _ (known : Charsets) (mail : List ℕ) (Fits : Range → RangeTree → Type 0) where
+module _ (manner : Manner) (mail : List ℕ) (Fits : Range → RangeTree → Type 0) where
   each-fits : (ranges : Range → Reads RangeTree) → ((whole : Range) (t : RangeTree) → ranges whole ≡ Ok t → Fits whole t) → (rs : List Range) (parts : RangeForest)
       → range_each ranges rs ≡ Ok parts → FitEach Fits rs parts
   each-fits ranges fits [] parts e = let same : no_ranges ≡ parts = cc in subst (FitEach Fits []) same tt
@@ -249,29 +274,42 @@ module _ (known : Charsets) (mail : List ℕ) (Fits : Range → RangeTree → Ty
       by_part (Ok t) (Err refusal) f h ih = absurd (cc)
       by_part (Ok t) (Ok others) f h ih = let same : ranges_and t others ≡ parts = cc in subst (FitEach Fits (r ∷ rs)) same (fits r t f, ih others refl)
 
-  module _ (step : (whole : Range) (block : HeaderList) (ctype : ContentType) → read_headers (slice mail whole) ≡ Ok block → (parts : RangeForest)
-      → FitEach Fits (map (moved whole.start) (cut_of ctype (slice mail whole) block.index).parts) parts
-      → Fits whole (range_tree (range_node whole (slice mail whole) block ctype (cut_of ctype (slice mail whole) block.index)) parts)) where
-    pub levels-fit : (levels : ℕ) (in_digest : Bool) (whole : Range) (t : RangeTree) → range_levels known mail levels in_digest whole ≡ Ok t → Fits whole t
+  module _ (kept : (whole : Range) → Fits whole (kept_range whole))
+      (step : (whole : Range) (block : HeaderList) (ctype : ContentType) → read_headers (slice mail whole) ≡ Ok block → (parts : RangeForest)
+      → FitEach Fits (map (moved whole.start) (cut_of_as manner.whole_lines ctype (slice mail whole) block.index).parts) parts
+      → Fits whole (range_tree (range_node whole (slice mail whole) block ctype (cut_of_as manner.whole_lines ctype (slice mail whole) block.index)) parts)) where
+    or_kept-fits : (whole : Range) (ranges : Reads RangeTree) (t : RangeTree) → or_kept_at manner mail whole ranges ≡ Ok t → (ranges ≡ Ok t → Fits whole t) → Fits whole t
+    or_kept-fits whole ranges t e fits = by_manner manner.keeps_refused ranges e fits
+      where
+        by_manner : (k : Bool) (r : Reads RangeTree) → if k then kept_if_refused_at whole r else r ≡ Ok t → (r ≡ Ok t → Fits whole t) → Fits whole t
+        by_manner false r h fits = fits h
+        by_manner true (Ok u) h fits = fits h
+        by_manner true (Err refusal) h fits =
+            let here : ◌≡◌ {A = Reads RangeTree} (Ok (kept_range whole)) (Ok t) = h in
+            let same : kept_range whole ≡ t = cc in
+            subst (Fits whole) same (kept whole)
+
+    pub levels-fit : (levels : ℕ) (in_digest : Bool) (whole : Range) (t : RangeTree) → range_levels manner mail levels in_digest whole ≡ Ok t → Fits whole t
     unfolding range_levels
-    levels-fit zero in_digest whole t e = absurd (cc)
-    levels-fit (suc levels) in_digest whole t e = by_block (read_headers (slice mail whole)) refl e (levels-fit levels)
+    levels-fit zero in_digest whole t e = or_kept-fits whole (Err recursion_limit) t e (λ h. absurd (cc))
+    levels-fit (suc levels) in_digest whole t e =
+        or_kept-fits whole (range_message manner mail (range_levels manner mail levels) in_digest whole) t e (λ h. by_block (read_headers (slice mail whole)) refl h (levels-fit levels))
       where
         by_parts : (block : HeaderList) (ctype : ContentType) → read_headers (slice mail whole) ≡ Ok block → (parts : Reads RangeForest)
-            → read_map (range_tree (range_node whole (slice mail whole) block ctype (cut_of ctype (slice mail whole) block.index))) parts ≡ Ok t
-            → ((found : RangeForest) → parts ≡ Ok found → FitEach Fits (map (moved whole.start) (cut_of ctype (slice mail whole) block.index).parts) found) → Fits whole t
+            → read_map (range_tree (range_node whole (slice mail whole) block ctype (cut_of_as manner.whole_lines ctype (slice mail whole) block.index))) parts ≡ Ok t
+            → ((found : RangeForest) → parts ≡ Ok found → FitEach Fits (map (moved whole.start) (cut_of_as manner.whole_lines ctype (slice mail whole) block.index).parts) found) → Fits whole t
         by_parts block ctype read (Err refusal) h each = absurd (cc)
         by_parts block ctype read (Ok parts) h each =
-            let same : range_tree (range_node whole (slice mail whole) block ctype (cut_of ctype (slice mail whole) block.index)) parts ≡ t = cc in
+            let same : range_tree (range_node whole (slice mail whole) block ctype (cut_of_as manner.whole_lines ctype (slice mail whole) block.index)) parts ≡ t = cc in
             subst (Fits whole) same (step whole block ctype read parts (each parts refl))
 
         by_block : (block : Reads HeaderList) → read_headers (slice mail whole) ≡ block
-            → ◌>>=◌ block (λ b. range_parts known mail (range_levels known mail levels) whole b (node_type known in_digest b.headers)) ≡ Ok t
-            → ((digest : Bool) (part : Range) (u : RangeTree) → range_levels known mail levels digest part ≡ Ok u → Fits part u) → Fits whole t
+            → ◌>>=◌ block (λ b. range_parts manner mail (range_levels manner mail levels) whole b (manner.type_of in_digest b.headers)) ≡ Ok t
+            → ((digest : Bool) (part : Range) (u : RangeTree) → range_levels manner mail levels digest part ≡ Ok u → Fits part u) → Fits whole t
         by_block (Err refusal) read h ih = absurd (cc)
         by_block (Ok block) read h ih =
-            let ctype = node_type known in_digest block.headers in
-            by_parts block ctype read _ h (each-fits (range_levels known mail levels (is_digest ctype)) (ih (is_digest ctype)) _)
+            let ctype = manner.type_of in_digest block.headers in
+            by_parts block ctype read _ h (each-fits (range_levels manner mail levels (is_digest ctype)) (ih (is_digest ctype)) _)
 
 -- a message is at the range where it was read, and the ranges within it are in order
 abbrev IsNested : Range → RangeTree → Type 0
@@ -287,12 +325,17 @@ each-nested gap from (r ∷ rs) to apart (ranges_and t ts) each =
     let more = each-nested gap r.end rs to apart.2 ts each.1 in
     (ap (λ (x : Range). x ∷ wholes ts) here.0 ∙ ap (λ (xs : List Range). r ∷ xs) more.0, (here.1, more.1))
 
-module _ (known : Charsets) (mail : List ℕ) where
-  levels-nested : (levels : ℕ) (in_digest : Bool) (whole : Range) (t : RangeTree) → range_levels known mail levels in_digest whole ≡ Ok t → IsNested whole t
-  levels-nested = levels-fit known mail IsNested (λ whole block ctype read parts each order.
-      let node = range_node whole (slice mail whole) block ctype (cut_of ctype (slice mail whole) block.index) in
-      let lie = node-in_order mail whole block read ctype order in
-      let all = each-nested 3 node.body.end (map (moved whole.start) (cut_of ctype (slice mail whole) block.index).parts) whole.end lie.parts parts each in
+-- so it is with a refused message that is kept
+kept-nested : (whole : Range) → IsNested whole (kept_range whole)
+kept-nested whole order = (refl, (record { front = refl; fields = omega arith; next = refl; body = order; parts = omega arith }, tt))
+
+module _ (manner : Manner) (mail : List ℕ) where
+  levels-nested : (levels : ℕ) (in_digest : Bool) (whole : Range) (t : RangeTree) → range_levels manner mail levels in_digest whole ≡ Ok t → IsNested whole t
+  levels-nested = levels-fit manner mail IsNested kept-nested (λ whole block ctype read parts each order.
+      let cut = cut_of_as manner.whole_lines ctype (slice mail whole) block.index in
+      let node = range_node whole (slice mail whole) block ctype cut in
+      let lie = node-in_order mail whole block read manner.whole_lines ctype order in
+      let all = each-nested 3 node.body.end (map (moved whole.start) cut.parts) whole.end lie.parts parts each in
       (refl, (subst (LieInOrder node) (sym all.0) lie, all.1)))
 
 mutual
@@ -335,16 +378,32 @@ held-once from (r ∷ rs) to place (suc i) zero d apart low high here there =
 held-once from (r ∷ rs) to place (suc i) (suc j) d apart low high here there =
     ap suc (held-once r.end rs to place i j d apart.2 (omega arith) (omega arith) here there)
 
+module _ (manner : Manner) (mail : List ℕ) (greatest : ℕ) (t : RangeTree) (read : ranges_as manner mail greatest ≡ Ok t) where
+  pub ranges_as-nested : ((range_root t).whole ≡ record { start = 0; end = length mail }) × AreNested t
+  unfolding ranges_as
+  ranges_as-nested = levels-nested manner mail (suc greatest) false (record { start = 0; end = length mail }) t read (omega arith)
+
+  pub ranges_as-apart : Apart 0 0 (blocks_and_bodies t) (length mail)
+  ranges_as-apart =
+      let nested = ranges_as-nested in
+      subst (λ (whole : Range). Apart 0 whole.start (blocks_and_bodies t) whole.end) nested.0 (tree-apart t nested.1)
+
+  pub ranges_as-once : (place i j : ℕ) (d : Range) → i < length (blocks_and_bodies t) → j < length (blocks_and_bodies t)
+      → IsInRange (get_or (blocks_and_bodies t) i d) place → IsInRange (get_or (blocks_and_bodies t) j d) place → i ≡ j
+  ranges_as-once place i j d low high here there = held-once 0 (blocks_and_bodies t) (length mail) place i j d ranges_as-apart low high here there
+
+-- so it is in the manner of the port
 module _ (known : Charsets) (mail : List ℕ) (greatest : ℕ) (t : RangeTree) (read : ranges_in known mail greatest ≡ Ok t) where
-  pub ranges_in-nested : ((range_root t).whole ≡ record { start = 0; end = length mail }) × AreNested t
+  ranges_in-as : ranges_as (strict known) mail greatest ≡ Ok t
   unfolding ranges_in
-  ranges_in-nested = levels-nested known mail (suc greatest) false (record { start = 0; end = length mail }) t read (omega arith)
+  ranges_in-as = read
+
+  pub ranges_in-nested : ((range_root t).whole ≡ record { start = 0; end = length mail }) × AreNested t
+  ranges_in-nested = ranges_as-nested (strict known) mail greatest t ranges_in-as
 
   pub ranges_in-apart : Apart 0 0 (blocks_and_bodies t) (length mail)
-  ranges_in-apart =
-      let nested = ranges_in-nested in
-      subst (λ (whole : Range). Apart 0 whole.start (blocks_and_bodies t) whole.end) nested.0 (tree-apart t nested.1)
+  ranges_in-apart = ranges_as-apart (strict known) mail greatest t ranges_in-as
 
   pub ranges_in-once : (place i j : ℕ) (d : Range) → i < length (blocks_and_bodies t) → j < length (blocks_and_bodies t)
       → IsInRange (get_or (blocks_and_bodies t) i d) place → IsInRange (get_or (blocks_and_bodies t) j d) place → i ≡ j
-  ranges_in-once place i j d low high here there = held-once 0 (blocks_and_bodies t) (length mail) place i j d ranges_in-apart low high here there
+  ranges_in-once = ranges_as-once (strict known) mail greatest t ranges_in-as

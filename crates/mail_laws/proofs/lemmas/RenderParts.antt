@@ -9,7 +9,7 @@ use Rattle.mail_codec.specs.Places.{has_prefix, begins, place, byte_place}
 use Rattle.mail_codec.proofs.lemmas.Places.{first_place-before}
 use Rattle.mail_codec.proofs.lemmas.PlacesSearches.{place_none}
 use Rattle.mailparse.specs.Ranges.{Range, slice}
-use Rattle.mailparse.specs.Delimiters.{is_delimiter, delimiter_from, line_after, part_after, is_close_delimiter, first_part, next_part, before_line_end, end_from, part_range, cut_parts}
+use Rattle.mailparse.specs.Delimiters.{cut_parts_as, is_delimiter, delimiter_from, line_after, part_after, is_close_delimiter, first_part, next_part, before_line_end, end_from, part_range, cut_parts}
 use Rattle.mailparse.proofs.lemmas.Delimiters.{NoDelimiter, is_delimiter-line, is_delimiter-start, delimiter_from-some, starts_delimiter, part_ranges, part_ranges-none, part_ranges-some}
 use Rattle.mailparse.proofs.lemmas.Places.{not_some}
 use Rattle.mail_laws.proofs.lemmas.DelimiterPlaces.{before_line_end-crlf, before_line_end-start}
@@ -187,7 +187,7 @@ module _ (x : ℕ) (text : List ℕ) (free : list_all no_return (x ∷ text) ≡
         ap (λ (o : Option ℕ). option_map_or (before_line_end bytes i) o i) first_delimiter ∙ before_line_end-start bytes i
 
     pub body-written : slice bytes (cut_parts (x ∷ text) bytes i).body ≡ []
-    unfolding cut_parts
+    unfolding cut_parts_as
     body-written =
         let none : i - i ≡ 0 = omega arith in
         ap (λ n. take (n - i) (drop i bytes)) preamble_end ∙ ap (λ n. take n (drop i bytes)) none
@@ -203,7 +203,7 @@ module _ (x : ℕ) (text : List ℕ) (free : list_all no_return (x ∷ text) ≡
         ∙ line_after-crlf bytes (part ++ 13 ∷ 10 ∷ written (x ∷ text) ps) (i + length (x ∷ text)) drop_past_first
 
     pub parts-written : map (slice bytes) (cut_parts (x ∷ text) bytes i).parts ≡ part ∷ ps
-    unfolding cut_parts
+    unfolding cut_parts_as
     parts-written =
         let q = i + length (x ∷ text) in
         ap (λ (o : Option ℕ). map (slice bytes) (part_ranges (x ∷ text) bytes o)) first_start

@@ -16,7 +16,7 @@ use Rattle.mailparse.specs.Block.{HeaderList, read_headers}
 use Rattle.mailparse.specs.ContentType.{ContentType}
 use Rattle.mailparse.specs.Ranges.{slice}
 use Rattle.mailparse.specs.Delimiters.{Cut, cut_parts}
-use Rattle.mailparse.specs.Mail.{Node, Tree, tree, Forest, no_parts, part_and, root, parts_of, nodes, trees_in, trees_within, is_digest, cut_of, node_with, read_each, node_type, read_levels, read_mail_in, read_mail}
+use Rattle.mailparse.specs.Mail.{strict, Node, Tree, tree, Forest, no_parts, part_and, root, parts_of, nodes, trees_in, trees_within, is_digest, cut_of, node_with, read_each, node_type, read_levels, read_mail_in, read_mail}
 use Rattle.mail_laws.specs.Boundaries.{boundary_type}
 use Rattle.mail_address.specs.Encode.{KnowUtf8}
 use Rattle.mail_laws.specs.Render.{OutlineTree, OutlineForest, leaf, branch, no_outlines, outline_and, header_block, dash_boundary, rendered, rendered_parts, is_key, has_keys, has_texts, type_header, names_its_boundary, has_plain_boundary, is_not_multipart, has_some_part, contains_delimiter, contain_no_delimiter, has_clear_parts, depth, depth_of_parts, is_well_formed_here, is_well_formed_within, are_well_formed_within, type_of, node_of, stands_for, stand_for, is_within_levels, IsWellFormed, written_headers, has_plain_values, is_plain_within, are_plain_within, KnowItsWords, shown_header, headers_within, headers_in}
@@ -96,12 +96,12 @@ module _ (known : Charsets) where
   -- a message with this block, this type and this cut
   read_levels-cut : (levels : ℕ) (bytes : List ℕ) (block : HeaderList) (ctype : ContentType) (cut : Cut) → read_headers bytes ≡ Ok block
       → node_type known false block.headers ≡ ctype → cut_of ctype bytes block.index ≡ cut
-      → read_levels known (suc levels) false bytes
-      ≡ ◌>>=◌ (read_each (read_levels known levels (is_digest ctype)) (map (slice bytes) cut.parts)) (λ parts. Ok (tree (node_with bytes block ctype cut) parts))
+      → read_levels (strict known) (suc levels) false bytes
+      ≡ ◌>>=◌ (read_each (read_levels (strict known) levels (is_digest ctype)) (map (slice bytes) cut.parts)) (λ parts. Ok (tree (node_with bytes block ctype cut) parts))
   unfolding read_levels
   read_levels-cut levels bytes block ctype cut read type is = rw (read, type, is) refl
 
-  read_levels-none : (bytes : List ℕ) → read_levels known zero false bytes ≡ Err recursion_limit
+  read_levels-none : (bytes : List ℕ) → read_levels (strict known) zero false bytes ≡ Err recursion_limit
   unfolding read_levels
   read_levels-none bytes = refl
 
@@ -115,7 +115,7 @@ module _ (known : Charsets) where
       ap (λ (x : List ℕ). made bytes headers x body) is ∙ ap (made bytes headers (header_block (written_headers headers))) e
 
   leaf-written : (levels : ℕ) (headers : List Header) (body : List ℕ) → IsFormed (leaf headers body) → AreShown known headers
-      → read_levels known (suc levels) false (rendered (leaf headers body)) ≡ Ok (stands_for known (leaf headers body))
+      → read_levels (strict known) (suc levels) false (rendered (leaf headers body)) ≡ Ok (stands_for known (leaf headers body))
   leaf-written levels headers body formed shown =
       let block = header_block (written_headers headers) in
       let bytes = block ++ body in
@@ -136,8 +136,8 @@ module _ (known : Charsets) where
       → option_map_or (λ h. bytes_eq h.value (boundary_type boundary)) (type_header headers) false ≡ true
       → list_all is_ascii_alphanumeric boundary ≡ true → AreClear (dash_boundary boundary) (part ∷ parts)
       → whole ≡ written (dash_boundary boundary) (part ∷ parts)
-      → read_levels known (suc levels) false (header_block (written_headers headers) ++ whole)
-      ≡ ◌>>=◌ (read_each (read_levels known levels false) (part ∷ parts)) (λ found. Ok (tree (node_of known (header_block (written_headers headers) ++ whole) headers []) found))
+      → read_levels (strict known) (suc levels) false (header_block (written_headers headers) ++ whole)
+      ≡ ◌>>=◌ (read_each (read_levels (strict known) levels false) (part ∷ parts)) (λ found. Ok (tree (node_of known (header_block (written_headers headers) ++ whole) headers []) found))
   branch-by_parts levels headers boundary part parts whole keys values shown names plain clear is =
       let block = header_block (written_headers headers) in
       let bytes = block ++ whole in
@@ -151,16 +151,16 @@ module _ (known : Charsets) where
       read_levels-cut levels bytes (record { headers = written_headers headers; index = index }) (type_of known headers) (cut_parts d bytes index)
       (read_headers-written (written_headers headers) whole (written_keys headers keys) (written_are_values headers values)) (node_type-written known headers keys shown)
       (ap (λ (o : Option (List ℕ)). option_map_or (λ x. cut_parts x bytes index) o (record { body = record { start = index; end = length bytes }; parts = [] })) type.0)
-      ∙ ap (λ t. ◌>>=◌ (read_each (read_levels known levels t) (map (slice bytes) (cut_parts d bytes index).parts))
+      ∙ ap (λ t. ◌>>=◌ (read_each (read_levels (strict known) levels t) (map (slice bytes) (cut_parts d bytes index).parts))
       (λ xs. Ok (tree (node_with bytes (record { headers = written_headers headers; index = index }) (type_of known headers) (cut_parts d bytes index)) xs))) type.1
-      ∙ ap (λ (ps : List (List ℕ)). ◌>>=◌ (read_each (read_levels known levels false) ps)
+      ∙ ap (λ (ps : List (List ℕ)). ◌>>=◌ (read_each (read_levels (strict known) levels false) ps)
       (λ xs. Ok (tree (node_with bytes (record { headers = written_headers headers; index = index }) (type_of known headers) (cut_parts d bytes index)) xs))) found
-      ∙ ap (λ (n : Node). ◌>>=◌ (read_each (read_levels known levels false) (part ∷ parts)) (λ xs. Ok (tree n xs)))
+      ∙ ap (λ (n : Node). ◌>>=◌ (read_each (read_levels (strict known) levels false) (part ∷ parts)) (λ xs. Ok (tree n xs)))
       (made-same bytes headers (take index bytes) (slice bytes (cut_parts d bytes index).body) (take_at block whole index refl) [] body)
 
   branch-written : (levels : ℕ) (headers : List Header) (boundary : List ℕ) (parts : OutlineForest) → KnowItsWords known (branch headers boundary parts)
-      → is_well_formed_within (branch headers boundary parts) ≡ true → (read : Reads Forest) → read_each (read_levels known levels false) (renderings parts) ≡ read
-      → read_levels known (suc levels) false (rendered (branch headers boundary parts))
+      → is_well_formed_within (branch headers boundary parts) ≡ true → (read : Reads Forest) → read_each (read_levels (strict known) levels false) (renderings parts) ≡ read
+      → read_levels (strict known) (suc levels) false (rendered (branch headers boundary parts))
       ≡ ◌>>=◌ read (λ found. Ok (tree (node_of known (rendered (branch headers boundary parts)) headers []) found))
   branch-written levels headers boundary no_outlines able well read is = absurd (false≢true (branch-formed headers boundary no_outlines well).some)
   branch-written levels headers boundary (outline_and part parts) able well read is =
@@ -183,7 +183,7 @@ module _ (known : Charsets) where
 
   mutual
     reads : (outline : OutlineTree) (n : ℕ) → KnowItsWords known outline → is_well_formed_within outline ≡ true → depth outline ≤ n
-        → read_levels known (suc n) false (rendered outline) ≡ Ok (stands_for known outline)
+        → read_levels (strict known) (suc n) false (rendered outline) ≡ Ok (stands_for known outline)
     reads (leaf headers body) n able formed within =
         let is = IsFormed-from (leaf headers body) formed in
         leaf-written n headers body is (written_are_shown known headers able is.values)
@@ -192,31 +192,31 @@ module _ (known : Charsets) where
         branch-written n headers boundary parts able formed (Ok (stand_for known parts)) (reads_parts parts n (shown-parts headers boundary parts able) both.1 within)
 
     reads_parts : (parts : OutlineForest) (n : ℕ) → KnowTheirWords parts → are_well_formed_within parts ≡ true → depth_of_parts parts ≤ n
-        → read_each (read_levels known n false) (renderings parts) ≡ Ok (stand_for known parts)
+        → read_each (read_levels (strict known) n false) (renderings parts) ≡ Ok (stand_for known parts)
     reads_parts no_outlines n able formed within = refl
     reads_parts (outline_and part parts) zero able formed within = absurd (omega (arith, within))
     reads_parts (outline_and part parts) (suc n) able formed within =
         let both = and_parts (is_well_formed_within part) (are_well_formed_within parts) formed in
-        each_read (read_levels known (suc n) false) (rendered part) (renderings parts) (stands_for known part) (Ok (stand_for known parts))
+        each_read (read_levels (strict known) (suc n) false) (rendered part) (renderings parts) (stands_for known part) (Ok (stand_for known parts))
         (reads part n (known_first (is_plain_within part) (are_plain_within parts) able) both.0 (omega (arith, within))) (reads_parts parts (suc n) (known_others (is_plain_within part) (are_plain_within parts) able) both.1 (omega (arith, within)))
 
   mutual
     refuses : (outline : OutlineTree) (n : ℕ) → KnowItsWords known outline → is_well_formed_within outline ≡ true → n < depth outline
-        → read_levels known (suc n) false (rendered outline) ≡ Err recursion_limit
+        → read_levels (strict known) (suc n) false (rendered outline) ≡ Err recursion_limit
     refuses (leaf headers body) n able formed deep = absurd (omega (arith, deep))
     refuses (branch headers boundary parts) n able formed deep =
         let both = and_parts (is_well_formed_here (branch headers boundary parts)) (are_well_formed_within parts) formed in
         branch-written n headers boundary parts able formed (Err recursion_limit) (refuses_parts parts n (shown-parts headers boundary parts able) both.1 deep)
 
     refuses_parts : (parts : OutlineForest) (n : ℕ) → KnowTheirWords parts → are_well_formed_within parts ≡ true → n < depth_of_parts parts
-        → read_each (read_levels known n false) (renderings parts) ≡ Err recursion_limit
+        → read_each (read_levels (strict known) n false) (renderings parts) ≡ Err recursion_limit
     refuses_parts no_outlines n able formed deep = absurd (omega (arith, deep))
     refuses_parts (outline_and part parts) zero able formed deep =
-        first_refused (read_levels known zero false) (rendered part) (renderings parts) (read_levels-none (rendered part))
+        first_refused (read_levels (strict known) zero false) (rendered part) (renderings parts) (read_levels-none (rendered part))
     refuses_parts (outline_and part parts) (suc n) able formed deep =
         let both = and_parts (is_well_formed_within part) (are_well_formed_within parts) formed in
-        ⊎_elim (λ below. first_refused (read_levels known (suc n) false) (rendered part) (renderings parts) (refuses part n (known_first (is_plain_within part) (are_plain_within parts) able) both.0 below))
-        (λ within. each_read (read_levels known (suc n) false) (rendered part) (renderings parts) (stands_for known part) (Err recursion_limit) (reads part n (known_first (is_plain_within part) (are_plain_within parts) able) both.0 within)
+        ⊎_elim (λ below. first_refused (read_levels (strict known) (suc n) false) (rendered part) (renderings parts) (refuses part n (known_first (is_plain_within part) (are_plain_within parts) able) both.0 below))
+        (λ within. each_read (read_levels (strict known) (suc n) false) (rendered part) (renderings parts) (stands_for known part) (Err recursion_limit) (reads part n (known_first (is_plain_within part) (are_plain_within parts) able) both.0 within)
         (refuses_parts parts (suc n) (known_others (is_plain_within part) (are_plain_within parts) able) both.1 (omega (arith, deep, within))))
         (cases_lt n (depth part))
 

@@ -1,0 +1,59 @@
+//! Messages that are read in a manner of the caller's.
+ghost use Rattle.std.specs.Prelude.{◌≡◌, ℕ, true, IsOk, List, Ok, length, map};
+ghost use Rattle.mail_codec.specs.Charset.{Charsets};
+ghost use Rattle.mailparse.specs.Bound.{IsBounded};
+ghost use Rattle.mailparse.specs.Mail.{Tree, nodes, read_mail_as, read_mail_in, strict};
+ghost use Rattle.mailparse.specs.Manner.{Manner};
+ghost use Rattle.mailparse.specs.Placement.{placements_as};
+ghost use Rattle.mailparse.specs.Ranges.{Apart, slice};
+ghost use Rattle.mail_laws.specs.Manners.{AreReadAlike};
+ghost use Rattle.mail_laws.specs.RangeTree.{AreNested, RangeTree, blocks_and_bodies, range_root, ranges_as, read_there, wholes_and_bodies};
+
+/// A manner that keeps refused messages refuses no mail.
+pub fn nothing_is_refused()
+    ensures { (manner : Manner) (greatest : ℕ) (mail : List ℕ) → manner.keeps_refused ≡ true →
+        IsOk (read_mail_as manner greatest mail) }
+{}
+
+/// The port's own manner reads each mail as the port does. Any other manner reads a mail as the
+/// same tree, if the port reads the mail, and if the manner gives each message the same type and
+/// splits it in the same way.
+pub fn manners_agree()
+    ensures strict { (known : Charsets) (greatest : ℕ) (mail : List ℕ) →
+        read_mail_as (strict known) greatest mail ≡ read_mail_in known greatest mail }
+    ensures others { (manner : Manner) (known : Charsets) (greatest : ℕ) (mail : List ℕ)
+        (parsed : Tree) → read_mail_in known greatest mail ≡ Ok parsed →
+        AreReadAlike manner known parsed → read_mail_as manner greatest mail ≡ Ok parsed }
+{}
+
+/// What `ranges_give_tree`, `ranges_apart` and `nodes_bounded` say of the port is so in every
+/// manner.
+pub fn manners_keep_ranges()
+    ensures there { (manner : Manner) (mail : List ℕ) (greatest : ℕ) →
+        read_there mail (ranges_as manner mail greatest) ≡ read_mail_as manner greatest mail }
+    ensures nested { (manner : Manner) (mail : List ℕ) (greatest : ℕ) (ranges : RangeTree) →
+        ranges_as manner mail greatest ≡ Ok ranges →
+        ((range_root ranges).whole ≡ record { start = 0; end = length mail })
+        × AreNested ranges }
+    ensures apart { (manner : Manner) (mail : List ℕ) (greatest : ℕ) (ranges : RangeTree) →
+        ranges_as manner mail greatest ≡ Ok ranges →
+        Apart 0 0 (blocks_and_bodies ranges) (length mail) }
+    ensures bounded { (manner : Manner) (greatest : ℕ) (bytes : List ℕ) (mail : Tree) →
+        read_mail_as manner greatest bytes ≡ Ok mail → IsBounded mail (length bytes) }
+{}
+
+/// What `placements_are_exact` says of the port is so in every manner.
+pub fn manners_keep_placements()
+    ensures ranges { (manner : Manner) (greatest : ℕ) (mail : List ℕ) (parsed : Tree)
+        (ranges : RangeTree) → read_mail_as manner greatest mail ≡ Ok parsed →
+        ranges_as manner mail greatest ≡ Ok ranges →
+        placements_as manner.whole_lines 0 parsed ≡ wholes_and_bodies ranges }
+    ensures messages { (manner : Manner) (greatest : ℕ) (mail : List ℕ) (parsed : Tree) →
+        read_mail_as manner greatest mail ≡ Ok parsed →
+        map (λ place. slice mail place.whole) (placements_as manner.whole_lines 0 parsed)
+        ≡ map (λ node. node.bytes) (nodes parsed) }
+    ensures bodies { (manner : Manner) (greatest : ℕ) (mail : List ℕ) (parsed : Tree) →
+        read_mail_as manner greatest mail ≡ Ok parsed →
+        map (λ place. slice mail place.body) (placements_as manner.whole_lines 0 parsed)
+        ≡ map (λ node. node.body) (nodes parsed) }
+{}
