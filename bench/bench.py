@@ -262,15 +262,16 @@ def input_of(name, asked, work, scale):
 
 def table(asked, work):
     """Prints the table, and yields the figures of each case."""
+    names = [name for name in asked.cases if name not in PROGRAMS and name not in python_module.CASES]
+    if not names:
+        return
     all_readers = readers(asked, work)
     unit = "instructions" if asked.instructions else "ns"
     titles = [reader.title for reader in all_readers] + ["ratio to the crate"] * bool(asked.oracle) + ["a copy"]
     print(f"In {unit} for each byte; {os.cpu_count()} processors: {processor()}\n")
     print("| What | " + " | ".join(titles) + " |\n" + "|---" * (len(titles) + 1) + "|")
     measure = counted if asked.instructions else timed
-    for name in asked.cases:
-        if name in PROGRAMS or name in python_module.CASES:
-            continue
+    for name in names:
         print(f"bench.py: {name}", file=sys.stderr)
         title, works, data = input_of(name, asked, work, 0.1 if asked.instructions else 1)
         least, made_by = measure(all_readers, works, data, asked.turns)

@@ -196,10 +196,10 @@ def measured(mails, path):
     for work in WORKS:
         yield work, mails, {name: (read_all, getattr(reader, work), mails) for name, reader in READERS.items()}
     yield "mailbox", mails, {name: (reader.mailbox, path) for name, reader in READERS.items()}
-    large = [raw for raw in mails if len(raw) >= LARGE]
-    for work, some in (("threads", mails), (f"threads, mails of {LARGE >> 10} kB and more", large)):
+    large = [raw for raw in mails if len(raw) >= LARGE] * 4
+    for work, some in (("threads", mails * 4), (f"threads, mails of {LARGE >> 10} kB and more", large)):
         if some:
-            yield work, some, {f"{count} threads": (with_threads, count, some * 4) for count in THREADS}
+            yield work, some, {f"{count} threads": (with_threads, count, some) for count in THREADS}
 
 
 def least_times(calls, rounds):

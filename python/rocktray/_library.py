@@ -3,10 +3,12 @@
 from __future__ import annotations
 
 import codecs
-from typing import Iterator, List, Optional, Tuple
+import mmap
+from typing import Iterator, List, Optional, Tuple, Union
 
 from . import _engine
 
+Bytes = Union[bytes, bytearray, memoryview, mmap.mmap]
 NOT_BASE64 = 19
 DATE_YEAR = 34
 # the most mails of a mailbox that are found by one call
@@ -39,17 +41,17 @@ def version() -> str:
     return f"{number // 10000}.{number // 100 % 100}.{number % 100}"
 
 
-def json_line(mail: bytes) -> bytes:
+def json_line(mail: Bytes) -> bytes:
     """The line of JSON of a mail."""
     return _engine.json(mail)
 
 
-def content(part: bytes) -> bytes:
+def content(part: Bytes) -> bytes:
     """The decoded bytes of the body of a part."""
     return _engine.content(part)
 
 
-def text(part: bytes) -> str:
+def text(part: Bytes) -> str:
     """The text of the body of a part."""
     return _engine.text(part)
 
@@ -66,12 +68,12 @@ def base64_front(body: bytes) -> bytes:
     return codecs.charmap_encode(characters, "strict", _CHARACTERS)[0]
 
 
-def header(mail: bytes, name: str, number: int = 0) -> Optional[str]:
+def header(mail: Bytes, name: str, number: int = 0) -> Optional[str]:
     """The value of the header with this name and number, counting from 0: the headers alone are read."""
     return _engine.header(mail, name.encode(), number)
 
 
-def raw_header(part: bytes, name: str, number: int = 0) -> Optional[bytes]:
+def raw_header(part: Bytes, name: str, number: int = 0) -> Optional[bytes]:
     """The raw value of that header."""
     return _engine.raw_header(part, name.encode(), number)
 
@@ -82,7 +84,7 @@ def ids(text: str, needs_at: bool) -> List[str]:
     return found[1:-1].split("><") if found else []
 
 
-def recipients(mail: bytes) -> bytes:
+def recipients(mail: Bytes) -> bytes:
     """The recipients of a delivery report, as a list in JSON."""
     return _engine.recipients(mail)
 

@@ -13,7 +13,7 @@ from ._library import Refused
 from ._part import Header, Part, values_of
 from ._values import Address, Recipient, addresses_of, time_of
 
-Bytes = Union[bytes, bytearray, memoryview]
+Bytes = _library.Bytes
 Default = TypeVar("Default")
 _FORWARDING = ("message/rfc822", "message/global")
 _Tree = Tuple[List[Optional[int]], List[List[int]]]
@@ -53,10 +53,11 @@ def _tree_of(parts: List[Dict[str, Any]]) -> _Tree:
     return parents, children
 
 
-def _as_bytes(raw: Any) -> bytes:
-    """The bytes of a buffer. Raises `TypeError` for anything else, and says how to get the bytes of a mail."""
+def _checked(raw: Any) -> Bytes:
+    """A buffer of contiguous bytes. Raises `TypeError` for what is no buffer, and says how to get the bytes of a mail."""
     try:
-        return memoryview(raw).tobytes()
+        with memoryview(raw) as view:
+            return cast(Bytes, raw if view.c_contiguous else view.tobytes())
     except TypeError:
         kind = type(raw).__name__
     for name in ("read_bytes", "as_bytes", "read"):
@@ -67,45 +68,77 @@ def _as_bytes(raw: Any) -> bytes:
 
 
 class Mail:
-    """A mail. Its bytes are read when it is first used; `parse` reads them at once.
+    """A mail. Its bytes are read when it is first used; `parse` reads them at once. What it has is decoded when it is
+    asked for: its subject, date, ids and recipients, and headers by name, by themselves, and all else at once.
 
-    Raises `TypeError` for anything but bytes.
+    It takes any bytes-like object, such as an `mmap`, and copies it only for its parts and for `raw`. Bytes that change
+    give results of no use. Raises `TypeError` for anything but bytes.
 
     >>> mail = parse(b"Subject: Hi\\nDate: Fri, 21 Nov 1997 09:55:06 -0600\\n\\nHello\\n")
     >>> mail.subject, mail.date.isoformat(), mail.text
     ('Hi', '1997-11-21T15:55:06+00:00', 'Hello\\n')
     """
 
-    __slots__ = ("raw", "place", "_read", "_parts_tree", "_encoded")
+    __slots__ = ("place", "_data", "_raw", "_read", "_line", "_parts_tree", "_encoded")
 
-    raw: bytes
-    """The bytes of the mail."""
     place: Optional[Tuple[int, int]]
     """The offsets at which it begins and ends in its mailbox, or `None` outside of one."""
-    _read: Union[None, Dict[str, Any], Refused]
+    _read: Union[None, List[Dict[str, Any]], Refused]
+    _line: Optional[Dict[str, Any]]
     _parts_tree: Optional[_Tree]
     _encoded: Dict[int, "Mail"]
 
     def __init__(self, raw: Bytes, place: Optional[Tuple[int, int]] = None) -> None:
-        self.raw = raw if isinstance(raw, bytes) else _as_bytes(raw)
+        self._raw = raw if isinstance(raw, bytes) else None
+        self._data = _checked(raw) if self._raw is None else raw
         self.place = place
-        self._read = None
+        self._read = self._line = None
         self._parts_tree = None
         self._encoded = {}
 
     @property
-    def _object(self) -> Dict[str, Any]:
-        """The object of the mail in the JSON."""
+    def raw(self) -> bytes:
+        """The bytes of the mail."""
+        raw = self._raw
+        if raw is None:
+            with memoryview(self._data) as view:
+                raw = self._raw = view.tobytes()
+        return raw
+
+    def _recipients(self) -> List[Dict[str, Any]]:
+        """The recipients in the JSON. To find them the whole mail is read, so this raises `Refused` if it is refused."""
         read = self._read
         if read is None:
             try:
-                read = json.loads(_library.json_line(self.raw))
+                read = cast("List[Dict[str, Any]]", json.loads(_library.recipients(self._data)))
             except Refused as error:
                 read = error
             self._read = read
         if isinstance(read, Refused):
             raise Refused(read.text, read.number, self.place)
-        return cast("Dict[str, Any]", read)
+        return read
+
+    @property
+    def _object(self) -> Dict[str, Any]:
+        """The object of the mail in the JSON."""
+        line = self._line
+        if line is None:
+            try:
+                line = self._line = cast("Dict[str, Any]", json.loads(_library.json_line(self._data)))
+            except Refused as error:
+                raise Refused(error.text, error.number, self.place) from None
+        return line
+
+    def _value(self, name: str) -> Optional[str]:
+        """The value of the first header with this name, if the mail is not refused."""
+        if self._line is None:
+            self._recipients()
+        return _library.header(self._data, name)
+
+    def _ids(self, name: str, needs_at: bool) -> List[str]:
+        """The ids in the first header with this name."""
+        value = self._value(name)
+        return [] if value is None else _library.ids(value, needs_at)
 
     @property
     def error(self) -> Optional[str]:
@@ -116,7 +149,7 @@ class Mail:
         ['Hi', 'Headers were followed by an unexpected lone CR character!']
         """
         try:
-            self._object
+            self._recipients()
         except Refused as error:
             return error.text
         return None
@@ -126,13 +159,13 @@ class Mail:
         """The object that `rocktray json` writes for the mail (docs/mail_json.schema.json). It is read anew
         each time, and yours to change.
         """
-        self._object
-        return cast("Dict[str, Any]", json.loads(_library.json_line(self.raw)))
+        self._recipients()
+        return cast("Dict[str, Any]", json.loads(_library.json_line(self._data)))
 
     @property
     def subject(self) -> Optional[str]:
         """The value of the first Subject, or `None`."""
-        return cast("Optional[str]", self._object["subject"])
+        return self._value("Subject")
 
     @property
     def from_(self) -> List[Address]:
@@ -168,15 +201,16 @@ class Mail:
         """The mailboxes in Reply-To."""
         return addresses_of(self._object["reply_to"])
 
-    def _date(self) -> Tuple[Optional[datetime], Optional[str]]:
-        """The time in the first Date, and what is wrong in it."""
-        seconds = self._object["date"]
-        if seconds is None:
-            return None, self._object.get("date_error")
+    def _date(self) -> Tuple[Optional[datetime], Optional[str], bool]:
+        """The time in the first Date, what is wrong in it, and whether its zone is known or it has none to know."""
+        value, is_zone_known = self._value("Date"), True
+        if value is None:
+            return None, None, True
         try:
-            return time_of(seconds), None
+            seconds, is_zone_known = _library.date(value)
+            return time_of(seconds), None, is_zone_known
         except Refused as error:
-            return None, error.text
+            return None, error.text, is_zone_known
 
     @property
     def date(self) -> Optional[datetime]:
@@ -191,23 +225,23 @@ class Mail:
     @property
     def is_date_zone_known(self) -> bool:
         """Whether the date gives its zone. Otherwise it is read as UTC."""
-        return not self._object.get("date_zone_unknown", False)
+        return self._date()[2]
 
     @property
     def message_id(self) -> Optional[str]:
         """The mail's own id, without angle brackets, or `None`."""
-        ids = self._object["message_id"]
-        return cast("Optional[str]", ids[0] if ids else None)
+        found = self._ids("Message-ID", False)
+        return found[0] if found else None
 
     @property
     def in_reply_to(self) -> List[str]:
         """The ids in In-Reply-To."""
-        return list(self._object["in_reply_to"])
+        return self._ids("In-Reply-To", True)
 
     @property
     def references(self) -> List[str]:
         """The ids in References, in order."""
-        return list(self._object["references"])
+        return self._ids("References", True)
 
     @property
     def bounced_id(self) -> Optional[str]:
@@ -221,7 +255,7 @@ class Mail:
         >>> parse(b"X-Failed-Recipients: a@b\\n\\n").recipients[0].final_recipient
         'a@b'
         """
-        return [Recipient(**value) for value in self._object["recipients"]]
+        return [Recipient(**value) for value in self._recipients()]
 
     @property
     def headers(self) -> List[Header]:
@@ -234,7 +268,7 @@ class Mail:
         >>> parse(b"Received: one\\nReceived: two\\n\\n").header("received", 1)
         'two'
         """
-        return _library.header(self.raw, name, number)
+        return None if number < 0 else _library.header(self._data, name, number)
 
     def __getitem__(self, name: str) -> Optional[str]:
         """The value of the first header with this name, or `None`, as in `email`."""
@@ -347,7 +381,7 @@ class Mail:
         >>> [(one.final_recipient, one.action, one.status) for one in parse(raw).bounces()]
         [('a@b', 'failed', '5.1.1')]
         """
-        return [Recipient(**value) for value in json.loads(_library.recipients(self.raw))]
+        return self.recipients
 
     def to_email(self) -> email.message.EmailMessage:
         """The same mail as Python's `email` reads it, for code that needs an `EmailMessage`."""
@@ -383,5 +417,5 @@ def parse(raw: Bytes) -> Mail:
     rocktray.Refused: Header cannot start with a space; it is likely an overhanging line from a previous header
     """
     mail = Mail(raw)
-    mail._object
+    mail._recipients()
     return mail

@@ -1,0 +1,227 @@
+"""Bytes-like objects: none is copied, and bytes that change or go away do no harm."""
+
+import array
+import mmap
+import os
+import pickle
+import subprocess
+import sys
+import threading
+
+import pytest
+
+import rocktray
+
+RAW = (
+    b"Subject: Hi\nContent-Type: multipart/mixed; boundary=b\n\n--b\n\ntext\n--b\nContent-Disposition: attachment; filename=a\n"
+    b"Content-Transfer-Encoding: base64\n\nJVBERg==\n--b\nContent-Type: message/rfc822\n\nSubject: in\n\n--b--\n"
+)
+
+
+def succeeds(script, *arguments):
+    """Runs a script in a process of its own."""
+    ended = subprocess.run([sys.executable, "-c", script, *map(str, arguments)], capture_output=True, text=True, check=False)
+    assert ended.returncode == 0, (ended.returncode, ended.stderr[-3000:])
+
+
+@pytest.fixture
+def mapped(tmp_path):
+    """A function that maps a file with these bytes."""
+
+    def map_of(data, access=mmap.ACCESS_READ):
+        path = tmp_path / str(len(os.listdir(tmp_path)))
+        path.write_bytes(data)
+        with open(path, "r+b") as file:
+            return mmap.mmap(file.fileno(), 0, access=access)
+
+    return map_of
+
+
+def all_of(mail):
+    files = [(file.path, file.file_name, file.content, file.raw, file.children) for file in mail.files()]
+    return mail.subject, mail["subject"], mail.text, mail.raw, files, [header.raw for header in mail.headers], mail.json
+
+
+def test_kinds_of_buffers(mapped):
+    wanted = all_of(rocktray.parse(RAW))
+    padded = b"xx" + RAW + b"yy"
+    kinds = [bytearray(RAW), memoryview(RAW), memoryview(bytearray(RAW)), memoryview(padded)[2:-2], memoryview(bytearray(RAW)).toreadonly()]
+    kinds += [array.array("B", RAW), mapped(RAW), mapped(RAW, mmap.ACCESS_WRITE), memoryview(mapped(padded))[2:-2]]
+    kinds += [memoryview(b"".join(bytes((byte, 0)) for byte in RAW))[::2], pickle.PickleBuffer(RAW)]
+    for kind in kinds:
+        for large in (False, True):
+            mail = rocktray.parse(kind)
+            assert all_of(mail) == wanted and type(mail.raw) is bytes
+            assert pickle.loads(pickle.dumps(mail)) == mail == rocktray.parse(RAW)
+
+
+def test_large_buffers_are_read_without_the_lock(mapped):
+    """The results are the same where the lock is free."""
+    raw = RAW.replace(b"text\n", b"text\n" * 20_000)
+    wanted = all_of(rocktray.parse(raw))
+    for kind in (raw, bytearray(raw), memoryview(raw), memoryview(bytearray(raw)).toreadonly(), mapped(raw), memoryview(mapped(raw))):
+        assert all_of(rocktray.parse(kind)) == wanted
+
+
+def test_no_copy(tmp_path):
+    """200 MB in an mmap: neither the mail nor its headers take memory of that size."""
+    (tmp_path / "mail").write_bytes(RAW.replace(b"text\n", b"text of a line of a letter\n" * 7_500_000))
+    succeeds(
+        """
+import mmap, re, resource, rocktray, sys
+def own():
+    return sum(int(size) for size in re.findall(r"(?:RssAnon|VmSwap):\\s*(\\d+) kB", open("/proc/self/status").read())) * 1024
+with open(sys.argv[1], "rb") as file:
+    data = mmap.mmap(file.fileno(), 0, access=mmap.ACCESS_READ)
+rocktray.parse(b"")
+resource.setrlimit(resource.RLIMIT_DATA, (own() + (100 << 20),) * 2)
+for kind in (data, memoryview(data)):
+    mail = rocktray.parse(kind)
+    assert mail.subject == mail["Subject"] == "Hi" and mail.date is None and mail.recipients == []
+assert own() < 60 << 20, own()
+""",
+        tmp_path / "mail",
+    )
+
+
+def test_closed_map(mapped):
+    data = mapped(RAW)
+    mail = rocktray.parse(data)
+    data.close()
+    with pytest.raises(ValueError):
+        mail.subject
+    with pytest.raises(ValueError):
+        rocktray.parse(data)
+
+
+def test_buffers_are_not_kept():
+    """A bytearray may grow between calls."""
+    data = bytearray(RAW)
+    mail = rocktray.parse(data)
+    data += b"more"
+    assert mail.subject == "Hi"
+
+
+def test_changes_beside_threads():
+    """Bytes that another thread changes while they are read: any result, but no crash."""
+    succeeds(
+        """
+import random, rocktray, sys, threading, time
+raw = open(sys.argv[1], "rb").read() * 40
+data, ended = bytearray(b"Subject: x\\n" + raw), []
+def change():
+    chance = random.Random(1)
+    while not ended:
+        at = chance.randrange(len(data) - 100)
+        data[at:at + 50] = bytes(chance.randrange(256) for _ in range(50))
+thread = threading.Thread(target=change, daemon=True)
+thread.start()
+end = time.monotonic() + 3
+while time.monotonic() < end:
+    try:
+        mail = rocktray.parse(data)
+        mail.subject, mail.text, [part.content for part in mail.walk()], mail.headers, mail.files()
+    except (rocktray.Refused, IndexError, KeyError, BufferError):
+        pass
+ended.append(1)
+thread.join()
+""",
+        os.path.join(os.path.dirname(__file__), "..", "..", "samples", "attachment.eml"),
+    )
+
+
+def test_the_lock_is_free():
+    """Another thread runs while one reads a mail of 50 MB."""
+    raw = b"Content-Type: multipart/mixed; boundary=b\n\n" + b"--b\n\nsome text\n" * 3_500_000
+    steps, reading = [], threading.Event()
+
+    def count():
+        while not reading.wait(0.001):
+            steps.append(1)
+
+    thread = threading.Thread(target=count)
+    thread.start()
+    before = len(steps)
+    try:
+        rocktray.parse(raw)
+        while_reading = len(steps) - before
+    finally:
+        reading.set()
+        thread.join()
+    assert while_reading > 10
+
+
+def test_threads_share_a_mail(samples, hostile):
+    """What one mail has is the same for all threads that ask for it at once."""
+    for raw in [*samples.values(), *hostile[:200]]:
+        mail = rocktray.Mail(raw)
+        if mail.error:
+            continue
+        wanted, shared, found = all_of_parts(rocktray.parse(raw)), rocktray.parse(raw), []
+        threads = [threading.Thread(target=lambda: found.append(all_of_parts(shared))) for _ in range(4)]
+        for thread in threads:
+            thread.start()
+        for thread in threads:
+            thread.join()
+        assert found == [wanted] * 4
+
+
+def all_of_parts(mail):
+    parts = [(it.path, it.content_type, it.file_name, it.text, it.is_damaged, it.extracted_content(), it.parent is None) for it in mail.files()]
+    return mail.subject, mail.from_, mail.date, mail.text, parts, [(it.name, it.value, it.raw) for it in mail.headers]
+
+
+def resident():
+    with open("/proc/self/statm") as file:
+        return int(file.read().split()[1]) * 4096
+
+
+def test_memory_of_all_members(samples, hostile):
+    """Neither results nor errors leak memory."""
+    mails = [*samples.values(), *hostile[:300], bytearray(samples["attachment"])]
+
+    def run(count):
+        for k in range(count):
+            try:
+                mail = rocktray.parse(mails[k % len(mails)])
+                all_of_parts(mail)
+                mail.to, mail.html, mail.recipients, mail.bounced_id, mail.get_all("received"), mail["\u20ac"]
+            except rocktray.Refused:
+                pass
+
+    run(3000)
+    before = resident()
+    run(30_000)
+    assert resident() - before < 2 << 20
+
+
+def test_refused_memory():
+    """Each allocation of Python's refused in turn: MemoryError, and nothing is lost or spoiled."""
+    pytest.importorskip("_testcapi")
+    succeeds(
+        """
+import _testcapi, rocktray, sys
+raw = open(sys.argv[1], "rb").read()
+large = b"A: b\\n" * 300 + raw
+def work():
+    engine, found = rocktray._engine, []
+    for data in (raw, large):
+        found += [engine.json(data), engine.recipients(data), engine.content(data), engine.text(data)]
+        found += [engine.header(data, b"from", 0), engine.raw_header(data, b"from", 0), engine.header(data, b"x-none", 0)]
+    found += [engine.ids("<a@b>", True), engine.date("1 Jan 2000 00:00"), engine.reason(17), engine.version()]
+    return found + engine.mails(b"From a Fri Jul  8 12:08:34 2011\\nSubject: 1\\n\\n" * 3, 0, 999, False, 10)
+wanted, refused = work(), 0
+for start in range(1, 5000):
+    _testcapi.set_nomemory(start, start + 1)
+    try:
+        assert work() == wanted
+    except MemoryError:
+        refused += 1
+    else:
+        break
+    finally:
+        _testcapi.remove_mem_hooks()
+assert refused > 10 and start < 4999 and work() == wanted, (refused, start)
+""",
+        os.path.join(os.path.dirname(__file__), "..", "..", "samples", "attachment.eml"),
+    )

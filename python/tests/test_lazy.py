@@ -1,0 +1,99 @@
+"""What is decoded when it is asked for: the same as the JSON has, and without it."""
+
+import json
+
+import pytest
+
+import rocktray
+
+TEXT = b"Content-Type: text/plain\n\nsome text\n"
+FORWARDED = b"Content-Type: multipart/mixed; boundary=b\n\n--b\n" + TEXT + b"\n--b\nContent-Type: message/rfc822\n\n" + TEXT + b"\n--b--\n"
+
+
+def pairs_of(elements):
+    """The mailboxes of the JSON, those in groups too."""
+    for element in elements:
+        if "members" in element:
+            yield from pairs_of(element["members"])
+        else:
+            yield (element.get("name") or "", element["address"]) if "address" in element else (element["unknown"], "")
+
+
+def part_of_json(part):
+    """The members of a part by the module, as the JSON has them."""
+    found = {
+        "path": part.path, "inside": part.inside, "type": part.content_type, "charset": part.charset, "params": part.params,
+        "disposition": part.disposition, "file_name": part.file_name, "content_id": part.content_id,
+        "attachment": part.is_attachment, "extracted": part.is_extracted, "encoding": part.encoding, "start": part.start,
+        "end": part.end, "size": part.size, "decoded_size": part.decoded_size, "sha256": None,
+        "report": part.report and [[list(pair) for pair in block] for block in part.report],
+        "headers": [[header.name, header.value] for header in part.headers], "text": part.text,
+    }  # fmt: skip
+    if part.is_damaged:
+        with pytest.raises(rocktray.Refused) as caught:
+            part.content
+        found["error"] = caught.value.text
+    if part.text is not None:
+        found["text_charset"] = part.text_charset
+        if part.is_damaged:
+            found["damaged"] = True
+    return found
+
+
+def test_members_are_those_of_the_json(samples, hostile):
+    made = 0
+    for raw in [FORWARDED, *samples.values(), *hostile]:
+        mail = rocktray.Mail(raw)
+        if mail.error:
+            continue
+        line = mail.json if made % 2 else mail._object  # before the JSON is read, and after it
+        for name in ("from", "to", "cc", "bcc", "sender", "reply_to"):
+            assert getattr(mail, name.replace("from", "from_")) == list(pairs_of(line[name])), raw
+        assert (mail.subject, mail.in_reply_to, mail.references) == (line["subject"], line["in_reply_to"], line["references"])
+        assert mail.message_id == (line["message_id"] or [None])[0]
+        assert mail.date is None or round(mail.date.timestamp()) == line["date"]
+        assert mail.date_error == line.get("date_error") or line["date"] is not None
+        assert mail.is_date_zone_known == ("date_zone_unknown" not in line)
+        assert (mail.bounced_id, [one._asdict() for one in mail.recipients]) == (line["bounced_id"], line["recipients"])
+        assert [part_of_json(mail._part(index)) for index in range(len(line["parts"]))] == line["parts"], raw
+        made += 1
+    assert made > 1000
+
+
+def test_headers_need_no_json(samples, monkeypatch):
+    """What a mail's own headers have, and whether it is refused, is read without the JSON."""
+
+    def refuse(*_):
+        raise AssertionError("the JSON was read")
+
+    monkeypatch.setattr(rocktray._library._engine, "json", refuse)
+    for raw in samples.values():
+        mail = rocktray.parse(raw)
+        assert mail.subject == mail["Subject"] and mail.error is None
+        assert [mail.date, mail.date_error, mail.message_id, mail.references, mail.in_reply_to, mail.recipients, mail.raw]
+
+
+def test_many_parts_and_headers():
+    """More than the buffers on the stack have."""
+    head = b"".join(b"X-%d: %d\n" % (number, number) for number in range(5000))
+    raw = head + b"Content-Type: multipart/mixed; boundary=b\n\n" + b"--b\nA: b\n\nx\n" * 500 + b"--b--\n"
+    mail = rocktray.parse(raw)
+    assert [(it.name, it.value) for it in mail.headers[:-1]] == [(f"X-{number}", str(number)) for number in range(5000)]
+    assert [part.header("a") for part in mail.walk()] == [None] + ["b"] * 500
+    assert (mail["x-4999"], mail.header("X-0", 1), mail.header("X-0", -1), mail["X-\u20ac"]) == ("4999", None, None, None)
+
+
+def test_long_results():
+    """Results that are longer than what is guessed, or than the buffers on the stack."""
+    name = "é" * 3000
+    raw = b"To: " + b", ".join(b"=?utf-8?q?n%d?= <%d@b>" % (number, number) for number in range(3000)) + b"\n"
+    raw += b"Content-Type: x/y" + b"".join(b"; p%d=%d" % (number, number) for number in range(2000)) + b"\n"
+    raw += b"Content-Disposition: inline; filename*=utf-8''" + b"%C3%A9" * 3000 + b"\nSubject: " + b"x" * 100_000 + b"\n\n"
+    mail = rocktray.parse(raw)
+    part = next(mail.walk())
+    assert mail.to == [(f"n{number}", f"{number}@b") for number in range(3000)]
+    assert part.params == {f"p{number}": str(number) for number in range(2000)}
+    assert part.file_name == name and mail.subject == "x" * 100_000
+    text = rocktray.parse(b"Content-Type: text/plain; charset=iso-8859-5\n\n" + b"\xd0" * 100_000)
+    assert text.text == "а" * 100_000
+    assert len(json.dumps(mail.json)) > 100_000
