@@ -117,12 +117,21 @@ def mails_inside(mail, path):
             yield from mails_inside(inner, path_ if has_parts(inner) else f"{path_}.1")
 
 
+def parts_inside(mail, path):
+    """The parts of a mail inside the part with this path, with their paths. The mail itself, if it has parts, is the part
+    `0` there."""
+    if not has_parts(mail):
+        return walk(mail, f"{path}.1")
+    (_path, whole), *parts = walk(mail, path)
+    return [(f"{path}.0", whole), *parts]
+
+
 def all_parts(mail):
     """The parts of a mail, and then those of the mails inside it, with their paths, and before these the path of the
     part that contains the mail, or None."""
     yield from ((None, *found) for found in parts_of(mail))
     for path, inner in mails_inside(mail, "" if has_parts(mail) else "1"):
-        yield from ((path, *found) for found in walk(inner, path if has_parts(inner) else f"{path}.1"))
+        yield from ((path, *found) for found in parts_inside(inner, path))
 
 
 def charset_of(part):
@@ -286,7 +295,7 @@ def parts_anywhere(data, inside=None):
     """The parts of a closed mail, which the part with this path contains, and then those of the mails inside it: as
     `all_parts` has them, but those of encoded mails too."""
     mail = email.message_from_bytes(closed(data))
-    parts = list(walk(mail, (inside or "") if has_parts(mail) else f"{inside}.1" if inside else "1"))
+    parts = list(parts_inside(mail, inside) if inside else walk(mail, "" if has_parts(mail) else "1"))
     yield from ((inside, path, part) for path, part in parts)
     for path, part in parts:
         if kind_of(part) in ("message/rfc822", "message/global"):

@@ -219,7 +219,7 @@ def test_forwarded():
     at = [len(FROM) + data.index(mark) for mark in (b"Subject: in", b" x", b"Subject: one")]
     wanted = [("1", at[0], None), ("2", None, None), ("3", at[1], SPACE), ("4", at[2], None)]
     assert [(mail["path"], mail["start"], mail["error"]) for mail in found["forwarded"]] == wanted, "mails inside"
-    paths = ["", "1", "2", "3", "4", "1", "1.1", "1.2", "2", "2.1", "2.2", "4.1"]
+    paths = ["", "1", "2", "3", "4", "1.0", "1.1", "1.2", "2.0", "2.1", "2.2", "4.1"]
     assert [part_["path"] for part_ in found["parts"]] == paths, "parts of mails inside"
     inside = [None] * 5 + ["1"] * 3 + ["2"] * 3 + ["4"]
     assert [part_["inside"] for part_ in found["parts"]] == inside, "what contains the mails inside"

@@ -40,11 +40,11 @@ def _tree_of(parts: List[Dict[str, Any]]) -> _Tree:
     for index, part in enumerate(parts):
         path, inside = part["path"], part["inside"]
         if index == 0 or inside != parts[index - 1]["inside"]:
-            own = {}
+            own = {path if inside is None else inside: index}
             parent = None if inside is None else forwarding[inside]
         else:
+            own[path] = index
             parent = own[path.rpartition(".")[0]]
-        own[path] = index
         if part["type"] in _FORWARDING:
             forwarding[path] = index
         parents.append(parent)

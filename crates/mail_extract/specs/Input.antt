@@ -13,9 +13,9 @@ use Rattle.mail_data.specs.Mailbox.{Entry, front_length}
 use Rattle.mail_data.specs.MailboxFormats.{entries_in, mail_in}
 use Rattle.mail_data.specs.declared.mailbox.formats.Format.{Format}
 use Rattle.mail_json.specs.JsonLines.{format_of, is_mailbox}
-use Rattle.mail_json.specs.JsonText.{refusal_text}
+use Rattle.mail_program.specs.Refusal.{refusal_text}
 use Rattle.mail_json.specs.Part.{saturating_add}
-use Rattle.mail_json.specs.Written.{IsEnd, IsFault}
+use Rattle.mail_program.specs.Fault.{IsEnd, IsFault}
 use Rattle.mail_json.specs.declared.options.InputKind.{InputKind}
 use Rattle.mail_program.specs.declared.fault.Fault.{Fault}
 use Rattle.mail_program.specs.declared.outcome.Outcome as program

@@ -1,15 +1,14 @@
 //! Saving the files of an input that is read in blocks.
 ghost use Rattle.std.specs.Prelude.{◌≡◌, ◌∷◌, [], Some, flat_map, map, option_map, true};
 ghost use Rattle.std.specs.Prelude.{IfErr, IfOk};
-ghost use Rattle.std.specs.Char.{is_ascii_whitespace};
-ghost use Rattle.std.specs.List.{list_all};
 ghost use Rattle.mail_data.specs.InnerMailViews.{inner_view};
 ghost use Rattle.mail_data.specs.Mailbox.{has_front};
 ghost use Rattle.mail_data.specs.MailboxFormats.{entries_in, mail_in};
 ghost use Rattle.mail_data.specs.MailboxViews.{entries_left};
 ghost use Rattle.mail_json.specs.JsonLines.{format_of};
 ghost use Rattle.mail_json.specs.Part.{saturating_add};
-ghost use Rattle.mail_json.specs.Written.{IsEnd, Writes};
+ghost use Rattle.mail_program.specs.Fault.{IsEnd};
+ghost use Rattle.mail_program.specs.Streams.{Writes};
 ghost use Rattle.mail_extract.specs.ChoiceViews.{options_view};
 ghost use Rattle.mail_extract.specs.Input.{AreMails, Ends, EndsInput, IsInput, IsMail, IsMailbox};
 ghost use Rattle.mail_extract.specs.Input.{file_line, front_lines, inner_lines, refused_line};
@@ -24,8 +23,8 @@ use crate::save::{Saved, save_files};
 use mail_data::inner_mails::InnerMail;
 use mail_data::mailbox::quoted::unquoted;
 use mail_data::mailbox::{Format, Mailbox, MailboxEntry, read_mailbox, settled_entry};
-use mail_json::{InputKind, Wanted, first_wanted, is_mailbox, read_until, refusal_of};
-use mail_program::{Fault, Outcome};
+use mail_json::{InputKind, Wanted, first_wanted, is_mailbox, read_until};
+use mail_program::{Fault, Outcome, is_all_whitespace, refusal_of};
 use mailparse::{KnownCharsets, parse_mail_in};
 use std::alloc::Global;
 use std::io::{self, ErrorKind, Read, Write};
@@ -196,13 +195,6 @@ fn report_front<W: Write>(
         None,
         "The mailbox does not begin with a separator",
     )
-}
-
-/// Returns whether all bytes are whitespace.
-fn is_all_whitespace(bytes: &[u8]) -> bool
-    ensures { result ≡ list_all is_ascii_whitespace bytes.now }
-{
-    bytes.iter().all(|byte| byte.is_ascii_whitespace())
 }
 
 /// Saves the chosen files of the mails of a mailbox from its first separator onwards, of which

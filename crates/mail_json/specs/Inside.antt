@@ -1,12 +1,12 @@
 -- The mails inside a mail, and their parts; the program's own form.
-use Rattle.std.specs.Prelude.{ℕ, List, [], Some}
+use Rattle.std.specs.Prelude.{ℕ, zero, suc, List, [], flat_map, Option, Some}
 use Rattle.std.specs.Option.{option_map_or}
 use Rattle.std.specs.Result.{result_ok}
 use Rattle.mail_codec.specs.Charset.{Charsets}
 use Rattle.mailparse.specs.Mail.{Tree, read_mail_in}
 use Rattle.mailparse.specs.Placement.{placements}
-use Rattle.mailparse.specs.Refusal.{Reads}
-use Rattle.mail_data.specs.InnerMails.{InnerMail, inner_mails, places_under}
+use Rattle.mailparse.specs.Refusal.{Reads, Refusal}
+use Rattle.mail_data.specs.InnerMails.{InnerMail, inner_mails, mails_in_place, places_under}
 use Rattle.mail_data.specs.PartPlaces.{Place}
 
 -- the parts of a mail inside, with their paths in the whole mail; of one that is refused none
@@ -19,3 +19,18 @@ parts_inside known inner = parts_of_read inner.path (read_mail_in known 100 inne
 -- the mails inside a mail, and those inside them
 abbrev pub mails_inside : Charsets → Tree → List InnerMail
 mails_inside known mail = inner_mails known 100 [] (Some 0) mail (placements 0 mail)
+
+-- the mails in parts of a mail, and those inside them, at most `most` mails deep, given the offset of the mail that
+-- contains the parts
+abbrev pub mails_among : Charsets → ℕ → Option ℕ → List Place → List InnerMail
+mails_among known zero start found = []
+mails_among known (suc most) start found = flat_map (mails_in_place known most start) found
+
+-- a mail inside without its bytes: the path of the part that contains it, its offset in the whole mail, and its refusal
+pub record Listed : Type 0 where
+  pub path : List ℕ
+  pub start : Option ℕ
+  pub refusal : Option Refusal
+
+abbrev pub without_bytes : InnerMail → Listed
+without_bytes mail = record { path = mail.path; start = mail.start; refusal = mail.refusal }

@@ -14,12 +14,13 @@ use Rattle.mail_data.specs.MailboxParts.{Placed, placed_from}
 use Rattle.mail_data.specs.Separator.{is_separator}
 use Rattle.mail_data.specs.declared.mailbox.formats.Format.{Format}
 use Rattle.mail_data.specs.declared.mailbox.formats.Format.TheVariants.{Plain}
-use Rattle.mail_json.specs.JsonText.{refusal_text}
+use Rattle.mail_program.specs.Refusal.{refusal_text}
 use Rattle.mail_json.specs.Origin.{Origin}
 use Rattle.mail_json.specs.Part.{saturating_add}
 use Rattle.mail_json.specs.Printed.{line_of}
 use Rattle.mail_json.specs.Values.{IsMailValue, error_value}
-use Rattle.mail_json.specs.Written.{IsEnd, IsFault, is_clean}
+use Rattle.mail_program.specs.Fault.{IsEnd, IsFault}
+use Rattle.mail_json.specs.Written.{is_clean}
 use Rattle.mail_json.specs.declared.options.InputKind.{InputKind}
 use Rattle.mail_json.specs.declared.options.InputKind.TheVariants.{Either, Mail, Mailbox}
 use Rattle.mail_json.specs.declared.written.Written.{Written}

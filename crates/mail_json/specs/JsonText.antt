@@ -1,8 +1,7 @@
--- JSON text of strings and numbers (RFC 8259, sections 6 and 7), and refusals, as this program writes them.
+-- JSON text of strings and numbers (RFC 8259, sections 6 and 7), as this program writes them.
 use Rattle.std.specs.Prelude.{ℕ, zero, suc, ◌^◌, ◌-◌, ◌/◌, ◌%◌, min, ℤ, pos, negsuc, Bool, ◌&&◌, ◌||◌, ◌==◌, nat_le, nat_lt, List, [], ◌∷◌, ◌++◌, codes, decimal, slice_index, if◌then◌else◌}
 use Rattle.std.specs.Char.{digit_char, encode_utf8}
 use Rattle.json.specs.Print.{escape_byte}
-use Rattle.mailparse.specs.Refusal.{Refusal, generic, encoding, base64_fault}
 
 -- the bytes begin with a control from U+0080 to U+009F in UTF-8; with one of the separators U+2028 and U+2029
 abbrev pub begins_control : List ℕ → Bool
@@ -67,7 +66,7 @@ character_text c =
     if is_hidden c then four_digits c else
     if nat_lt c 128 then escape_byte c else encode_utf8 c
 
--- ---- numbers, and refusals
+-- ---- numbers
 
 -- a number in decimal digits, or the greatest of 64 bits, which no size and no offset of an input exceeds
 unfoldable pub number_text : ℕ → List ℕ
@@ -77,9 +76,3 @@ number_text n = decimal (min n (2 ^ 64 - 1))
 unfoldable pub seconds_text : ℤ → List ℕ
 seconds_text (pos n) = decimal (min n (2 ^ 63 - 1))
 seconds_text (negsuc n) = codes "-" ++ decimal (min (suc n) (2 ^ 63))
-
--- why something is refused
-unfoldable pub refusal_text : Refusal → List ℕ
-refusal_text (generic text) = text
-refusal_text (encoding text) = codes "Encoding error: " ++ text
-refusal_text (base64_fault group) = codes "Base64 decode error: group " ++ decimal group ++ codes " is no Base64 group"

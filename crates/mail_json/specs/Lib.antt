@@ -1,6 +1,7 @@
 pub mod JsonText
 pub mod Printed
 pub mod Written
+pub mod LineViews
 pub mod Members
 pub mod Options
 pub mod Fields
@@ -11,6 +12,7 @@ pub mod Origin
 pub mod Body
 pub mod Part
 pub mod Inside
+pub mod InsideViews
 pub mod JsonLines
 pub mod Selection
 pub mod Stream

@@ -7,7 +7,7 @@ use Rattle.json.specs.Json.{Json}
 use Rattle.mail_codec.specs.Escapes.{may_need_escape}
 use Rattle.mail_program.specs.declared.fault.Fault.{Fault}
 use Rattle.mail_json.specs.Printed.{Member, begun, members_after, one}
-use Rattle.mail_json.specs.Written.{IsEnd}
+use Rattle.mail_program.specs.Fault.{IsEnd}
 use Rattle.mail_json.specs.declared.json_text.Position.{Position}
 use Rattle.mail_json.specs.declared.json_text.Position.TheVariants.{First, Later}
 

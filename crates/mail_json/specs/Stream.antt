@@ -10,7 +10,8 @@ use Rattle.mail_data.specs.MailboxParts.{placed_from}
 use Rattle.mail_data.specs.declared.mailbox.formats.Format.{Format}
 use Rattle.mail_json.specs.Selection.{AreChosen, is_range}
 use Rattle.mail_json.specs.JsonLines.{Lines}
-use Rattle.mail_json.specs.Written.{IsFault, is_clean}
+use Rattle.mail_program.specs.Fault.{IsFault}
+use Rattle.mail_json.specs.Written.{is_clean}
 use Rattle.mail_json.specs.declared.selection.Selection.{Selection}
 use Rattle.mail_json.specs.declared.selection.Selection.TheVariants.{Numbered, Within}
 use Rattle.mail_json.specs.declared.options.InputKind.{InputKind}

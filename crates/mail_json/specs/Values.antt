@@ -1,8 +1,9 @@
 -- The JSON values of the lines, in the form that the kit's parser of JSON returns; the program's own form.
-use Rattle.std.specs.Prelude.{◌≡◌, ℕ, Bool, true, false, not, ◌&&◌, ◌==◌, List, [], ◌∷◌, ◌++◌, length, map, Option, Some, None, option_map, Ok, Err, codes}
+use Rattle.std.specs.Prelude.{◌≡◌, ℕ, Bool, true, false, not, ◌&&◌, ◌==◌, nat_le, List, [], ◌∷◌, ◌++◌, length, map, Option, Some, None, option_map, Ok, Err, codes}
 use Rattle.std.specs.List.{flat_map, list_all, AllByRecursion}
 use Rattle.json.specs.Json.{Json, null, boolean, string, document}
 use Rattle.json.specs.Strict.{HasUniqueKeys}
+use Rattle.mail_codec.specs.Ascii.{space}
 use Rattle.mail_codec.specs.Charset.{Charsets}
 use Rattle.mail_codec.specs.Latin1.{latin1_text}
 use Rattle.mailparse.specs.ContentType.{ContentType}
@@ -23,24 +24,25 @@ use Rattle.mail_data.specs.lenient.Texts.{text_read}
 use Rattle.mail_address.specs.Addresses.{Element, Single, single, group}
 use Rattle.mail_address.specs.Headers.{addresses_of}
 use Rattle.mail_address.specs.Mailbox.{Parts}
+use Rattle.mail_address.specs.Tokens.{delete}
 use Rattle.mail_json.specs.Addresses.{canonical, name_of, unless_empty}
 use Rattle.mail_json.specs.Body.{encoding_text}
 use Rattle.mail_json.specs.Fields.{content_id, date_fault_text, disposition_name, value_of, ids_of}
 use Rattle.mail_data.specs.InnerMails.{InnerMail}
-use Rattle.mail_json.specs.Inside.{mails_inside, parts_inside}
+use Rattle.mail_json.specs.Inside.{Listed, mails_inside, parts_inside, without_bytes}
 use Rattle.mail_json.specs.Origin.{Origin}
-use Rattle.mail_json.specs.Part.{Lists, content_if, hash_of, is_attachment, is_read, place_in, recipients_if, report_if, text_shown}
+use Rattle.mail_json.specs.Part.{Lists, content_if, hash_of, is_attachment, is_read, path_shown, place_in, recipients_if, report_if, text_shown}
 use Rattle.mail_json.specs.Options.{Options}
 use Rattle.mail_json.specs.Reports.{delivery_value}
-use Rattle.mail_json.specs.JsonText.{refusal_text}
+use Rattle.mail_program.specs.Refusal.{refusal_text}
 use Rattle.mail_json.specs.Printed.{Member, list_of, number_or_null, number_value, object_of, one, seconds_value, string_or_null, strings}
 
--- a byte that does not end a line
+-- a byte that neither ends a line nor moves the cursor of a terminal: it is neither below the space nor DEL
 abbrev pub is_within_line : ℕ → Bool
-is_within_line b = not (b == 10)
+is_within_line b = nat_le space b && not (b == delete)
 
--- a text is JSON on one line: the kit's parser reads it as this value, in which no object has a key twice, and it has
--- no line end
+-- a text is JSON on one line: the kit's parser reads it as this value, in which no object has a key twice, and none of
+-- its bytes is a control
 pub record IsJsonLine (value : Json) (text : List ℕ) : Type 0 where
   pub read : document text ≡ Some value
   pub unique : HasUniqueKeys value
@@ -96,11 +98,14 @@ abbrev pub decoded_members : Option Content → List Member
 decoded_members (Some content) = size_members content.fault (length content.bytes)
 decoded_members None = one (codes "decoded_size") null
 
--- the object of a mail inside
+-- the object of a mail inside, given the offset of the whole mail in the input
+abbrev pub inside_value : ℕ → Listed → Json
+inside_value origin mail =
+    object_of (one (codes "path") (string mail.path) ++ one (codes "start") (number_or_null (place_in mail.start origin))
+    ++ one (codes "error") (string_or_null (option_map refusal_text mail.refusal)))
+
 abbrev pub inner_value : ℕ → InnerMail → Json
-inner_value start inner =
-    object_of (one (codes "path") (string inner.path) ++ one (codes "start") (number_or_null (place_in inner.start start))
-    ++ one (codes "error") (string_or_null (option_map refusal_text inner.refusal)))
+inner_value origin inner = inside_value origin (without_bytes inner)
 
 -- the member that says that a body is damaged
 abbrev pub damaged_members : Bool → List Member
@@ -231,14 +236,19 @@ module _ (known : Charsets) where
       one (codes "message_id") (id_list false (codes "Message-ID") node) ++ one (codes "in_reply_to") (id_list true (codes "In-Reply-To") node)
       ++ one (codes "references") (id_list true (codes "References") node)
 
-  -- the members of a mail with this origin and these mails inside, whose parts have these values
-  abbrev pub mail_members : Bool → Origin → Tree → List InnerMail → List Json → List Member
-  mail_members decodes origin mail inside parts =
+  -- the members of a mail with this origin before those of its parts
+  abbrev pub head_members : Bool → Origin → Tree → List Member
+  head_members decodes origin mail =
       let node = root mail in
       origin_members origin ++ values_members node ++ one (codes "raw") (raw_values node)
       ++ date_members (option_map zoned_date_of (value_of known (codes "Date") node)) ++ ids_members node
       ++ one (codes "bounced_id") (string_or_null (original_message_id known mail))
-      ++ one (codes "recipients") (recipients_value (recipients_if known decodes mail)) ++ one (codes "parts") (list_of parts)
+      ++ one (codes "recipients") (recipients_value (recipients_if known decodes mail))
+
+  -- the members of a mail with this origin and these mails inside, whose parts have these values
+  abbrev pub mail_members : Bool → Origin → Tree → List InnerMail → List Json → List Member
+  mail_members decodes origin mail inside parts =
+      head_members decodes origin mail ++ one (codes "parts") (list_of parts)
       ++ one (codes "forwarded") (list_of (map (inner_value origin.start) inside))
 
 -- Under these options.
@@ -249,7 +259,7 @@ module _ (options : Options) where
   front_members inside start place pairs =
       let node = root place.part in
       let disposition = shown_as_in options.known node in
-      one (codes "path") (string place.path) ++ one (codes "inside") (string_or_null inside)
+      one (codes "path") (string (path_shown inside place.path)) ++ one (codes "inside") (string_or_null inside)
       ++ type_members node.ctype.mimetype node.ctype.charset pairs
       ++ disposition_members options.known disposition node ++ one (codes "attachment") (boolean (is_attachment place.part disposition))
       ++ one (codes "extracted") (boolean (is_extracted options.known place.part))
@@ -279,12 +289,17 @@ module _ (options : Options) where
       (first : List Json) × (others : List Json) × AreValues (IsPartValue (Some inner.path) (place_in inner.start start)) (parts_inside options.known inner) first
       × AreInsideValues start mails others × (values ≡ first ++ others)
 
-  -- a value is the object of a mail with this origin: with its own parts, and then those of the mails inside
+  -- values are the objects of the parts of a mail that begins at this offset, and then of those of the mails inside
+  abbrev pub ArePartValues : ℕ → Tree → List Json → Type 0
+  ArePartValues start mail values =
+      (parts : List Json) × (others : List Json) × AreValues (IsPartValue None (Some start)) (places mail (placements 0 mail)) parts
+      × AreInsideValues start (mails_inside options.known mail) others × (values ≡ parts ++ others)
+
+  -- a value is the object of a mail with this origin
   abbrev pub IsMailValue : Origin → Tree → Json → Type 0
   IsMailValue origin mail value =
-      (parts : List Json) × (others : List Json) × AreValues (IsPartValue None (Some origin.start)) (places mail (placements 0 mail)) parts
-      × AreInsideValues origin.start (mails_inside options.known mail) others
-      × (value ≡ object_of (mail_members options.known options.decodes_bodies origin mail (mails_inside options.known mail) (parts ++ others)))
+      (parts : List Json) × ArePartValues origin.start mail parts
+      × (value ≡ object_of (mail_members options.known options.decodes_bodies origin mail (mails_inside options.known mail) parts))
 
   -- a value is that of the line of a mail with this origin, or of its refusal
   abbrev pub IsLineValue : Origin → Reads Tree → Json → Type 0

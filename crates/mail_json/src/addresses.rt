@@ -10,7 +10,7 @@ ghost use Rattle.mail_json.specs.Members.{AddsMember, AddsMembers, is_key};
 ghost use Rattle.mail_json.specs.Printed.{text_of};
 ghost use Rattle.mail_json.specs.Values.{address_list, addresses_members, element_value};
 ghost use Rattle.mail_json.specs.Values.{group_value, single_value, unknown_value};
-ghost use Rattle.mail_json.specs.Written.{Writes};
+ghost use Rattle.mail_program.specs.Streams.{Writes};
 
 use crate::json_text::write_word;
 use crate::lists::{ListItem, write_list};

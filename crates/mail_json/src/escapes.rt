@@ -4,7 +4,7 @@ ghost use Rattle.std.specs.Prelude.{◌≡◌, ◌<◌, length, slice_index};
 ghost use Rattle.std.specs.Char.{digit_char};
 ghost use Rattle.mail_json.specs.JsonText.{begins_control, begins_separator, byte_text, escaped};
 ghost use Rattle.mail_json.specs.JsonText.{first_text, more_bytes, separator_text, unicode_escape};
-ghost use Rattle.mail_json.specs.Written.{Writes};
+ghost use Rattle.mail_program.specs.Streams.{Writes};
 
 use mail_codec::bytescan::find_escape;
 use mail_program::Fault;

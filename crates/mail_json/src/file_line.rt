@@ -2,7 +2,7 @@
 ghost use Rattle.mail_json.specs.FileLine.{file_line_value};
 ghost use Rattle.mail_json.specs.FileLineViews.{file_line_view};
 ghost use Rattle.mail_json.specs.Printed.{line_of};
-ghost use Rattle.mail_json.specs.Written.{Writes};
+ghost use Rattle.mail_program.specs.Streams.{Writes};
 
 use crate::json_text::write_word;
 use crate::members::{add_number_or_null, add_optional, first_key, key};

@@ -1,105 +1,232 @@
 //! The mails inside a mail, and the objects of their parts.
-ghost use Rattle.std.specs.Prelude.{◌≡◌, map, option_and_then, option_map, IfOk, true};
+ghost use Rattle.std.specs.Prelude.{◌≡◌, ◌++◌, [], ◌∷◌, map, option_and_then, option_map, true};
+ghost use Rattle.std.specs.Prelude.{IfOk, OnOk};
 ghost use Rattle.mailparse.specs.Outcome.{IsMemory, refusal_of};
-ghost use Rattle.mail_data.specs.InnerMailViews.{inner_view};
-ghost use Rattle.mail_json.specs.Inside.{parts_inside};
-ghost use Rattle.mail_json.specs.JsonText.{refusal_text};
+ghost use Rattle.mailparse.specs.Placement.{placements};
+ghost use Rattle.mailparse.specs.Views.{placements_of, tree_of};
+ghost use Rattle.mail_data.specs.InnerMails.{mails_in_place};
+ghost use Rattle.mail_data.specs.PlaceViews.{place_view};
+ghost use Rattle.mail_json.specs.Inside.{mails_among, mails_inside, without_bytes};
+ghost use Rattle.mail_json.specs.InsideViews.{inside_view};
 ghost use Rattle.mail_json.specs.Members.{AddsMember, is_key};
 ghost use Rattle.mail_json.specs.Options.{options_of};
-ghost use Rattle.mail_json.specs.Part.{place_in};
-ghost use Rattle.mail_json.specs.Printed.{after_commas, list_of, string_or_null, text_of};
-ghost use Rattle.mail_json.specs.Values.{AreInsideValues, AreValues, IsPartValue, inner_value};
-ghost use Rattle.mail_json.specs.Written.{Writes, WritesOne};
+ghost use Rattle.mail_json.specs.Printed.{after_commas, list_of, listed, string_or_null, text_of};
+ghost use Rattle.mail_json.specs.Values.{AreInsideValues, ArePartValues, inside_value};
+ghost use Rattle.mail_json.specs.Written.{WritesOne};
+ghost use Rattle.mail_program.specs.Refusal.{refusal_text};
+ghost use Rattle.mail_program.specs.Streams.{Writes};
 
-use crate::json_text::{Position, refusal_of, write_comma, write_word};
+use crate::json_text::{Position, write_comma, write_word};
 use crate::members::{add_number_or_null, add_optional, add_text, first_key, key};
 use crate::options::LineOptions;
 use crate::part::{Form, place_in, write_found};
-use mail_data::inner_mails::{InnerMail, places_under};
-use mail_program::Fault;
-use mailparse::{KnownCharsets, MailParseError, parse_mail_in};
+use mail_data::inner_mails::{forwarded_mail, places_under};
+use mail_data::places::{Place, places};
+use mail_program::{Fault, refusal_of};
+use mailparse::{KnownCharsets, MAX_LEVELS, MailParseError, ParsedMail, parse_mail_in};
 use std::alloc::{AllocError, Global};
 use std::io::Write;
 
-/// Writes the objects of the parts of the mails inside a mail, each after a comma. The mail begins
-/// at the offset `start` of the input.
-pub(crate) fn write_inside<W: Write, K: KnownCharsets>(
+/// A mail inside a mail, without its bytes.
+#[derive(Drop)]
+pub(crate) struct Inside {
+    /// The path of the part that contains it.
+    path: String,
+    /// Its offset in the whole mail, or `None` if it is encoded.
+    start: Option<usize>,
+    /// Why it is refused, or `None` if it is not.
+    error: Option<MailParseError>,
+}
+
+/// The mail whose parts are searched for mails inside.
+#[derive(Clone, Copy)]
+struct Within {
+    /// The offset of the whole mail in the input.
+    origin: usize,
+    /// The offset of this mail in the whole mail, or `None` if it is encoded.
+    start: Option<usize>,
+    /// How deep mails are searched.
+    most: u8,
+}
+
+/// Writes the objects of a mail and of its parts, and then those of the mails inside it, separated
+/// by commas, and adds the mails inside to a list. The mail begins at the offset `origin` of the
+/// input.
+pub(crate) fn write_parts<W: Write, K: KnownCharsets>(
     alloc: Global,
     out: &mut W,
-    mails: &[InnerMail],
-    start: usize,
+    mail: &ParsedMail<'_>,
+    origin: usize,
     options: LineOptions,
     known: &K,
+    mails: &mut Vec<Inside>,
 ) -> Result<(), Fault>
-    ensures { WritesOne (W.contents out.old) (W.contents out.new) result
-        (after_commas text_of) (AreInsideValues
-        (options_of (K.known known.now) options) start (map inner_view mails.now)) }
+    requires placed { placements_of mail.now ≡ placements 0 (tree_of mail.now) }
+    ensures written { WritesOne (W.contents out.old) (W.contents out.new) result (listed text_of [])
+        (ArePartValues (options_of (K.known known.now) options) origin (tree_of mail.now)) }
+    ensures listed { OnOk result (map inside_view mails.new.items
+        ≡ map inside_view mails.old.items
+        ++ map without_bytes (mails_inside (K.known known.now) (tree_of mail.now))) }
 {
-    for mail in mails {
-        write_inner_parts(alloc, out, mail, start, options, known)?;
+    let form = Form {
+        inside: None,
+        start: Some(origin),
+        options,
+        known,
+    };
+    let found = places(alloc, mail)?;
+    write_found(alloc, out, found.as_slice(), Position::First, form)?;
+    let within = Within {
+        origin,
+        start: Some(0),
+        most: MAX_LEVELS,
+    };
+    write_inside(alloc, out, found.as_slice(), within, options, known, mails)
+}
+
+/// Writes the objects of the parts of the mails that these parts of a mail contain, each after a
+/// comma, and adds those mails to a list.
+#[cycle(inside)]
+fn write_inside<W: Write, K: KnownCharsets>(
+    alloc: Global,
+    out: &mut W,
+    places: &[Place<'_, '_>],
+    within: Within,
+    options: LineOptions,
+    known: &K,
+    mails: &mut Vec<Inside>,
+) -> Result<(), Fault>
+    ensures written { WritesOne (W.contents out.old) (W.contents out.new) result
+        (after_commas text_of) (AreInsideValues
+        (options_of (K.known known.now) options) within.origin
+        (mails_among (K.known known.now) within.most within.start (map place_view places.now))) }
+    ensures listed { OnOk result (map inside_view mails.new.items
+        ≡ map inside_view mails.old.items ++ map without_bytes
+        (mails_among (K.known known.now) within.most within.start (map place_view places.now))) }
+{
+    if within.most == 0 {
+        return Ok(());
+    }
+    for place in places {
+        let deeper = Within {
+            origin: within.origin,
+            start: within.start,
+            most: within.most - 1,
+        };
+        write_forwarded(alloc, out, place, deeper, options, known, mails)?;
     }
     Ok(())
 }
 
-/// Writes the objects of the parts of a mail inside, each after a comma; none for one that is
-/// refused.
-fn write_inner_parts<W: Write, K: KnownCharsets>(
+/// Writes the objects of the parts of the mail that a part of a mail contains, and of those inside
+/// it, each after a comma, and adds these mails to a list; none if the mail is refused.
+#[cycle(inside)]
+fn write_forwarded<W: Write, K: KnownCharsets>(
     alloc: Global,
     out: &mut W,
-    inner: &InnerMail,
-    start: usize,
+    place: &Place<'_, '_>,
+    within: Within,
     options: LineOptions,
     known: &K,
+    mails: &mut Vec<Inside>,
 ) -> Result<(), Fault>
-    ensures { WritesOne (W.contents out.old) (W.contents out.new) result
-        (after_commas text_of) (AreValues
-        (IsPartValue (options_of (K.known known.now) options)
-        (Some (inner_view inner.now).path) (place_in inner.now.start start))
-        (parts_inside (K.known known.now) (inner_view inner.now))) }
+    ensures written { WritesOne (W.contents out.old) (W.contents out.new) result
+        (after_commas text_of) (AreInsideValues
+        (options_of (K.known known.now) options) within.origin
+        (mails_in_place (K.known known.now) within.most within.start (place_view place.now))) }
+    ensures listed { OnOk result (map inside_view mails.new.items
+        ≡ map inside_view mails.old.items ++ map without_bytes
+        (mails_in_place (K.known known.now) within.most within.start (place_view place.now))) }
 {
-    match parse_mail_in(alloc, inner.bytes.as_slice(), known) {
+    let Some(found) = forwarded_mail(alloc, place, within.start)? else {
+        return Ok(());
+    };
+    let path = place.path.as_str();
+    match parse_mail_in(alloc, found.bytes.as_slice(), known) {
         Ok(mail) => {
+            push_inside(alloc, path, found.start, None, mails)?;
             let form = Form {
-                inside: Some(inner.path.as_str()),
-                start: place_in(inner.start, start),
+                inside: Some(path),
+                start: place_in(found.start, within.origin),
                 options,
                 known,
             };
-            let found = places_under(alloc, &mail, inner.path.as_str())?;
-            write_found(alloc, out, found.as_slice(), Position::Later, form)
+            let parts = places_under(alloc, &mail, path)?;
+            write_found(alloc, out, parts.as_slice(), Position::Later, form)?;
+            let inside = Within {
+                origin: within.origin,
+                start: found.start,
+                most: within.most,
+            };
+            write_inside(alloc, out, parts.as_slice(), inside, options, known, mails)
         }
         Err(error) => {
-            refused(&error)?;
+            push_refused(alloc, path, found.start, error, mails)?;
             Ok(())
         }
     }
 }
 
-/// Passes on that memory ran out. With any other error a mail is refused.
-fn refused(error: &MailParseError) -> Result<(), AllocError>
-    ensures { IfOk result (λ done. IsMemory error.now → ⊥) }
+/// Adds a mail that is refused with this error to a list, unless memory ran out.
+fn push_refused(
+    alloc: Global,
+    path: &str,
+    start: Option<usize>,
+    error: MailParseError,
+    mails: &mut Vec<Inside>,
+) -> Result<(), AllocError>
+    ensures listed { OnOk result (map inside_view mails.new.items
+        ≡ map inside_view mails.old.items ++ record {
+          path = path.now;
+          start = start;
+          refusal = refusal_of error;
+        } ∷ []) }
+    ensures passed_on { IfOk result (λ done. IsMemory error → ⊥) }
 {
     match error {
-        MailParseError::Memory(_) => Err(AllocError),
-        _ => Ok(()),
+        MailParseError::Memory(error) => Err(error),
+        error => push_inside(alloc, path, start, Some(error), mails),
     }
 }
 
+/// Adds a mail to a list.
+fn push_inside(
+    alloc: Global,
+    path: &str,
+    start: Option<usize>,
+    error: Option<MailParseError>,
+    mails: &mut Vec<Inside>,
+) -> Result<(), AllocError>
+    ensures { OnOk result (map inside_view mails.new.items
+        ≡ map inside_view mails.old.items ++ record {
+          path = path.now;
+          start = start;
+          refusal = option_and_then refusal_of error;
+        } ∷ []) }
+{
+    mails.push(Inside {
+        path: String::from_str(alloc, path)?,
+        start,
+        error,
+    })?;
+    Ok(())
+}
+
 /// Writes the list of the mails inside a mail that begins at this offset of the input.
-pub(crate) fn write_forwarded<W: Write>(
+pub(crate) fn write_mails<W: Write>(
     alloc: Global,
     out: &mut W,
-    mails: &[InnerMail],
-    start: usize,
+    mails: &[Inside],
+    origin: usize,
 ) -> Result<(), Fault>
     ensures { Writes (W.contents out.old) (W.contents out.new) result
-        (text_of (list_of (map (inner_value start) (map inner_view mails.now)))) }
+        (text_of (list_of (map (inside_value origin) (map inside_view mails.now)))) }
 {
     write_word(out, "[")?;
     let mut position = Position::First;
     for mail in mails {
         write_comma(out, position)?;
-        write_inner(alloc, out, mail, start)?;
+        write_inner(alloc, out, mail, origin)?;
         position = Position::Later;
     }
     write_word(out, "]")
@@ -109,14 +236,14 @@ pub(crate) fn write_forwarded<W: Write>(
 fn write_inner<W: Write>(
     alloc: Global,
     out: &mut W,
-    inner: &InnerMail,
-    start: usize,
+    inner: &Inside,
+    origin: usize,
 ) -> Result<(), Fault>
     ensures { Writes (W.contents out.old) (W.contents out.new) result
-        (text_of (inner_value start (inner_view inner.now))) }
+        (text_of (inside_value origin (inside_view inner.now))) }
 {
     add_text(out, first_key!("path"), inner.path.as_str())?;
-    add_number_or_null(out, key!("start"), place_in(inner.start, start))?;
+    add_number_or_null(out, key!("start"), place_in(inner.start, origin))?;
     add_refusal(alloc, out, key!("error"), &inner.error)?;
     write_word(out, "}")
 }

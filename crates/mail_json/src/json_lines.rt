@@ -1,7 +1,5 @@
 //! The lines of a mail, or of the mails of a mailbox, that is in memory.
-ghost use Rattle.std.specs.Prelude.{◌≡◌, option_map};
-ghost use Rattle.std.specs.Char.{is_ascii_whitespace};
-ghost use Rattle.std.specs.List.{list_all};
+ghost use Rattle.std.specs.Prelude.{option_map};
 ghost use Rattle.mail_data.specs.MailboxViews.{entries_left};
 ghost use Rattle.mail_data.specs.MailboxFormats.{mail_in};
 ghost use Rattle.mail_data.specs.MailboxParts.{placed_from};
@@ -11,7 +9,7 @@ ghost use Rattle.mail_json.specs.Options.{options_of};
 ghost use Rattle.mail_json.specs.Origin.{origin_of};
 ghost use Rattle.mail_json.specs.Selection.{AreChosen, AreMailboxChosen, IsEntryLine, number_of};
 
-use crate::json_text::{refusal_of, write_word};
+use crate::json_text::write_word;
 use crate::mail::write_mail;
 use crate::options::{LineOptions, Source};
 use crate::origin::{Origin, write_error};
@@ -19,7 +17,7 @@ use crate::selection::{NextMail, Selection};
 use crate::written::Written;
 use mail_data::mailbox::quoted::unquoted;
 use mail_data::mailbox::{Format, Mailbox, MailboxEntry, read_mailbox};
-use mail_program::Fault;
+use mail_program::{Fault, is_all_whitespace, refusal_of};
 use mailparse::{KnownCharsets, parse_mail_in};
 use std::alloc::Global;
 use std::io::Write;
@@ -110,13 +108,6 @@ pub(crate) fn write_front<W: Write>(
     };
     write_error(out, &origin, "The mailbox does not begin with a separator")?;
     Ok(Written::WithErrors)
-}
-
-/// Returns whether all bytes are whitespace.
-fn is_all_whitespace(bytes: &[u8]) -> bool
-    ensures { result ≡ list_all is_ascii_whitespace bytes.now }
-{
-    bytes.iter().all(|byte| byte.is_ascii_whitespace())
 }
 
 /// Writes the lines of those mails of a mailbox that have one.

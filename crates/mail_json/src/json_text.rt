@@ -1,17 +1,12 @@
-//! JSON text of strings, numbers and refusals (RFC 8259, sections 5 to 7).
-ghost use Rattle.std.specs.Prelude.{◌≡◌, map, option_map, string_bytes, IfOk};
+//! JSON text of strings and numbers (RFC 8259, sections 5 to 7).
+ghost use Rattle.std.specs.Prelude.{map, option_map, string_bytes};
 ghost use Rattle.json.specs.Json.{string};
-ghost use Rattle.mail_json.specs.JsonText.{refusal_text};
 ghost use Rattle.mail_json.specs.Printed.{comma, number_or_null, number_value};
 ghost use Rattle.mail_json.specs.Printed.{string_or_null, strings, text_of};
-ghost use Rattle.mail_json.specs.Written.{Writes};
-ghost use Rattle.mailparse.specs.Map.{text_found};
-ghost use Rattle.mailparse.specs.Outcome.{IsMemory, refusal_of};
+ghost use Rattle.mail_program.specs.Streams.{Writes};
 
 use crate::escapes::write_escaped;
 use mail_program::Fault;
-use mailparse::MailParseError;
-use std::alloc::{AllocError, Global};
 use std::io::Write;
 
 /// The position of an item in a list.
@@ -102,44 +97,4 @@ pub(crate) fn write_number<W: Write>(out: &mut W, number: usize) -> Result<(), F
 {
     write!(out, "{number}")?;
     Ok(())
-}
-
-/// Returns why something is refused, as `Display` shows it, or `None` for an error that refuses
-/// nothing.
-///
-/// Allocates the text.
-///
-/// # Errors
-///
-/// If it runs out of memory, and for `MailParseError::Memory`.
-///
-/// # Examples
-///
-/// ```rust
-/// use mail_json::refusal_of;
-/// use mailparse::MailParseError;
-///
-/// let text = refusal_of(alloc, &MailParseError::Generic("no mail"))?;
-/// assert_eq!(rt; text.as_deref(), Some("no mail"));
-/// ```
-#[tactic(auto, unfolding(crate::specs::JsonText::refusal_text))]
-pub fn refusal_of(alloc: Global, error: &MailParseError) -> Result<Option<String>, AllocError>
-    ensures read { IfOk result (λ text.
-        text_found text ≡ option_map refusal_text (refusal_of error.now)) }
-    ensures passed_on { IfOk result (λ text. IsMemory error.now → ⊥) }
-{
-    let text = match error {
-        MailParseError::Base64DecodeError(fault) => {
-            let group = fault.group;
-            format!(in alloc; "Base64 decode error: group {group} is no Base64 group")
-        }
-        MailParseError::EncodingError(text) => {
-            let text = text.as_str();
-            format!(in alloc; "Encoding error: {text}")
-        }
-        MailParseError::Generic(text) => String::from_str(alloc, text),
-        MailParseError::QuotedPrintableDecodeError(_) => return Ok(None),
-        MailParseError::Memory(_) => Err(AllocError),
-    };
-    Ok(Some(text?))
 }

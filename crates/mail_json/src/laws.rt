@@ -28,9 +28,10 @@ pub fn strings_are_characters()
 {}
 
 /// Each line that is written of an input is JSON, and ends in its only LF: the parser of the crate
-/// `json` reads the text before the LF as a value in which no object has a key twice. For the line
-/// of a mail, or of its refusal, this is the value that `IsLineValue` gives, for that of an input
-/// that could not be read it is `unread_value`, and for that of a file `file_line_value`.
+/// `json` reads the text before the LF as a value in which no object has a key twice. No other byte
+/// of the line is a control: it is neither below the space nor DEL. For the line of a mail, or of
+/// its refusal, the value is what `IsLineValue` gives, for that of an input that could not be read
+/// it is `unread_value`, and for that of a file `file_line_value`.
 pub fn lines_are_json()
     ensures line { (options : Options) (origin : Origin) (mail : Reads Tree) (is_clean : Bool)
         (text : List ℕ) → IsLineOf options origin mail is_clean text →

@@ -10,6 +10,7 @@ mod inside;
 mod json_lines;
 mod json_text;
 pub mod laws;
+mod line_buffer;
 mod lists;
 mod mail;
 mod members;
@@ -24,7 +25,6 @@ mod written;
 
 pub use file_line::{FileLine, write_file_line};
 pub use json_lines::write_single;
-pub use json_text::refusal_of;
 pub use mail::write_mail;
 pub use options::{InputKind, LineOptions, Source};
 pub use origin::{Origin, write_unread};

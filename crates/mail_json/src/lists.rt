@@ -3,7 +3,7 @@ ghost use Rattle.std.specs.Prelude.{map};
 ghost use Rattle.json.specs.Json.{Json};
 ghost use Rattle.mail_codec.specs.Charset.{Charsets};
 ghost use Rattle.mail_json.specs.Printed.{list_of, text_of};
-ghost use Rattle.mail_json.specs.Written.{Writes};
+ghost use Rattle.mail_program.specs.Streams.{Writes};
 
 use crate::json_text::{Position, write_comma, write_word};
 use mail_program::Fault;

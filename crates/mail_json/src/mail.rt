@@ -1,5 +1,5 @@
 //! The object of a mail.
-ghost use Rattle.std.specs.Prelude.{◌≡◌, codes, option_map, true};
+ghost use Rattle.std.specs.Prelude.{◌≡◌, codes, option_map, true, IfErr, IfOk};
 ghost use Rattle.mailparse.specs.Mail.{root};
 ghost use Rattle.mailparse.specs.Placement.{placements};
 ghost use Rattle.mailparse.specs.Views.{placements_of, tree_of};
@@ -7,27 +7,29 @@ ghost use Rattle.mail_data.specs.lenient.Date.{zoned_date_of};
 ghost use Rattle.mail_json.specs.Fields.{date_fault_text, value_of};
 ghost use Rattle.mail_json.specs.Origin.{origin_of};
 ghost use Rattle.mail_json.specs.Options.{options_of};
-ghost use Rattle.mail_json.specs.Members.{AddsMember, AddsMembers, is_key};
-ghost use Rattle.mail_json.specs.Printed.{text_of};
-ghost use Rattle.mail_json.specs.Values.{IsMailValue, date_members, ids_members};
+ghost use Rattle.mail_json.specs.Members.{AddsMember, AddsMembers, BeginsMembers, is_key};
+ghost use Rattle.mail_json.specs.Printed.{begun, text_of};
+ghost use Rattle.mail_json.specs.Values.{IsMailValue, date_members, head_members, ids_members};
 ghost use Rattle.mail_json.specs.Values.{raw_value, raw_values, value_or_null, values_members};
 ghost use Rattle.mail_json.specs.Values.{zone_members};
-ghost use Rattle.mail_json.specs.Written.{Writes, WritesOne};
+ghost use Rattle.mail_json.specs.LineViews.{line_bytes};
+ghost use Rattle.mail_program.specs.Fault.{IsEnd};
+ghost use Rattle.mail_program.specs.Streams.{Writes};
+ghost use Rattle.mail_json.specs.Written.{WritesOne};
 
 use crate::addresses::write_addresses;
 use crate::fields::{ids_of, value_of};
-use crate::inside::{write_forwarded, write_inside};
+use crate::inside::{write_mails, write_parts};
 use crate::json_text::write_word;
+use crate::line_buffer::{LineBuffer, memory_fault};
 use crate::members::{
     add_flag, add_null, add_optional, add_seconds, add_text, add_texts, first_key, key,
 };
 use crate::options::LineOptions;
 use crate::origin::{Origin, write_origin};
-use crate::part::{Form, write_parts};
 use crate::reports::write_reported;
 use mail_codec::charset::decode_latin1;
 use mail_data::bounce::original_message_id;
-use mail_data::inner_mails::inner_mails;
 use mail_data::lenient::{DateError, IdRule, zoned_date_of};
 use mail_program::Fault;
 use mailparse::{KnownCharsets, MailHeaderMap, ParsedMail};
@@ -66,6 +68,49 @@ pub fn write_mail<W: Write, K: KnownCharsets>(
         (IsMailValue (options_of (K.known known.now) options) (origin_of origin.now)
         (tree_of mail.now)) }
 {
+    let head = head_of(alloc, mail, origin, options, known)?;
+    out.write_all(head.as_slice())?;
+    let mut inside = Vec::new(alloc);
+    write_word(out, key!("parts"))?;
+    write_word(out, "[")?;
+    write_parts(alloc, out, mail, origin.start, options, known, &mut inside)?;
+    write_word(out, "]")?;
+    write_word(out, key!("forwarded"))?;
+    write_mails(alloc, out, inside.as_slice(), origin.start)?;
+    write_word(out, "}")
+}
+
+/// Returns the members of a mail before those of its parts.
+fn head_of<K: KnownCharsets>(
+    alloc: Global,
+    mail: &ParsedMail<'_>,
+    origin: &Origin<'_>,
+    options: LineOptions,
+    known: &K,
+) -> Result<LineBuffer, Fault>
+    ensures written { IfOk result (λ line. line_bytes line ≡ begun (head_members
+        (K.known known.now) options.decodes_bodies (origin_of origin.now) (tree_of mail.now))) }
+    ensures failed { IfErr result IsEnd }
+{
+    let mut line = LineBuffer::new(alloc)?;
+    match write_head(alloc, &mut line, mail, origin, options, known) {
+        Ok(()) => Ok(line),
+        Err(fault) => Err(memory_fault(fault)),
+    }
+}
+
+/// Writes the members of a mail before those of its parts.
+fn write_head<W: Write, K: KnownCharsets>(
+    alloc: Global,
+    out: &mut W,
+    mail: &ParsedMail<'_>,
+    origin: &Origin<'_>,
+    options: LineOptions,
+    known: &K,
+) -> Result<(), Fault>
+    ensures { BeginsMembers (W.contents out.old) (W.contents out.new) result (head_members
+        (K.known known.now) options.decodes_bodies (origin_of origin.now) (tree_of mail.now)) }
+{
     write_origin(out, origin)?;
     write_values(alloc, out, mail, known)?;
     write_word(out, key!("raw"))?;
@@ -76,21 +121,7 @@ pub fn write_mail<W: Write, K: KnownCharsets>(
     add_optional(out, key!("bounced_id"), bounced.as_deref())?;
     write_word(out, key!("recipients"))?;
     write_reported(alloc, out, mail, options.decodes_bodies, known)?;
-    let inside = inner_mails(alloc, mail, known)?;
-    let form = Form {
-        inside: None,
-        start: Some(origin.start),
-        options,
-        known,
-    };
-    write_word(out, key!("parts"))?;
-    write_word(out, "[")?;
-    write_parts(alloc, out, mail, form)?;
-    write_inside(alloc, out, inside.as_slice(), origin.start, options, known)?;
-    write_word(out, "]")?;
-    write_word(out, key!("forwarded"))?;
-    write_forwarded(alloc, out, inside.as_slice(), origin.start)?;
-    write_word(out, "}")
+    Ok(())
 }
 
 /// Writes the members that are values of headers.

@@ -7,7 +7,7 @@ ghost use Rattle.json.specs.Json.{boolean, null, string};
 ghost use Rattle.mail_json.specs.Members.{AddsMember, is_key};
 ghost use Rattle.mail_json.specs.Printed.{number_or_null, number_value, seconds_value};
 ghost use Rattle.mail_json.specs.Printed.{string_or_null, strings, text_of};
-ghost use Rattle.mail_json.specs.Written.{Writes};
+ghost use Rattle.mail_program.specs.Streams.{Writes};
 
 use crate::json_text::{
     write_name, write_number, write_number_or_null, write_text, write_texts, write_word,

@@ -4,7 +4,7 @@ ghost use Rattle.mail_json.specs.Origin.{origin_of};
 ghost use Rattle.mail_json.specs.Members.{BeginsMembers};
 ghost use Rattle.mail_json.specs.Printed.{line_of};
 ghost use Rattle.mail_json.specs.Values.{error_value, file_members, origin_members, unread_value};
-ghost use Rattle.mail_json.specs.Written.{Writes};
+ghost use Rattle.mail_program.specs.Streams.{Writes};
 
 use crate::json_text::write_word;
 use crate::members::{

@@ -1,48 +1,52 @@
 //! The objects of the parts.
-ghost use Rattle.std.specs.Prelude.{◌&&◌, ◌≡◌, length, IfErr, IfOk, [], map, option_map};
-ghost use Rattle.std.specs.Prelude.{◌||◌, not, true, false, Ok};
+ghost use Rattle.std.specs.Prelude.{◌&&◌, ◌≡◌, codes, length, IfErr, IfOk, map, option_map};
+ghost use Rattle.std.specs.Prelude.{◌||◌, not, string_bytes, true, false, Ok};
+ghost use Rattle.json.specs.Json.{Json, string};
 ghost use Rattle.mailparse.specs.Map.{text_found};
 ghost use Rattle.mailparse.specs.BodyViews.{IsBody, content_of};
 ghost use Rattle.mailparse.specs.Mail.{Tree, root};
 ghost use Rattle.mailparse.specs.Outcome.{AnswersOrMemory, IsMemory};
 ghost use Rattle.mailparse.specs.Views as views;
-ghost use Rattle.mailparse.specs.Views.{content_type, placements_of, tree_of};
-ghost use Rattle.mail_data.specs.PartPlaces.{places};
-ghost use Rattle.mail_data.specs.lenient.Content.{message_content};
+ghost use Rattle.mailparse.specs.Views.{content_type, tree_of};
 ghost use Rattle.mail_data.specs.lenient.ContentViews.{content_view};
 ghost use Rattle.mail_data.specs.lenient.Encoding.{lenient_body_kind};
 ghost use Rattle.mail_data.specs.PlaceViews.{place_view};
 ghost use Rattle.mail_data.specs.Files.{is_leaf, is_shown};
 ghost use Rattle.mail_data.specs.ReportViews.{block_view};
 ghost use Rattle.mail_json.specs.Part.{Lists, content_if, hash_of, is_attachment, is_read};
-ghost use Rattle.mail_json.specs.Part.{place_in, report_if};
+ghost use Rattle.mail_json.specs.Part.{path_shown, place_in, report_if, text_shown};
 ghost use Rattle.mail_json.specs.Options.{options_of};
-ghost use Rattle.mail_json.specs.Members.{AddsMembers};
-ghost use Rattle.mail_json.specs.Printed.{comma, listed, member_text, object_of, text_of};
+ghost use Rattle.mail_json.specs.LineViews.{line_bytes};
+ghost use Rattle.mail_json.specs.Members.{AddsMembers, BeginsMembers};
+ghost use Rattle.mail_program.specs.Fault.{IsEnd};
+ghost use Rattle.mail_json.specs.Printed.{comma, listed, member_text, object_of, one, text_of};
 ghost use Rattle.mail_json.specs.Values.{AreValues, IsPartValue, body_members, bounds_in};
 ghost use Rattle.mail_json.specs.Values.{damaged_members, decoded_members, shown_members};
 ghost use Rattle.mail_json.specs.Values.{disposition_members, header_value, parameter_member};
 ghost use Rattle.mail_json.specs.Values.{size_members};
-ghost use Rattle.mail_json.specs.Written.{Writes, WritesOne};
+ghost use Rattle.mail_program.specs.Streams.{Writes};
+ghost use Rattle.mail_json.specs.Written.{WritesOne};
 
 use crate::body::encoding_name;
 use crate::fields::{content_id, disposition_name};
-use crate::json_text::{Position, refusal_of, write_comma, write_text, write_word};
+use crate::json_text::{Position, write_comma, write_text, write_word};
+use crate::line_buffer::{LineBuffer, memory_fault};
 use crate::lists::{ListItem, write_list};
 use crate::members::{
     add_flag, add_null, add_number, add_number_or_null, add_optional, add_text, first_key, key,
 };
 use crate::options::LineOptions;
 use crate::reports::{write_pair, write_report};
+use mail_codec::charset::decode_latin1;
 use mail_data::files::{
     describes_attachment, is_attachment_disposition, is_leaf, is_shown, named_file,
 };
-use mail_data::flowed::flowed_text;
+use mail_data::flowed::unflowed_of;
 use mail_data::lenient::{Content, charset_used, lenient_body, lenient_content, lenient_text};
-use mail_data::places::{Place, places};
+use mail_data::places::Place;
 use mail_data::reports::{Block, report_blocks};
 use mail_data::texts::text_type;
-use mail_program::{Fault, sha256_text};
+use mail_program::{Fault, refusal_of, sha256_text};
 use mailparse::body::Body;
 use mailparse::{
     KnownCharsets, MailHeader, MailParseError, ParsedContentDisposition, ParsedContentType,
@@ -62,23 +66,6 @@ pub(crate) struct Form<'f, K> {
     pub options: LineOptions,
     /// The charsets in which they are read.
     pub known: &'f K,
-}
-
-/// Writes the objects of a mail and of its parts, separated by commas, without those of the mails
-/// inside it.
-pub(crate) fn write_parts<W: Write, K: KnownCharsets>(
-    alloc: Global,
-    out: &mut W,
-    mail: &ParsedMail<'_>,
-    form: Form<'_, K>,
-) -> Result<(), Fault>
-    ensures { WritesOne (W.contents out.old) (W.contents out.new) result (listed text_of [])
-        (AreValues (IsPartValue (options_of (K.known form.entry.known.now) form.entry.options)
-        (option_map (λ path. path.now) form.entry.inside) form.entry.start)
-        (places (tree_of mail.now) (placements_of mail.now))) }
-{
-    let found = places(alloc, mail)?;
-    write_found(alloc, out, found.as_slice(), Position::First, form)
 }
 
 /// Writes the objects of parts of a mail, the first one of which comes at this position of the list
@@ -117,9 +104,45 @@ pub(crate) fn write_part<W: Write, K: KnownCharsets>(
         (option_map (λ path. path.now) form.entry.inside) form.entry.start
         (place_view place.now)) }
 {
+    let object = object_of(alloc, place, form)?;
+    out.write_all(object.as_slice())?;
+    Ok(())
+}
+
+/// Returns the object of a part, without its parts.
+fn object_of<K: KnownCharsets>(
+    alloc: Global,
+    place: &Place<'_, '_>,
+    form: Form<'_, K>,
+) -> Result<LineBuffer, Fault>
+    ensures written { IfOk result (λ line. (value : Json) × IsPartValue
+        (options_of (K.known form.entry.known.now) form.entry.options)
+        (option_map (λ path. path.now) form.entry.inside) form.entry.start (place_view place.now)
+        value × (line_bytes line ≡ text_of value)) }
+    ensures failed { IfErr result IsEnd }
+{
+    let mut line = LineBuffer::new(alloc)?;
+    match write_object(alloc, &mut line, place, form) {
+        Ok(()) => Ok(line),
+        Err(fault) => Err(memory_fault(fault)),
+    }
+}
+
+/// Writes the object of a part, without its parts, member by member.
+fn write_object<W: Write, K: KnownCharsets>(
+    alloc: Global,
+    out: &mut W,
+    place: &Place<'_, '_>,
+    form: Form<'_, K>,
+) -> Result<(), Fault>
+    ensures { WritesOne (W.contents out.old) (W.contents out.new) result text_of
+        (IsPartValue (options_of (K.known form.entry.known.now) form.entry.options)
+        (option_map (λ path. path.now) form.entry.inside) form.entry.start
+        (place_view place.now)) }
+{
     let part = place.part;
     let (options, known) = (form.options, form.known);
-    add_text(out, first_key!("path"), place.path.as_str())?;
+    add_path(alloc, out, form.inside, place.path.as_str())?;
     add_optional(out, key!("inside"), form.inside)?;
     add_text(out, key!("type"), part.ctype.mimetype.as_str())?;
     add_text(out, key!("charset"), part.ctype.charset.as_str())?;
@@ -147,6 +170,26 @@ pub(crate) fn write_part<W: Write, K: KnownCharsets>(
     let shown = is_read(part, &disposition);
     write_part_text(alloc, out, &content, part, shown, options, known)?;
     write_word(out, "}")
+}
+
+/// Adds the path of a part of a mail that is inside the part with the path `inside`, or in none. A
+/// mail inside that has parts is part `0` there, since IMAP has one name for it and that part.
+fn add_path<W: Write>(
+    alloc: Global,
+    out: &mut W,
+    inside: Option<&str>,
+    path: &str,
+) -> Result<(), Fault>
+    ensures { BeginsMembers (W.contents out.old) (W.contents out.new) result (one (codes "path")
+        (string (path_shown (option_map (λ inside. inside.now) inside.entry) path.now))) }
+{
+    match inside {
+        Some(inside) if path == inside => {
+            let path = format!(in alloc; "{path}.0")?;
+            add_text(out, first_key!("path"), path.as_str())
+        }
+        _ => add_text(out, first_key!("path"), path),
+    }
 }
 
 /// Writes the offsets of a part of a mail that begins at this offset, or is encoded.
@@ -365,46 +408,23 @@ fn write_part_text<W: Write, K: KnownCharsets>(
     let Some(content) = content else {
         return add_null(out, key!("text"));
     };
-    if options.joins_flowed {
-        return write_flowed(alloc, out, part, is_read, known);
-    }
-    write_body_text(alloc, out, content, &part.ctype, is_read, known)
+    write_body_text(alloc, out, content, &part.ctype, is_read, options, known)
 }
 
-/// Writes the same as `write_part_text`, with each flowed paragraph as one line.
-fn write_flowed<W: Write, K: KnownCharsets>(
-    alloc: Global,
-    out: &mut W,
-    part: &ParsedMail<'_>,
-    is_read: bool,
-    known: &K,
-) -> Result<(), Fault>
-    ensures { AddsMembers (W.contents out.old) (W.contents out.new) result
-        (shown_members (K.known known.now) true is_read (root (tree_of part.now)).ctype
-        (message_content (root (tree_of part.now)))) }
-{
-    if !is_read {
-        return add_null(out, key!("text"));
-    }
-    let read = flowed_text(alloc, part, known)?;
-    add_text(out, key!("text"), read.text.as_str())?;
-    add_text(out, key!("text_charset"), read.charset.as_str())?;
-    write_damaged(out, read.is_damaged)?;
-    Ok(())
-}
-
-/// Writes the members of the text of a body, or `null` if it is not shown: the text, the charset in
-/// which it is read, and whether the body is damaged.
+/// Writes the members of the text of a body, or `null` if it is not shown: the text, with each
+/// flowed paragraph as one line if that is wanted, the charset in which it is read, and whether the
+/// body is damaged.
 fn write_body_text<W: Write, K: KnownCharsets>(
     alloc: Global,
     out: &mut W,
     content: &Content<'_>,
     ctype: &ParsedContentType,
     is_read: bool,
+    options: LineOptions,
     known: &K,
 ) -> Result<(), Fault>
     ensures { AddsMembers (W.contents out.old) (W.contents out.new) result
-        (shown_members (K.known known.now) false is_read (content_type ctype.now)
+        (shown_members (K.known known.now) options.joins_flowed is_read (content_type ctype.now)
         (content_view content.now)) }
 {
     if !is_read {
@@ -412,10 +432,28 @@ fn write_body_text<W: Write, K: KnownCharsets>(
     }
     let bytes = content.bytes.as_slice();
     let text = lenient_text(alloc, bytes, ctype, known)?;
-    add_text(out, key!("text"), text.as_str())?;
+    let shown = text_shown(alloc, ctype, text, options.joins_flowed)?;
+    add_text(out, key!("text"), shown.as_str())?;
     add_text(out, key!("text_charset"), charset_used(bytes, ctype, known))?;
     write_damaged(out, content.fault.is_some())?;
     Ok(())
+}
+
+/// Returns a text of this type as it is shown: with each flowed paragraph as one line, if that is
+/// wanted.
+fn text_shown(
+    alloc: Global,
+    ctype: &ParsedContentType,
+    text: String,
+    joins_flowed: bool,
+) -> Result<String, AllocError>
+    ensures { IfOk result (λ shown.
+        string_bytes shown ≡ text_shown joins_flowed (content_type ctype.now) (string_bytes text)) }
+{
+    if joins_flowed {
+        return unflowed_of(alloc, ctype, text);
+    }
+    Ok(text)
 }
 
 /// Writes the member for a damaged body, or nothing if it is not damaged.
@@ -439,7 +477,7 @@ impl ListItem for MailHeader<'_> {
         out: &mut W,
         known: &K,
     ) -> Result<(), Fault> {
-        let key = self.get_key(alloc)?;
+        let key = decode_latin1(alloc, self.get_key_raw())?;
         let value = self.get_value_in(alloc, known)?;
         write_pair(out, key.as_str(), value.as_str())
     }

@@ -8,7 +8,7 @@ ghost use Rattle.mail_json.specs.Reports.{deliveries_text, delivery_value};
 ghost use Rattle.mail_json.specs.Part.{recipients_if};
 ghost use Rattle.mail_json.specs.Printed.{text_of};
 ghost use Rattle.mail_json.specs.Values.{block_value, pair_value, recipients_value, report_value};
-ghost use Rattle.mail_json.specs.Written.{Writes};
+ghost use Rattle.mail_program.specs.Streams.{Writes};
 
 use crate::json_text::{write_text, write_word};
 use crate::lists::{ListItem, write_list};

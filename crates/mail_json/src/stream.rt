@@ -9,7 +9,9 @@ ghost use Rattle.mail_json.specs.Options.{options_of};
 ghost use Rattle.mail_json.specs.Selection.{AreChosen, AreInputChosen, AreMailboxChosen};
 ghost use Rattle.mail_json.specs.Stream.{ReadsUntil, WritesChosen, WritesSettled};
 ghost use Rattle.mail_json.specs.Stream.{first_wanted, is_there};
-ghost use Rattle.mail_json.specs.Written.{IsEnd, Writes, is_clean};
+ghost use Rattle.mail_program.specs.Fault.{IsEnd};
+ghost use Rattle.mail_program.specs.Streams.{Writes};
+ghost use Rattle.mail_json.specs.Written.{is_clean};
 
 use crate::json_lines::{write_entry, write_front, write_mailbox, write_mails, write_single};
 use crate::options::{InputKind, Source};

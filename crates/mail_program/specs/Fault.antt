@@ -1,4 +1,5 @@
 -- Which fault it is.
+use Rattle.mailparse.specs.Outcome.{IsMemory}
 use Rattle.mailparse.specs.declared.error.MailParseError.{MailParseError}
 use Rattle.mail_program.specs.declared.fault.Fault.{Fault}
 use Rattle.mail_program.specs.declared.fault.Fault.TheVariants.{Mail, Input, Output}
@@ -20,3 +21,15 @@ abbrev pub IsOutput : Fault → Type 0
 IsOutput (Mail e) = ⊥
 IsOutput (Input e) = ⊥
 IsOutput (Output e) = Unit {0}
+
+-- memory ran out, or a write failed
+abbrev pub IsEnd : Fault → Type 0
+IsEnd (Mail e) = IsMemory e
+IsEnd (Input e) = ⊥
+IsEnd (Output e) = Unit {0}
+
+-- memory ran out, or a read or a write failed
+abbrev pub IsFault : Fault → Type 0
+IsFault (Mail e) = IsMemory e
+IsFault (Input e) = Unit {0}
+IsFault (Output e) = Unit {0}

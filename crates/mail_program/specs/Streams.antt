@@ -1,8 +1,9 @@
--- What reading does to a reader whose bytes are known.
+-- What reading does to a reader whose bytes are known, and what writing does to such a writer.
 use Rattle.std.specs.Prelude.{◌≡◌, ℕ, Bool, true, List, ◌++◌, Option, Result, Ok, Err, IfSome}
 use Rattle.std.specs.Global.{Vec}
-use Rattle.std.specs.Io.KnownBytes.{Consumes, IsAtEnd}
+use Rattle.std.specs.Io.KnownBytes.{Appends, Consumes, IsAtEnd}
 use Rattle.mailparse.specs.declared.error.MailParseError.TheVariants.{Memory}
+use Rattle.mail_program.specs.Fault.{IsEnd}
 use Rattle.mail_program.specs.declared.fault.Fault.{Fault}
 use Rattle.mail_program.specs.declared.fault.Fault.TheVariants.{Mail, Input, Output}
 
@@ -27,3 +28,8 @@ ReadsOn left_before left before after (Ok has_ended) =
     (more : List ℕ) × Consumes left_before left more × (after ≡ before ++ more)
     × (has_ended ≡ true → IsAtEnd left)
 ReadsOn left_before left before after (Err fault) = IsReadFault fault
+
+-- the text was written and nothing else; otherwise memory ran out or a write failed
+abbrev pub Writes : {T : Type 0} → (old new : Option (List ℕ)) → Result T Fault → List ℕ → Type 0
+Writes old new (Ok done) text = Appends old new text
+Writes old new (Err fault) text = IsEnd fault

@@ -79,8 +79,8 @@ impl Outcome {
 /// use std::process::ExitCode;
 ///
 /// let gone = Fault::Output(Error::from(ErrorKind::BrokenPipe));
-/// assert!(rt; status_of(&rt, "mail_json", Err(gone)) == ExitCode::FAILURE);
-/// assert!(rt; status_of(&rt, "mail_json", Ok(ExitCode::from(3))) == ExitCode::from(3));
+/// assert!(rt; status_of(&rt, "rocktray", Err(gone)) == ExitCode::FAILURE);
+/// assert!(rt; status_of(&rt, "rocktray", Ok(ExitCode::from(3))) == ExitCode::from(3));
 /// ```
 pub fn status_of(rt: &impl Eprint, program: &str, ended: Result<ExitCode, Fault>) -> ExitCode
     ensures { exit_status result ≡ ended_status ended }

@@ -5,14 +5,14 @@ use Rattle.std.specs.Io.KnownBytes.{Appends}
 use Rattle.std.specs.List.{list_all}
 use Rattle.mail_codec.specs.Charset.{Charsets}
 use Rattle.mailparse.specs.Mail.{Tree, read_mail_in}
-use Rattle.mailparse.specs.Outcome.{IsMemory}
-use Rattle.mailparse.specs.Refusal.{Reads, Refusal, generic, encoding, base64_fault}
+use Rattle.mailparse.specs.Refusal.{Reads}
 use Rattle.mail_data.specs.Mailbox.{Entry, front_length}
 use Rattle.mail_data.specs.MailboxFormats.{entries_in, mail_in}
 use Rattle.mail_data.specs.declared.mailbox.formats.Format.{Format}
+use Rattle.mail_program.specs.Fault.{IsEnd}
 use Rattle.mail_program.specs.Outcome.{worse}
+use Rattle.mail_program.specs.Refusal.{refusal_text}
 use Rattle.mail_program.specs.declared.fault.Fault.{Fault}
-use Rattle.mail_program.specs.declared.fault.Fault.TheVariants.{Mail, Input, Output}
 use Rattle.mail_program.specs.declared.outcome.Outcome.{Outcome}
 use Rattle.mail_program.specs.declared.outcome.Outcome.TheVariants as outcomes
 use Rattle.mail_view.specs.Line.{Line, empty, line}
@@ -21,29 +21,12 @@ use Rattle.mail_view.specs.declared.line.Prefix.TheVariants.{Title, Refused}
 
 -- ---- what a call wrote
 
--- memory ran out, or a write failed
-abbrev pub IsEnd : Fault → Type 0
-IsEnd (Mail e) = IsMemory e
-IsEnd (Input e) = ⊥
-IsEnd (Output e) = Unit {0}
-
--- the text was written and nothing else; otherwise memory ran out or a write failed
-abbrev pub Writes : {T : Type 0} → Option (List ℕ) → Option (List ℕ) → Result T Fault → List ℕ → Type 0
-Writes old new (Ok done) text = Appends old new text
-Writes old new (Err fault) text = IsEnd fault
-
--- the same, and the call returned this outcome
+-- the text was written and nothing else, and the call returned this outcome; otherwise memory ran out or a write failed
 abbrev pub WritesWith : Option (List ℕ) → Option (List ℕ) → Result Outcome Fault → List ℕ → Outcome → Type 0
 WritesWith old new (Ok done) text outcome = (done ≡ outcome) × Appends old new text
 WritesWith old new (Err fault) text outcome = IsEnd fault
 
 -- ---- mails
-
--- why a mail is refused
-unfoldable pub refusal_text : Refusal → List ℕ
-refusal_text (generic text) = text
-refusal_text (encoding text) = codes "Encoding error: " ++ text
-refusal_text (base64_fault group) = codes "Base64 decode error: group " ++ decimal group ++ codes " is no Base64 group"
 
 -- the outcome of a reading
 abbrev pub reading_outcome : Reads Tree → Outcome

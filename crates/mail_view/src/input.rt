@@ -1,24 +1,22 @@
 //! The view of an input: a mail, or the mails of a mailbox.
-ghost use Rattle.std.specs.Prelude.{◌≡◌, ◌++◌, codes, decimal, option_map, IfOk};
+ghost use Rattle.std.specs.Prelude.{◌++◌, codes, decimal};
 ghost use Rattle.std.specs.Char.{is_ascii_whitespace};
 ghost use Rattle.std.specs.List.{list_all};
-ghost use Rattle.mailparse.specs.Map.{text_found};
-ghost use Rattle.mailparse.specs.Outcome.{IsMemory, refusal_of};
 ghost use Rattle.mail_data.specs.MailboxFormats.{mail_in};
 ghost use Rattle.mail_data.specs.MailboxViews.{entries_left};
-ghost use Rattle.mail_view.specs.Input.{Writes, WritesWith, front_lines, front_outcome};
+ghost use Rattle.mail_program.specs.Streams.{Writes};
+ghost use Rattle.mail_view.specs.Input.{WritesWith, front_lines, front_outcome};
 ghost use Rattle.mail_view.specs.Input.{mailbox_lines, mailbox_outcome, mails_lines, mails_outcome};
-ghost use Rattle.mail_view.specs.Input.{refusal_text, single_lines};
-ghost use Rattle.mail_view.specs.Input.{single_outcome, title};
+ghost use Rattle.mail_view.specs.Input.{single_lines, single_outcome, title};
 ghost use Rattle.mail_view.specs.Line.{empty, line, line_text, lines_text};
 
 use crate::line::{Prefix, push_line};
 use crate::view::write_view;
 use mail_data::mailbox::quoted::unquoted;
 use mail_data::mailbox::{Format, Mailbox, MailboxEntry, read_mailbox};
-use mail_program::{Fault, Outcome};
-use mailparse::{KnownCharsets, MailParseError, parse_mail_in};
-use std::alloc::{AllocError, Global};
+use mail_program::{Fault, Outcome, is_all_whitespace, refusal_of};
+use mailparse::{KnownCharsets, parse_mail_in};
+use std::alloc::Global;
 use std::io::Write;
 
 /// Writes a line with the name of what follows: `-- NAME --`.
@@ -152,13 +150,6 @@ fn write_front<W: Write>(alloc: Global, out: &mut W, front: &[u8]) -> Result<Out
     Ok(Outcome::Refused)
 }
 
-/// Returns whether all bytes are whitespace.
-fn is_all_whitespace(bytes: &[u8]) -> bool
-    ensures { result ≡ list_all is_ascii_whitespace bytes.now }
-{
-    bytes.iter().all(|byte| byte.is_ascii_whitespace())
-}
-
 /// Writes the mails of a mailbox in this format.
 fn write_mails<W: Write, K: KnownCharsets>(
     alloc: Global,
@@ -230,28 +221,4 @@ fn write_empty_line<W: Write>(out: &mut W) -> Result<(), Fault>
 {
     out.write_all(b"\n")?;
     Ok(())
-}
-
-/// Returns why something is refused, as `Display` shows it, or `None` for an error that refuses
-/// nothing. Fails if it runs out of memory, and for `MailParseError::Memory`.
-#[tactic(auto, unfolding(crate::specs::Input::refusal_text))]
-fn refusal_of(alloc: Global, error: &MailParseError) -> Result<Option<String>, AllocError>
-    ensures read { IfOk result (λ text.
-        text_found text ≡ option_map refusal_text (refusal_of error.now)) }
-    ensures passed_on { IfOk result (λ text. IsMemory error.now → ⊥) }
-{
-    let text = match error {
-        MailParseError::Base64DecodeError(fault) => {
-            let group = fault.group;
-            format!(in alloc; "Base64 decode error: group {group} is no Base64 group")
-        }
-        MailParseError::EncodingError(text) => {
-            let text = text.as_str();
-            format!(in alloc; "Encoding error: {text}")
-        }
-        MailParseError::Generic(text) => String::from_str(alloc, text),
-        MailParseError::QuotedPrintableDecodeError(_) => return Ok(None),
-        MailParseError::Memory(_) => Err(AllocError),
-    };
-    Ok(Some(text?))
 }

@@ -3,7 +3,7 @@ ghost use Rattle.std.specs.Prelude.{◌≡◌};
 ghost use Rattle.mailparse.specs.Outcome.{GivesText};
 ghost use Rattle.mailparse.specs.Placement.{placements};
 ghost use Rattle.mailparse.specs.Views.{placements_of, tree_of};
-ghost use Rattle.mail_view.specs.Input.{Writes};
+ghost use Rattle.mail_program.specs.Streams.{Writes};
 ghost use Rattle.mail_view.specs.View.{view_text};
 
 use crate::headers::push_headers;

@@ -18,7 +18,7 @@ use Rattle.mailparse.specs.Refusal.{Reads, Refusal, base64_fault, encoding, gene
 use Rattle.mailparse.specs.declared.error.MailParseError.{MailParseError}
 use Rattle.mailparse.specs.declared.error.MailParseError.TheVariants.{Base64DecodeError, EncodingError, Generic, Memory, QuotedPrintableDecodeError}
 use Rattle.mail_data.specs.InnerMails.{InnerMail, inner_mails}
-use Rattle.mail_json.specs.JsonText.{refusal_text}
+use Rattle.mail_program.specs.Refusal.{refusal_text}
 use Rattle.mail_data.specs.Mailbox.{Entry, front_length, has_front}
 use Rattle.mail_data.specs.MailboxFormats.{entries_in, mail_in}
 use Rattle.mail_data.specs.declared.mailbox.formats.Format.{Format}
@@ -30,7 +30,7 @@ use Rattle.mail_json.specs.JsonLines.{format_of, is_mailbox}
 use Rattle.mail_json.specs.Part.{saturating_add}
 use Rattle.mail_json.specs.Stream.{first_wanted, is_there}
 use Rattle.mail_json.specs.declared.options.InputKind.{InputKind}
-use Rattle.mail_json.specs.Written.{IsEnd, IsFault}
+use Rattle.mail_program.specs.Fault.{IsEnd, IsFault}
 use Rattle.mail_program.specs.Outcome.{worse}
 use Rattle.mail_program.specs.declared.fault.Fault.{Fault}
 use Rattle.mail_program.specs.declared.fault.Fault.TheVariants.{Input, Mail, Output}

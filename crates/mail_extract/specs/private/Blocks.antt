@@ -5,7 +5,7 @@ use Rattle.mail_codec.specs.Charset.{Charsets}
 use Rattle.mail_data.specs.Mailbox.{Entry}
 use Rattle.mail_data.specs.MailboxFormats.{entries_in}
 use Rattle.mail_data.specs.declared.mailbox.formats.Format.{Format}
-use Rattle.mail_json.specs.Written.{IsFault}
+use Rattle.mail_program.specs.Fault.{IsFault}
 use Rattle.mail_program.specs.declared.fault.Fault.{Fault}
 use Rattle.mail_program.specs.declared.outcome.Outcome.{Outcome}
 use Rattle.mail_extract.specs.Directory.{File}

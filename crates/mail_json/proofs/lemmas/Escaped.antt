@@ -1,5 +1,5 @@
 -- Steps of the text of a string between its quotation marks.
-use Rattle.std.proofs.Common.{◌≡◌, ℕ, zero, suc, ◌+◌, ◌<◌, ◌≤◌, Bool, true, false, cond, ◌==◌, nat_lt, List, [], ◌∷◌, ◌++◌, length, take, drop, Option, Result, Ok, Err, refl, sym, ap, ap₂, subst, ◌∙◌, append_assoc, arith}
+use Rattle.std.proofs.Common.{◌≡◌, ℕ, zero, suc, ◌+◌, ◌<◌, Bool, true, false, cond, ◌==◌, nat_lt, List, [], ◌∷◌, ◌++◌, length, take, drop, Option, Result, Ok, Err, refl, sym, ap, ap₂, subst, ◌∙◌, append_assoc, arith}
 use Rattle.std.proofs.KnownBytes.{Appends-trans}
 use Rattle.std.proofs.lemmas.Bool.{ltb-false, or_parts}
 use Rattle.std.proofs.lemmas.List.{append-nil, drop-drop, drop_all, length-drop, take_all}
@@ -8,7 +8,7 @@ use Rattle.json.proofs.Printed.Strings.{escape_byte_plain}
 use Rattle.mail_codec.specs.Escapes.{may_need_escape}
 use Rattle.mail_codec.specs.Places.{begins, first_place}
 use Rattle.mail_program.specs.declared.fault.Fault.{Fault}
-use Rattle.mail_json.specs.Written.{Writes}
+use Rattle.mail_program.specs.Streams.{Writes}
 use Rattle.mail_json.specs.JsonText.{first_text, more_bytes, escaped, escaped_after}
 
 -- ---- steps of the text

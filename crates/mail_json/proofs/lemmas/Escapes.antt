@@ -17,7 +17,7 @@ use Rattle.json.specs.Word.{is_operator, is_space}
 use Rattle.mail_json.specs.JsonText.{begins_control, begins_separator, byte_text, escaped, escaped_after, first_text, json_text, more_bytes, separator_text, unicode_escape}
 use Rattle.mail_json.specs.Values.{is_within_line}
 
--- how both readers read a piece of a string before any text; and the piece has no line end
+-- how both readers read a piece of a string before any text; and no byte of the piece is a control
 pub record Passes (bytes piece : List ℕ) : Type 0 where
   pub read : (r : List ℕ) → content plain (piece ++ r) ≡ prepend bytes (content plain r)
   pub lexed : (r : List ℕ) → lex in_string (piece ++ r) ≡ lex in_string r
@@ -31,57 +31,63 @@ abbrev spells : List ℕ → Option ℕ → Bool
 spells bytes None = false
 spells bytes (Some u) = not (is_high_surrogate u) && not (is_low_surrogate u) && bytes_eq bytes (encode_utf8 u)
 
+-- a byte that is itself in a string, and is not DEL
+abbrev is_inside : ℕ → Bool
+is_inside x = is_plain x && not (x == 127)
+
 -- the piece is read as the bytes: a plain byte, a short escape, or `\u` and four digits
 abbrev stands_for : List ℕ → List ℕ → Bool
 stands_for bytes [] = false
-stands_for bytes (x ∷ []) = is_plain x && bytes_eq bytes (x ∷ [])
-stands_for bytes (e ∷ x ∷ []) = (e == 92) && not (x == 117) && not (x == 10) && same_option bytes (short_escape x)
+stands_for bytes (x ∷ []) = is_inside x && bytes_eq bytes (x ∷ [])
+stands_for bytes (e ∷ x ∷ []) = (e == 92) && not (x == 117) && is_within_line x && same_option bytes (short_escape x)
 stands_for bytes (e ∷ u ∷ a ∷ []) = false
 stands_for bytes (e ∷ u ∷ a ∷ b ∷ []) = false
 stands_for bytes (e ∷ u ∷ a ∷ b ∷ c ∷ []) = false
 stands_for bytes (e ∷ u ∷ a ∷ b ∷ c ∷ d ∷ []) =
-    (e == 92) && (u == 117) && (is_plain a && is_plain b && is_plain c && is_plain d) && spells bytes (code_unit a b c d)
+    (e == 92) && (u == 117) && (is_inside a && is_inside b && is_inside c && is_inside d) && spells bytes (code_unit a b c d)
 stands_for bytes (e ∷ u ∷ a ∷ b ∷ c ∷ d ∷ f ∷ rest) = false
 
 -- ---- the three shapes are read
 
-plain_tests : (x : ℕ) → is_plain x ≡ true → (x ≡ 34 → ⊥) × (x ≡ 92 → ⊥) × (32 ≤ x)
+plain_tests : (x : ℕ) → is_inside x ≡ true → (x ≡ 34 → ⊥) × (x ≡ 92 → ⊥) × (32 ≤ x) × (x ≡ 127 → ⊥)
 plain_tests x e =
-    let none = or_parts ((x == 34) || (x == 92)) _ (not-true _ e) in
+    let both = and_parts (is_plain x) _ e in
+    let none = or_parts ((x == 34) || (x == 92)) _ (not-true _ both.0) in
     let tests = or_parts (x == 34) _ none.0 in
-    (eqb-false x 34 tests.0, eqb-false x 92 tests.1, ltb-false x 32 none.1)
+    (eqb-false x 34 tests.0, eqb-false x 92 tests.1, ltb-false x 32 none.1, eqb-false x 127 (not-true _ both.1))
 
 stays_inside : (o s : Bool) (x : ℕ) (r : List ℕ) (k : Mode → List Lexeme) → lex_byte in_string (cond o operator (cond s space other)) x r k ≡ k in_string
 stays_inside true s x r k = refl
 stays_inside false true x r k = refl
 stays_inside false false x r k = refl
 
-pub plain_passes : (x : ℕ) → (x ≡ 34 → ⊥) → (x ≡ 92 → ⊥) → 32 ≤ x → Passes (x ∷ []) (x ∷ [])
+within : (x : ℕ) → 32 ≤ x → (x ≡ 127 → ⊥) → is_within_line x ≡ true
+within x l d = and_from (nat_le 32 x) (not (x == 127)) (le-leb 32 x l) (ap not (ne_eqb x 127 d))
+
+plain_passes : (x : ℕ) → (x ≡ 34 → ⊥) → (x ≡ 92 → ⊥) → 32 ≤ x → (x ≡ 127 → ⊥) → Passes (x ∷ []) (x ∷ [])
 unfolding content lex
-plain_passes x q b l = record {
+plain_passes x q b l d = record {
   read = λ r. rw (ne_eqb x 34 q, ne_eqb x 92 b, le-ltb x 32 l);
   lexed = λ r. rw (ne_eqb x 34 q, ne_eqb x 92 b) (stays_inside (is_operator x) (is_space x) x r (λ m. lex m r));
-  one_line = rw (ne_eqb x 10 (λ e. omega arith));
+  one_line = and_from (is_within_line x) true (within x l d) refl;
 }
 
-short_passes : (x v : ℕ) → (x == 117) ≡ false → (x == 10) ≡ false → short_escape x ≡ Some v → Passes (v ∷ []) (92 ∷ x ∷ [])
+short_passes : (x v : ℕ) → (x == 117) ≡ false → is_within_line x ≡ true → short_escape x ≡ Some v → Passes (v ∷ []) (92 ∷ x ∷ [])
 unfolding content lex
 short_passes x v n m found = record {
   read = λ r. rw (n, found);
   lexed = λ r. refl;
-  one_line = rw m;
+  one_line = and_from (is_within_line x) true m refl;
 }
 
-within : (x : ℕ) → 32 ≤ x → is_within_line x ≡ true
-within x l = rw (ne_eqb x 10 (λ e. omega arith))
-
-four_within : (a b c d : ℕ) → 32 ≤ a → 32 ≤ b → 32 ≤ c → 32 ≤ d → list_all is_within_line (92 ∷ 117 ∷ a ∷ b ∷ c ∷ d ∷ []) ≡ true
+four_within : (a b c d : ℕ) → is_within_line a ≡ true → is_within_line b ≡ true → is_within_line c ≡ true → is_within_line d ≡ true
+    → list_all is_within_line (92 ∷ 117 ∷ a ∷ b ∷ c ∷ d ∷ []) ≡ true
 four_within a b c d p q r s =
-    and_from (is_within_line a) (is_within_line b && (is_within_line c && (is_within_line d && true))) (within a p)
-    (and_from (is_within_line b) (is_within_line c && (is_within_line d && true)) (within b q)
-    (and_from (is_within_line c) (is_within_line d && true) (within c r) (and_from (is_within_line d) true (within d s) refl)))
+    and_from (is_within_line a) (is_within_line b && (is_within_line c && (is_within_line d && true))) p
+    (and_from (is_within_line b) (is_within_line c && (is_within_line d && true)) q
+    (and_from (is_within_line c) (is_within_line d && true) r (and_from (is_within_line d) true s refl)))
 
-long_passes : (a b c d u : ℕ) → is_plain a ≡ true → is_plain b ≡ true → is_plain c ≡ true → is_plain d ≡ true → code_unit a b c d ≡ Some u
+long_passes : (a b c d u : ℕ) → is_inside a ≡ true → is_inside b ≡ true → is_inside c ≡ true → is_inside d ≡ true → code_unit a b c d ≡ Some u
     → is_high_surrogate u ≡ false → is_low_surrogate u ≡ false → Passes (encode_utf8 u) (92 ∷ 117 ∷ a ∷ b ∷ c ∷ d ∷ [])
 unfolding content lex
 long_passes a b c d u pa pb pc pd found high low =
@@ -89,23 +95,23 @@ long_passes a b c d u pa pb pc pd found high low =
     let fb = plain_tests b pb in
     let fc = plain_tests c pc in
     let fd = plain_tests d pd in
-    let ra = plain_passes a fa.0 fa.1 fa.2 in
-    let rb = plain_passes b fb.0 fb.1 fb.2 in
-    let rc = plain_passes c fc.0 fc.1 fc.2 in
-    let rd = plain_passes d fd.0 fd.1 fd.2 in
+    let ra = plain_passes a fa.0 fa.1 fa.2 fa.3 in
+    let rb = plain_passes b fb.0 fb.1 fb.2 fb.3 in
+    let rc = plain_passes c fc.0 fc.1 fc.2 fc.3 in
+    let rd = plain_passes d fd.0 fd.1 fd.2 fd.3 in
     record {
       read = λ r. rw (found, high, low);
       lexed = λ r. ra.lexed (b ∷ c ∷ d ∷ r) ∙ rb.lexed (c ∷ d ∷ r) ∙ rc.lexed (d ∷ r) ∙ rd.lexed r;
-      one_line = four_within a b c d fa.2 fb.2 fc.2 fd.2;
+      one_line = four_within a b c d (within a fa.2 fa.3) (within b fb.2 fb.3) (within c fc.2 fc.3) (within d fd.2 fd.3);
     }
 
-read_short : (bytes : List ℕ) (x : ℕ) (o : Option ℕ) → short_escape x ≡ o → (x == 117) ≡ false → (x == 10) ≡ false → same_option bytes o ≡ true
+read_short : (bytes : List ℕ) (x : ℕ) (o : Option ℕ) → short_escape x ≡ o → (x == 117) ≡ false → is_within_line x ≡ true → same_option bytes o ≡ true
     → Passes bytes (92 ∷ x ∷ [])
 read_short bytes x None found n m e = absurd (true≢false (sym e))
 read_short bytes x (Some v) found n m e = subst (λ bs. Passes bs (92 ∷ x ∷ [])) (sym ((bytes_eq-Decides bytes (v ∷ [])).0 e)) (short_passes x v n m found)
 
-read_long : (bytes : List ℕ) (a b c d : ℕ) (o : Option ℕ) → code_unit a b c d ≡ o → is_plain a ≡ true → is_plain b ≡ true → is_plain c ≡ true
-    → is_plain d ≡ true → spells bytes o ≡ true → Passes bytes (92 ∷ 117 ∷ a ∷ b ∷ c ∷ d ∷ [])
+read_long : (bytes : List ℕ) (a b c d : ℕ) (o : Option ℕ) → code_unit a b c d ≡ o → is_inside a ≡ true → is_inside b ≡ true → is_inside c ≡ true
+    → is_inside d ≡ true → spells bytes o ≡ true → Passes bytes (92 ∷ 117 ∷ a ∷ b ∷ c ∷ d ∷ [])
 read_long bytes a b c d None found pa pb pc pd e = absurd (true≢false (sym e))
 read_long bytes a b c d (Some u) found pa pb pc pd e =
     let p = and_parts (not (is_high_surrogate u) && not (is_low_surrogate u)) _ e in
@@ -116,24 +122,24 @@ read_long bytes a b c d (Some u) found pa pb pc pd e =
 stands_for-passes : (bytes text : List ℕ) → stands_for bytes text ≡ true → Passes bytes text
 stands_for-passes bytes [] e = absurd (true≢false (sym e))
 stands_for-passes bytes (x ∷ []) e =
-    let p = and_parts (is_plain x) _ e in
+    let p = and_parts (is_inside x) _ e in
     let f = plain_tests x p.0 in
-    subst (λ bs. Passes bs (x ∷ [])) (sym ((bytes_eq-Decides bytes (x ∷ [])).0 p.1)) (plain_passes x f.0 f.1 f.2)
+    subst (λ bs. Passes bs (x ∷ [])) (sym ((bytes_eq-Decides bytes (x ∷ [])).0 p.1)) (plain_passes x f.0 f.1 f.2 f.3)
 stands_for-passes bytes (e ∷ x ∷ []) h =
-    let p = and_parts ((e == 92) && not (x == 117) && not (x == 10)) _ h in
+    let p = and_parts ((e == 92) && not (x == 117) && is_within_line x) _ h in
     let q = and_parts ((e == 92) && not (x == 117)) _ p.0 in
     let r = and_parts (e == 92) _ q.0 in
-    subst (λ b. Passes bytes (b ∷ x ∷ [])) (sym (eqb-true e 92 r.0)) (read_short bytes x _ refl (not-true _ r.1) (not-true _ q.1) p.1)
+    subst (λ b. Passes bytes (b ∷ x ∷ [])) (sym (eqb-true e 92 r.0)) (read_short bytes x _ refl (not-true _ r.1) q.1 p.1)
 stands_for-passes bytes (e ∷ u ∷ a ∷ []) h = absurd (true≢false (sym h))
 stands_for-passes bytes (e ∷ u ∷ a ∷ b ∷ []) h = absurd (true≢false (sym h))
 stands_for-passes bytes (e ∷ u ∷ a ∷ b ∷ c ∷ []) h = absurd (true≢false (sym h))
 stands_for-passes bytes (e ∷ u ∷ a ∷ b ∷ c ∷ d ∷ []) h =
-    let p = and_parts ((e == 92) && (u == 117) && (is_plain a && is_plain b && is_plain c && is_plain d)) _ h in
+    let p = and_parts ((e == 92) && (u == 117) && (is_inside a && is_inside b && is_inside c && is_inside d)) _ h in
     let q = and_parts ((e == 92) && (u == 117)) _ p.0 in
     let r = and_parts (e == 92) _ q.0 in
-    let abc = and_parts (is_plain a && is_plain b && is_plain c) _ q.1 in
-    let ab = and_parts (is_plain a && is_plain b) _ abc.0 in
-    let both = and_parts (is_plain a) _ ab.0 in
+    let abc = and_parts (is_inside a && is_inside b && is_inside c) _ q.1 in
+    let ab = and_parts (is_inside a && is_inside b) _ abc.0 in
+    let both = and_parts (is_inside a) _ ab.0 in
     subst (λ x. Passes bytes (x ∷ u ∷ a ∷ b ∷ c ∷ d ∷ [])) (sym (eqb-true e 92 r.0))
     (subst (λ x. Passes bytes (92 ∷ x ∷ a ∷ b ∷ c ∷ d ∷ [])) (sym (eqb-true u 117 r.1))
     (read_long bytes a b c d _ refl both.0 both.1 ab.1 abc.1 p.1))
@@ -169,7 +175,7 @@ byte_passes : (x : ℕ) → Passes (x ∷ []) (byte_text x)
 byte_passes x = elim (cases_lt x 128) [
   | inl low ↦ stands_for-passes (x ∷ []) (byte_text x) (agree_below_at (λ y. stands_for (y ∷ []) (byte_text y)) (λ y. true) 128 x bytes_read low)
   | inr high ↦ rw (ne_eqb x 127 (λ e. omega arith)) (subst (Passes (x ∷ [])) (sym (escape_byte_plain x (λ e. omega arith) (λ e. omega arith) (omega arith)))
-      (plain_passes x (λ e. omega arith) (λ e. omega arith) (omega arith)))
+      (plain_passes x (λ e. omega arith) (λ e. omega arith) (omega arith) (λ e. omega arith)))
 ]
 
 abbrev is_control_read : ℕ → Bool
@@ -249,7 +255,7 @@ lex-json_text text r =
     ∙ ap₂ (λ o l. token (string_token o) ∷ l)
     (f.read (34 ∷ r) ∙ ap Some (append-nil text)) (f.lexed (34 ∷ r))
 
--- a string has no line end
+-- no byte of a string is a control
 pub one_line-json_text : (text : List ℕ) → list_all is_within_line (json_text text) ≡ true
 unfolding json_text
 one_line-json_text text = list_all-append is_within_line (escaped text) (34 ∷ []) ∙ and_from _ _ (escaped_passes text).one_line refl

@@ -38,7 +38,7 @@ use Rattle.mail_json.specs.Range.{ArePartLines, placed_in}
 use Rattle.mail_json.specs.declared.selection.Selection.TheVariants.{Within}
 use Rattle.mail_json.specs.declared.options.InputKind.{InputKind}
 use Rattle.mail_json.specs.Inside.{mails_inside, parts_inside}
-use Rattle.mail_json.specs.JsonText.{refusal_text}
+use Rattle.mail_program.specs.Refusal.{refusal_text}
 use Rattle.mail_json.specs.Origin.{Origin}
 use Rattle.mail_json.specs.Reports.{delivery_value}
 use Rattle.mail_json.specs.Part.{content_if, hash_of, is_attachment, is_read, place_in, recipients_if, report_if, text_shown}
@@ -138,7 +138,7 @@ module _ (options : Options) where
       let rest : AreGood 3 (size ++ one (codes "sha256") hash ++ one (codes "report") report ++ one (codes "headers") headers ++ text) =
       members_then 3 (size ++ one (codes "sha256") hash ++ one (codes "report") report ++ one (codes "headers") headers) text listed (body_good 3 options.known options.joins_flowed shows node.ctype content) in
       named_good (part_distinct inside start place pairs content hash report headers shows)
-      (string_good 3 place.path, (optional_good 3 inside, (string_good 3 node.ctype.mimetype, (string_good 3 node.ctype.charset, (params_good 2 pairs ordered, (optional_good 3 _, (optional_good 3 _, (optional_good 3 _, (flag_good 3 attached, (flag_good 3 extracted, (string_good 3 _, (number_or_null_good 3 _, (number_or_null_good 3 _, (number_good 3 (length node.body), rest))))))))))))))
+      (string_good 3 _, (optional_good 3 inside, (string_good 3 node.ctype.mimetype, (string_good 3 node.ctype.charset, (params_good 2 pairs ordered, (optional_good 3 _, (optional_good 3 _, (optional_good 3 _, (flag_good 3 attached, (flag_good 3 extracted, (string_good 3 _, (number_or_null_good 3 _, (number_or_null_good 3 _, (number_good 3 (length node.body), rest))))))))))))))
 
   parts_good : (inside : Option (List ℕ)) (start : Option ℕ) (all : List Place) (values : List Json) → AreValues (IsPartValue options inside start) all values
       → AllByRecursion (IsGood 4) values
@@ -220,7 +220,8 @@ mail_good options origin mail value is =
     let known = options.known in
     let node = root mail in
     let inside = list_of (map (inner_value origin.start) (mails_inside known mail)) in
-    let parts = list_of (is.0 ++ is.1) in
+    let found = is.1 in
+    let parts = list_of is.0 in
     let date = date_members (option_map zoned_date_of (value_of known (codes "Date") node)) in
     let ids = ids_members known node in
     let dated : AreGood 5 (date ++ ids) =
@@ -234,14 +235,15 @@ mail_good options origin mail value is =
     members_then 5 own (one (codes "recipients") recipients) noted (recipients_good 3 _, tt) in
     let listed : AreGood 5 (own ++ one (codes "recipients") recipients ++ one (codes "parts") parts) =
     members_then 5 (own ++ one (codes "recipients") recipients) (one (codes "parts") parts) reported (
-      list_good 4 (is.0 ++ is.1) (all_then (IsGood 4) is.0 is.1 (parts_good options None (Some origin.start) (places mail (placements 0 mail)) is.0 is.2)
-          (inside_good options origin.start (mails_inside known mail) is.1 is.3)),
+      list_good 4 is.0 (subst (AllByRecursion (IsGood 4)) (sym found.4)
+          (all_then (IsGood 4) found.0 found.1 (parts_good options None (Some origin.start) (places mail (placements 0 mail)) found.0 found.2)
+          (inside_good options origin.start (mails_inside known mail) found.1 found.3))),
       tt,
     ) in
     let rest : AreGood 5 (own ++ one (codes "recipients") recipients ++ one (codes "parts") parts ++ one (codes "forwarded") inside) =
     members_then 5 (own ++ one (codes "recipients") recipients ++ one (codes "parts") parts) (one (codes "forwarded") inside) listed
     (mapped_good 4 (inner_value origin.start) (inner_good 3 origin.start) (mails_inside known mail), tt) in
-    subst (IsGood 6) (sym is.4)
+    subst (IsGood 6) (sym is.2)
     (named_good (mail_distinct known origin node bounced recipients parts inside _) (number_good 5 5, (optional_good 5 origin.file, (number_or_null_good 5 origin.number, (number_good 5 origin.start, (number_good 5 origin.end, (optional_good 5 _, (address_list_good known (codes "From") node, (address_list_good known (codes "To") node, (address_list_good known (codes "Cc") node, (address_list_good known (codes "Bcc") node, (address_list_good known (codes "Reply-To") node, (address_list_good known (codes "Sender") node, (raw_good 4 node, rest))))))))))))))
 
 -- ---- lines

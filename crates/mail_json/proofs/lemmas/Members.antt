@@ -10,7 +10,7 @@ use Rattle.json.specs.Json.{Json}
 use Rattle.mail_program.specs.declared.fault.Fault.{Fault}
 use Rattle.mail_json.specs.Members.{Adds, AddsAt, AddsMember, is_key, is_plain_byte, members_at, name_in, position_in}
 use Rattle.mail_json.specs.Printed.{Member, line_of, members_after, object_of, one, text_of}
-use Rattle.mail_json.specs.Written.{Writes}
+use Rattle.mail_program.specs.Streams.{Writes}
 use Rattle.mail_json.specs.declared.json_text.Position.{Position}
 use Rattle.mail_json.specs.declared.json_text.Position.TheVariants.{First, Later}
 use Rattle.mail_json.proofs.lemmas.Objects.{begun-one, line_written, members_appended, named, object_appended, object_written}

@@ -9,7 +9,7 @@ use Rattle.json.specs.Value.{items_of}
 use Rattle.mail_program.specs.declared.fault.Fault.{Fault}
 use Rattle.mail_json.specs.JsonText.{json_text}
 use Rattle.mail_json.specs.Printed.{Member, after_commas, begun, items_text, line_of, list_of, listed, member_text, members_after, members_of, members_text, object_of, one, text_of}
-use Rattle.mail_json.specs.Written.{Writes}
+use Rattle.mail_program.specs.Streams.{Writes}
 use Rattle.mail_json.proofs.lemmas.Plain.{are_plain, json_text-plain}
 use Rattle.mail_json.proofs.lemmas.Written.{appends_as, writes_as, writes_then}
 

@@ -22,11 +22,10 @@ use Rattle.mail_codec.specs.Charset.{Charsets}
 use Rattle.mailparse.specs.ContentType.{ContentType}
 use Rattle.mail_data.specs.Files as files
 use Rattle.mail_data.specs.Files.{is_extracted, is_leaf, is_shown}
-use Rattle.mail_data.specs.Flowed.{flowed_text}
 use Rattle.mail_data.specs.lenient.Content.{Content, message_content}
 use Rattle.mail_data.specs.lenient.Texts.{BodyText, text_read}
 use Rattle.mail_json.specs.Options.{Options}
-use Rattle.mail_json.specs.Part.{Lists, content_if, is_attachment}
+use Rattle.mail_json.specs.Part.{Lists, content_if, is_attachment, text_shown}
 use Rattle.mail_json.specs.Printed.{Member, listed, one, text_of}
 use Rattle.mail_json.specs.Values.{AreValues, IsPartValue, shown_members, text_members}
 use Rattle.mail_json.specs.Written.{WritesOne}
@@ -68,9 +67,9 @@ found_as options inside text s t xs ys old new r e f h =
     subst (λ (z : Option ℕ). WritesOne old new r text (AreValues (IsPartValue options inside z) ys)) e
     (subst (λ (zs : List Place). WritesOne old new r text (AreValues (IsPartValue options inside s) zs)) f h)
 
--- the members of a text that was read
-abbrev pub read_members : BodyText → List Member
-read_members read = text_members true read.text read.charset read.is_damaged
+-- the members of a text that was read, with each flowed paragraph as one line if that is wanted
+abbrev pub read_members : Bool → ContentType → BodyText → List Member
+read_members joins ctype read = text_members true (text_shown joins ctype read.text) read.charset read.is_damaged
 
 -- ---- a message and its parts
 
@@ -132,13 +131,6 @@ pub text-hidden : (known : Charsets) (joins shows : Bool) (ctype : ContentType) 
     → one (codes "text") null ≡ shown_members known joins shows ctype content
 text-hidden known joins shows ctype content e = rw e refl
 
--- the text of a body that is read as it is
-pub text-shown : (known : Charsets) (shows : Bool) (ctype : ContentType) (content : Content) → shows ≡ true
-    → read_members (text_read known ctype.charset content) ≡ shown_members known false shows ctype content
-text-shown known shows ctype content e = rw e refl
-
--- the text of one whose paragraphs flow
-pub text-flowed : (known : Charsets) (shows : Bool) (node : Node) (read : BodyText) → shows ≡ true → read ≡ flowed_text known node
-    → read_members read ≡ shown_members known true shows node.ctype (message_content node)
-unfolding flowed_text
-text-flowed known shows node read e is = ap read_members is ∙ rw e refl
+pub text-shown : (known : Charsets) (joins shows : Bool) (ctype : ContentType) (content : Content) → shows ≡ true
+    → read_members joins ctype (text_read known ctype.charset content) ≡ shown_members known joins shows ctype content
+text-shown known joins shows ctype content e = rw e refl

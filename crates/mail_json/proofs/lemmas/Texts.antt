@@ -176,9 +176,9 @@ pub document-text_of : (j : Json) → HasNumbers j → depth j ≤ max_depth →
 document-text_of j numbers shallow =
     ap (option_and_then (λ p. if_last p.0 p.1)) (ap (value max_depth) (tokens-text_of j numbers) ∙ value-json_tokens j max_depth [] shallow)
 
--- ---- it has no line end
+-- ---- none of its bytes is a control
 
--- the numbers are numbers of JSON, without line ends
+-- the numbers are numbers of JSON, without controls
 abbrev pub IsLineNumber : List ℕ → Type 0
 IsLineNumber s = IsNumber s × (list_all is_within_line s ≡ true)
 

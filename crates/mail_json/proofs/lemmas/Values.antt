@@ -1,6 +1,6 @@
 -- The values are good, and the text of a good value is a line of JSON.
-use Rattle.std.proofs.Common.{◌≡◌, ℕ, ℤ, pos, negsuc, zero, suc, ◌-◌, ◌^◌, ◌<◌, ◌≤◌, min, Bool, true, false, not, ◌&&◌, List, [], ◌∷◌, ◌++◌, length, get_or, map, Less, Option, Some, None, refl, sym, ap, subst, ◌∙◌, arith, decimal, bytes_eq}
-use Rattle.std.proofs.lemmas.Bool.{and_parts, and_from, not-true, ne_eqb}
+use Rattle.std.proofs.Common.{◌≡◌, ℕ, ℤ, pos, negsuc, zero, suc, ◌-◌, ◌^◌, ◌<◌, ◌≤◌, min, Bool, true, false, not, ◌&&◌, ◌==◌, nat_le, List, [], ◌∷◌, ◌++◌, length, get_or, map, Less, Option, Some, None, refl, sym, ap, subst, ◌∙◌, arith, decimal, bytes_eq}
+use Rattle.std.proofs.lemmas.Bool.{and_parts, and_from, le-leb, not-true, ne_eqb}
 use Rattle.std.proofs.lemmas.Fmt.{decimal_is_IsNumeral, decimal_digit}
 use Rattle.std.proofs.lemmas.Map.Made.{AllPairs-from_IsDistinct}
 use Rattle.std.proofs.lemmas.Map.Text.{is_eq-slice_cmp}
@@ -50,15 +50,18 @@ pub optional_good : (d : ℕ) (text : Option (List ℕ)) → IsGood d (string_or
 optional_good d (Some text) = string_good d text
 optional_good d None = null_good d
 
-digits_line : (ds : List ℕ) → ((i : ℕ) → i < length ds → 48 ≤ get_or ds i 0) → list_all is_within_line ds ≡ true
+digits_line : (ds : List ℕ) → ((i : ℕ) → i < length ds → (48 ≤ get_or ds i 0) × (get_or ds i 0 ≤ 57)) → list_all is_within_line ds ≡ true
 digits_line [] h = refl
 digits_line (d ∷ ds) h =
-    let first : 48 ≤ d = h 0 (omega arith) in
-    and_from _ _ (ap not (ne_eqb d 10 (λ e. omega arith))) (digits_line ds (λ i l. h (suc i) (omega arith)))
+    let first : (48 ≤ d) × (d ≤ 57) = h 0 (omega arith) in
+    let least = first.0 in
+    let most = first.1 in
+    and_from _ _ (and_from (nat_le 32 d) (not (d == 127)) (le-leb 32 d (omega arith)) (ap not (ne_eqb d 127 (λ e. omega arith))))
+    (digits_line ds (λ i l. h (suc i) (omega arith)))
 
 decimal_line : (n : ℕ) → n < 2 ^ 64 → list_all is_within_line (decimal n) ≡ true
 decimal_line zero h = ap (list_all is_within_line) (decimal_digit 0 (omega arith))
-decimal_line (suc n) h = digits_line (decimal (suc n)) (λ i l. (digit_at _ i (decimal_is_IsNumeral (suc n) h).0.1 l).0)
+decimal_line (suc n) h = digits_line (decimal (suc n)) (λ i l. digit_at _ i (decimal_is_IsNumeral (suc n) h).0.1 l)
 
 line_number : (n : ℕ) → n < 2 ^ 64 → IsLineNumber (decimal n)
 line_number n h = (IsNumber-decimal n h, decimal_line n h)

@@ -116,17 +116,19 @@ module _ (options : Options) where
       → (whole : Json) × IsMailValue (decoding true options) origin mail whole × (value ≡ without_text whole)
   mail_whole origin mail value is =
       let known = options.known in
-      let parts = parts_whole None (Some origin.start) (places mail (placements 0 mail)) is.0 is.2 in
-      let others = insides_whole origin.start (mails_inside known mail) is.1 is.3 in
+      let found = is.1 in
+      let parts = parts_whole None (Some origin.start) (places mail (placements 0 mail)) found.0 found.2 in
+      let others = insides_whole origin.start (mails_inside known mail) found.1 found.3 in
       let all = parts.0 ++ others.0 in
-      let same : is.0 ++ is.1 ≡ map object_without_text all = ap₂ (λ (a b : List Json). a ++ b) parts.2 others.2 ∙ map_then parts.0 others.0 in
+      let same : is.0 ≡ map object_without_text all =
+      found.4 ∙ ap₂ (λ (a b : List Json). a ++ b) parts.2 others.2 ∙ map_then parts.0 others.0 in
       let date = option_map zoned_date_of (value_of known (codes "Date") (root mail)) in
       let bounced = string_or_null (original_message_id known mail) in
       let recipients = recipients_value (recipients_if known true mail) in
       let inside = list_of (map (inner_value origin.start) (mails_inside known mail)) in (
         object_of (mail_members known true origin mail (mails_inside known mail) all),
-        (parts.0, others.0, parts.1, others.1, refl),
-        is.4 ∙ ap (λ (js : List Json). object_of (mail_members known false origin mail (mails_inside known mail) js)) same
+        (all, (parts.0, others.0, parts.1, others.1, refl), refl),
+        is.2 ∙ ap (λ (js : List Json). object_of (mail_members known false origin mail (mails_inside known mail) js)) same
             ∙ ap (λ items. object_of (line_members origin mail date bounced null (array items) inside)) (items_whole all)
             ∙ line_without origin mail date bounced recipients (list_of all) inside,
       )

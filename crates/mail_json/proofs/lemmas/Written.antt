@@ -4,7 +4,9 @@ use Rattle.std.proofs.KnownBytes.{Appends-trans}
 use Rattle.std.specs.Io.KnownBytes.{Appends}
 use Rattle.mail_program.specs.declared.fault.Fault.{Fault}
 use Rattle.mail_program.specs.declared.fault.Fault.TheVariants.{Input, Mail, Output}
-use Rattle.mail_json.specs.Written.{IsEnd, IsFault, Writes, WritesOne}
+use Rattle.mail_program.specs.Fault.{IsEnd, IsFault}
+use Rattle.mail_program.specs.Streams.{Writes}
+use Rattle.mail_json.specs.Written.{WritesOne}
 
 pub writes_then : {T : Type 0} (old mid new : Option (List ℕ)) (r : Result T Fault) (a b : List ℕ) → Appends old mid a → Writes mid new r b
     → Writes old new r (a ++ b)

@@ -1,8 +1,8 @@
-use Rattle.std.proofs.Common.{false, option_map, sym, ap, ◌∙◌}
+use Rattle.std.proofs.Common.{option_map, sym, ap, ◌∙◌}
 use Rattle.mailparse.specs.ContentType.{ContentType}
 use Rattle.mailparse.specs.Mail.{root}
 use Rattle.mailparse.specs.Views.{tree_of}
-use Rattle.mail_data.specs.lenient.Content.{Content, message_content}
+use Rattle.mail_data.specs.lenient.Content.{Content}
 use Rattle.mail_data.specs.lenient.ContentViews.{content_view}
 use Rattle.mail_data.specs.declared.lenient.content.Content as code
 use Rattle.mail_json.specs.Values.{body_members, shown_members}
@@ -17,24 +17,14 @@ returns-in_default g c = λ is.
     adds_as Later _ _ c.add_null.result _ _
     (ap (body_members (g.K.KnownCharsets.known c.args.known.now) c.args.options.joins_flowed c.args.is_read node.ctype) (ap (option_map content_view) (sym c.in_default.is) ∙ is)) c.add_null.ensures
 
-pub returns-then-options : goal.returns-then-options
-returns-then-options g c = λ is.
-    let known = g.K.KnownCharsets.known c.args.known.now in
-    let node = root (tree_of c.args.part.now) in
-    let content = content_some c.args.options.decodes_bodies node _ (sym (ap (option_map content_view) (sym c.in-Some.is) ∙ is)) in
-    adds_as Later _ _ c.write_flowed.result _ _
-    (ap (λ joins. shown_members known joins c.args.is_read node.ctype (message_content node)) (sym c.if-options.true)
-    ∙ ap (body_members known c.args.options.joins_flowed c.args.is_read node.ctype) (sym content.1))
-    c.write_flowed.ensures
-
 pub returns : goal.returns
 returns g c = λ is.
     let known = g.K.KnownCharsets.known c.args.known.now in
+    let joins = c.args.options.joins_flowed in
     let node = root (tree_of c.args.part.now) in
     let content = content_some c.args.options.decodes_bodies node _ (sym (ap (option_map content_view) (sym c.in-Some.is) ∙ is)) in
     adds_as Later _ _ c.write_body_text.result _ _
-    (ap (λ (t : ContentType). shown_members known false c.args.is_read t (content_view c.in-Some.content)) (ctype-out c.args.part.now)
-    ∙ ap (λ (x : Content). shown_members known false c.args.is_read node.ctype x) content.0
-    ∙ ap (λ joins. shown_members known joins c.args.is_read node.ctype (message_content node)) (sym c.if-options.false)
-    ∙ ap (body_members known c.args.options.joins_flowed c.args.is_read node.ctype) (sym content.1))
+    (ap (λ (t : ContentType). shown_members known joins c.args.is_read t (content_view c.in-Some.content)) (ctype-out c.args.part.now)
+    ∙ ap (λ (x : Content). shown_members known joins c.args.is_read node.ctype x) content.0
+    ∙ ap (body_members known joins c.args.is_read node.ctype) (sym content.1))
     c.write_body_text.ensures

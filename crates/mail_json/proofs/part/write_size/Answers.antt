@@ -5,7 +5,7 @@ use Rattle.mailparse.specs.Outcome.{refusal_of}
 use Rattle.mail_data.specs.declared.lenient.content.ContentFault.{ContentFault}
 use Rattle.mail_data.specs.lenient.ContentViews.{fault_view}
 use Rattle.mail_data.proofs.lemmas.lenient.Content.{fault-refusal}
-use Rattle.mail_json.specs.JsonText.{refusal_text}
+use Rattle.mail_program.specs.Refusal.{refusal_text}
 use Rattle.mail_json.specs.Printed.{number_value, one, string_or_null}
 use Rattle.mail_json.specs.Values.{size_members}
 use Rattle.mail_json.specs.declared.json_text.Position.TheVariants.{Later}
