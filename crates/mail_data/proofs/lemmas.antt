@@ -14,6 +14,7 @@ pub mod MailboxJoined
 pub mod PartPlaces
 pub mod MailboxParts
 pub mod MailboxRange
+pub mod MailboxOffsets
 pub mod MailboxFound
 pub mod Separator
 pub mod CountedMails

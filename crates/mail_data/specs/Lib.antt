@@ -8,6 +8,7 @@ pub mod Separator
 pub mod QuotedLines
 pub mod Mailbox
 pub mod MailboxParts
+pub mod MailboxOffsets
 pub mod CountedMails
 pub mod MailboxFormats
 pub mod MailboxViews

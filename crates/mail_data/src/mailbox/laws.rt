@@ -7,7 +7,8 @@ ghost use Rattle.mail_data.specs.Mailbox.{EndsEmpty, Entry, entries, front_lengt
 ghost use Rattle.mail_data.specs.Mailbox.{has_line};
 ghost use Rattle.mail_data.specs.LineEnds.{starts_line};
 ghost use Rattle.mail_data.specs.MailboxFormats.{entries_in, settled_in};
-ghost use Rattle.mail_data.specs.MailboxParts.{in_range, part_mails, placed, placed_at};
+ghost use Rattle.mail_data.specs.MailboxOffsets.{AreThere};
+ghost use Rattle.mail_data.specs.MailboxParts.{in_range, part_mails, placed, placed_at, placed_from};
 ghost use Rattle.mail_data.specs.QuotedLines.{is_quoted, quoted, unquoted};
 ghost use Rattle.mail_data.specs.Separator.{is_separator};
 ghost use Rattle.mail_data.specs.declared.mailbox.formats.Format.{Format};
@@ -25,6 +26,16 @@ pub fn mailboxes_join()
 pub fn mailbox_parts_join()
     ensures { (bytes : List ℕ) (count : ℕ) → 0 < count →
         flat_map (λ mails. mails) (values_below count (part_mails bytes count)) ≡ placed bytes }
+{}
+
+/// Says that the bytes of a mailbox, in each format, have every mail at its offset, which is that
+/// of its separator and the length of the separator; so have they the mails that begin in a range.
+pub fn mails_are_at_their_offsets()
+    ensures all { (format : Format) (bytes : List ℕ) →
+        AreThere bytes (placed_from (front_length bytes) (entries_in format bytes)) }
+    ensures range { (format : Format) (bytes : List ℕ) (from to : ℕ) →
+        AreThere bytes (in_range from to
+        (placed_from (front_length bytes) (entries_in format bytes))) }
 {}
 
 /// Says that the mails that begin in a range of places are found without the bytes more than three
