@@ -1,18 +1,24 @@
 -- The files that a mail carries (RFC 2183, section 2.3; RFC 2046, section 5.2.1), and the paths of
 -- its parts (RFC 3501, section 6.4.5). The reading of a name in an unknown charset (RFC 2231,
 -- section 4) is the crate's own rule.
-use Rattle.std.specs.Prelude.{ℕ, suc, Bool, true, false, not, ◌&&◌, ◌||◌, List, [], ◌∷◌, ◌++◌, filter, Option, Some, None, is_some, option_map, codes, decimal, if◌then◌else◌}
+use Rattle.std.specs.Prelude.{ℕ, suc, Bool, true, false, not, ◌&&◌, ◌||◌, List, [], ◌∷◌, ◌++◌, filter, Option, Some, None, is_some, option_and_then, option_map, codes, decimal, if◌then◌else◌}
 use Rattle.std.specs.List.{after_first, list_any}
 use Rattle.std.specs.Str.{bytes_eq, is_utf8, trim}
 use Rattle.mail_codec.specs.Charset.{Charsets, text_of}
 use Rattle.mail_codec.specs.Places.{is_empty}
-use Rattle.mailparse.specs.ContentType.{ContentType}
-use Rattle.mailparse.specs.Disposition.{Disposition, Kind, attachment}
+use Rattle.mailparse.specs.ContentType.{ContentType, content_type_in}
+use Rattle.mailparse.specs.Disposition.{Disposition, Kind, attachment, disposition_in}
 use Rattle.mailparse.specs.ExtendedValues.{is_apostrophe, text_in}
 use Rattle.mailparse.specs.Mail.{Node, Tree, Forest, tree, no_parts, part_and, root, shown_as_in}
+use Rattle.mailparse.specs.Map.{first_value_in}
 use Rattle.mailparse.specs.Pairs.{Texts}
+use Rattle.mailparse.specs.Value.{lenient_value_in}
 use Rattle.mail_codec.specs.declared.charset.built_in.Charset.TheVariants.{Windows1252}
 use Rattle.percent_encoding.specs.Percent.{percent_decode}
+
+-- no charset is known: encoded words stay as they are
+abbrev pub no_charsets : Charsets
+no_charsets label = None
 
 -- the first of two texts that is there
 abbrev pub first_text : Option (List ℕ) → Option (List ℕ) → Option (List ℕ)
@@ -44,12 +50,17 @@ abbrev pub name_among : Texts → List ℕ → List ℕ → Option (List ℕ)
 name_among params key extended =
     first_text (filled (params key)) (filled (option_map left_over_text (params extended)))
 
--- the file name in a disposition and a type: the `filename` of the first, otherwise the `name` of
--- the second
+-- the `filename` of a disposition, and the `name` of a type
+abbrev pub shown_name : Disposition → Option (List ℕ)
+shown_name disposition =
+    name_among disposition.params (codes "filename") (codes "filename*")
+
+abbrev pub typed_name : ContentType → Option (List ℕ)
+typed_name ctype = name_among ctype.params (codes "name") (codes "name*")
+
+-- the file name in a disposition and a type: that of the first, otherwise that of the second
 abbrev pub name_in : Disposition → ContentType → Option (List ℕ)
-name_in disposition ctype =
-    first_text (name_among disposition.params (codes "filename") (codes "filename*"))
-    (name_among ctype.params (codes "name") (codes "name*"))
+name_in disposition ctype = first_text (shown_name disposition) (typed_name ctype)
 
 -- the disposition is `attachment`
 abbrev pub is_attachment_disposition : Kind → Bool
@@ -99,9 +110,24 @@ whole_path t = if is_leaf t then codes "1" else []
 
 -- Under the charsets that are known.
 module _ (known : Charsets) where
-  -- the file name of a message
+  -- the file name in the disposition of a message, which is cut into parameters while its encoded
+  -- words stay as they are, so that none can end a parameter or begin one
+  unfoldable pub undecoded_shown_name : Node → Option (List ℕ)
+  undecoded_shown_name node =
+      option_and_then (λ text. shown_name (disposition_in known text))
+      (first_value_in no_charsets (codes "Content-Disposition") node.headers)
+
+  -- the same in its type
+  unfoldable pub undecoded_typed_name : Node → Option (List ℕ)
+  undecoded_typed_name node =
+      option_and_then (λ text. typed_name (content_type_in known text))
+      (first_value_in no_charsets (codes "Content-Type") node.headers)
+
+  -- the file name of a message: one of these, and then its encoded words are decoded
   unfoldable pub file_name : Node → Option (List ℕ)
-  file_name node = name_in (shown_as_in known node) node.ctype
+  file_name node =
+      option_and_then (λ name. filled (Some (lenient_value_in known name)))
+      (first_text (undecoded_shown_name node) (undecoded_typed_name node))
 
   -- a message is a file: it has no parts, and its disposition and its type are those of a file
   unfoldable pub is_attachment : Tree → Bool

@@ -9,19 +9,23 @@ ghost use Rattle.mailparse.specs.Views.{content_type, kind, tree_of};
 ghost use Rattle.mail_data.specs.Files.{attachments, describes_attachment, file_name, filled};
 ghost use Rattle.mail_data.specs.Files.{is_attachment_disposition};
 ghost use Rattle.mail_data.specs.Files.{is_attachment, is_extracted, is_leaf, is_shown, name_among};
-ghost use Rattle.mail_data.specs.Files.{name_in, path_under, whole_path};
+ghost use Rattle.mail_data.specs.Files.{name_in, path_under, shown_name, typed_name};
+ghost use Rattle.mail_data.specs.Files.{undecoded_shown_name, undecoded_typed_name, whole_path};
 ghost use Rattle.mail_data.specs.FileViews.{attachment_view};
 
 mod left_over;
 mod names;
+mod no_charsets;
 
 use crate::places::push_places;
 use left_over::left_over_text;
 use mail_codec::charset::KnownCharsets;
 use mailparse::{
-    DispositionType, MailParseError, ParsedContentDisposition, ParsedContentType, ParsedMail,
+    DispositionType, MailHeaderMap, MailParseError, ParsedContentDisposition, ParsedContentType,
+    ParsedMail, parse_content_disposition_in, parse_content_type_in, value_text_in,
 };
 pub use names::safe_file_name;
+use no_charsets::NoCharsets;
 use std::alloc::{AllocError, Global};
 use std::collections::BTreeMap;
 
@@ -39,11 +43,12 @@ pub struct Attachment<'m, 'a> {
 
 /// Returns the file name of a part: the parameter `filename` of its disposition (RFC 2183, section
 /// 2.3), otherwise the parameter `name` of its type, or `None` if it has neither, as `named_file`
-/// finds it.
+/// finds it in headers whose encoded words (RFC 2047, section 2) stay as they are.
 ///
-/// The name is as the sender wrote it: use `safe_file_name` before creating a file. The disposition
-/// is read in the charsets `known` (RFC 2231, section 4), and the type was read with the part, so
-/// pass the same charsets to `mailparse::parse_mail_in`. Allocates the disposition and the name.
+/// The words in the name are decoded after that, so a word that contains a `"` or a `;` neither
+/// ends the name nor begins another parameter. The name is as the sender wrote it: use
+/// `safe_file_name` before creating a file. Words and extended values (RFC 2231, section 4) are
+/// read in the charsets `known`. Allocates the disposition, the type and the name.
 ///
 /// # Errors
 ///
@@ -63,6 +68,11 @@ pub struct Attachment<'m, 'a> {
 /// let mail = parse_mail(alloc, raw)?;
 /// let name = file_name(alloc, &mail, &tables.as_slice())?.ok_or("no name")?;
 /// assert_eq!(rt; name.as_str(), "5€.txt");
+///
+/// let raw = b"Content-Disposition: inline; filename=\"=?utf-8?Q?a=22;_filename=3D=22b?=\"\n\n";
+/// let mail = parse_mail(alloc, raw)?;
+/// let name = file_name(alloc, &mail, &())?.ok_or("no name")?;
+/// assert_eq!(rt; name.as_str(), "a\"; filename=\"b");
 /// ```
 #[tactic(auto, unfolding(crate::specs::Files::file_name))]
 pub fn file_name<K: KnownCharsets>(
@@ -73,8 +83,54 @@ pub fn file_name<K: KnownCharsets>(
     ensures { AnswersOrMemory text_found result
         (Ok (file_name (K.known known.now) (root (tree_of part.now)))) }
 {
-    let disposition = part.get_content_disposition_in(alloc, known)?;
-    Ok(named_file(alloc, &disposition, &part.ctype)?)
+    let name = match undecoded_shown_name(alloc, part, known)? {
+        Some(name) => Some(name),
+        None => undecoded_typed_name(alloc, part, known)?,
+    };
+    match name {
+        Some(name) => Ok(filled(value_text_in(alloc, name.as_bytes(), known)?)),
+        None => Ok(None),
+    }
+}
+
+/// Returns the file name in the disposition of a part, with its encoded words as they are.
+#[tactic(auto, unfolding(crate::specs::Files::undecoded_shown_name))]
+fn undecoded_shown_name<K: KnownCharsets>(
+    alloc: Global,
+    part: &ParsedMail<'_>,
+    known: &K,
+) -> Result<Option<String>, MailParseError>
+    ensures { AnswersOrMemory text_found result
+        (Ok (undecoded_shown_name (K.known known.now) (root (tree_of part.now)))) }
+{
+    let value = part
+        .headers
+        .get_first_value_in(alloc, "Content-Disposition", &NoCharsets)?;
+    let Some(value) = value else {
+        return Ok(None);
+    };
+    let disposition = parse_content_disposition_in(alloc, value.as_str(), known)?;
+    Ok(shown_name(alloc, &disposition)?)
+}
+
+/// Returns the file name in the type of a part, with its encoded words as they are.
+#[tactic(auto, unfolding(crate::specs::Files::undecoded_typed_name))]
+fn undecoded_typed_name<K: KnownCharsets>(
+    alloc: Global,
+    part: &ParsedMail<'_>,
+    known: &K,
+) -> Result<Option<String>, MailParseError>
+    ensures { AnswersOrMemory text_found result
+        (Ok (undecoded_typed_name (K.known known.now) (root (tree_of part.now)))) }
+{
+    let value = part
+        .headers
+        .get_first_value_in(alloc, "Content-Type", &NoCharsets)?;
+    let Some(value) = value else {
+        return Ok(None);
+    };
+    let ctype = parse_content_type_in(alloc, value.as_str(), known)?;
+    Ok(typed_name(alloc, &ctype)?)
 }
 
 /// Returns the file name in a disposition and a type, for callers that have read both; `file_name`
@@ -110,9 +166,27 @@ pub fn named_file(
     ensures { IfOk result (λ name. text_found name
         ≡ name_in (views.disposition disposition.now) (content_type ctype.now)) }
 {
-    if let Some(name) = name_among(alloc, &disposition.params, "filename", "filename*")? {
+    if let Some(name) = shown_name(alloc, disposition)? {
         return Ok(Some(name));
     }
+    typed_name(alloc, ctype)
+}
+
+/// Returns the parameter `filename` of a disposition.
+fn shown_name(
+    alloc: Global,
+    disposition: &ParsedContentDisposition,
+) -> Result<Option<String>, AllocError>
+    ensures { IfOk result (λ name.
+        text_found name ≡ shown_name (views.disposition disposition.now)) }
+{
+    name_among(alloc, &disposition.params, "filename", "filename*")
+}
+
+/// Returns the parameter `name` of a type.
+fn typed_name(alloc: Global, ctype: &ParsedContentType) -> Result<Option<String>, AllocError>
+    ensures { IfOk result (λ name. text_found name ≡ typed_name (content_type ctype.now)) }
+{
     name_among(alloc, &ctype.params, "name", "name*")
 }
 
