@@ -90,7 +90,7 @@ def test_tree(mails):
         assert root.parent is None and root.inside is None
         assert [part.content_type for part in descend(root)] == [part.get_content_type() for part in email.message_from_bytes(raw).walk()]
     root = next(rocktray.parse(NESTED).walk())
-    assert [part.path for part in descend(root)] == ["", "1", "2", "2", "2.1", "2.2", "2.3", "2.3", "2.3.1", "2.4", "2.4.1", "3"]
+    assert [part.path for part in descend(root)] == ["", "1", "2", "2.0", "2.1", "2.2", "2.3", "2.3.0", "2.3.1", "2.4", "2.4.1", "3"]
     assert len(set(descend(root))) == 12
 
 
