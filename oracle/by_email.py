@@ -298,13 +298,20 @@ def parts_anywhere(data, inside=None):
     parts = list(parts_inside(mail, inside) if inside else walk(mail, "" if has_parts(mail) else "1"))
     yield from ((inside, path, part) for path, part in parts)
     for path, part in parts:
-        if kind_of(part) in ("message/rfc822", "message/global"):
+        if kind_of(part) in FORWARDED:
             yield from parts_anywhere(bytes_of(part), path)
 
 
-def saved_files(data):
-    """The paths and the bytes of what is saved of a mail, then of the mails inside it."""
-    return ((path, bytes_of(part)) for _inside, path, part in parts_anywhere(data) if is_saved(part))
+FORWARDED = ("message/rfc822", "message/global")
+
+
+def saved_files(data, with_contained=True):
+    """The paths and the bytes of what is saved of a mail, then of the mails inside it; also, or not, what the file of a
+    forwarded mail contains: the mails that are forwarded in it."""
+    return (
+        (path, bytes_of(part)) for inside, path, part in parts_anywhere(data)
+        if is_saved(part) and (with_contained or inside is None or kind_of(part) not in FORWARDED)
+    )
 
 
 STATUSES = ("message/delivery-status", "message/global-delivery-status")

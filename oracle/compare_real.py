@@ -183,7 +183,7 @@ def texts(mail):
 
 def contents(data):
     """The bytes of what is saved of a mail and of the mails inside it, by their paths."""
-    return dict(saved_files(data))
+    return dict(saved_files(data, with_contained=False))
 
 
 def attachments(data):

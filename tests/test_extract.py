@@ -14,7 +14,7 @@ import re
 
 import pytest
 
-from support import SAMPLES, command, multipart, run
+from support import FROM, SAMPLES, command, multipart, run
 
 from by_email import SHOWN_TYPES, body_of, is_saved, saved_files
 
@@ -67,7 +67,7 @@ def wanted_files(data, with_hash):
     """The path, the size, the hash and the bytes of each file of a mail, by Python."""
     return [
         (path, len(body), hashlib.sha256(body).hexdigest() if with_hash else None, body)
-        for path, body in saved_files(data)
+        for path, body in saved_files(data, with_contained=False)
     ]
 
 
@@ -221,6 +221,41 @@ def test_names_by_hash(tmp_path):
     assert (into / taken).read_bytes() == b"other bytes"
 
 
+def nested(levels, innermost):
+    """A mail with an image and a mail that it forwards, which is like it, and so on; the innermost has this file."""
+    mail = multipart(b"last", b"Content-Type: application/zip; name=last.zip\n\n" + innermost)
+    for level in range(levels):
+        boundary = b"level%d" % level
+        mail = multipart(boundary, b"Content-Type: image/png\n\nimage %d" % level, b"Content-Type: message/rfc822\n\n" + mail)
+    return mail
+
+
+def test_nested(tmp_path):
+    """Of mails forwarded in one another the outermost is a file, which contains the others; all other files are saved.
+    A choice of a path chooses those mails too."""
+    data, into = nested(4, b"zip"), tmp_path / "into"
+    into.mkdir()
+    (tmp_path / "nested.eml").write_bytes(data)
+    bodies = dict(saved_files(data))
+    for options, paths in (
+        ([], ["1", "2", "2.1", "2.2.1", "2.2.2.1", "2.2.2.2.1"]), (["--type", "message/rfc822"], ["2"]),
+        (["--name", "*"], ["1", "2", "2.1", "2.2.1", "2.2.2.1", "2.2.2.2.1"]), (["--only", "2.2"], ["2.2"]),
+        (["--only", "2.2.2.2", "--type", "message/*"], ["2.2.2.2"]), (["--only", "2.2", "--type", "image/*"], []),
+    ):
+        ended = run([*command("extract"), "--into", into, *options, tmp_path / "nested.eml"])
+        lines = [json.loads(line) for line in ended.stdout.splitlines()]
+        assert (ended.returncode, [line["path"] for line in lines]) == (0, paths), options
+        assert [(into / line["saved"]).read_bytes() for line in lines] == [bodies[path] for path in paths], options
+
+
+def test_nested_bytes(tmp_path):
+    """At most twice the bytes of a mail are saved, whatever its levels are."""
+    data = nested(98, b"x" * 500_000)
+    ended = run([*command("extract"), "--into", tmp_path], data)
+    assert ended.returncode == 0 and len(ended.stdout.splitlines()) == 100
+    assert sum(path.stat().st_size for path in tmp_path.iterdir()) <= 2 * len(data)
+
+
 @pytest.mark.parametrize("name, why", [
     ("missing", "missing: No such file or directory (os error 2)"), ("file", "file: not a directory"),
     (b"caf\xe9", r"caf\xE9: the name is not UTF-8"), ("a\x1b[2J", r"a\u{1b}[2J: No such file or directory (os error 2)"),
@@ -231,3 +266,76 @@ def test_into_no_directory(name, why, tmp_path):
     ended = run([*command("extract"), "--into", name, SAMPLES[0]], cwd=tmp_path)
     assert (ended.returncode, ended.stdout, ended.stderr.decode()) == (1, b"", f"rocktray: {why}\n")
     assert [path.name for path in tmp_path.iterdir()] == ["file"]
+
+
+@pytest.mark.parametrize("options, path", [
+    (options, paths[0]) for options, paths in CHOICES if len(paths) == 1
+], ids=lambda value: " ".join(value))
+def test_stdout(options, path, tmp_path):
+    """The only file that a choice keeps is written as Python reads it, and nothing else, from a file and a pipe."""
+    mail = tmp_path / "parted.eml"
+    mail.write_bytes(parted())
+    body = dict(saved_files(parted()))[path]
+    for words, data in (([mail], b""), ([], parted()), (["-"], parted())):
+        ended = run([*command("extract"), "--stdout", *options, *words], data, cwd=tmp_path)
+        assert (ended.returncode, ended.stdout, ended.stderr) == (0, body, b"")
+    assert [entry.name for entry in tmp_path.iterdir()] == ["parted.eml"]
+
+
+def test_stdout_of_samples(mails):
+    """Each file that has a path of its own, as Python reads it."""
+    for path in mails:
+        found = list(saved_files(path.read_bytes()))
+        for number, body in found[:20]:
+            if [name for name, _ in found].count(number) == 1:
+                ended = run([*command("extract"), "--stdout", "--only", number, path])
+                assert (ended.returncode, ended.stdout, ended.stderr) == (0, body, b""), (path, number)
+
+
+@pytest.mark.parametrize("options, paths, why", [
+    (options, paths, "the choice keeps several files, and --stdout writes one" if paths else "the choice keeps no file")
+    for options, paths in CHOICES if len(paths) != 1
+], ids=lambda value: " ".join(value) if isinstance(value, list) else value)
+def test_stdout_without_one_file(options, paths, why, tmp_path):
+    """Where a choice keeps no file or several, nothing is written, and standard error lists them."""
+    mail = tmp_path / "parted.eml"
+    mail.write_bytes(parted())
+    ended = run([*command("extract"), "--stdout", *options, mail])
+    *lines, last = ended.stderr.decode().splitlines()
+    assert (ended.returncode, ended.stdout, last) == (1, b"", f"rocktray: {mail}: {why}")
+    assert [json.loads(line)["path"] for line in lines] == paths
+    assert ended.stderr.decode().count("another file is kept too") == max(0, len(paths) - 1)
+
+
+def test_stdout_damaged(tmp_path):
+    """The front of a damaged file is written, and standard error has its line."""
+    mail = multipart(b"b", b"\nText", b"Content-Type: image/png\nContent-Transfer-Encoding: base64\n\ndHdv!!!!")
+    ended = run([*command("extract"), "--stdout", "--only", "2"], mail)
+    line = json.loads(ended.stderr)
+    assert (ended.returncode, ended.stdout, line["size"]) == (3, b"two", 3) and line["error"]
+
+
+def test_stdout_of_a_mailbox():
+    """All mails of a mailbox are looked at: a file of another one is another file, and a refused mail is reported."""
+    one, none, refused = parted(), b"Subject: x\n\n", b" x\n"
+    for mails, status, body in (
+        ((none, one, none), 0, b"jpeg"), ((one, one), 1, b""), ((none, none), 1, b""), ((refused, one), 3, b"jpeg"),
+    ):
+        mailbox = b"".join(FROM + mail + b"\n" for mail in mails)
+        ended = run([*command("extract"), "--stdout", "--only", "3"], mailbox)
+        assert (ended.returncode, ended.stdout) == (status, body), mails
+        assert bool(ended.stderr) == bool(status), mails
+
+
+def test_lines_are_escaped():
+    """A line escapes what a line of JSON escapes: every control character, and the separators of lines and paragraphs."""
+    label = "".join(map(chr, [*range(1, 32), 34, 92, *range(127, 161), 0x2028, 0x2029, 0x1F600]))
+    for data in (parted(), b" refused"):
+        ended = run([*command("extract"), "--label", label, "--only", "2", "--by-hash"], data, cwd="/proc")
+        other = run([*command("json"), "--label", label], data)
+        text = ended.stdout.decode()
+        assert text.count("\n") == 1 and text.endswith("\n") and not any(c < " " or c == "\x7f" for c in text[:-1])
+        assert not any(c in text for c in map(chr, [*range(128, 160), 0x2028, 0x2029]))
+        assert json.loads(text)["file"] == label
+        written = text.split('"file":', 1)[1].split(',"number"')[0]
+        assert written in other.stdout.decode()

@@ -59,6 +59,13 @@ def refused(words, *wanted, data=b""):
     (["json", "--part=1/2", "--mail", "a"], ("'--part <K/N>' cannot be used with '--mail'",)),
     (["json", "--mail", "--mbox"], ("cannot be used with",)),
     (["json", "--mbox", "--mbox=rd"], ("'--mbox[=<FORMAT>]' cannot be used multiple times",)),
+    (["extract", "--into", "a", "--into", "b"], ("'--into <DIRECTORY>' cannot be used multiple times",)),
+    (["extract", "--stdout", "--into", "a"], ("'--stdout' cannot be used with '--into <DIRECTORY>'",)),
+    (["extract", "--stdout", "--hash"], ("'--stdout' cannot be used with '--hash'",)),
+    (["extract", "--stdout", "--by-hash"], ("'--stdout' cannot be used with '--by-hash'",)),
+    (["extract", "--stdout", "a", "b"], ("--stdout reads one input",)),
+    (["extract", "--stdout", "/"], ("--stdout reads no directories",)),
+    (["extract", "--mail", "--mbox=rd"], ("cannot be used with",)),
     (["json", ""], ("INPUT",)),
     (["json", "--x\x1b[2J\x9b\nforged"], ("unexpected argument",)),
 ])
@@ -252,3 +259,10 @@ def test_start_of_the_script():
     """./rocktray starts the built program without other programs before it."""
     script = (TOP / "rocktray").read_text()
     assert 'exec "$program" "$@"' in script and "find" not in script
+
+
+def test_statuses():
+    """The help of each subcommand has the statuses of that of the program."""
+    table = text_of("docs/usage.txt").split("Exit status:")[1]
+    for name in ("json", "show", "extract"):
+        assert run([program("rocktray"), name, "--help"]).stdout.decode().endswith(f"Exit status:{table}"), name

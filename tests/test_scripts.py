@@ -87,6 +87,8 @@ def test_rocktray_is_not_built(tmp_path):
     for words in (["--help"], ["-h"], ["help"]):
         ended = run(["./rocktray", *words], cwd=copy)
         assert (ended.returncode, ended.stdout.decode(), ended.stderr) == (0, text_of("docs/usage.txt"), b"")
+    ended = run(["./rocktray"], cwd=copy)
+    assert (ended.returncode, ended.stdout, ended.stderr.decode()) == (2, b"", text_of("docs/usage.txt"))
     ended = run(["./rocktray", "json", "samples/plain.eml"], cwd=copy)
     why = b"rocktray: the program is not built: install a release (README.md), or prove and build it: tools/program.sh rocktray\n"
     assert (ended.returncode, ended.stdout, ended.stderr) == (2, b"", why)

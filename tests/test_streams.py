@@ -144,3 +144,32 @@ def test_unsaved(into, why, limit, tmp_path):
     line = {"file": None, "number": None, "path": "1", "saved": None, "size": 9000, "sha256": None, "error": why}
     assert (ended.returncode, json.loads(ended.stdout), ended.stderr) == (1, line, b"")
     assert list((tmp_path / "into").iterdir()) == []
+
+
+def limited_files():
+    """Limits files to 3000 bytes; the signal for a write past that ends the program."""
+    resource.setrlimit(resource.RLIMIT_FSIZE, (3000, 3000))
+
+
+def test_whole_files(tmp_path):
+    """However a run ends, each file that has its name is whole."""
+    mail = b"Content-Type: multipart/mixed; boundary=b\n\n" + b"".join(
+        b"--b\nContent-Disposition: attachment; filename=%d\n\n%b\n" % (size, b"y" * size) for size in (10, 2000, 9000, 20)
+    ) + b"--b--\n"
+    ended = subprocess.run([*command("extract"), "--into", tmp_path], input=mail, capture_output=True, timeout=60,
+                           preexec_fn=limited_files)
+    assert ended.returncode == -signal.SIGXFSZ
+    saved = {path.name: path.stat().st_size for path in tmp_path.iterdir() if not path.name.startswith(".")}
+    assert saved == {"10": 10, "2000": 2000}
+
+
+def test_files_without_links(tmp_path):
+    """A hidden file that an earlier run left does not hinder, and no hidden file is left."""
+    into = tmp_path / "into"
+    into.mkdir()
+    (into / ".rocktray-0").write_bytes(b"left")
+    mail = b"Content-Disposition: attachment; filename=a\n\nx"
+    for name in ("a", "a-2"):
+        ended = subprocess.run([*command("extract"), "--into", into], input=mail, capture_output=True, timeout=60)
+        assert (ended.returncode, json.loads(ended.stdout)["saved"]) == (0, name)
+    assert {path.name: path.read_bytes() for path in into.iterdir()} == {".rocktray-0": b"left", "a": b"x", "a-2": b"x"}

@@ -20,7 +20,7 @@ has_copy name bytes files = list_any (λ file. bytes_eq file.0 name && bytes_eq 
 -- The directory has these files, and a file with this name and these bytes is to be created.
 module _ (files : List File) (name bytes : List ℕ) where
   -- it is there now, and was not before; or the name is taken; or it could not be created. The other files are unchanged
-  abbrev pub Creates : Bool → Option (List File) → Created → Type 0
+  abbrev pub Creates : (List File → Bool) → Option (List File) → Created → Type 0
   Creates can_fail now Made = (has_file name files ≡ false) × (now ≡ Some (files ++ (name, bytes) ∷ []))
   Creates can_fail now Taken = (has_file name files ≡ true) × (now ≡ Some files)
-  Creates can_fail now (Failed error) = (can_fail ≡ true) × (now ≡ Some files)
+  Creates can_fail now (Failed error) = (can_fail files ≡ true) × (now ≡ Some files)

@@ -12,6 +12,7 @@ use Rattle.mail_data.specs.InnerMails.{InnerMail, inner_mails}
 use Rattle.mail_data.specs.Mailbox.{Entry, front_length}
 use Rattle.mail_data.specs.MailboxFormats.{entries_in, mail_in}
 use Rattle.mail_data.specs.declared.mailbox.formats.Format.{Format}
+use Rattle.mail_json.specs.FileLine.{FileLine}
 use Rattle.mail_json.specs.JsonLines.{format_of, is_mailbox}
 use Rattle.mail_program.specs.Refusal.{refusal_text}
 use Rattle.mail_json.specs.Part.{saturating_add}
@@ -21,27 +22,27 @@ use Rattle.mail_program.specs.declared.fault.Fault.{Fault}
 use Rattle.mail_program.specs.declared.outcome.Outcome as program
 use Rattle.mail_extract.specs.Directory.{File}
 use Rattle.mail_extract.specs.Naming.{Options}
-use Rattle.mail_extract.specs.Report.{Line, lines_text, worst}
+use Rattle.mail_extract.specs.Report.{lines_text, worst}
 use Rattle.mail_extract.specs.Save.{AreSaved, Outcome, chosen, wanted_files}
 
 -- the files of a directory and the next number before, the lines that are written, and the next number and the files after
 abbrev pub Saves : Type 1
-Saves = List File → ℕ → List Line → ℕ → List File → Type 0
+Saves = List File → ℕ → List FileLine → ℕ → List File → Type 0
 
 -- nothing is saved, and these lines are written
-abbrev pub Only : List Line → Saves
+abbrev pub Only : List FileLine → Saves
 Only these files from lines next now = (lines ≡ these) × (next ≡ from) × (now ≡ files)
 
 -- first this, and then that
 abbrev pub Then : Saves → Saves → Saves
 Then First Second files from lines next now =
-    (mid : List File) × (number : ℕ) × (first : List Line) × (others : List Line) × First files from first number mid
+    (mid : List File) × (number : ℕ) × (first : List FileLine) × (others : List FileLine) × First files from first number mid
     × Second mid number others next now × (lines ≡ first ++ others)
 
 -- Of an input with this name, or standard input.
 module _ (file : Option (List ℕ)) where
   -- the line of a file of the mail with this number, or of a mail by itself
-  abbrev pub file_line : Option ℕ → Outcome → Line
+  abbrev pub file_line : Option ℕ → Outcome → FileLine
   file_line number outcome = record {
     file = file;
     number = number;
@@ -53,21 +54,21 @@ module _ (file : Option (List ℕ)) where
   }
 
   -- the line of a refusal: of an input, of its mail with this number, or of the mail in the part with this path
-  abbrev pub refused_line : (number : Option ℕ) (path : Option (List ℕ)) (error : List ℕ) → Line
+  abbrev pub refused_line : (number : Option ℕ) (path : Option (List ℕ)) (error : List ℕ) → FileLine
   refused_line number path error =
       record { file = file; number = number; path = path; saved = None; size = None; sha256 = None; error = Some error }
 
   -- the line of a mail inside, if it is refused
-  abbrev pub inner_lines : Option ℕ → InnerMail → List Line
+  abbrev pub inner_lines : Option ℕ → InnerMail → List FileLine
   inner_lines number mail = option_map_or (λ refusal. refused_line number (Some mail.path) (refusal_text refusal) ∷ []) mail.refusal []
 
   -- the text before the first mail of a mailbox: an error, unless it is whitespace
-  abbrev pub front_lines : List ℕ → List Line
+  abbrev pub front_lines : List ℕ → List FileLine
   front_lines front =
       if list_all is_ascii_whitespace front then [] else refused_line None None (codes "The mailbox does not begin with a separator") ∷ []
 
-  -- For a directory that may fail or not, under these options and the known charsets.
-  module _ (can_fail : Bool) (options : Options) (known : Charsets) where
+  -- For a directory that may fail if it has certain files, under these options and the known charsets.
+  module _ (can_fail : List File → Bool) (options : Options) (known : Charsets) where
     -- the chosen files of a mail are saved and have lines, and then each refused mail inside it has one; or the mail has one, if it is refused
     abbrev pub IsMailOf : Option ℕ → Reads Tree → Saves
     IsMailOf number (Ok t) files from lines next now =
@@ -102,7 +103,7 @@ module _ (held_old held_new : Option (List File)) (old new : Option (List ℕ)) 
   -- the lines were written and nothing else, the outcome is the worst of theirs, and the files were saved
   abbrev pub Saved : program.Outcome → Saves → Type 0
   Saved outcome Are =
-      (lines : List Line) × Appends old new (lines_text lines) × (outcome ≡ worst lines)
+      (lines : List FileLine) × Appends old new (lines_text lines) × (outcome ≡ worst lines)
       × ((files : List File) → held_old ≡ Some files → (now : List File) × (held_new ≡ Some now) × Are files from lines next now)
 
   -- so it was, or memory ran out, or a write failed

@@ -9,6 +9,7 @@ pub mod ChoiceViews
 pub mod Save
 pub mod SaveViews
 pub mod Report
-pub mod ReportViews
 pub mod Input
+pub mod Only
+pub mod OnlyViews
 pub mod private

@@ -1,12 +1,12 @@
 -- What saving the files of a mail does to a directory; the program's own rule.
-use Rattle.std.specs.Prelude.{◌≡◌, ℕ, ◌+◌, ◌-◌, ◌^◌, ◌<◌, ◌≤◌, ◌⊎◌, Bool, true, false, not, ◌||◌, List, [], ◌∷◌, ◌++◌, length, filter, flat_map, map, Option, Some, None, is_some, option_and_then}
+use Rattle.std.specs.Prelude.{◌≡◌, ℕ, ◌+◌, ◌-◌, ◌^◌, ◌<◌, ◌≤◌, ◌⊎◌, Bool, true, false, not, ◌&&◌, ◌||◌, List, [], ◌∷◌, ◌++◌, length, filter, flat_map, map, Option, Some, None, is_some, option_and_then}
 use Rattle.std.specs.Option.{option_map_or}
 use Rattle.std.specs.Result.{result_ok}
 use Rattle.mail_codec.specs.Charset.{Charsets}
-use Rattle.mailparse.specs.Mail.{Tree, read_mail_in, root}
+use Rattle.mailparse.specs.Mail.{Node, Tree, read_mail_in, root}
 use Rattle.mailparse.specs.Placement.{Placement, placements}
 use Rattle.mail_data.specs.Files.{file_name, is_extracted}
-use Rattle.mail_data.specs.InnerMails.{InnerMail, inner_mails, places_under}
+use Rattle.mail_data.specs.InnerMails.{InnerMail, forwards, inner_mails, places_under}
 use Rattle.mail_data.specs.PartPlaces.{Place, places}
 use Rattle.mail_data.specs.lenient.Content.{Content}
 use Rattle.mail_extract.specs.Choice.{Choice, keeps}
@@ -16,15 +16,18 @@ use Rattle.mail_extract.specs.Directory.{File, has_copy, has_file}
 use Rattle.mail_extract.specs.Hash.{wanted_hash}
 use Rattle.mail_extract.specs.Names.{IsNumbered, wanted_name}
 use Rattle.mail_extract.specs.Naming.{Options, target}
+use Rattle.mail_extract.specs.declared.level.Level.{Level}
+use Rattle.mail_extract.specs.declared.level.Level.TheVariants.{Own, Inside}
 use Rattle.mail_extract.specs.declared.options.Naming.{Naming}
 use Rattle.mail_extract.specs.declared.options.Naming.TheVariants.{BySender, ByHash}
 
--- a file of a mail: the path of its part, the type, the wanted name, and its content
+-- a file of a mail: the path of its part, the type, the wanted name, its content, and whether the file of a forwarded mail contains it
 pub record Wanted : Type 0 where
   pub path : List ℕ
   pub mimetype : List ℕ
   pub name : List ℕ
   pub content : Content
+  pub is_contained : Bool
 
 -- the outcome: the path, the name under which it was saved, if it was, the number of its bytes, their SHA-256, if it is hashed, and the error, if
 -- there is one
@@ -35,8 +38,8 @@ pub record Outcome : Type 0 where
   pub sha256 : Option (List ℕ)
   pub error : Option (List ℕ)
 
--- For a directory that may fail or not, and the wanted name of a file.
-module _ (can_fail : Bool) (name : List ℕ) where
+-- For a directory that may fail if it has certain files, and the wanted name of a file.
+module _ (can_fail : List File → Bool) (name : List ℕ) where
   -- the name with each number from `from` onwards and below a bound is taken
   abbrev pub AreTaken : List File → ℕ → ℕ → Type 0
   AreTaken files from bound = (n : ℕ) → from ≤ n → n < bound → (text : List ℕ) × IsNumbered name n text × (has_file text files ≡ true)
@@ -49,14 +52,14 @@ module _ (can_fail : Bool) (name : List ℕ) where
       × (now ≡ files ++ (text, bytes) ∷ [])
   IsKeptNumbered files bytes from None next now =
       (now ≡ files)
-      × (((can_fail ≡ true) × (n : ℕ) × (next ≡ n + 1) × (from ≤ n) × AreTaken files from n) ⊎ ((2 ^ 64 - 1 ≤ next) × AreTaken files from (2 ^ 64 - 1)))
+      × (((can_fail files ≡ true) × (n : ℕ) × (next ≡ n + 1) × (from ≤ n) × AreTaken files from n) ⊎ ((2 ^ 64 - 1 ≤ next) × AreTaken files from (2 ^ 64 - 1)))
 
   -- the same, but under the name itself if that is free
   abbrev pub IsKept : List File → List ℕ → ℕ → Option (List ℕ) → ℕ → List File → Type 0
   IsKept files bytes from saved next now =
       ((has_file name files ≡ false) × (saved ≡ Some name) × (next ≡ from) × (now ≡ files ++ (name, bytes) ∷ []))
       ⊎ ((has_file name files ≡ true) × IsKeptNumbered files bytes from saved next now)
-      ⊎ ((can_fail ≡ true) × (saved ≡ None) × (next ≡ from) × (now ≡ files))
+      ⊎ ((can_fail files ≡ true) × (saved ≡ None) × (next ≡ from) × (now ≡ files))
 
   -- the same, but if the name is the hash of the bytes and a file with this name has them already, nothing is written
   abbrev pub IsPut : Naming → List File → List ℕ → ℕ → Option (List ℕ) → ℕ → List File → Type 0
@@ -65,8 +68,8 @@ module _ (can_fail : Bool) (name : List ℕ) where
       ((has_copy name bytes files ≡ true) × (saved ≡ Some name) × (next ≡ from) × (now ≡ files))
       ⊎ ((has_copy name bytes files ≡ false) × IsKept files bytes from saved next now)
 
--- For a directory that may fail or not, under these options.
-module _ (can_fail : Bool) (options : Options) where
+-- For a directory that may fail if it has certain files, under these options.
+module _ (can_fail : List File → Bool) (options : Options) where
   -- a file was saved with this outcome; it has an error exactly if it was not saved or its content is damaged
   pub record IsSaved (files : List File) (wanted : Wanted) (from : ℕ) (outcome : Outcome) (next : ℕ) (now : List File) : Type 0 where
     pub kept : IsPut can_fail (target options.naming wanted.name wanted.content.bytes) options.naming files wanted.content.bytes from outcome.saved next now
@@ -88,29 +91,40 @@ module _ (can_fail : Bool) (options : Options) where
       (files : List File) → held_old ≡ Some files → (now : List File) × (held_new ≡ Some now) × (outcomes : List Outcome)
       × (after ≡ before ++ outcomes) × AreSaved files wanted from outcomes next now
 
+-- a forwarded mail in a forwarded mail, whose file contains it
+abbrev pub is_contained : Level → Node → Bool
+is_contained Own node = false
+is_contained Inside node = forwards node
+
 -- a part as it is to be saved under a name
-abbrev pub wanted_as : Place → List ℕ → Wanted
-wanted_as place name = record { path = place.path; mimetype = (root place.part).ctype.mimetype; name = name; content = content (root place.part) }
+abbrev pub wanted_as : Level → Place → List ℕ → Wanted
+wanted_as level place name =
+    let node = root place.part in
+    record { path = place.path; mimetype = node.ctype.mimetype; name = name; content = content node; is_contained = is_contained level node }
 
 -- Under the known charsets.
 module _ (known : Charsets) where
   -- a part as it is to be saved
-  abbrev pub wanted : Place → Wanted
-  wanted place = wanted_as place (wanted_name (file_name known (root place.part)) (ending_of (root place.part)))
+  abbrev pub wanted : Level → Place → Wanted
+  wanted level place = wanted_as level place (wanted_name (file_name known (root place.part)) (ending_of (root place.part)))
 
   -- the files among some parts
-  abbrev pub wanted_among : List Place → List Wanted
-  wanted_among found = map wanted (filter (λ place. is_extracted known place.part) found)
+  abbrev pub wanted_among : Level → List Place → List Wanted
+  wanted_among level found = map (wanted level) (filter (λ place. is_extracted known place.part) found)
 
   -- the files of a mail inside a mail, if it is not refused
   abbrev pub wanted_inside : InnerMail → List Wanted
   wanted_inside inner =
-      option_map_or (λ t. wanted_among (places_under inner.path t (placements 0 t))) (result_ok (read_mail_in known 100 inner.bytes)) []
+      option_map_or (λ t. wanted_among Inside (places_under inner.path t (placements 0 t))) (result_ok (read_mail_in known 100 inner.bytes)) []
 
   -- the files of a mail whose parts have these placements, and then those of the mails inside it
   abbrev pub wanted_files : Tree → List Placement → List Wanted
-  wanted_files t found = wanted_among (places t found) ++ flat_map wanted_inside (inner_mails known 100 [] (Some 0) t found)
+  wanted_files t found = wanted_among Own (places t found) ++ flat_map wanted_inside (inner_mails known 100 [] (Some 0) t found)
+
+-- the choice keeps a file: what the file of a forwarded mail contains is kept only if the choice names its path
+abbrev pub is_chosen : Choice → Wanted → Bool
+is_chosen choice file = keeps choice file.path file.mimetype file.name && (not file.is_contained || is_some choice.path)
 
 -- those files that the choice keeps, in order
 abbrev pub chosen : Choice → List Wanted → List Wanted
-chosen choice files = filter (λ file. keeps choice file.path file.mimetype file.name) files
+chosen choice files = filter (is_chosen choice) files

@@ -17,11 +17,11 @@ pub enum Created {
 }
 
 /// A directory in which files are saved. A contract sees its files, if the directory shows them,
-/// and whether creating a file may fail.
+/// and whether creating a file may fail if it has these files.
 pub trait Directory {
     ghost held: { Self → Option (List File) };
 
-    ghost can_fail: { Bool };
+    ghost can_fail: { List File → Bool };
 
     /// Creates a file with this name and these bytes, unless the name is taken.
     ///

@@ -10,6 +10,12 @@ use std::rt::Files;
 /// The error of an incomplete file that could not be removed.
 const STAYS: &str = "the file could neither be written completely nor removed";
 
+/// The error if every hidden name is taken.
+const NO_NAME: &str = "no name is free for the file while it is written";
+
+/// The number of hidden names that are tried.
+const HIDDEN_NAMES: u32 = 1000;
+
 /// The largest number of bytes that one read returns.
 const BLOCK: usize = 64 * 1024;
 
@@ -22,22 +28,44 @@ pub struct Disk<'r, R> {
     pub path: &'r str,
 }
 
+impl<'r, R: Files + AllocGlobal> Disk<'r, R> {
+    /// Returns the path of the file with this name.
+    fn path_of(&self, name: &str) -> Result<String, AllocError> {
+        let directory = self.path;
+        format!(in self.rt.alloc(); "{directory}/{name}")
+    }
+}
+
 impl<'r, R: Files + AllocGlobal> Directory for Disk<'r, R> {
     ghost held = { λ disk. None };
 
-    ghost can_fail = { true };
+    ghost can_fail = { λ files. true };
 
-    /// A file that could not be written completely is removed, or the error says that it is there.
+    /// The bytes are written to a file with a hidden name, `.rocktray-0`. Only when it is whole does
+    /// it get its name, by a link, so that it replaces nothing. If it could not be written
+    /// completely, it is removed, or the error says that it stays.
     fn create(&mut self, name: &str, bytes: &[u8]) -> Result<Created, AllocError> {
-        let directory = self.path;
-        let path = format!(in self.rt.alloc(); "{directory}/{name}")?;
-        Ok(write_new(self.rt, path.as_str(), bytes))
+        let path = self.path_of(name)?;
+        if fs::symlink_metadata(self.rt, path.as_str()).is_ok() {
+            return Ok(Created::Taken);
+        }
+        for number in 0..HIDDEN_NAMES {
+            let hidden = format!(in self.rt.alloc(); ".rocktray-{number}")?;
+            let hidden = self.path_of(hidden.as_str())?;
+            match File::create_new(self.rt, hidden.as_str()) {
+                Ok(file) => {
+                    return Ok(write_new(self.rt, file, hidden.as_str(), path.as_str(), bytes));
+                }
+                Err(error) if error.kind() == ErrorKind::AlreadyExists => {}
+                Err(error) => return Ok(Created::Failed(error)),
+            }
+        }
+        Ok(Created::Failed(io::Error::other(NO_NAME)))
     }
 
     /// Compares the file in blocks.
     fn has(&self, name: &str, bytes: &[u8]) -> Result<bool, AllocError> {
-        let directory = self.path;
-        let path = format!(in self.rt.alloc(); "{directory}/{name}")?;
+        let path = self.path_of(name)?;
         let buffer = vec![in self.rt.alloc(); 0u8; BLOCK]?;
         Ok(matches!(is_same(self.rt, path.as_str(), bytes, buffer), Ok(true)))
     }
@@ -64,23 +92,44 @@ fn is_same(rt: &impl Files, path: &str, bytes: &[u8], mut buffer: Vec<u8>) -> io
     Ok(false)
 }
 
-/// Creates a file at this path, unless something is there.
-fn write_new(rt: &impl Files, path: &str, bytes: &[u8]) -> Created {
-    let mut file = match File::create_new(rt, path) {
-        Ok(file) => file,
-        Err(error) => {
-            return if error.kind() == ErrorKind::AlreadyExists {
-                Created::Taken
-            } else {
-                Created::Failed(error)
-            };
-        }
+/// Writes a new file, which has a hidden path, and gives it its path, unless that is taken.
+fn write_new<R: Files>(
+    rt: &R,
+    mut file: R::File,
+    hidden: &str,
+    path: &str,
+    bytes: &[u8],
+) -> Created {
+    let named = match file.write_all(bytes) {
+        Ok(()) => give_name(rt, hidden, path),
+        Err(error) => Created::Failed(error),
     };
-    match file.write_all(bytes) {
+    match (fs::remove_file(rt, hidden), named) {
+        (Err(error), Created::Failed(_)) if error.kind() != ErrorKind::NotFound => {
+            Created::Failed(io::Error::other(STAYS))
+        }
+        (_, named) => named,
+    }
+}
+
+/// Gives a file a path, unless that is taken. Where the file system has no links, an empty file
+/// takes the path first, and the file then replaces it.
+fn give_name(rt: &impl Files, hidden: &str, path: &str) -> Created {
+    match fs::hard_link(rt, hidden, path) {
+        Ok(()) => return Created::Made,
+        Err(error) if error.kind() == ErrorKind::AlreadyExists => return Created::Taken,
+        Err(_) => {}
+    }
+    match File::create_new(rt, path) {
+        Ok(_) => {}
+        Err(error) if error.kind() == ErrorKind::AlreadyExists => return Created::Taken,
+        Err(error) => return Created::Failed(error),
+    }
+    match fs::rename(rt, hidden, path) {
         Ok(()) => Created::Made,
-        Err(error) => match fs::remove_file(rt, path) {
-            Ok(()) => Created::Failed(error),
-            Err(_) => Created::Failed(io::Error::other(STAYS)),
-        },
+        Err(error) => {
+            let _ = fs::remove_file(rt, path);
+            Created::Failed(error)
+        }
     }
 }

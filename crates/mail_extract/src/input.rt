@@ -18,12 +18,12 @@ ghost use Rattle.mail_extract.specs.private.Blocks.{EndsAfter, SavesFront};
 
 use crate::directory::Directory;
 use crate::options::SaveOptions;
-use crate::report::{Line, write_line};
+use crate::report::write_line;
 use crate::save::{Saved, save_files};
 use mail_data::inner_mails::InnerMail;
 use mail_data::mailbox::quoted::unquoted;
 use mail_data::mailbox::{Format, Mailbox, MailboxEntry, read_mailbox, settled_entry};
-use mail_json::{InputKind, Wanted, first_wanted, is_mailbox, read_until};
+use mail_json::{FileLine, InputKind, Wanted, first_wanted, is_mailbox, read_until};
 use mail_program::{Fault, Outcome, is_all_whitespace, refusal_of};
 use mailparse::{KnownCharsets, parse_mail_in};
 use std::alloc::Global;
@@ -146,7 +146,7 @@ fn extract_mailbox<W: Write, D: Directory, K: KnownCharsets>(
         (format_of source.entry.kind) input.now) }
 {
     let mails = read_mailbox(input, source.kind.format());
-    let outcome = report_front(alloc, out, mails.front(), source.file)?;
+    let outcome = report_front(out, mails.front(), source.file)?;
     Ok(outcome.and(extract_mails(alloc, out, target, mails, 1, source)?))
 }
 
@@ -169,18 +169,13 @@ fn extract_following<R: Read, W: Write, D: Directory, K: KnownCharsets>(
         (format_of source.entry.kind)) }
 {
     let front = read_mailbox(read, source.kind.format()).front();
-    let outcome = report_front(alloc, out, front, source.file)?;
+    let outcome = report_front(out, front, source.file)?;
     let rest = &read[front.len()..];
     Ok(outcome.and(extract_rest(alloc, out, target, reader, rest, source)?))
 }
 
 /// Reports the text before the first mail of a mailbox, unless it is whitespace.
-fn report_front<W: Write>(
-    alloc: Global,
-    out: &mut W,
-    front: &[u8],
-    file: Option<&str>,
-) -> Result<Outcome, Fault>
+fn report_front<W: Write>(out: &mut W, front: &[u8], file: Option<&str>) -> Result<Outcome, Fault>
     ensures { WritesAll (W.contents out.old) (W.contents out.new) result
         (front_lines (option_map (λ name. name.now) file.entry) front.now) }
 {
@@ -188,7 +183,6 @@ fn report_front<W: Write>(
         return Ok(Outcome::Clean);
     }
     report_refused(
-        alloc,
         out,
         file,
         None,
@@ -357,7 +351,7 @@ fn extract_one<W: Write, D: Directory, K: KnownCharsets>(
         Ok(mail) => {
             let (directory, next) = (&mut target.directory, &mut target.number);
             let extracted = save_files(alloc, directory, next, &mail, options, known)?;
-            let saved = report_saved(alloc, out, extracted.saved.as_slice(), file, number)?;
+            let saved = report_saved(out, extracted.saved.as_slice(), file, number)?;
             let inside = extracted.inside.as_slice();
             Ok(saved.and(report_inside(alloc, out, inside, file, number)?))
         }
@@ -365,14 +359,13 @@ fn extract_one<W: Write, D: Directory, K: KnownCharsets>(
             let Some(text) = refusal_of(alloc, &error)? else {
                 return Err(Fault::Mail(error));
             };
-            report_refused(alloc, out, file, number, None, text.as_str())
+            report_refused(out, file, number, None, text.as_str())
         }
     }
 }
 
 /// Writes the lines of files.
 fn report_saved<W: Write>(
-    alloc: Global,
     out: &mut W,
     files: &[Saved],
     file: Option<&str>,
@@ -384,7 +377,7 @@ fn report_saved<W: Write>(
 {
     let mut outcome = Outcome::Clean;
     for saved in files {
-        let line = Line {
+        let line = FileLine {
             file,
             number,
             path: Some(saved.path.as_str()),
@@ -393,7 +386,7 @@ fn report_saved<W: Write>(
             sha256: saved.sha256.as_deref(),
             error: saved.error.as_deref(),
         };
-        outcome = outcome.and(write_line(alloc, out, &line)?);
+        outcome = outcome.and(write_line(out, &line)?);
     }
     Ok(outcome)
 }
@@ -435,13 +428,12 @@ fn report_inner<W: Write>(
         return Ok(Outcome::Clean);
     };
     let path = Some(inner.path.as_str());
-    report_refused(alloc, out, file, number, path, text.as_str())
+    report_refused(out, file, number, path, text.as_str())
 }
 
 /// Writes the line of a refusal: of an input, of its mail with this number, or of the mail in the
 /// part with this path.
 fn report_refused<'l, W: Write>(
-    alloc: Global,
     out: &mut W,
     file: Option<&'l str>,
     number: Option<usize>,
@@ -452,7 +444,7 @@ fn report_refused<'l, W: Write>(
         (refused_line (option_map (λ name. name.now) file.entry) number
         (option_map (λ name. name.now) path.entry) error.now ∷ []) }
 {
-    let line = Line {
+    let line = FileLine {
         file,
         number,
         path,
@@ -461,7 +453,7 @@ fn report_refused<'l, W: Write>(
         sha256: None,
         error: Some(error),
     };
-    write_line(alloc, out, &line)
+    write_line(out, &line)
 }
 
 /// Flushes the writer.

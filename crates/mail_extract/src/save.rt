@@ -19,14 +19,16 @@ ghost use Rattle.mail_extract.specs.Names.{wanted_name};
 ghost use Rattle.mail_extract.specs.Naming.{target};
 ghost use Rattle.mail_extract.specs.Save.{AreAdded, AreSaved, IsKept, IsKeptNumbered, IsPut};
 ghost use Rattle.mail_extract.specs.Save.{IsSaved};
-ghost use Rattle.mail_extract.specs.Save.{chosen, wanted, wanted_among, wanted_as, wanted_files};
+ghost use Rattle.mail_extract.specs.Save.{chosen, is_chosen, wanted_among, wanted_as, wanted_files};
 ghost use Rattle.mail_extract.specs.Save.{wanted_inside};
 ghost use Rattle.mail_extract.specs.SaveViews.{kept_name, outcome};
+ghost use Rattle.mail_extract.specs.declared.level.Level.{Level};
 
 use crate::content::content_of;
 use crate::directory::{Created, Directory};
 use crate::endings::ending_of;
 use crate::hash::wanted_hash;
+use crate::level::{Level, Saving, is_contained};
 use crate::names::{numbered, wanted_name};
 use crate::options::{Naming, SaveOptions, target};
 use mail_data::files::{file_name, is_extracted};
@@ -123,13 +125,17 @@ pub fn save_files<D: Directory, K: KnownCharsets>(
     let inside = inner_mails(alloc, mail, known)?;
     let found = places(alloc, mail)?;
     let mut saved = Vec::new(alloc);
+    let saving = Saving {
+        options,
+        level: Level::Own,
+    };
     save_places(
         alloc,
         directory,
         number,
         &mut saved,
         found.as_slice(),
-        options,
+        saving,
         known,
     )?;
     for inner in &inside {
@@ -162,13 +168,17 @@ fn save_inner<D: Directory, K: KnownCharsets>(
     match mail_of(alloc, inner, known)? {
         Some(mail) => {
             let found = places_under(alloc, &mail, inner.path.as_str())?;
+            let saving = Saving {
+                options,
+                level: Level::Inside,
+            };
             save_places(
                 alloc,
                 directory,
                 number,
                 saved,
                 found.as_slice(),
-                options,
+                saving,
                 known,
             )?;
             Ok(())
@@ -203,13 +213,13 @@ fn save_places<D: Directory, K: KnownCharsets>(
     number: &mut u64,
     saved: &mut Vec<Saved>,
     places: &[Place<'_, '_>],
-    options: SaveOptions<'_>,
+    saving: Saving<'_>,
     known: &K,
 ) -> Result<(), MailParseError>
-    ensures saved { OnOk result (AreAdded D.can_fail (options_view options.entry)
+    ensures saved { OnOk result (AreAdded D.can_fail (options_view saving.entry.options)
         (D.held directory.old) (D.held directory.new)
-        (chosen (options_view options.entry).choice
-        (wanted_among (K.known known.now) (map place_view places.now))) number.old
+        (chosen (options_view saving.entry.options).choice
+        (wanted_among (K.known known.now) saving.entry.level (map place_view places.now))) number.old
         (map outcome saved.old.items) (map outcome saved.new.items) number.new) }
     ensures safe { All (λ file. IfSome file.name (λ name. IsSafeName (string_bytes name)))
         saved.old.items → OnOk result
@@ -218,7 +228,7 @@ fn save_places<D: Directory, K: KnownCharsets>(
     ensures only_memory { IfErr result IsMemory }
 {
     for place in places {
-        save_place(alloc, directory, number, saved, place, options, known)?;
+        save_place(alloc, directory, number, saved, place, saving, known)?;
     }
     Ok(())
 }
@@ -230,13 +240,13 @@ fn save_place<D: Directory, K: KnownCharsets>(
     number: &mut u64,
     saved: &mut Vec<Saved>,
     place: &Place<'_, '_>,
-    options: SaveOptions<'_>,
+    saving: Saving<'_>,
     known: &K,
 ) -> Result<(), MailParseError>
-    ensures saved { OnOk result (AreAdded D.can_fail (options_view options.entry)
+    ensures saved { OnOk result (AreAdded D.can_fail (options_view saving.entry.options)
         (D.held directory.old) (D.held directory.new)
-        (chosen (options_view options.entry).choice
-        (wanted_among (K.known known.now) (place_view place.now ∷ []))) number.old
+        (chosen (options_view saving.entry.options).choice
+        (wanted_among (K.known known.now) saving.entry.level (place_view place.now ∷ []))) number.old
         (map outcome saved.old.items) (map outcome saved.new.items) number.new) }
     ensures safe { All (λ file. IfSome file.name (λ name. IsSafeName (string_bytes name)))
         saved.old.items → OnOk result
@@ -248,15 +258,27 @@ fn save_place<D: Directory, K: KnownCharsets>(
         return Ok(());
     }
     let name = name_of(alloc, place.part, known)?;
-    let mimetype = type_of(place.part);
-    if !options
-        .choice
-        .keeps(alloc, place.path.as_str(), mimetype, name.as_str())?
-    {
+    if !is_kept(alloc, place, name.as_str(), saving)? {
         return Ok(());
     }
+    let options = saving.options;
     saved.push(save_file(alloc, directory, number, place, name, options)?)?;
     Ok(())
+}
+
+/// Returns whether the choice keeps a part as a file with this wanted name.
+fn is_kept(
+    alloc: Global,
+    place: &Place<'_, '_>,
+    name: &str,
+    saving: Saving<'_>,
+) -> Result<bool, AllocError>
+    ensures { IfOk result (λ is. is ≡ is_chosen (options_view saving.entry.options).choice
+        (wanted_as saving.entry.level (place_view place.now) name.now)) }
+{
+    let choice = saving.options.choice;
+    let is = choice.keeps(alloc, place.path.as_str(), type_of(place.part), name)?;
+    Ok(is && (!is_contained(saving.level, place.part) || choice.path.is_some()))
 }
 
 /// Returns the type of a part.
@@ -292,10 +314,10 @@ fn save_file<D: Directory>(
     options: SaveOptions<'_>,
 ) -> Result<Saved, MailParseError>
     requires { IsSafeName (string_bytes name) }
-    ensures saved { IfOk result (λ saved. (files : List File) → D.held directory.old ≡ Some files →
-        (now : List File) × (D.held directory.new ≡ Some now)
+    ensures saved { IfOk result (λ saved. (level : Level) (files : List File)
+        → D.held directory.old ≡ Some files → (now : List File) × (D.held directory.new ≡ Some now)
         × IsSaved D.can_fail (options_view options.entry) files
-        (wanted_as (place_view place.now) (string_bytes name))
+        (wanted_as level (place_view place.now) (string_bytes name))
         number.old (outcome saved) number.new now) }
     ensures safe { IfOk result (λ saved.
         IfSome saved.name (λ name. IsSafeName (string_bytes name))) }

@@ -42,8 +42,19 @@ pub(crate) fn kind_of(rt: &impl Files, path: &str) -> io::Result<Kind> {
     }
 }
 
-/// Returns whether there is a directory at this path.
-pub(crate) fn is_directory(rt: &impl Files, path: &str) -> bool {
+/// Returns whether there is a directory at this path, or a symbolic link to one.
+///
+/// Does not allocate.
+///
+/// # Examples
+///
+/// ```rust
+/// use mail_inputs::is_directory;
+///
+/// assert!(rt; is_directory(&rt, "/"));
+/// assert!(rt; !is_directory(&rt, "no/such/directory"));
+/// ```
+pub fn is_directory(rt: &impl Files, path: &str) -> bool {
     match fs::metadata(rt, path) {
         Ok(found) => found.is_dir(),
         Err(_) => false,

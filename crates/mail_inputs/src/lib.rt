@@ -9,6 +9,7 @@ mod names;
 mod open;
 mod walk;
 
+pub use entries::is_directory;
 pub use escape::shown;
 pub use foreign::{Foreign, foreign_of};
 pub use meter::{Meter, Progress};

@@ -1,14 +1,15 @@
 //! The subcommand that saves the files in mails.
 
 use crate::inputs::{inputs_of, kind_of, known_kind};
+use crate::only;
 use crate::options::ids;
 use clap::ArgMatches;
 use mail_charsets::AllCharsets;
 use mail_extract::{
-    Choice, Disk, Hashing, Line, Naming, SaveOptions, Source, Target, extract_input, write_line,
+    Choice, Disk, Hashing, Naming, SaveOptions, Source, Target, extract_input, write_line,
 };
 use mail_inputs::{Consumer, Content, Name, PROGRAM, read_inputs, shown};
-use mail_json::InputKind;
+use mail_json::{FileLine, InputKind};
 use mail_program::{Fault, Outcome};
 use std::alloc::Global;
 use std::fs;
@@ -39,12 +40,8 @@ impl<'r, P: Print> Consumer for Saver<'r, P> {
         name: Option<&str>,
         content: Content,
     ) -> Result<Outcome, Fault> {
-        let source = Source {
-            kind: known_kind(self.kind, content),
-            file: name,
-            options: self.options,
-            known: &AllCharsets::standard(),
-        };
+        let known = &AllCharsets::standard();
+        let source = source_of(self.kind, content, name, self.options, known);
         let mut target = Target {
             directory: Disk {
                 rt,
@@ -57,8 +54,8 @@ impl<'r, P: Print> Consumer for Saver<'r, P> {
         ended
     }
 
-    fn report(&mut self, alloc: Global, name: Option<&str>, why: &str) -> Result<(), Fault> {
-        write_unread(alloc, &mut self.out, name, why)
+    fn report(&mut self, _alloc: Global, name: Option<&str>, why: &str) -> Result<(), Fault> {
+        write_unread(&mut self.out, name, why)
     }
 }
 
@@ -72,6 +69,9 @@ pub fn run<'a, R: Files + Input + Print + Eprint + AllocGlobal>(
     matches: &ArgMatches<'a>,
     names: &[Name<'a>],
 ) -> Result<ExitCode, Fault> {
+    if matches.get_flag(ids::STDOUT) {
+        return only::run(rt, matches, names);
+    }
     let directory = directory_of(matches);
     if let Err(error) = check_directory(rt, directory) {
         let directory = shown(rt.alloc(), directory.trim_end_matches('\0'))?;
@@ -90,14 +90,29 @@ pub fn run<'a, R: Files + Input + Print + Eprint + AllocGlobal>(
     Ok(outcome.status())
 }
 
+/// Returns an input whose files are saved in this way.
+pub fn source_of<'s, K>(
+    kind: InputKind,
+    content: Content,
+    file: Option<&'s str>,
+    options: SaveOptions<'s>,
+    known: &'s K,
+) -> Source<'s, K> {
+    Source {
+        kind: known_kind(kind, content),
+        file,
+        options,
+        known,
+    }
+}
+
 /// Writes the line of an input that could not be read.
 fn write_unread<'l, W: Write>(
-    alloc: Global,
     out: &mut W,
     file: Option<&'l str>,
     why: &'l str,
 ) -> Result<(), Fault> {
-    let line = Line {
+    let line = FileLine {
         file,
         number: None,
         path: None,
@@ -106,7 +121,7 @@ fn write_unread<'l, W: Write>(
         sha256: None,
         error: Some(why),
     };
-    write_line(alloc, out, &line)?;
+    write_line(out, &line)?;
     Ok(())
 }
 
@@ -143,10 +158,15 @@ fn options_of<'a>(matches: &ArgMatches<'a>) -> SaveOptions<'a> {
         } else {
             Naming::BySender
         },
-        choice: Choice {
-            path: matches.get_str(ids::ONLY),
-            mimetype: matches.get_str(ids::TYPE),
-            name: matches.get_str(ids::NAME),
-        },
+        choice: choice_of(matches),
+    }
+}
+
+/// Returns which files the options choose.
+pub fn choice_of<'a>(matches: &ArgMatches<'a>) -> Choice<'a> {
+    Choice {
+        path: matches.get_str(ids::ONLY),
+        mimetype: matches.get_str(ids::TYPE),
+        name: matches.get_str(ids::NAME),
     }
 }

@@ -7,8 +7,6 @@ use mail_data::mailbox::Format;
 use mail_inputs::{Content, Inputs, Name, Progress, Subdirectories};
 use mail_json::InputKind;
 use std::alloc::{AllocError, Global};
-use std::fs;
-use std::rt::Files;
 
 /// Returns the names of the inputs.
 pub fn names_of<'a>(alloc: Global, matches: &ArgMatches<'a>) -> Result<Vec<Name<'a>>, AllocError> {
@@ -57,13 +55,5 @@ pub fn progress_of(matches: &ArgMatches<'_>, terminals: Terminals) -> Progress {
         Progress::Reported
     } else {
         Progress::Silent
-    }
-}
-
-/// Returns whether there is a directory at this path.
-pub fn is_directory(rt: &impl Files, path: &str) -> bool {
-    match fs::metadata(rt, path) {
-        Ok(found) => found.is_dir(),
-        Err(_) => false,
     }
 }

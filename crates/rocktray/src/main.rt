@@ -4,6 +4,7 @@
 mod extract;
 mod inputs;
 mod json;
+mod only;
 mod options;
 mod release;
 mod show;

@@ -45,19 +45,35 @@ pub mod ids {
 
     pub const RECURSIVE: &str = "recursive";
 
+    pub const STDOUT: &str = "stdout";
+
     pub const TYPE: &str = "type";
 }
 
 /// The formats of mailboxes that `--mbox` names: mboxo, mboxrd, and mboxcl or mboxcl2.
 pub const FORMATS: [&str; 3] = ["o", "rd", "cl"];
 
+/// The end of a help: a text, and then the exit statuses of all subcommands.
+macro_rules! with_statuses {
+    ($text:literal) => {
+        concat!(
+            $text,
+            "\
+Exit status:
+  0  all was read, and written or saved
+  1  something could not be read, written or saved
+  2  the arguments are wrong
+  3  mails were refused, or files were damaged"
+        )
+    };
+}
+
 /// The end of the help.
-const STATUSES: &str = "\
-The exit status is 0 if all was read and written, 3 if some mails were refused, 1 if something could
-not be read or written, and 2 if the arguments are wrong.";
+const STATUSES: &str = with_statuses!("");
 
 /// The end of the help of the subcommand `json`.
-const AFTER_JSON: &str = "\
+const AFTER_JSON: &str = with_statuses!(
+    "\
 Without an INPUT, and for `-`, standard input is read. Of a directory each file is read, or the
 mails of a Maildir. After `--` no argument is an option.
 
@@ -68,26 +84,30 @@ option says which it is. --mbox=rd is the mboxrd format, whose quoted lines lose
 Of each file, --part K/N reads the mails whose separator begins in the K-th of N equal parts of the
 file. Their `number` is null.
 
-A mail that is refused, and an input that cannot be read, has a line with the member `error`. The
-exit status is 0 if all was read and written, 3 if some mails were refused, 1 if something could not
-be read or written, and 2 if the arguments are wrong.";
+A mail that is refused, and an input that cannot be read, has a line with the member `error`.
+
+"
+);
 
 /// The end of the help of the subcommand `show`.
-const AFTER_SHOW: &str = "\
+const AFTER_SHOW: &str = with_statuses!(
+    "\
 Without an INPUT, and for `-`, standard input is read. Of a directory each file is read, or the
-mails of a Maildir. After `--` no argument is an option. Each of several files has its name before
-it.
+mails of a Maildir. After `--` no argument is an option.
 
 An input that begins with a separator of a mailbox is a mailbox, any other is one mail, unless an
 option says which it is. --mbox=rd is the mboxrd format, whose quoted lines lose a `>`, and
 --mbox=cl the mboxcl or mboxcl2 format, with Content-Length.
 
-A character that could move the cursor of a terminal or forge a line is shown as U+FFFD. The exit
-status is 0 if all was read and written, 3 if some mails were refused, 1 if something could not be
-read or written, and 2 if the arguments are wrong.";
+Each of several files has its name before it. A character that could move the cursor of a terminal
+or forge a line is shown as U+FFFD.
+
+"
+);
 
 /// The end of the help of the subcommand `extract`.
-const AFTER_EXTRACT: &str = "\
+const AFTER_EXTRACT: &str = with_statuses!(
+    "\
 Without an INPUT, and for `-`, standard input is read. Of a directory each file is read, or the
 mails of a Maildir. After `--` no argument is an option.
 
@@ -101,9 +121,14 @@ so are forwarded mails and the files in them. In a PATTERN `*` fits any text, an
 letters is ignored. A file is saved if it agrees with each of --only, --type and --name.
 
 A file with damaged Base64 is saved up to the damage, and its line has an `error`. So has the line
-of a mail that is refused, and of an input that cannot be read. The exit status is 0 if everything
-was saved, 3 if mails were refused or files were damaged, 1 if something could not be read, saved or
-written, and 2 if the arguments are wrong.";
+of a mail that is refused, and of an input that cannot be read.
+
+With --stdout the only file that is kept of one INPUT is written to standard output, and nothing
+else. If no file is kept, or several, the exit status is 1 and nothing is written there. Standard
+error has the lines of the files if anything is wrong.
+
+"
+);
 
 /// Returns the command line of the program.
 ///
@@ -170,7 +195,7 @@ fn extract<'a>(alloc: Global) -> Result<Command<'a>, AllocError> {
         .display_name("rocktray extract")?
         .about("Saves the files in mails, and writes a line of JSON for each")
         .after_help(AFTER_EXTRACT);
-    reading(alloc, command)?
+    let command = reading(alloc, command)?
         .arg(directory(alloc))?
         .arg(flag(
             alloc,
@@ -181,7 +206,13 @@ fn extract<'a>(alloc: Global) -> Result<Command<'a>, AllocError> {
             alloc,
             ids::BY_HASH,
             "Save each file under the SHA-256 of its bytes, and copies once",
-        ))?
+        ))?;
+    choosing(alloc, command)
+}
+
+/// Adds the options that say which files are saved.
+fn choosing<'a>(alloc: Global, command: Command<'a>) -> Result<Command<'a>, AllocError> {
+    command
         .arg(value(
             alloc,
             ids::ONLY,
@@ -199,7 +230,20 @@ fn extract<'a>(alloc: Global) -> Result<Command<'a>, AllocError> {
             ids::NAME,
             "PATTERN",
             "Save only the files whose name fits, such as *.pdf",
-        ))
+        ))?
+        .arg(to_stdout(alloc)?)
+}
+
+/// Returns the option that writes the only file to standard output.
+fn to_stdout<'a>(alloc: Global) -> Result<Arg<'a>, AllocError> {
+    flag(
+        alloc,
+        ids::STDOUT,
+        "Save no file, and write the only one to standard output",
+    )
+    .conflicts_with(ids::INTO)?
+    .conflicts_with(ids::HASH)?
+    .conflicts_with(ids::BY_HASH)
 }
 
 /// Adds the inputs and the options that say how they are read.

@@ -1,9 +1,9 @@
 //! The subcommand that shows mails to people.
 
-use crate::inputs::{inputs_of, is_directory, kind_of, known_kind};
+use crate::inputs::{inputs_of, kind_of, known_kind};
 use clap::ArgMatches;
 use mail_charsets::AllCharsets;
-use mail_inputs::{Consumer, Content, Name, read_inputs};
+use mail_inputs::{Consumer, Content, Name, is_directory, read_inputs};
 use mail_json::{InputKind, is_mailbox};
 use mail_program::{Fault, Outcome, read_input};
 use mail_view::{write_mailbox, write_single, write_title};

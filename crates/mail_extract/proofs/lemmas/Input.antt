@@ -18,6 +18,7 @@ use Rattle.mailparse.specs.Refusal.{Reads, Refusal, base64_fault, encoding, gene
 use Rattle.mailparse.specs.declared.error.MailParseError.{MailParseError}
 use Rattle.mailparse.specs.declared.error.MailParseError.TheVariants.{Base64DecodeError, EncodingError, Generic, Memory, QuotedPrintableDecodeError}
 use Rattle.mail_data.specs.InnerMails.{InnerMail, inner_mails}
+use Rattle.mail_json.specs.FileLine.{FileLine}
 use Rattle.mail_program.specs.Refusal.{refusal_text}
 use Rattle.mail_data.specs.Mailbox.{Entry, front_length, has_front}
 use Rattle.mail_data.specs.MailboxFormats.{entries_in, mail_in}
@@ -41,7 +42,7 @@ use Rattle.mail_extract.specs.Input.{AreMails, Ends, EndsInput, IsInput, IsInput
 use Rattle.mail_extract.specs.Naming.{Options}
 use Rattle.mail_extract.specs.Save as saving
 use Rattle.mail_extract.specs.Save.{AreSaved, chosen, wanted_files}
-use Rattle.mail_extract.specs.Report.{Line, WritesAll, judged, line_text, lines_text, worst}
+use Rattle.mail_extract.specs.Report.{WritesAll, judged, line_text, lines_text, worst}
 use Rattle.mail_extract.specs.private.Blocks.{Continues, EndsAfter}
 
 -- ---- lines and outcomes
@@ -60,18 +61,18 @@ worse-clean Clean = refl
 worse-clean Refused = refl
 worse-clean Failed = refl
 
-worst-append : (first others : List Line) → worst (first ++ others) ≡ worse (worst first) (worst others)
+pub worst-append : (first others : List FileLine) → worst (first ++ others) ≡ worse (worst first) (worst others)
 worst-append [] others = refl
 worst-append (line ∷ first) others =
     ap (worse (judged line)) (worst-append first others) ∙ sym (worse-assoc (judged line) (worst first) (worst others))
 
 -- the outcome of lines and others
-pub worst_both : (a b both : Outcome) (first others : List Line) → both ≡ worse a b → a ≡ worst first → b ≡ worst others → both ≡ worst (first ++ others)
+pub worst_both : (a b both : Outcome) (first others : List FileLine) → both ≡ worse a b → a ≡ worst first → b ≡ worst others → both ≡ worst (first ++ others)
 worst_both a b both first others e f h =
     e ∙ ap (λ (o : Outcome). worse o b) f ∙ ap (worse (worst first)) h ∙ sym (worst-append first others)
 
 -- lines that were written, and others after them
-pub appends_lines : (old mid new : Option (List ℕ)) (first others : List Line) → Appends old mid (lines_text first) → Appends mid new (lines_text others)
+pub appends_lines : (old mid new : Option (List ℕ)) (first others : List FileLine) → Appends old mid (lines_text first) → Appends mid new (lines_text others)
     → Appends old new (lines_text (first ++ others))
 appends_lines old mid new first others p q =
     subst (λ (text : List ℕ). Appends old new text) (sym (flat_map-append line_text first others))
@@ -82,17 +83,17 @@ pub appends_flushed : (old mid new : Option (List ℕ)) (text : List ℕ) → Ap
 appends_flushed old mid new text p q = subst (λ (t : List ℕ). Appends old new t) (append-nil text) (Appends-trans old mid new text [] p q)
 
 -- more lines, of those that are left
-pub lines_more : (done one left rest all : List Line) → left ≡ one ++ rest → done ++ left ≡ all → (done ++ one) ++ rest ≡ all
-lines_more done one left rest all e h = append_assoc done one rest ∙ ap (λ (ls : List Line). done ++ ls) (sym e) ∙ h
+pub lines_more : (done one left rest all : List FileLine) → left ≡ one ++ rest → done ++ left ≡ all → (done ++ one) ++ rest ≡ all
+lines_more done one left rest all e h = append_assoc done one rest ∙ ap (λ (ls : List FileLine). done ++ ls) (sym e) ∙ h
 
 -- no lines are left
-pub lines_end : (done left all : List Line) → left ≡ [] → done ++ left ≡ all → done ≡ all
-lines_end done left all e h = sym (append-nil done) ∙ ap (λ (ls : List Line). done ++ ls) (sym e) ∙ h
+pub lines_end : (done left all : List FileLine) → left ≡ [] → done ++ left ≡ all → done ≡ all
+lines_end done left all e h = sym (append-nil done) ∙ ap (λ (ls : List FileLine). done ++ ls) (sym e) ∙ h
 
-pub writes_as : (old new : Option (List ℕ)) (outcome : Outcome) (done all : List Line) → Appends old new (lines_text done) → outcome ≡ worst done → done ≡ all
+pub writes_as : (old new : Option (List ℕ)) (outcome : Outcome) (done all : List FileLine) → Appends old new (lines_text done) → outcome ≡ worst done → done ≡ all
     → Appends old new (lines_text all) × (outcome ≡ worst all)
 writes_as old new outcome done all p q e = (
-  subst (λ (ls : List Line). Appends old new (lines_text ls)) e p,
+  subst (λ (ls : List FileLine). Appends old new (lines_text ls)) e p,
   q ∙ ap worst e,
 )
 
@@ -120,19 +121,19 @@ some-is a b e = cc
 pub front_clean : (file : Option (List ℕ)) (front : List ℕ) (old : Option (List ℕ)) → list_all is_ascii_whitespace front ≡ true
     → WritesAll old old (Ok Clean) (front_lines file front)
 front_clean file front old e =
-    subst (λ (lines : List Line). WritesAll old old (Ok Clean) lines) (sym (cond-true (list_all is_ascii_whitespace front) [] _ e)) (Appends-nil old, refl)
+    subst (λ (lines : List FileLine). WritesAll old old (Ok Clean) lines) (sym (cond-true (list_all is_ascii_whitespace front) [] _ e)) (Appends-nil old, refl)
 
 -- some text does
 pub front_refused : (file : Option (List ℕ)) (front : List ℕ) (old new : Option (List ℕ)) (r : Result Outcome Fault) → list_all is_ascii_whitespace front ≡ false
     → WritesAll old new r (refused_line file None None (codes "The mailbox does not begin with a separator") ∷ []) → WritesAll old new r (front_lines file front)
 front_refused file front old new r e h =
-    subst (λ (lines : List Line). WritesAll old new r lines) (sym (cond-false (list_all is_ascii_whitespace front) [] _ e)) h
+    subst (λ (lines : List FileLine). WritesAll old new r lines) (sym (cond-false (list_all is_ascii_whitespace front) [] _ e)) h
 
 -- a mail inside is read
 pub inner_clean : (file : Option (List ℕ)) (number : Option ℕ) (mail : InnerMail) (old : Option (List ℕ)) → mail.refusal ≡ None
     → WritesAll old old (Ok Clean) (inner_lines file number mail)
 inner_clean file number mail old e =
-    subst (λ (lines : List Line). WritesAll old old (Ok Clean) lines)
+    subst (λ (lines : List FileLine). WritesAll old old (Ok Clean) lines)
     (sym (ap (λ (o : Option Refusal). option_map_or (λ refusal. refused_line file number (Some mail.path) (refusal_text refusal) ∷ []) o []) e)) (Appends-nil old, refl)
 
 -- it is refused
@@ -140,7 +141,7 @@ pub inner_refused : (file : Option (List ℕ)) (number : Option ℕ) (mail : Inn
     → mail.refusal ≡ Some refusal → text ≡ refusal_text refusal → WritesAll old new r (refused_line file number (Some mail.path) text ∷ [])
     → WritesAll old new r (inner_lines file number mail)
 inner_refused file number mail refusal text old new r e is_text h =
-    subst (λ (lines : List Line). WritesAll old new r lines)
+    subst (λ (lines : List FileLine). WritesAll old new r lines)
     (ap (λ (t : List ℕ). refused_line file number (Some mail.path) t ∷ []) is_text
     ∙ sym (ap (λ (o : Option Refusal). option_map_or (λ given. refused_line file number (Some mail.path) (refusal_text given) ∷ []) o []) e)) h
 
@@ -164,7 +165,7 @@ end_is_fault (Output e) h = tt
 -- For a directory and a writer.
 module _ (held_old held_new : Option (List File)) (old new : Option (List ℕ)) (from next : ℕ) where
   saved_as : (outcome : Outcome) (Are Those : Saves)
-      → ((files : List File) (n : ℕ) (lines : List Line) (m : ℕ) (now : List File) → Are files n lines m now → Those files n lines m now)
+      → ((files : List File) (n : ℕ) (lines : List FileLine) (m : ℕ) (now : List File) → Are files n lines m now → Those files n lines m now)
       → Saved held_old held_new old new from next outcome Are → Saved held_old held_new old new from next outcome Those
   saved_as outcome Are Those same h =
       (h.0, h.1, h.2, λ files e. let after = h.3 files e in (after.0, after.1, same files from h.0 next after.0 after.2))
@@ -172,7 +173,7 @@ module _ (held_old held_new : Option (List File)) (old new : Option (List ℕ)) 
   -- the files of an input that was read to its end
   pub ends_whole : (left_before left : Option (List ℕ)) (r : Result Outcome Fault) (all : List ℕ) (Are : Saves) (Those : List ℕ → Saves)
       → Consumes left_before left all → IsAtEnd left
-      → ((files : List File) (n : ℕ) (lines : List Line) (m : ℕ) (now : List File) → Are files n lines m now → Those all files n lines m now)
+      → ((files : List File) (n : ℕ) (lines : List FileLine) (m : ℕ) (now : List File) → Are files n lines m now → Those all files n lines m now)
       → Ends held_old held_new old new from next r Are → EndsInput held_old held_new old new from next left_before left r Those
   ends_whole left_before left (Ok outcome) all Are Those read end same h = (all, read, end, saved_as outcome Are (Those all) same h)
   ends_whole left_before left (Err fault) all Are Those read end same h = end_is_fault fault h
@@ -180,16 +181,16 @@ module _ (held_old held_new : Option (List File)) (old new : Option (List ℕ)) 
   -- the files of an input of which some was read at first
   pub ends_after : (left_before mid left : Option (List ℕ)) (bytes read : List ℕ) (r : Result Outcome Fault) (Are Those : List ℕ → Saves)
       → Consumes left_before mid read
-      → ((more : List ℕ) (files : List File) (n : ℕ) (lines : List Line) (m : ℕ) (now : List File) → Are (bytes ++ more) files n lines m now → Those (read ++ more) files n lines m now)
+      → ((more : List ℕ) (files : List File) (n : ℕ) (lines : List FileLine) (m : ℕ) (now : List File) → Are (bytes ++ more) files n lines m now → Those (read ++ more) files n lines m now)
       → EndsAfter held_old held_new old new from next bytes mid left r Are → EndsInput held_old held_new old new from next left_before left r Those
   ends_after left_before mid left bytes read (Ok outcome) Are Those first same h =
       (read ++ h.0, Consumes-trans left_before mid left read h.0 first h.1, h.2, saved_as outcome (Are (bytes ++ h.0)) (Those (read ++ h.0)) (same h.0) h.3)
   ends_after left_before mid left bytes read (Err fault) Are Those first same h = h
 
 -- For an input with this name, a directory that may fail or not, options and the known charsets.
-module _ (file : Option (List ℕ)) (can_fail : Bool) (options : Options) (known : Charsets) where
+module _ (file : Option (List ℕ)) (can_fail : List File → Bool) (options : Options) (known : Charsets) where
   -- an input that is a mailbox or is not, of which enough was read to know
-  pub input_is : (kind : InputKind) (read more same : List ℕ) (is : Bool) (files now : List File) (from next : ℕ) (lines : List Line) → same ≡ read ++ more
+  pub input_is : (kind : InputKind) (read more same : List ℕ) (is : Bool) (files now : List File) (from next : ℕ) (lines : List FileLine) → same ≡ read ++ more
       → is_there (first_wanted kind) read ≡ true → is_mailbox kind read ≡ is → IsInputOf file can_fail options known (format_of kind) is same files from lines next now
       → IsInput file can_fail options known kind (read ++ more) files from lines next now
   input_is kind read more same is files now from next lines e there is_kind h =
@@ -198,7 +199,7 @@ module _ (file : Option (List ℕ)) (can_fail : Bool) (options : Options) (known
 
   module _ (format : Format) where
     -- a mailbox: the text before the first mail, and the mails
-    pub mailbox_is : (bytes front : List ℕ) (left : List Entry) (files now : List File) (from next : ℕ) (lines : List Line) → front ≡ take (front_length bytes) bytes
+    pub mailbox_is : (bytes front : List ℕ) (left : List Entry) (files now : List File) (from next : ℕ) (lines : List FileLine) → front ≡ take (front_length bytes) bytes
         → left ≡ entries_in format bytes → AreMails file can_fail options known format 1 left files from lines next now
         → IsMailbox file can_fail options known format bytes files from (front_lines file front ++ lines) next now
     mailbox_is bytes front left files now from next lines e f h = (
@@ -217,32 +218,32 @@ module _ (file : Option (List ℕ)) (can_fail : Bool) (options : Options) (known
         subst (λ (es : List Entry). AreMails file can_fail options known format first es files from others last now) e h
 
     -- one mail more
-    pub mails_more : (first number following : ℕ) (all left rest : List Entry) (entry : Entry) (files mid after : List File) (from next last : ℕ) (done lines : List Line)
+    pub mails_more : (first number following : ℕ) (all left rest : List Entry) (entry : Entry) (files mid after : List File) (from next last : ℕ) (done lines : List FileLine)
         → following ≡ saturating_add number 1 → left ≡ entry ∷ rest → IsMail file can_fail options known (Some number) (mail_in format entry.mail) mid next lines last after
         → Continues file can_fail options known format first all files from done number left next mid
         → Continues file can_fail options known format first all files from (done ++ lines) following rest last after
     mails_more first number following all left rest entry files mid after from next last done lines is_following e one here = λ others end now h.
-        subst (λ (ls : List Line). AreMails file can_fail options known format first all files from ls end now) (sym (append_assoc done lines others))
+        subst (λ (ls : List FileLine). AreMails file can_fail options known format first all files from ls end now) (sym (append_assoc done lines others))
         (here (lines ++ others) end now
         (subst (λ (es : List Entry). AreMails file can_fail options known format number es mid next (lines ++ others) end now) (sym e) (after, last, lines, others, one, subst (λ (n : ℕ). AreMails file can_fail options known format n rest after last others end now) is_following h, refl)))
 
     -- no mail is left
-    pub mails_end : (first number : ℕ) (all left : List Entry) (files mid : List File) (from next : ℕ) (done : List Line) → left ≡ []
+    pub mails_end : (first number : ℕ) (all left : List Entry) (files mid : List File) (from next : ℕ) (done : List FileLine) → left ≡ []
         → Continues file can_fail options known format first all files from done number left next mid
         → AreMails file can_fail options known format first all files from done next mid
     mails_end first number all left files mid from next done e here =
-        subst (λ (ls : List Line). AreMails file can_fail options known format first all files from ls next mid) (append-nil done)
+        subst (λ (ls : List FileLine). AreMails file can_fail options known format first all files from ls next mid) (append-nil done)
         (here [] next mid (subst (λ (es : List Entry). AreMails file can_fail options known format number es mid next [] next mid) (sym e) (refl, refl, refl)))
 
     -- the mails that are left
-    pub mails_rest : (first number : ℕ) (all left : List Entry) (files mid now : List File) (from next last : ℕ) (done lines : List Line)
+    pub mails_rest : (first number : ℕ) (all left : List Entry) (files mid now : List File) (from next last : ℕ) (done lines : List FileLine)
         → AreMails file can_fail options known format number left mid next lines last now
         → Continues file can_fail options known format first all files from done number left next mid
         → AreMails file can_fail options known format first all files from (done ++ lines) last now
     mails_rest first number all left files mid now from next last done lines h here = here lines last now h
 
     -- the mails of bytes, of which some were read at first and more since
-    abbrev pub Follows : (read more pending : List ℕ) → List File → ℕ → List Line → ℕ → ℕ → List File → Type 0
+    abbrev pub Follows : (read more pending : List ℕ) → List File → ℕ → List FileLine → ℕ → ℕ → List File → Type 0
     Follows read more pending files from done number next mid =
         (later : List ℕ) → Continues file can_fail options known format 1 (entries_in format (read ++ (more ++ later))) files from done number (entries_in format (pending ++ later)) next mid
 
@@ -251,7 +252,7 @@ module _ (file : Option (List ℕ)) (can_fail : Bool) (options : Options) (known
         mails_start 1 (entries_in format (read ++ later)) (entries_in format (pending ++ later)) files from (ap (λ (bs : List ℕ). entries_in format (bs ++ later)) e)
 
     -- bytes were read
-    follows_more : (read more taken pending after : List ℕ) (files mid : List File) (from next number : ℕ) (done : List Line) → after ≡ pending ++ taken
+    follows_more : (read more taken pending after : List ℕ) (files mid : List File) (from next number : ℕ) (done : List FileLine) → after ≡ pending ++ taken
         → Follows read more pending files from done number next mid → Follows read (more ++ taken) after files from done number next mid
     follows_more read more taken pending after files mid from next number done e here = λ later others last now h.
         let bytes : after ++ later ≡ pending ++ (taken ++ later) = ap (λ (bs : List ℕ). bs ++ later) e ∙ append_assoc pending taken later in
@@ -259,17 +260,17 @@ module _ (file : Option (List ℕ)) (can_fail : Bool) (options : Options) (known
         (here (taken ++ later) others last now (subst (λ (bs : List ℕ). AreMails file can_fail options known format number (entries_in format bs) mid next others last now) bytes h))
 
     -- the files of the mails at the front were saved
-    pub follows_settled : (read more taken pending bytes rest left : List ℕ) (files mid after : List File) (from next last number count : ℕ) (done lines : List Line)
+    pub follows_settled : (read more taken pending bytes rest left : List ℕ) (files mid after : List File) (from next last number count : ℕ) (done lines : List FileLine)
         → bytes ≡ pending ++ taken → left ≡ rest
         → ((later : List ℕ) → Continues file can_fail options known format number (entries_in format (bytes ++ later)) mid next lines count (entries_in format (rest ++ later)) last after)
         → Follows read more pending files from done number next mid → Follows read (more ++ taken) left files from (done ++ lines) count last after
     follows_settled read more taken pending bytes rest left files mid after from next last number count done lines e f some here = λ later others end now h.
-        subst (λ (ls : List Line). AreMails file can_fail options known format 1 (entries_in format (read ++ ((more ++ taken) ++ later))) files from ls end now) (sym (append_assoc done lines others))
+        subst (λ (ls : List FileLine). AreMails file can_fail options known format 1 (entries_in format (read ++ ((more ++ taken) ++ later))) files from ls end now) (sym (append_assoc done lines others))
         (follows_more read more taken pending bytes files mid from next number done e here later (lines ++ others) end now
         (some later others end now (subst (λ (bs : List ℕ). AreMails file can_fail options known format count (entries_in format (bs ++ later)) after last others end now) f h)))
 
     -- the last bytes were read, and the files of the mails that were left were saved
-    pub follows_end : (read more taken pending bytes : List ℕ) (left : List Entry) (files mid after : List File) (from next last number : ℕ) (done lines : List Line)
+    pub follows_end : (read more taken pending bytes : List ℕ) (left : List Entry) (files mid after : List File) (from next last number : ℕ) (done lines : List FileLine)
         → bytes ≡ pending ++ taken → left ≡ entries_in format bytes → AreMails file can_fail options known format number left mid next lines last after
         → Follows read more pending files from done number next mid
         → AreMails file can_fail options known format 1 (entries_in format (read ++ (more ++ taken))) files from (done ++ lines) last after
@@ -288,7 +289,7 @@ refused_read (Generic t) given text e h = (generic t.now, h, some-is _ _ e)
 refused_read (Memory m) given text e h = absurd (none-some text e)
 
 -- For an input with this name, a directory that may fail or not, options and the known charsets.
-module _ (file : Option (List ℕ)) (can_fail : Bool) (options : Options) (known : Charsets) (number : Option ℕ) (raw : List ℕ) where
+module _ (file : Option (List ℕ)) (can_fail : List File → Bool) (options : Options) (known : Charsets) (number : Option ℕ) (raw : List ℕ) where
   -- a mail that was read
   pub mail_read : (t : Tree) (found : List Placement) (inside : List InnerMail) (files now : List File) (from next : ℕ) (outcomes shown : List saving.Outcome)
       → ◌≡◌ {A = Reads Tree} (read_mail_in known 100 raw) (Ok t) → found ≡ placements 0 t → inside ≡ inner_mails known 100 [] (Some 0) t found
@@ -323,7 +324,7 @@ module _ (file : Option (List ℕ)) (can_fail : Bool) (options : Options) (known
 
 pub line_is : (file : Option (List ℕ)) (number : Option ℕ) (size : ℕ) (path p : List ℕ) (saved s sha256 h error e : Option (List ℕ)) → path ≡ p → saved ≡ s → sha256 ≡ h
     → error ≡ e
-    → ◌≡◌ {A = Line} (record { file = file; number = number; path = Some path; saved = saved; size = Some size; sha256 = sha256; error = error })
+    → ◌≡◌ {A = FileLine} (record { file = file; number = number; path = Some path; saved = saved; size = Some size; sha256 = sha256; error = error })
     (record { file = file; number = number; path = Some p; saved = s; size = Some size; sha256 = h; error = e })
 line_is file number size path p saved s sha256 h error e is_path is_saved is_hash is_error = λ i. record {
   file = file;

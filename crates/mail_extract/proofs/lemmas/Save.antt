@@ -15,7 +15,7 @@ use Rattle.mailparse.specs.Refusal.{Reads}
 use Rattle.mail_data.specs.InnerMails.{InnerMail, places_under}
 use Rattle.mail_data.specs.PartPlaces.{Place}
 use Rattle.mail_data.specs.lenient.Content.{Content}
-use Rattle.mail_extract.specs.Choice.{Choice, keeps}
+use Rattle.mail_extract.specs.Choice.{Choice}
 use Rattle.mail_data.specs.Files.{is_extracted}
 use Rattle.mail_extract.specs.Directory.{Creates, File, has_file}
 use Rattle.mail_extract.specs.Hash.{wanted_hash}
@@ -24,10 +24,12 @@ use Rattle.mail_extract.specs.declared.directory.Created.{Created}
 use Rattle.mail_extract.specs.declared.directory.Created.TheVariants.{Taken}
 use Rattle.mail_extract.specs.Names.{IsNumbered}
 use Rattle.mail_extract.specs.Naming.{Options, target}
-use Rattle.mail_extract.specs.Save.{AreSaved, AreTaken, IsPut, IsSaved, Outcome, Wanted, chosen, wanted, wanted_among, wanted_as, wanted_inside}
+use Rattle.mail_extract.specs.Save.{AreSaved, AreTaken, IsPut, IsSaved, Outcome, Wanted, chosen, is_chosen, wanted, wanted_among, wanted_as, wanted_inside}
+use Rattle.mail_extract.specs.declared.level.Level.{Level}
+use Rattle.mail_extract.specs.declared.level.Level.TheVariants.{Inside}
 
 -- the name is taken
-pub created_taken : (files : List File) (name bytes : List ℕ) (can_fail : Bool) (now : Option (List File)) (r : Created) → r ≡ Taken
+pub created_taken : (files : List File) (name bytes : List ℕ) (can_fail : List File → Bool) (now : Option (List File)) (r : Created) → r ≡ Taken
     → Creates files name bytes can_fail now r → (has_file name files ≡ true) × (now ≡ Some files)
 created_taken files name bytes can_fail now r e h = subst (λ (c : Created). Creates files name bytes can_fail now c) e h
 
@@ -54,7 +56,7 @@ abbrev pub hash_kept : Hashing → Option (List ℕ) → List ℕ → Option (Li
 hash_kept hashing saved bytes = option_and_then (λ name. wanted_hash hashing bytes) saved
 
 -- a file that was put was saved
-pub saved_file : (can_fail : Bool) (options : Options) (files now : List File) (wanted : Wanted) (from next size : ℕ) (name bytes path : List ℕ)
+pub saved_file : (can_fail : List File → Bool) (options : Options) (files now : List File) (wanted : Wanted) (from next size : ℕ) (name bytes path : List ℕ)
     (kept saved sha256 error : Option (List ℕ)) (content : Content) → name ≡ target options.naming wanted.name bytes → content ≡ wanted.content → bytes ≡ content.bytes
     → kept ≡ saved → path ≡ wanted.path → size ≡ length content.bytes → sha256 ≡ hash_kept options.hashing saved content.bytes
     → is_some error ≡ (is_some content.fault || not (is_some saved)) → IsPut can_fail name options.naming files bytes from kept next now
@@ -75,40 +77,38 @@ saved_file can_fail options files now wanted from next size name bytes path kept
 pub each_more : {X : Type 0} (P : X → Type 0) (xs ys : List X) (x : X) → ys ≡ xs ++ x ∷ [] → All P xs → P x → All P ys
 each_more P xs ys x made each one = rw made (All-push P xs x each one)
 
--- the first part, and the rest
-pub among-cons : (known : Charsets) (place : Place) (rest : List Place)
-    → wanted_among known (place ∷ rest) ≡ wanted_among known (place ∷ []) ++ wanted_among known rest
-among-cons known place rest =
-    ap (map (wanted known)) (filter-append (λ p. is_extracted known p.part) (place ∷ []) rest) ∙ map-append (wanted known) (filter (λ p. is_extracted known p.part) (place ∷ [])) _
+module _ (known : Charsets) (choice : Choice) (level : Level) where
+  -- the first part, and the rest
+  among-cons : (place : Place) (rest : List Place)
+      → wanted_among known level (place ∷ rest) ≡ wanted_among known level (place ∷ []) ++ wanted_among known level rest
+  among-cons place rest =
+      ap (map (wanted known level)) (filter-append (λ p. is_extracted known p.part) (place ∷ []) rest)
+      ∙ map-append (wanted known level) (filter (λ p. is_extracted known p.part) (place ∷ [])) _
 
--- a part that is no file
-pub among-none : (known : Charsets) (choice : Choice) (place : Place) → is_extracted known place.part ≡ false → chosen choice (wanted_among known (place ∷ [])) ≡ []
-among-none known choice place is = ap (λ ps. chosen choice (map (wanted known) ps)) (cond-false (is_extracted known place.part) (place ∷ []) [] is)
+  -- a part that is no file
+  pub among-none : (place : Place) → is_extracted known place.part ≡ false → chosen choice (wanted_among known level (place ∷ [])) ≡ []
+  among-none place is = ap (λ ps. chosen choice (map (wanted known level) ps)) (cond-false (is_extracted known place.part) (place ∷ []) [] is)
 
--- a part that is a file
-among-one : (known : Charsets) (choice : Choice) (place : Place) (keep : Bool) → is_extracted known place.part ≡ true
-    → keeps choice (wanted known place).path (wanted known place).mimetype (wanted known place).name ≡ keep
-    → chosen choice (wanted_among known (place ∷ [])) ≡ cond keep (wanted known place ∷ []) []
-among-one known choice place keep is kept =
-    ap (λ ps. chosen choice (map (wanted known) ps)) (cond-true (is_extracted known place.part) (place ∷ []) [] is)
-    ∙ ap (λ (k : Bool). cond k (wanted known place ∷ []) []) kept
+  -- a part that is a file
+  among-one : (place : Place) (keep : Bool) → is_extracted known place.part ≡ true → is_chosen choice (wanted known level place) ≡ keep
+      → chosen choice (wanted_among known level (place ∷ [])) ≡ cond keep (wanted known level place ∷ []) []
+  among-one place keep is kept =
+      ap (λ ps. chosen choice (map (wanted known level) ps)) (cond-true (is_extracted known place.part) (place ∷ []) [] is)
+      ∙ ap (λ (k : Bool). cond k (wanted known level place ∷ []) []) kept
 
--- the choice, asked about a name
-pub among-kept : (known : Charsets) (choice : Choice) (place : Place) (keep : Bool) (path mimetype name : List ℕ) → is_extracted known place.part ≡ true
-    → path ≡ place.path → mimetype ≡ (wanted known place).mimetype → name ≡ (wanted known place).name → keep ≡ keeps choice path mimetype name
-    → chosen choice (wanted_among known (place ∷ [])) ≡ cond keep (wanted_as place name ∷ []) []
-among-kept known choice place keep path mimetype name is is_path is_type is_name kept =
-    among-one known choice place keep is
-    (sym (kept ∙ ap (λ (p : List ℕ). keeps choice p mimetype name) is_path ∙ ap (λ (t : List ℕ). keeps choice place.path t name) is_type
-    ∙ ap (λ (n : List ℕ). keeps choice place.path (wanted known place).mimetype n) is_name))
-    ∙ ap (λ (n : List ℕ). cond keep (wanted_as place n ∷ []) []) (sym is_name)
+  -- the choice, asked about a name
+  pub among-kept : (place : Place) (keep : Bool) (name : List ℕ) → is_extracted known place.part ≡ true → name ≡ (wanted known level place).name
+      → keep ≡ is_chosen choice (wanted_as level place name) → chosen choice (wanted_among known level (place ∷ [])) ≡ cond keep (wanted_as level place name ∷ []) []
+  among-kept place keep name is is_name kept =
+      among-one place keep is (ap (λ (n : List ℕ). is_chosen choice (wanted_as level place n)) (sym is_name) ∙ sym kept)
+      ∙ ap (λ (n : List ℕ). cond keep (wanted_as level place n ∷ []) []) (sym is_name)
 
--- the chosen files of the first part, and of the rest
-pub chosen-cons : (known : Charsets) (choice : Choice) (all rest : List Place) (place : Place) → all ≡ place ∷ rest
-    → chosen choice (wanted_among known all) ≡ chosen choice (wanted_among known (place ∷ [])) ++ chosen choice (wanted_among known rest)
-chosen-cons known choice all rest place e =
-    ap (λ ps. chosen choice (wanted_among known ps)) e ∙ ap (chosen choice) (among-cons known place rest)
-    ∙ filter-append (λ file. keeps choice file.path file.mimetype file.name) (wanted_among known (place ∷ [])) _
+  -- the chosen files of the first part, and of the rest
+  pub chosen-cons : (all rest : List Place) (place : Place) → all ≡ place ∷ rest
+      → chosen choice (wanted_among known level all) ≡ chosen choice (wanted_among known level (place ∷ [])) ++ chosen choice (wanted_among known level rest)
+  chosen-cons all rest place e =
+      ap (λ ps. chosen choice (wanted_among known level ps)) e ∙ ap (chosen choice) (among-cons place rest)
+      ∙ filter-append (is_chosen choice) (wanted_among known level (place ∷ [])) _
 
 -- the chosen files of the mails inside a mail
 abbrev pub chosen_inside : Charsets → Choice → List InnerMail → List Wanted
@@ -119,7 +119,7 @@ chosen-inside : (known : Charsets) (choice : Choice) (mails : List InnerMail)
 chosen-inside known choice [] = refl
 chosen-inside known choice (inner ∷ mails) =
     ap (chosen choice) (flat_map-cons (wanted_inside known) inner mails)
-    ∙ filter-append (λ file. keeps choice file.path file.mimetype file.name) (wanted_inside known inner) _
+    ∙ filter-append (is_chosen choice) (wanted_inside known inner) _
     ∙ ap (λ (files : List Wanted). chosen choice (wanted_inside known inner) ++ files) (chosen-inside known choice mails)
     ∙ sym (flat_map-cons (λ i. chosen choice (wanted_inside known i)) inner mails)
 
@@ -128,7 +128,7 @@ pub chosen_all : (known : Charsets) (choice : Choice) (own : List Wanted) (mails
     → chosen choice own ++ chosen_inside known choice mails ≡ chosen choice (own ++ flat_map (wanted_inside known) mails)
 chosen_all known choice own mails =
     ap (λ (files : List Wanted). chosen choice own ++ files) (sym (chosen-inside known choice mails))
-    ∙ sym (filter-append (λ file. keeps choice file.path file.mimetype file.name) own _)
+    ∙ sym (filter-append (is_chosen choice) own _)
 
 -- the chosen files of the mails inside a mail, the first and the rest
 inside_one : (known : Charsets) (choice : Choice) (all rest : List InnerMail) (inner : InnerMail) → all ≡ inner ∷ rest
@@ -138,17 +138,17 @@ inside_one known choice all rest inner e = ap (chosen_inside known choice) e ∙
 -- the files of a mail inside a mail, after it was read
 pub inside_read : (known : Charsets) (inner : InnerMail) (t : Tree) (found : List Placement) (parts : List Place) (path : List ℕ)
     → ◌≡◌ {A = Option Tree} (Some t) (result_ok (read_mail_in known 100 inner.bytes)) → found ≡ placements 0 t → path ≡ inner.path
-    → parts ≡ places_under path t found → wanted_among known parts ≡ wanted_inside known inner
+    → parts ≡ places_under path t found → wanted_among known Inside parts ≡ wanted_inside known inner
 inside_read known inner t found parts path read where_is same e =
-    ap (wanted_among known) e ∙ ap (λ (p : List ℕ). wanted_among known (places_under p t found)) same
-    ∙ ap (λ (ps : List Placement). wanted_among known (places_under inner.path t ps)) where_is
-    ∙ ap (λ (o : Option Tree). option_map_or (λ u. wanted_among known (places_under inner.path u (placements 0 u))) o []) read
+    ap (wanted_among known Inside) e ∙ ap (λ (p : List ℕ). wanted_among known Inside (places_under p t found)) same
+    ∙ ap (λ (ps : List Placement). wanted_among known Inside (places_under inner.path t ps)) where_is
+    ∙ ap (λ (o : Option Tree). option_map_or (λ u. wanted_among known Inside (places_under inner.path u (placements 0 u))) o []) read
 
 -- a refused mail has none
 pub inside_refused : (known : Charsets) (inner : InnerMail) → ◌≡◌ {A = Option Tree} None (result_ok (read_mail_in known 100 inner.bytes))
     → [] ≡ wanted_inside known inner
 inside_refused known inner e =
-    ap (λ (o : Option Tree). option_map_or (λ u. wanted_among known (places_under inner.path u (placements 0 u))) o []) e
+    ap (λ (o : Option Tree). option_map_or (λ u. wanted_among known Inside (places_under inner.path u (placements 0 u))) o []) e
 
 -- a property of the value in an option
 pub some_has : {X : Type 0} (P : X → Type 0) (o : Option X) (x : X) → o ≡ Some x → IfSome o P → P x
@@ -163,11 +163,11 @@ pub made_all : (old done outcomes shown more : List Outcome) → shown ≡ old +
 made_all old done outcomes shown more here e = e ∙ ap (λ (os : List Outcome). os ++ outcomes) here ∙ append_assoc old done outcomes
 
 -- no number is below the first
-pub taken_start : (can_fail : Bool) (name : List ℕ) (files : List File) (from : ℕ) → AreTaken can_fail name files from from
+pub taken_start : (can_fail : List File → Bool) (name : List ℕ) (files : List File) (from : ℕ) → AreTaken can_fail name files from from
 taken_start can_fail name files from = λ n above below. absurd (omega arith)
 
 -- one more number
-pub taken_more : (can_fail : Bool) (name : List ℕ) (files : List File) (from number : ℕ) (text : List ℕ) → IsNumbered name number text
+pub taken_more : (can_fail : List File → Bool) (name : List ℕ) (files : List File) (from number : ℕ) (text : List ℕ) → IsNumbered name number text
     → has_file text files ≡ true → AreTaken can_fail name files from number → AreTaken can_fail name files from (number + 1)
 taken_more can_fail name files from number text is taken before = λ n above below.
     ⊎_elim (λ less. before n above less)
@@ -177,7 +177,7 @@ taken_more can_fail name files from number text is taken before = λ n above bel
     (cases_lt n number)
 
 -- For a directory that may fail or not, which had these files before those of a mail were saved.
-module _ (can_fail : Bool) (options : Options) (files : List File) (all : List Wanted) (from : ℕ) where
+module _ (can_fail : List File → Bool) (options : Options) (files : List File) (all : List Wanted) (from : ℕ) where
   -- the outcomes of the files so far, which those of the files that are left complete
   abbrev pub Continues : List Outcome → List Wanted → ℕ → List File → Type 0
   Continues done left number mid =
@@ -220,13 +220,13 @@ module _ (can_fail : Bool) (options : Options) (files : List File) (all : List W
       (λ os last after k. subst (λ (ws : List Wanted). AreSaved can_fail options files ws from os last after) e k))
 
   -- a part
-  pub place_more : (known : Charsets) (parts rest : List Place) (place : Place) (done outcomes : List Outcome) (number next : ℕ) (mid now : List File)
-      → parts ≡ place ∷ rest → AreSaved can_fail options mid (chosen options.choice (wanted_among known (place ∷ []))) number outcomes next now
-      → Continues done (chosen options.choice (wanted_among known parts)) number mid
-      → Continues (done ++ outcomes) (chosen options.choice (wanted_among known rest)) next now
-  place_more known parts rest place done outcomes number next mid now e some here =
+  pub place_more : (known : Charsets) (level : Level) (parts rest : List Place) (place : Place) (done outcomes : List Outcome) (number next : ℕ) (mid now : List File)
+      → parts ≡ place ∷ rest → AreSaved can_fail options mid (chosen options.choice (wanted_among known level (place ∷ []))) number outcomes next now
+      → Continues done (chosen options.choice (wanted_among known level parts)) number mid
+      → Continues (done ++ outcomes) (chosen options.choice (wanted_among known level rest)) next now
+  place_more known level parts rest place done outcomes number next mid now e some here =
       saved_all done _ outcomes _ number next mid now some
-      (subst (λ (ws : List Wanted). Continues done ws number mid) (chosen-cons known options.choice parts rest place e) here)
+      (subst (λ (ws : List Wanted). Continues done ws number mid) (chosen-cons known options.choice level parts rest place e) here)
 
   -- a mail inside the mail
   pub inner_more : (known : Charsets) (mails rest : List InnerMail) (inner : InnerMail) (done outcomes shown : List Outcome) (number next : ℕ)

@@ -2,8 +2,8 @@ use Rattle.std.proofs.Common.{◌++◌, [], ◌∷◌, map, option_map, refl, ap
 use Rattle.std.proofs.KnownBytes.{Appends-nil}
 use Rattle.std.proofs.lemmas.List.{drop_all}
 use Rattle.mail_data.proofs.lemmas.InnerMails.{drop_next}
+use Rattle.mail_json.specs.FileLine.{FileLine}
 use Rattle.mail_extract.specs.Input.{file_line}
-use Rattle.mail_extract.specs.Report.{Line}
 use Rattle.mail_extract.specs.SaveViews.{outcome}
 use Rattle.mail_extract.proofs.lemmas.Input.{appends_lines, line_is, lines_end, lines_more, worst_both, writes_as}
 use Rattle.mail_extract.proofs.input.report_saved.Goals as goal
@@ -20,7 +20,7 @@ loop-saved-preserved g c =
     let here = c.loop-saved.invariant in
     let items = c.args.files.now in
     let i = c.loop-saved.saved-index in
-    let one = writes_as _ _ _ _ (line ∷ []) c.in_ok-write_line.ensures.0 c.in_ok-write_line.ensures.1 (ap (λ (l : Line). l ∷ []) is) in
+    let one = writes_as _ _ _ _ (line ∷ []) c.in_ok-write_line.ensures.0 c.in_ok-write_line.ensures.1 (ap (λ (l : FileLine). l ∷ []) is) in
     let left = ap (λ files. map (file_line (option_map (λ name. name.now) c.args.file) c.args.number) (map outcome files)) (drop_next items i c.saved-item.result (omega arith) c.saved-item.is) in (
       here.0 ++ line ∷ [],
       appends_lines _ _ _ here.0 _ here.1 one.0,

@@ -8,7 +8,7 @@ use Rattle.mail_extract.proofs.lemmas.Save.{error_damaged, error_failed, hash_ke
 use Rattle.mail_extract.proofs.save.save_file.Goals as goal
 
 pub returns-in-As-clause-saved : goal.returns-in-As-clause-saved
-returns-in-As-clause-saved g c = λ files e.
+returns-in-As-clause-saved g c = λ level files e.
     let kept = c.in_ok-kept.ensures.kept files e in
     let path = c.in_ok-path.ensures.ok ∙ c.as_str.ensures.value in
     let is = c.in_ok-content.ensures.read in
@@ -16,20 +16,20 @@ returns-in-As-clause-saved g c = λ files e.
     let size = ap (λ (b : List ℕ). length b) c.as_slice-bytes.ensures.value in (
       kept.0,
       kept.1,
-      saved_file g.D.Directory.can_fail (options_view c.args.options) files kept.0 (wanted_as (place_view c.args.place.now) (string_bytes c.args.name)) c.args.number.now
+      saved_file g.D.Directory.can_fail (options_view c.args.options) files kept.0 (wanted_as level (place_view c.args.place.now) (string_bytes c.args.name)) c.args.number.now
           c.put.new.number _ _ _ _ _ (Some (string_bytes c.in-As.name)) _ _ (content_view c.in_ok-content.content) c.in_ok-name.ensures.read is c.as_slice-bytes.ensures.value
           (ap kept_name c.in-As.is) path size hash (error_damaged _ _ (some_view (λ text. string_bytes text) c.in_ok-error-in-As.error ∙ c.in_ok-error-in-As.ensures ∙ sym (some_view fault_view c.in_ok-content.content.fault))) kept.2,
     )
 
 pub returns-clause-saved : goal.returns-clause-saved
-returns-clause-saved g c = λ files e.
+returns-clause-saved g c = λ level files e.
     let kept = c.in_ok-kept.ensures.kept files e in
     let path = c.in_ok-path.ensures.ok ∙ c.as_str.ensures.value in
     let is = c.in_ok-content.ensures.read in
     let size = ap (λ (b : List ℕ). length b) c.as_slice-bytes.ensures.value in (
       kept.0,
       kept.1,
-      saved_file g.D.Directory.can_fail (options_view c.args.options) files kept.0 (wanted_as (place_view c.args.place.now) (string_bytes c.args.name)) c.args.number.now
+      saved_file g.D.Directory.can_fail (options_view c.args.options) files kept.0 (wanted_as level (place_view c.args.place.now) (string_bytes c.args.name)) c.args.number.now
           c.put.new.number _ _ _ _ _ None None _ (content_view c.in_ok-content.content) c.in_ok-name.ensures.read is c.as_slice-bytes.ensures.value
           (ap kept_name c.in-Nowhere.is) path size refl (error_failed (is_some (content_view c.in_ok-content.content).fault)) kept.2,
     )

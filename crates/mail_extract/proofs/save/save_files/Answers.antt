@@ -12,6 +12,7 @@ use Rattle.mail_data.specs.PlaceViews.{place_view}
 use Rattle.mail_extract.specs.ChoiceViews.{options_view}
 use Rattle.mail_extract.specs.Save.{Wanted, chosen, wanted_among, wanted_files, wanted_inside}
 use Rattle.mail_extract.specs.SaveViews.{outcome}
+use Rattle.mail_extract.specs.declared.level.Level.TheVariants.{Own}
 use Rattle.mail_extract.specs.declared.save.Saved.{Saved}
 use Rattle.mail_extract.proofs.lemmas.Save.{chosen_all, chosen_inside, inner_more, read_value, saved_end, saved_first}
 use Rattle.mail_extract.proofs.save.save_files.Goals as goal
@@ -20,7 +21,7 @@ pub loop-inner-init : goal.loop-inner-init
 loop-inner-init g c =
     let known = g.K.KnownCharsets.known c.args.known.now in
     let items = c.deref-inner-items.result.now in
-    let own = ap (λ ps. wanted_among known (map place_view ps)) c.as_slice.ensures.value ∙ ap (wanted_among known) c.in_ok-found.ensures in
+    let own = ap (λ ps. wanted_among known Own (map place_view ps)) c.as_slice.ensures.value ∙ ap (wanted_among known Own) c.in_ok-found.ensures in
     let inside = ap (map inner_view) c.deref-inner-items.ensures.value ∙ sym (read_value (inner_mails known 100 [] (Some 0) (tree_of c.args.mail.now) (placements_of c.args.mail.now)) (map inner_view c.in_ok-inside.inside.items) c.in_ok-inside.ensures) in
     let options = options_view c.args.options in
     let all = chosen options.choice (wanted_files known (tree_of c.args.mail.now) (placements_of c.args.mail.now)) in
@@ -32,7 +33,7 @@ loop-inner-init g c =
             saved_first g.D.Directory.can_fail options files all c.args.number.now _ (chosen_inside known options.choice (map inner_view items)) first.2 _ c.save_places.new.number first.0
                 (chosen_all known options.choice _ (map inner_view items)
                 ∙ ap (λ (ws : List Wanted). chosen options.choice (ws ++ flat_map (wanted_inside known) (map inner_view items))) own
-                ∙ ap (λ (mails : List InnerMail). chosen options.choice (wanted_among known (places (tree_of c.args.mail.now) (placements_of c.args.mail.now)) ++ flat_map (wanted_inside known) mails)) inside)
+                ∙ ap (λ (mails : List InnerMail). chosen options.choice (wanted_among known Own (places (tree_of c.args.mail.now) (placements_of c.args.mail.now)) ++ flat_map (wanted_inside known) mails)) inside)
                 (first.3 ∙ ap (λ saved. map outcome saved ++ first.2) c.new-saved.ensures.items) first.4,
           );
       each = c.in_ok-save_places.ensures.safe

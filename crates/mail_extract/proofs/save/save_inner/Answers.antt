@@ -6,6 +6,7 @@ use Rattle.mail_data.specs.InnerMailViews.{inner_view}
 use Rattle.mail_data.specs.PlaceViews.{place_view}
 use Rattle.mail_extract.specs.ChoiceViews.{options_view}
 use Rattle.mail_extract.specs.Save.{AreSaved, Wanted, chosen, wanted_among}
+use Rattle.mail_extract.specs.declared.level.Level.TheVariants.{Inside}
 use Rattle.mail_extract.proofs.lemmas.Save.{inside_read, inside_refused, some_has}
 use Rattle.mail_extract.proofs.save.save_inner.Goals as goal
 
@@ -18,7 +19,7 @@ returns-in_ok-save_places-in-Some-clause-saved g c = λ files e.
     let where_is = some_has (λ m. placements_of m ≡ placements 0 (tree_of m)) _ mail c.in-Some.is c.in_ok-mail.ensures.places in
     let options = options_view c.args.options in
     let same =
-    ap (λ ps. wanted_among known (map place_view ps)) c.as_slice.ensures.value
+    ap (λ ps. wanted_among known Inside (map place_view ps)) c.as_slice.ensures.value
     ∙ inside_read known inner (tree_of mail) (placements_of mail) _ _ read where_is c.as_str.ensures.value c.in_ok-found-in-Some.ensures in
     let some = c.in_ok-save_places-in-Some.ensures.saved files e in (
       some.0,

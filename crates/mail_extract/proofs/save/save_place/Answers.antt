@@ -1,9 +1,8 @@
 use Rattle.std.proofs.Common.{◌≡◌, List, [], ◌∷◌, ℕ, true, string_bytes, refl, sym, ap, subst, ◌∙◌}
 use Rattle.mail_data.specs.PlaceViews.{place_view}
-use Rattle.mail_extract.specs.Choice.{keeps}
 use Rattle.mail_extract.specs.ChoiceViews.{options_view}
 use Rattle.mail_data.specs.Files.{is_extracted}
-use Rattle.mail_extract.specs.Save.{AreSaved, Wanted}
+use Rattle.mail_extract.specs.Save.{AreSaved, Wanted, is_chosen, wanted_as}
 use Rattle.mail_extract.specs.SaveViews.{outcome}
 use Rattle.mail_extract.proofs.lemmas.Save.{among-kept, made_more, read_value}
 use Rattle.mail_extract.proofs.save.save_place.Goals as goal
@@ -12,16 +11,13 @@ pub returns-clause-saved : goal.returns-clause-saved
 returns-clause-saved g c = λ files e.
     let known = g.K.KnownCharsets.known c.args.known.now in
     let place = place_view c.args.place.now in
-    let options = options_view c.args.options in
+    let options = options_view c.args.saving.options in
+    let level = c.args.saving.level in
     let file = c.in_ok-save_file.field-0 in
-    let one = c.in_ok-save_file.ensures.saved files e in
+    let one = c.in_ok-save_file.ensures.saved level files e in
     let is : is_extracted known place.part ≡ true = read_value _ _ c.in_ok-is_extracted.ensures ∙ c.if-not-branch.false in
-    let kept =
-    sym c.if-not-branch-2.false ∙ c.in_ok-keeps.ensures
-    ∙ ap (λ (n : List ℕ). keeps options.choice c.as_str.result.now c.type_of-mimetype.result.now n) c.as_str-2.ensures.value in
-    let found =
-    among-kept known options.choice place true c.as_str.result.now c.type_of-mimetype.result.now (string_bytes c.in_ok-name.name) is c.as_str.ensures.value
-    c.type_of-mimetype.ensures c.in_ok-name.ensures.read kept in (
+    let kept = sym c.if-not-branch-2.false ∙ c.in_ok-is_kept.ensures ∙ ap (λ (n : List ℕ). is_chosen options.choice (wanted_as level place n)) c.as_str.ensures.value in
+    let found = among-kept known options.choice level place true (string_bytes c.in_ok-name.name) is c.in_ok-name.ensures.read kept in (
       one.0,
       one.1,
       outcome file ∷ [],

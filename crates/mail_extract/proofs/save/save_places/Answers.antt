@@ -14,7 +14,7 @@ loop-place-init g c = record { all = λ files e. (files, e, [], sym (append-nil 
 pub loop-place-preserved : goal.loop-place-preserved
 loop-place-preserved g c =
     let known = g.K.KnownCharsets.known c.args.known.now in
-    let options = options_view c.args.options in
+    let options = options_view c.args.saving.options in
     let items = c.args.places.now in
     let i = c.loop-place.place-index in
     let left = ap (map place_view) (drop_next items i c.place-item.result (omega arith) c.place-item.is) in
@@ -26,7 +26,7 @@ loop-place-preserved g c =
             some.1,
             here.2 ++ some.2,
             made_all (map outcome c.args.saved.now.items) here.2 some.2 _ _ here.3 some.3,
-            place_more g.D.Directory.can_fail options files (chosen options.choice (wanted_among known (map place_view items))) c.args.number.now known _
+            place_more g.D.Directory.can_fail options files (chosen options.choice (wanted_among known c.args.saving.level (map place_view items))) c.args.number.now known c.args.saving.level _
                 (map place_view (drop (i + 1) items)) (place_view c.place-item.result) here.2 some.2 c.loop-place.number c.save_place.new.number here.0 some.0 left some.4 here.4,
           );
       each = λ old. c.in_ok-save_place.ensures.safe (c.loop-place.invariant.each old);
@@ -35,7 +35,7 @@ loop-place-preserved g c =
 pub returns-clause-saved : goal.returns-clause-saved
 returns-clause-saved g c = λ files e.
     let known = g.K.KnownCharsets.known c.args.known.now in
-    let options = options_view c.args.options in
+    let options = options_view c.args.saving.options in
     let items = c.args.places.now in
     let none = drop_all c.loop-place.place-index items (omega arith) in
     let here = c.loop-place.invariant.all files e in (
@@ -43,6 +43,6 @@ returns-clause-saved g c = λ files e.
       here.1,
       here.2,
       here.3,
-      saved_end g.D.Directory.can_fail options files (chosen options.choice (wanted_among known (map place_view items))) c.args.number.now here.2 _ c.loop-place.number here.0
-          (ap (λ ps. chosen options.choice (wanted_among known (map place_view ps))) none) here.4,
+      saved_end g.D.Directory.can_fail options files (chosen options.choice (wanted_among known c.args.saving.level (map place_view items))) c.args.number.now here.2 _ c.loop-place.number here.0
+          (ap (λ ps. chosen options.choice (wanted_among known c.args.saving.level (map place_view ps))) none) here.4,
     )

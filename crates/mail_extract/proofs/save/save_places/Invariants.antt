@@ -14,9 +14,9 @@ invariant-loop-place g l = record {
   all : (files : List File) → g.D.Directory.held l.fn.directory ≡ Some files
       → (mid : List File) × (g.D.Directory.held l.directory ≡ Some mid) × (done : List Outcome)
       × (map outcome l.saved.items ≡ map outcome l.fn.saved.items ++ done)
-      × Continues g.D.Directory.can_fail (options_view l.fn.options) files
-      (chosen (options_view l.fn.options).choice (wanted_among (g.K.KnownCharsets.known l.known) (map place_view l.places))) l.fn.number done
-      (chosen (options_view l.fn.options).choice (wanted_among (g.K.KnownCharsets.known l.known) (map place_view (drop l.place-index l.places)))) l.number mid;
+      × Continues g.D.Directory.can_fail (options_view l.fn.saving.options) files
+      (chosen (options_view l.fn.saving.options).choice (wanted_among (g.K.KnownCharsets.known l.known) l.fn.saving.level (map place_view l.places))) l.fn.number done
+      (chosen (options_view l.fn.saving.options).choice (wanted_among (g.K.KnownCharsets.known l.known) l.fn.saving.level (map place_view (drop l.place-index l.places)))) l.number mid;
   each : All (λ file. IfSome file.name (λ name. IsSafeName (string_bytes name))) l.fn.saved.items
       → All (λ file. IfSome file.name (λ name. IsSafeName (string_bytes name))) l.saved.items;
 }
