@@ -179,6 +179,12 @@ def least_glibc(tree):
     return ".".join(map(str, newest))
 
 
+def check_tag(name, least):
+    """Refuses a wheel that needs a newer C library than its tag says."""
+    if [int(number) for number in least.split(".")] > [int(number) for number in re.search(r"manylinux_(\d+)_(\d+)_", name).groups()]:
+        raise Failed(f"{name} needs glibc {least}")
+
+
 @functools.cache
 def lines_of_crates(source):
     """What each crate of the repository depends on."""
@@ -275,6 +281,7 @@ def make_packages(source, tree, wheel, work, release):
     shutil.copytree(tree, room / "tree", symlinks=True)
     with zipfile.ZipFile(wheel) as file:
         file.extractall(room / "wheel")
+    check_tag(wheel.name, least_glibc(room / "wheel"))
     for path in (room / "wheel").glob("*.dist-info/RECORD"):
         path.unlink()
     for path in (room / "wheel").rglob("*.so"):
