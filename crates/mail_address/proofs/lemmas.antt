@@ -17,3 +17,4 @@ pub mod EncodeWord
 pub mod EncodeRead
 pub mod WriterWords
 pub mod WriterRead
+pub mod Groups

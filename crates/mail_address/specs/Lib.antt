@@ -10,6 +10,7 @@ pub mod Order
 pub mod Enclosed
 pub mod Names
 pub mod Grammar
+pub mod Groups
 pub mod Safe
 pub mod WordTokens
 pub mod Encode

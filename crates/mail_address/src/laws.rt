@@ -7,9 +7,10 @@ ghost use Rattle.mailparse.specs.Header.{Header};
 ghost use Rattle.mail_codec.specs.declared.charset.tables.SingleByteTable.{SingleByteTable};
 ghost use Rattle.mail_address.specs.Encode.{KnowUtf8};
 ghost use Rattle.mail_address.specs.Addresses.{addresses, element_at, element_len};
-ghost use Rattle.mail_address.specs.Addresses.{is_separator, items, single};
+ghost use Rattle.mail_address.specs.Addresses.{Group, group, is_separator, items, single};
 ghost use Rattle.mail_address.specs.Enclosed.{IsEnclosed, IsInAngles};
 ghost use Rattle.mail_address.specs.Grammar.{FollowGrammar, IsMailbox};
+ghost use Rattle.mail_address.specs.Groups.{GroupsFollow, IsGroup};
 ghost use Rattle.mail_address.specs.Headers.{addresses_of};
 ghost use Rattle.mail_address.specs.Mailbox.{Parts};
 ghost use Rattle.mail_address.specs.Names.{AreNameWords, bracketed, named};
@@ -122,6 +123,25 @@ pub fn separators_separate()
         ≡ single (record { start = start; text = text; mailbox = Some m }) ∷ [] }
 {}
 
+/// A group whose members are mailboxes is read exactly if its text is one by a grammar of bytes (RFC
+/// 5322, sections 3.4 and 4.4; RFC 6854), and it has the members that the grammar gives it. The list
+/// goes on after it, and after the separator if one follows.
+///
+/// # Examples
+///
+/// ```rust
+/// mail_address::laws::groups_are_those_of_the_grammar();
+/// ```
+pub fn groups_are_those_of_the_grammar()
+    ensures elements { (raw : List ℕ) → GroupsFollow (addresses raw) }
+    ensures first { (start : ℕ) (text rest : List ℕ) (separator : ℕ) (g : Group) →
+        IsGroup start text g → is_separator separator ≡ true →
+        items element_at element_len start (text ++ separator ∷ rest)
+        ≡ group g ∷ items element_at element_len (start + suc (length text)) rest }
+    ensures alone { (start : ℕ) (text : List ℕ) (g : Group) → IsGroup start text g →
+        items element_at element_len start text ≡ group g ∷ [] }
+{}
+
 /// No address that is read contains a control character: no byte below 0x20, and no 0x7F. So it may
 /// be written into a header, or into a command of SMTP, and ends no line there.
 ///
@@ -139,7 +159,8 @@ pub fn addresses_contain_no_control()
 /// What `write_addresses` writes reads back: as many elements, in order, with the same names,
 /// whatever they contain, and the same addresses in canonical form, so without whitespace in a
 /// domain literal. This holds in all charsets that know UTF-8 by its label as the four do, so also
-/// in those with the tables of a caller.
+/// in those with the tables of a caller, and in `AllCharsets` of `mail_charsets`, whose law
+/// `the_four_come_first` says so.
 ///
 /// # Examples
 ///

@@ -17,7 +17,7 @@ items_within-hold at len P none both each (suc most) start (b ∷ bytes) =
     both (at start (b ∷ bytes)) (items_within at len most (start + len (b ∷ bytes)) (drop (len (b ∷ bytes)) (b ∷ bytes))) (each start (b ∷ bytes))
     (items_within-hold at len P none both each most (start + len (b ∷ bytes)) (drop (len (b ∷ bytes)) (b ∷ bytes)))
 
-items-hold : {A : Type 0} (at : ℕ → List ℕ → List A) (len : List ℕ → ℕ) (P : List A → Type 0) → P [] → ((xs ys : List A) → P xs → P ys → P (xs ++ ys))
+pub items-hold : {A : Type 0} (at : ℕ → List ℕ → List A) (len : List ℕ → ℕ) (P : List A → Type 0) → P [] → ((xs ys : List A) → P xs → P ys → P (xs ++ ys))
     → ((start : ℕ) (bytes : List ℕ) → P (at start bytes)) → (start : ℕ) (bytes : List ℕ) → P (items at len start bytes)
 unfolding items
 items-hold at len P none both each start bytes = items_within-hold at len P none both each (length bytes) start bytes

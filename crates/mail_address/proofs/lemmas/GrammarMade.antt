@@ -34,13 +34,19 @@ cut-at last (suc n) [] h = absurd (false≢true h)
 cut-at last (suc n) (b ∷ bytes) h = ap (λ (r : List ℕ). b ∷ r) (cut-at last n bytes h)
 
 -- such bytes are those before that byte, it, and those after it
-cut-around : (last n : ℕ) (bytes : List ℕ) → begins (λ b. eqb b last) (drop n bytes) ≡ true → bytes ≡ take n bytes ++ last ∷ drop (suc n) bytes
+pub cut-around : (last n : ℕ) (bytes : List ℕ) → begins (λ b. eqb b last) (drop n bytes) ≡ true → bytes ≡ take n bytes ++ last ∷ drop (suc n) bytes
 cut-around last n bytes h =
     sym (take-append-drop (suc n) bytes) ∙ ap (λ b. b ++ drop (suc n) bytes) (cut-at last n bytes h)
     ∙ append_assoc (take n bytes) (last ∷ []) (drop (suc n) bytes)
 
+-- the bytes up to an offset, with a byte there and some after it
+pub cut-more : (last n k : ℕ) (bytes : List ℕ) → begins (λ b. eqb b last) (drop n bytes) ≡ true
+    → take (suc n + k) bytes ≡ take n bytes ++ last ∷ take k (drop (suc n) bytes)
+cut-more last n k bytes h =
+    take-add (suc n) k bytes ∙ ap (λ t. t ++ take k (drop (suc n) bytes)) (cut-at last n bytes h) ∙ append_assoc (take n bytes) (last ∷ []) (take k (drop (suc n) bytes))
+
 -- the bytes between two delimiters, with them
-cut-closed : (first last n : ℕ) (bytes : List ℕ) → begins (λ b. eqb b last) (drop n bytes) ≡ true → take (n + 2) (first ∷ bytes) ≡ first ∷ (take n bytes ++ last ∷ [])
+pub cut-closed : (first last n : ℕ) (bytes : List ℕ) → begins (λ b. eqb b last) (drop n bytes) ≡ true → take (n + 2) (first ∷ bytes) ≡ first ∷ (take n bytes ++ last ∷ [])
 cut-closed first last n bytes h =
     let two : n + 2 ≡ suc (suc n) = omega arith in
     ap (λ k. take k (first ∷ bytes)) two ∙ ap (λ (r : List ℕ). first ∷ r) (cut-at last n bytes h)
@@ -175,7 +181,7 @@ abbrev tok : Kind → ℕ → Token
 tok k n = record { kind = k; len = n }
 
 -- a property of the bytes at the front that pass a test
-prefix-has : (P : List ℕ → Type 0) (test : ℕ → Bool) → P [] → ((b : ℕ) (rest : List ℕ) → test b ≡ true → P rest → P (b ∷ rest)) → (bytes : List ℕ)
+pub prefix-has : (P : List ℕ → Type 0) (test : ℕ → Bool) → P [] → ((b : ℕ) (rest : List ℕ) → test b ≡ true → P rest → P (b ∷ rest)) → (bytes : List ℕ)
     → P (take (prefix_len test bytes) bytes)
 prefix-has P test none more [] = none
 prefix-has P test none more (b ∷ bytes) =
@@ -331,7 +337,7 @@ white-meets Blank text h m = m
 white-meets Comment text h m = m
 white-meets _ text h m = absurd (false≢true h)
 
-white-made : (text : List ℕ) → IsWhite (take (run White text) text)
+pub white-made : (text : List ℕ) → IsWhite (take (run White text) text)
 white-made text = far-made (step White) IsWhite white_ends (λ bytes k some later. white-append (step-meets White IsWhite white-meets bytes some) later) text
 
 pub all_white-made : (text : List ℕ) → is_all_white text ≡ true → IsWhite text
@@ -493,7 +499,7 @@ phrase-first (b ∷ more) h all =
       made = sym (take-append-drop (step Phrase bytes) bytes);
     }
 
-phrase-made : (text : List ℕ) → is_phrase text ≡ true → IsPhrase text
+pub phrase-made : (text : List ℕ) → is_phrase text ≡ true → IsPhrase text
 unfolding is_phrase after_white
 phrase-made text h =
     let both = and_parts (is_in Word (front_token (drop (run White text) text)).kind) (eqb (run Phrase text) (length text)) h in
@@ -532,7 +538,7 @@ comma-meets : (kind : Kind) (text : List ℕ) → is_in BeforeComma kind ≡ fal
 comma-meets Comma text h m = ap (begins (λ b. eqb b 44)) m
 comma-meets _ text h m = absurd (false≢true (sym h))
 
-comma-after : (bytes : List ℕ) → run BeforeComma bytes < length bytes → begins (λ b. eqb b 44) (drop (run BeforeComma bytes) bytes) ≡ true
+pub comma-after : (bytes : List ℕ) → run BeforeComma bytes < length bytes → begins (λ b. eqb b 44) (drop (run BeforeComma bytes) bytes) ≡ true
 comma-after = stop-after BeforeComma (λ b. eqb b 44) comma-meets
 
 stop_len-is : (bytes : List ℕ) → stop_len bytes ≢ 0 → (is_stop (take (run BeforeComma bytes) bytes) ≡ true) × (stop_len bytes ≡ min (suc (run BeforeComma bytes)) (length bytes))

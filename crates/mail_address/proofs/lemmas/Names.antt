@@ -134,7 +134,7 @@ pub data IsElementEnd : List ℕ → List ℕ → Type 0 where
   ends : {after left : List ℕ} → IsEnd after left → IsElementEnd after left
   at_semicolon : (rest : List ℕ) → IsElementEnd (59 ∷ rest) rest
 
-element-stops : (span : Span) → is_in span Comma ≡ false → is_in span Semicolon ≡ false → {after left : List ℕ} → IsElementEnd after left → run span after ≡ 0
+pub element-stops : (span : Span) → is_in span Comma ≡ false → is_in span Semicolon ≡ false → {after left : List ℕ} → IsElementEnd after left → run span after ≡ 0
 element-stops span comma semicolon (ends end) = end-stops span comma end
 element-stops span comma semicolon (at_semicolon rest) = run-stops span (59 ∷ rest) 1 Semicolon (semicolon-front rest) semicolon
 
@@ -150,7 +150,7 @@ separator-cut text b rest =
     ap (drop (min (suc (length text)) (length (text ++ b ∷ rest)))) (sym (append_assoc text (b ∷ []) rest))
     ∙ drop_at (text ++ b ∷ []) rest (min (suc (length text)) (length (text ++ b ∷ rest))) (let front = length-append text (b ∷ []) in omega (arith, len, front))
 
-end-left : (text : List ℕ) {after left : List ℕ} → IsElementEnd after left → drop (min (suc (length text)) (length (text ++ after))) (text ++ after) ≡ left
+pub end-left : (text : List ℕ) {after left : List ℕ} → IsElementEnd after left → drop (min (suc (length text)) (length (text ++ after))) (text ++ after) ≡ left
 end-left text (ends at_end) =
     let same = append-nil text in
     let len = ap length same in
@@ -184,7 +184,7 @@ module _ (text after left : List ℕ) (end : IsElementEnd after left) (over : (s
       (drop_at text after (length text) refl)
       ∙ rw (end-no_colon end) refl
 
-  element-is : (start : ℕ) → element_at start (text ++ after) ≡ single (as_single start text m) ∷ []
+  pub element-is : (start : ℕ) → element_at start (text ++ after) ≡ single (as_single start text m) ∷ []
   unfolding element_at
   element-is start =
       cond-false _ _ _ no_group
@@ -192,7 +192,7 @@ module _ (text after left : List ℕ) (end : IsElementEnd after left) (over : (s
       ∙ ap (λ t. map single (single_at start t)) (take_at text after (length text) refl)
       ∙ ap (map single) (single-is text shown m is start)
 
-  element_len-is : element_len (text ++ after) ≡ min (suc (length text)) (length (text ++ after))
+  pub element_len-is : element_len (text ++ after) ≡ min (suc (length text)) (length (text ++ after))
   unfolding element_len
   element_len-is = cond-false _ _ _ no_group ∙ ap (λ n. min (suc n) (length (text ++ after))) (up_to BeforeSeparator crosses-separator refl refl)
 
@@ -211,14 +211,14 @@ module _ (text after left : List ℕ) (end : IsEnd after left) (over : (span : S
   up_to_comma : run BeforeComma (text ++ after) ≡ length text
   up_to_comma = passed-up_to BeforeComma text after (over BeforeComma crosses-comma) (end-stops BeforeComma refl end)
 
-  member-is : (start : ℕ) → member_at start (text ++ after) ≡ as_single start text m ∷ []
+  pub member-is : (start : ℕ) → member_at start (text ++ after) ≡ as_single start text m ∷ []
   unfolding member_at
   member-is start =
       ap (λ n. single_at start (take n (text ++ after))) up_to_comma
       ∙ ap (single_at start) (take_at text after (length text) refl)
       ∙ single-is text shown m is start
 
-  member_len-is : member_len (text ++ after) ≡ min (suc (length text)) (length (text ++ after))
+  pub member_len-is : member_len (text ++ after) ≡ min (suc (length text)) (length (text ++ after))
   unfolding member_len
   member_len-is = ap (λ n. min (suc n) (length (text ++ after))) up_to_comma
 

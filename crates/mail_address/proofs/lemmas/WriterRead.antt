@@ -37,7 +37,7 @@ use Rattle.mail_address.proofs.lemmas.WriterWords.{address-shows, domain-is_doma
 
 -- ---- runs over a mailbox
 
-mailbox-passed : {span : Span} → Crosses span → {text : List ℕ} {m : Parts} → IsMailbox text m → IsPassed span text
+pub mailbox-passed : {span : Span} → Crosses span → {text : List ℕ} {m : Parts} → IsMailbox text m → IsPassed span text
 mailbox-passed {span} over (address {local = local} {domain = domain} is_local is_domain clean e) =
     passed-same span e
     (passed-append span local (64 ∷ domain) (dotted-passed over.over_words is_local) (at_domain-passed over.over_atoms over.over_literals (at-passed span over.at) [] domain white_ends is_domain))
@@ -58,7 +58,7 @@ white-no_mailbox text is =
     let end : drop (length text) text ≡ [] = drop_all (length text) text (omega arith) in
     rw (first, second, end) refl
 
-mailbox-not_white : {text : List ℕ} {m : Parts} → IsMailbox text m → is_all_white text ≡ false
+pub mailbox-not_white : {text : List ℕ} {m : Parts} → IsMailbox text m → is_all_white text ≡ false
 mailbox-not_white {text} {m} is =
     false_from_ne_true (is_all_white text) (λ e. none-some (sym (white-no_mailbox text (all_white-made text e)) ∙ mailbox-read text m is))
 
