@@ -7,6 +7,7 @@ pub mod MakeUp
 pub mod Enclosed
 pub mod Names
 pub mod Passed
+pub mod White
 pub mod GrammarRead
 pub mod GrammarMade
 pub mod GrammarLists
@@ -17,4 +18,5 @@ pub mod EncodeWord
 pub mod EncodeRead
 pub mod WriterWords
 pub mod WriterRead
+pub mod Plain
 pub mod Groups

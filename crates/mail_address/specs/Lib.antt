@@ -21,3 +21,4 @@ pub use Rattle.mail_codec.specs.Charset
 pub use Rattle.mail_codec.specs.Tables
 pub use Rattle.mailparse.specs.Outcome
 pub use Rattle.mailparse.specs.Value
+pub mod private

@@ -15,6 +15,7 @@ mod headers;
 pub mod laws;
 mod list;
 mod mailbox;
+mod plain;
 mod text;
 mod tokens;
 mod writer;

@@ -1,6 +1,6 @@
 //! A list of addresses: mailboxes, groups, and elements that are not addresses.
 ghost use Rattle.std.specs.Prelude.{◌≡◌, ◌++◌, ◌+◌, ◌<◌, ◌≤◌, ◌^◌, ◌==◌, true, length, map, IfOk};
-ghost use Rattle.std.specs.Prelude.{IfSome, MatchOption, ◌∷◌, [], take, option_map, drop};
+ghost use Rattle.std.specs.Prelude.{IfSome, MatchOption, ◌∷◌, [], take, option_map, drop, Some};
 ghost use Rattle.std.specs.Prelude.{string_bytes};
 ghost use Rattle.mail_codec.specs.Places.{begins};
 ghost use Rattle.mailparse.specs.Outcome.{GivesText};
@@ -10,9 +10,13 @@ ghost use Rattle.mail_address.specs.Addresses.{addresses, after_name, element_at
 ghost use Rattle.mail_address.specs.Addresses.{group_at, group_len, inner_len, is_group};
 ghost use Rattle.mail_address.specs.Addresses.{is_separator, member_at, member_len, members_at};
 ghost use Rattle.mail_address.specs.Addresses.{name_len, separator_len, single_at};
-ghost use Rattle.mail_address.specs.AddressViews.{element_view, group_view, member_view};
+ghost use Rattle.mail_address.specs.AddressViews.{element_view, group_view, mailbox_view};
+ghost use Rattle.mail_address.specs.AddressViews.{member_view};
+ghost use Rattle.mail_address.specs.MailboxViews.{parts};
+ghost use Rattle.mail_address.specs.private.Plain.{IsElement, IsFront, IsMember};
 
 use crate::mailbox::{is_phrase, mailbox_of};
+use crate::plain::{Plain, ends_element, ends_member, plain_mailbox};
 use crate::text::{address_text, name_text};
 use crate::tokens::{Span, begins_at, is_all_white, run};
 use mail_codec::charset::KnownCharsets;
@@ -238,6 +242,10 @@ fn push_element<'a>(
     ensures bounds { IfOk result (λ len. len ≤ length bytes.now) }
     ensures takes_some { IfOk result (λ len. 0 < len) }
 {
+    if let Some((mailbox, len)) = plain_element(start, bytes) {
+        list.push(Address::Mailbox(mailbox))?;
+        return Ok(bytes.len().min(len + 1));
+    }
     if is_group(bytes) {
         let group = group_at(alloc, start, bytes)?;
         list.push(Address::Group(group))?;
@@ -251,6 +259,74 @@ fn push_element<'a>(
         None => {}
     }
     Ok(bytes.len().min(len + 1))
+}
+
+/// Returns the plain mailbox at the front as an element.
+fn mailbox_at<'a>(start: usize, bytes: &'a [u8], plain: &Plain<'a>) -> Mailbox<'a>
+    requires within { plain.now.len ≤ length bytes.now }
+    ensures { mailbox_view result ≡ record {
+      start = start;
+      text = take plain.now.len bytes.now;
+      mailbox = Some (parts plain.now.parts);
+    } }
+{
+    Mailbox {
+        start,
+        text: &bytes[..plain.len],
+        display_name: plain.parts.display_name,
+        local_part: plain.parts.local_part,
+        domain: plain.parts.domain,
+    }
+}
+
+/// Returns the plain mailbox at the front and its length, if it is an element of a list.
+fn plain_element(start: usize, bytes: &[u8]) -> Option<(Mailbox<'_>, usize)>
+    ensures { IfSome result (λ found. IsElement start bytes.now (mailbox_view found.0) found.1) }
+{
+    match plain_mailbox(bytes) {
+        Some(plain) => front_element(start, bytes, &plain),
+        None => None,
+    }
+}
+
+/// Returns that mailbox and its length, if a separator or nothing follows it.
+fn front_element<'a>(
+    start: usize,
+    bytes: &'a [u8],
+    plain: &Plain<'a>,
+) -> Option<(Mailbox<'a>, usize)>
+    requires front { IsFront bytes.now (parts plain.now.parts) plain.now.len }
+    ensures { IfSome result (λ found. IsElement start bytes.now (mailbox_view found.0) found.1) }
+{
+    if !ends_element(&bytes[plain.len..]) {
+        return None;
+    }
+    Some((mailbox_at(start, bytes, plain), plain.len))
+}
+
+/// Returns the plain mailbox at the front and its length, if it is a member of a group.
+fn plain_member(start: usize, bytes: &[u8]) -> Option<(Mailbox<'_>, usize)>
+    ensures { IfSome result (λ found. IsMember start bytes.now (mailbox_view found.0) found.1) }
+{
+    match plain_mailbox(bytes) {
+        Some(plain) => front_member(start, bytes, &plain),
+        None => None,
+    }
+}
+
+/// Returns that mailbox and its length, if a comma or nothing follows it.
+fn front_member<'a>(
+    start: usize,
+    bytes: &'a [u8],
+    plain: &Plain<'a>,
+) -> Option<(Mailbox<'a>, usize)>
+    requires front { IsFront bytes.now (parts plain.now.parts) plain.now.len }
+    ensures { IfSome result (λ found. IsMember start bytes.now (mailbox_view found.0) found.1) }
+{
+    if !ends_member(&bytes[plain.len..]) {
+        return None;
+    }
+    Some((mailbox_at(start, bytes, plain), plain.len))
 }
 
 /// Returns the element that the bytes are, if they are more than whitespace and comments.
@@ -388,6 +464,10 @@ fn push_member<'a>(
     ensures bounds { IfOk result (λ len. len ≤ length bytes.now) }
     ensures takes_some { IfOk result (λ len. 0 < len) }
 {
+    if let Some((mailbox, len)) = plain_member(start, bytes) {
+        list.push(Member::Mailbox(mailbox))?;
+        return Ok(bytes.len().min(len + 1));
+    }
     let len = run(Span::BeforeComma, bytes);
     if let Some(member) = single_at(start, &bytes[..len]) {
         list.push(member)?;

@@ -188,7 +188,7 @@ fn is_clean(text: &[u8]) -> bool
 }
 
 /// Returns whether a local part and a domain are such tokens.
-fn are_clean(local_part: &[u8], domain: &[u8]) -> bool
+pub(crate) fn are_clean(local_part: &[u8], domain: &[u8]) -> bool
     ensures { result ≡ are_clean local_part.now domain.now }
 {
     is_clean(local_part) && is_clean(domain)

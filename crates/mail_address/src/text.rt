@@ -1,5 +1,5 @@
 //! The text of names and addresses, without quotes, comments and folding.
-ghost use Rattle.std.specs.Prelude.{◌≡◌, ◌++◌, ◌<◌, ◌≤◌, ◌||◌, ◌==◌, false, length, flat_map, IfOk, OnOk, string_bytes};
+ghost use Rattle.std.specs.Prelude.{◌≡◌, ◌++◌, ◌<◌, ◌≤◌, ◌||◌, ◌==◌, false, length, flat_map, IfOk, IsTrue, OnOk, string_bytes};
 ghost use Rattle.std.specs.List.{list_all};
 ghost use Rattle.mailparse.specs.Outcome.{GivesText};
 ghost use Rattle.mailparse.specs.Value.{lenient_value_in, value_text};
@@ -9,9 +9,11 @@ ghost use Rattle.mail_address.specs.Text.{front_meaning, local_text, meaning, ne
 ghost use Rattle.mail_address.specs.Text.{phrase_text, quoted_text, unquoted, word_or_space};
 ghost use Rattle.mail_address.specs.Text.{word_or_white_len, words_text};
 ghost use Rattle.mail_address.specs.Tokens.{dot, is_atom_byte};
+ghost use Rattle.mail_address.specs.private.Plain.{IsDotAtom};
 
 use crate::folding::{push_without_white, unfolded};
 use crate::mailbox::{after_white, is_dotted, within_ends};
+use crate::plain::dot_atom_len;
 use crate::tokens::{Kind, Span, front_token, is_all_white, is_atom_byte, run, step};
 use mail_codec::charset::{KnownCharsets, decode_latin1};
 use mailparse::{MailParseError, value_text_in};
@@ -149,7 +151,7 @@ fn phrase_text(alloc: Global, bytes: &[u8]) -> Result<Vec<u8>, AllocError>
 fn words_text(alloc: Global, phrase: &[u8]) -> Result<Vec<u8>, AllocError>
     ensures { IfOk result (λ text. text.items ≡ words_text phrase.now) }
 {
-    let mut text = Vec::new(alloc);
+    let mut text = Vec::with_capacity(alloc, phrase.len())?;
     let mut rest = phrase;
     'words: while !rest.is_empty() {
         push_word(&mut text, rest)?;
@@ -203,12 +205,27 @@ fn push_local(alloc: Global, out: &mut Vec<u8>, local_part: &[u8]) -> Result<(),
     Ok(())
 }
 
+/// Returns whether a text is a dot-atom, so that it is its own canonical form.
+#[tactic(auto, using(crate::proofs::lemmas::Plain::dot_atom_from))]
+fn is_dot_atom(text: &[u8]) -> bool
+    ensures { IsTrue result → IsDotAtom text.now }
+{
+    let len = dot_atom_len(text);
+    len != 0 && len == text.len()
+}
+
 /// Returns an address in canonical form, as bytes.
-#[tactic(auto, unfolding(crate::specs::Text::address_bytes))]
+#[tactic(auto, using(crate::proofs::lemmas::Plain::plain_address), unfolding(crate::specs::Text::address_bytes))]
 fn address_bytes(alloc: Global, local_part: &[u8], domain: &[u8]) -> Result<Vec<u8>, AllocError>
     ensures { IfOk result (λ out. out.items ≡ address_bytes local_part.now domain.now) }
 {
-    let mut out = Vec::new(alloc);
+    let mut out = Vec::with_capacity(alloc, local_part.len() + domain.len() + 1)?;
+    if is_dot_atom(local_part) && is_dot_atom(domain) {
+        out.extend_from_slice(local_part)?;
+        out.push(b'@')?;
+        out.extend_from_slice(domain)?;
+        return Ok(out);
+    }
     push_local(alloc, &mut out, local_part)?;
     out.push(b'@')?;
     let domain = bare(alloc, domain)?;

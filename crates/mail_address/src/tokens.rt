@@ -8,6 +8,7 @@ ghost use Rattle.mail_address.specs.Tokens.{is_all_white, is_angle, is_atom_byte
 ghost use Rattle.mail_address.specs.Tokens.{is_special, is_white, literal_token, plain_token};
 ghost use Rattle.mail_address.specs.Tokens.{quoted_token, run, single_kind, step, front_token};
 ghost use Rattle.mail_address.specs.Tokens.{unquoted_place};
+ghost use Rattle.mail_address.specs.private.Plain.{white_step};
 
 /// The kind of a token.
 #[derive(Clone, Copy)]
@@ -257,7 +258,7 @@ fn single_kind(byte: u8) -> Kind
 }
 
 /// Returns how many bytes of whitespace are at the front.
-fn white_len(bytes: &[u8]) -> usize
+pub(crate) fn white_len(bytes: &[u8]) -> usize
     ensures value { result ≡ prefix_len is_white bytes.now }
     ensures bounds { result ≤ length bytes.now }
 {
@@ -375,12 +376,39 @@ pub(crate) fn is_in(span: Span, kind: Kind) -> bool
     }
 }
 
+/// Returns the length of the whitespace or of the comment at the front, or 0.
+fn white_step(bytes: &[u8]) -> usize
+    ensures value { result ≡ white_step bytes.now }
+    ensures bounds { result ≤ length bytes.now }
+{
+    let Some((first, rest)) = bytes.split_first() else {
+        return 0;
+    };
+    let byte = *first;
+    if is_white(byte) {
+        return 1 + white_len(rest);
+    }
+    if byte != b'(' {
+        return 0;
+    }
+    let token = comment_token(rest);
+    if is_in(Span::White, token.kind) {
+        token.len
+    } else {
+        0
+    }
+}
+
 /// Returns the length of the token at the front, or 0 if the set does not contain its kind.
-#[tactic(auto, unfolding(crate::specs::Tokens::step))]
+/// Whitespace and comments need only the first byte.
+#[tactic(auto, using(crate::proofs::lemmas::White::white_step_is), unfolding(crate::specs::Tokens::step))]
 pub(crate) fn step(span: Span, bytes: &[u8]) -> usize
     ensures value { result ≡ step span bytes.now }
     ensures bounds { result ≤ length bytes.now }
 {
+    if let Span::White = span {
+        return white_step(bytes);
+    }
     let token = front_token(bytes);
     if is_in(span, token.kind) {
         token.len

@@ -147,7 +147,7 @@ dotted-from : (span : Span) (text : List ℕ) (n : ℕ) → word_len span text �
 unfolding is_dotted
 dotted-from span text n is some all = rw is (rw (ne_eqb n 0 (λ e. absurd (omega (arith, some, e)))) (eq-eqb (n + far (dot_word_len span) (drop n text)) (length text) all))
 
-dotted-read : {words : Words} {bytes : List ℕ} → AreDotted words bytes → is_dotted (span_of words) bytes ≡ true
+pub dotted-read : {words : Words} {bytes : List ℕ} → AreDotted words bytes → is_dotted (span_of words) bytes ≡ true
 dotted-read {words} {bytes} are =
     let first = padded-len are.is_first are.rest (dot_words-follow are.are_rest) in
     let rest = dot_words-far are.are_rest in

@@ -49,7 +49,7 @@ pub atom_byte-front : (b : ℕ) (rest : List ℕ) → is_atom_byte b ≡ true �
 unfolding front_token
 atom_byte-front b rest h = cond-false _ _ _ (byte-other is_atom_byte b 60 h no_atom_bytes.0) ∙ rw (atom_byte-visible b h, h) refl
 
-white_byte-front : (b : ℕ) (rest : List ℕ) → is_white b ≡ true → front_token (b ∷ rest) ≡ record { kind = Blank; len = 1 + prefix_len is_white rest }
+pub white_byte-front : (b : ℕ) (rest : List ℕ) → is_white b ≡ true → front_token (b ∷ rest) ≡ record { kind = Blank; len = 1 + prefix_len is_white rest }
 unfolding front_token
 white_byte-front b rest h = cond-false _ _ _ (byte-other is_white b 60 h refl) ∙ rw h refl
 

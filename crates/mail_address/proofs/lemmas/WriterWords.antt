@@ -292,7 +292,7 @@ phrase-written known knows name utf8 =
 
 -- ---- local parts and domains
 
-abbrev is_dot_atom : ℕ → Bool
+abbrev pub is_dot_atom : ℕ → Bool
 is_dot_atom b = is_atom_byte b || eqb b 46
 
 itself : (b : ℕ) (rest : List ℕ) → is_dot_atom b ≡ true → address_front (b ∷ rest) ≡ take (front_len (b ∷ rest)) (b ∷ rest)
@@ -315,7 +315,7 @@ bare-within (suc most) start (b ∷ bytes) low h =
     (bare-within most (start + front_len (b ∷ bytes)) (drop (front_len (b ∷ bytes)) (b ∷ bytes)) (omega (arith, some, cut, low)) (all-drop is_dot_atom (front_len (b ∷ bytes)) (b ∷ bytes) h))
     ∙ take-append-drop (front_len (b ∷ bytes)) (b ∷ bytes)
 
-bare-same : (bytes : List ℕ) → list_all is_dot_atom bytes ≡ true → bare bytes ≡ bytes
+pub bare-same : (bytes : List ℕ) → list_all is_dot_atom bytes ≡ true → bare bytes ≡ bytes
 unfolding bare items
 bare-same bytes h = bare-within (length bytes) 0 bytes (omega arith) h
 
@@ -363,10 +363,10 @@ any-dot_words : {text : List ℕ} → AreDotWords atoms text → AreDotWords any
 any-dot_words dots_end = dots_end
 any-dot_words (dot_word {word = word} {rest = rest} is more e) = dot_word {word = word} {rest = rest} (any-padded is) (any-dot_words more) e
 
-any-dotted : {text : List ℕ} → AreDotted atoms text → AreDotted any_words text
+pub any-dotted : {text : List ℕ} → AreDotted atoms text → AreDotted any_words text
 any-dotted are = record { first = are.first; rest = are.rest; is_first = any-padded are.is_first; are_rest = any-dot_words are.are_rest; made = are.made }
 
-dot_atom-parts : (text : List ℕ) → needs_no_quotes text ≡ true → (list_all is_dot_atom text ≡ true) × (is_dotted Atoms text ≡ true)
+pub dot_atom-parts : (text : List ℕ) → needs_no_quotes text ≡ true → (list_all is_dot_atom text ≡ true) × (is_dotted Atoms text ≡ true)
 unfolding needs_no_quotes
 dot_atom-parts text h = and_parts (list_all is_dot_atom text) (is_dotted Atoms text) h
 
@@ -393,7 +393,7 @@ local-is_local text =
       made = sym (append-nil (quoted_text text));
     })
 
-local-bare : (text : List ℕ) → has_no_control text ≡ true → bare (written_local text) ≡ text
+pub local-bare : (text : List ℕ) → has_no_control text ≡ true → bare (written_local text) ≡ text
 unfolding written_local
 local-bare text h = cond_both (needs_no_quotes text) _ _ (λ b. bare b ≡ text) (λ e. bare-same text (dot_atom-parts text e).0) (λ e. bare-quoted text h)
 
