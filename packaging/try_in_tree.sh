@@ -31,6 +31,8 @@ try_program() {
     rm -r saved
     "$1" --version | sed -n 's/^commit //p' | grep -qx "$(sed -n 's/^ "commit": "\(.*\)",$/\1/p' BUILD.json)"
     "$1" json < "$2/plain.eml" > /dev/null
+    "$1" json "$2" > lines
+    equal "$(ls "$2" | wc -l)" "$(wc -l < lines)"
 }
 
 # try_c EXAMPLE SAMPLES WORD..: compiles the example and runs it; the words are those of the compiler
@@ -42,14 +44,18 @@ try_c() {
     rm attachments
 }
 
-# try_python PYTHON SAMPLES: imports the module and reads a mail
+# try_python PYTHON SAMPLES: imports the module and reads the samples
 try_python() {
-    (cd / && "$1" - "$2/attachment.eml" << 'END_OF_PYTHON'
+    (cd / && "$1" - "$2"/*.eml << 'END_OF_PYTHON'
 import sys
 import rocktray
 
-with open(sys.argv[1], "rb") as file:
-    mail = rocktray.parse(file.read())
+mails = {}
+for path in sys.argv[1:]:
+    with open(path, "rb") as file:
+        mails[path.rpartition("/")[2]] = rocktray.parse(file.read())
+assert all(list(mail.walk()) for mail in mails.values())
+mail = mails["attachment.eml"]
 assert mail.subject == "The invoice", mail.subject
 assert [part.file_name for part in mail.attachments()] == ["Rechnung für März €-2025.pdf"]
 END_OF_PYTHON

@@ -300,6 +300,7 @@ def describe(release, tree, directory, names):
     listed = directory / f"rocktray-{release['version']}.spdx.json"
     listed.write_text(json.dumps(spdx(release), indent=1) + "\n", encoding="utf-8")
     tools = {name: run(name, "--version").splitlines()[0] for name in (os.environ.get("CC", "cc"), "ld", "dpkg-deb", "xz", "help2man")}
+    tools["packages"] = run("dpkg-query", "-W", "-f", "${Package} ${Version}; ", "debhelper", "dh-python", "python3-setuptools", "python3-wheel")
     contents = {str(path.relative_to(tree)): digest(path) for path in sorted(tree.rglob("*")) if path.is_file() and not path.is_symlink()}
     said = {name: release[name] for name in ("version", "commit", "date", "kit", "logic", "least_glibc", "linked_against")}
     said |= {"processor": PROCESSOR, "system": "Linux", "tools": tools, "spdx": listed.name}
