@@ -1,8 +1,8 @@
-"""The examples of the doc comments of every library, of docs/CALLING.md and of the README.
+"""The examples of the doc comments of every library, of docs/CALLING.md and of docs/STARTING.md.
 
 Each fence ```rust becomes a test of its own: the lines unchanged, in a function that has the runtime `rt` and its
 allocator `alloc`, and in which `?` passes every error on. `rt try --test` builds and runs them all, without a proof. A
-fence with `fn main` is a program and must be the README's. There may be no other fences.
+fence with `fn main` is a program and must be that of STARTING. There may be no other fences.
 """
 
 import os
@@ -126,30 +126,29 @@ def test_examples(found):
     assert [place for place, has_passed in judged if not has_passed] == []
 
 
-def readme_fences(word):
-    """The lines of the fences of the README's section on the library that begin with this word."""
-    section = re.search(r"^## Three ways in$(.*?)(?=^## )", text_of("README.md"), re.M | re.S)[1]
-    return [fence.lines for fence in fences_of(section) if fence.words[:1] == [word]]
+def first_fences(word):
+    """The lines of the fences of docs/STARTING.md that begin with this word."""
+    return [fence.lines for fence in fences_of(text_of("docs/STARTING.md")) if fence.words[:1] == [word]]
 
 
-def test_readme(found, tmp_path):
-    """What the README says of an own repository works word for word: its commands, its program and what this prints."""
-    (program,) = readme_fences("rust")
+def test_first_program(found, tmp_path):
+    """What the page says of an own repository works word for word: its commands, its program and what this prints."""
+    (program,) = first_fences("rust")
     assert [example.lines for example in found if example.is_program] in ([], [program])
     logic = re.search("logic .*", subprocess.run(["rt", "version"], capture_output=True, text=True, check=True).stdout)[0]
-    assert f"`{logic}`" in text_of("README.md")
+    assert f"`{logic}`" in text_of("README.md") and f"`{logic}`" in text_of("docs/STARTING.md")
     there, mine = tmp_path / "rocktray", tmp_path / "mine"
     for name in ("crates", "samples"):
         shutil.copytree(TOP / name, there / name, ignore=shutil.ignore_patterns("out"))
     shutil.copy(TOP / "crates.txt", there)
     (mine / "crates").mkdir(parents=True)
-    console = [line for lines in readme_fences("console") for line in lines]
+    console = [line for lines in first_fences("console") for line in lines]
     environment = {**os.environ, "rocktray": str(there)}
 
     def in_mine(commands):
         return run(["bash", "-euc", commands], cwd=mine, env=environment, timeout=600)
 
-    assert in_mine("\n".join(line for lines in readme_fences("sh") for line in lines)).returncode == 0
+    assert in_mine("\n".join(line for lines in first_fences("sh") for line in lines)).returncode == 0
     (mine / "crates" / "first_mail" / "src" / "main.rt").write_text("\n".join(program) + "\n")
     ended = in_mine("\n".join(line.removeprefix("$ ") for line in console if line.startswith("$ ")))
     wanted = "".join(f"{line}\n" for line in console if not line.startswith("$ "))
