@@ -10,13 +10,13 @@ use std::io::{self, Write};
 use std::simd::Simd;
 
 /// The size of a buffer before it grows.
-const FIRST_SIZE: usize = 4096;
+const FIRST_SIZE: usize = 2048;
 
 /// The greatest number of bytes that are initialized ahead.
-const MOST_AHEAD: usize = 64 * 1024;
+const MOST_AHEAD: usize = 2048;
 
-/// The bytes of a part of a line: the first `len` of `bytes`. The bytes after them are initialized ahead, so
-/// that a text is appended after one test.
+/// The bytes of a part of a line: the first `len` of `bytes`. The bytes after them are initialized
+/// ahead, so that a text is appended after one test.
 #[derive(Drop)]
 pub(crate) struct LineBuffer {
     bytes: Vec<u8>,
