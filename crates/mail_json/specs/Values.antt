@@ -15,7 +15,7 @@ use Rattle.mailparse.specs.Placement.{placements}
 use Rattle.mailparse.specs.Refusal.{Reads, Refusal}
 use Rattle.mailparse.specs.Value.{lenient_value_in}
 use Rattle.mail_data.specs.Bounce.{Delivery, original_message_id}
-use Rattle.mail_data.specs.Files.{is_extracted, name_in}
+use Rattle.mail_data.specs.Files.{file_name, is_extracted}
 use Rattle.mail_data.specs.PartPlaces.{Place, places}
 use Rattle.mail_data.specs.lenient.Date.{Dated, Zoned, zoned_date_of}
 use Rattle.mail_data.specs.lenient.Content.{Content}
@@ -175,7 +175,7 @@ module _ (known : Charsets) where
   abbrev pub disposition_members : Disposition → Node → List Member
   disposition_members disposition node =
       one (codes "disposition") (string_or_null (disposition_name disposition node))
-      ++ one (codes "file_name") (string_or_null (name_in disposition node.ctype))
+      ++ one (codes "file_name") (string_or_null (file_name known node))
       ++ one (codes "content_id") (string_or_null (content_id known node))
 
   -- the members of the text of a body that is shown or not

@@ -39,7 +39,7 @@ use crate::options::LineOptions;
 use crate::reports::{write_pair, write_report};
 use mail_codec::charset::decode_latin1;
 use mail_data::files::{
-    describes_attachment, is_attachment_disposition, is_leaf, is_shown, named_file,
+    describes_attachment, file_name, is_attachment_disposition, is_leaf, is_shown,
 };
 use mail_data::flowed::unflowed_of;
 use mail_data::lenient::{Content, charset_used, lenient_body, lenient_content, lenient_text};
@@ -326,7 +326,7 @@ fn write_disposition<W: Write, K: KnownCharsets>(
         (disposition_members (K.known known.now) (views.disposition disposition.now)
         (root (tree_of part.now))) }
 {
-    let name = named_file(alloc, disposition, &part.ctype)?;
+    let name = file_name(alloc, part, known)?;
     let id = content_id(alloc, part, known)?;
     add_optional(
         out,

@@ -1,15 +1,12 @@
-use Rattle.std.proofs.Common.{sym, ap, ◌∙◌}
-use Rattle.mailparse.specs.Views.{disposition}
-use Rattle.mail_data.specs.Files.{name_in}
+use Rattle.std.proofs.Common.{sym, ◌∙◌}
 use Rattle.mail_json.specs.Printed.{string_or_null}
 use Rattle.mail_json.proofs.lemmas.Fields.{ok_same}
 use Rattle.mail_json.proofs.lemmas.Members.{◌⨾◌, value_renamed}
-use Rattle.mail_json.proofs.lemmas.Part.{ctype-out}
 use Rattle.mail_json.proofs.part.write_disposition.Goals as goal
 
 pub returns : goal.returns
 returns g c =
     let kind = value_renamed string_or_null _ _ c.in_ok-add_optional.ensures c.disposition_name.ensures in
-    let name = value_renamed string_or_null _ _ c.in_ok-add_optional-2.ensures (c.as_deref.ensures.value ∙ c.in_ok-name.ensures ∙ ap (name_in (disposition c.args.disposition.now)) (ctype-out c.args.part.now)) in
+    let name = value_renamed string_or_null _ _ c.in_ok-add_optional-2.ensures (c.as_deref.ensures.value ∙ sym (ok_same _ _ c.in_ok-name.ensures)) in
     let id = value_renamed string_or_null _ _ c.in_ok-add_optional-3.ensures (c.as_deref-2.ensures.value ∙ sym (ok_same _ _ c.in_ok-id.ensures)) in
     kind ⨾ name ⨾ id
