@@ -9,5 +9,6 @@ pub mod Date
 pub mod DateViews
 pub mod Content
 pub mod ContentViews
+pub mod Manner
 pub mod Texts
 pub mod TextViews

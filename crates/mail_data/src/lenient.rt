@@ -5,6 +5,7 @@ mod content;
 pub(crate) mod date;
 mod encoding;
 mod ids;
+mod manner;
 mod texts;
 
 pub use base64::{Base64Front, base64_front};
@@ -14,4 +15,5 @@ pub use content::{Content, ContentFault, lenient_content};
 pub use date::{DateError, date_of, zoned_date_of};
 pub use encoding::lenient_body;
 pub use ids::{IdRule, find_ids};
+pub use manner::Lenient;
 pub use texts::{BodyText, body_text, charset_used, lenient_text};

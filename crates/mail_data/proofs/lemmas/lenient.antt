@@ -4,4 +4,5 @@ pub mod Comments
 pub mod Content
 pub mod Date
 pub mod Ids
+pub mod Manner
 pub mod Texts

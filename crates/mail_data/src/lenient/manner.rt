@@ -1,0 +1,149 @@
+//! The manner in which mail is read leniently.
+ghost use Rattle.std.specs.Prelude.{◌≡◌, IfOk, string_bytes};
+ghost use Rattle.mailparse.specs.Mail.{part_type};
+ghost use Rattle.mailparse.specs.Views.{content_type};
+ghost use Rattle.mail_data.specs.lenient.Manner.{lenient, lenient_name, lenient_type_in, lenient_type_of, name_of_one, name_of_two};
+
+use super::comments::without_comments;
+use mail_codec::charset::KnownCharsets;
+use mailparse::{
+    MailHeader, MailHeaderMap, ParsedContentType, ReadingManner, parse_content_type_in,
+};
+use std::alloc::{AllocError, Global};
+
+/// The name of plain text.
+const PLAIN_NAME: &str = "text/plain";
+
+/// The manner of a lenient reader, under these charsets, for `mailparse::parse_mail_as`.
+///
+/// Comments in a `Content-Type` are left out, and a type without a readable name is plain text (RFC
+/// 2045, sections 5.1 and 5.2). A delimiter is a whole line (RFC 2046, section 5.1.1). No mail is
+/// refused: a message that `parse_mail` would refuse is kept as plain text without headers.
+///
+/// # Examples
+///
+/// ```rust
+/// use mail_data::lenient::Lenient;
+/// use mailparse::parse_mail_as;
+///
+/// let raw = b"Content-Type: multipart/mixed; boundary=b (x)\n\n\
+///     --b\n\none\n--bX\n\
+///     --b\n two\n--b--\n";
+/// let mail = parse_mail_as(alloc, raw, 100, &Lenient(&()))?;
+/// assert_eq!(rt; mail.subparts.len(), 2);
+/// assert_eq!(rt; mail.subparts[0].get_body(alloc)?.as_str(), "one\n--bX");
+/// assert_eq!(rt; mail.subparts[1].get_body(alloc)?.as_str(), " two");
+/// ```
+#[derive(Debug, Drop)]
+pub struct Lenient<'k, K>(pub &'k K);
+
+impl<'k, K: KnownCharsets> ReadingManner for Lenient<'k, K> {
+    ghost manner = { λ s. lenient (K.known s.0.now) };
+
+    fn content_type(
+        &self,
+        alloc: Global,
+        headers: &Vec<MailHeader<'_>>,
+        in_digest: bool,
+    ) -> Result<ParsedContentType, AllocError> {
+        type_of(alloc, headers, in_digest, self.0)
+    }
+
+    fn keeps_refused(&self) -> bool {
+        true
+    }
+
+    fn has_whole_lines(&self) -> bool {
+        true
+    }
+}
+
+/// Returns the type of a message with these headers.
+#[tactic(auto, unfolding(crate::specs::lenient::Manner::lenient_type_of))]
+fn type_of<K: KnownCharsets>(
+    alloc: Global,
+    headers: &Vec<MailHeader<'_>>,
+    in_digest: bool,
+    known: &K,
+) -> Result<ParsedContentType, AllocError>
+    ensures { IfOk result (λ ctype. content_type ctype
+        ≡ lenient_type_of (K.known known.now) in_digest headers.now.items) }
+{
+    let Some(header) = headers.get_first_header("Content-Type") else {
+        return part_type(alloc, in_digest);
+    };
+    match header.get_value_in(alloc, known) {
+        Ok(value) => lenient_type(alloc, value.as_str(), known),
+        Err(_) => Err(AllocError),
+    }
+}
+
+/// Returns the type in the value of a `Content-Type`.
+#[tactic(auto, unfolding(crate::specs::lenient::Manner::lenient_type_in))]
+fn lenient_type<K: KnownCharsets>(
+    alloc: Global,
+    text: &str,
+    known: &K,
+) -> Result<ParsedContentType, AllocError>
+    ensures { IfOk result (λ ctype. content_type ctype
+        ≡ lenient_type_in (K.known known.now) text.now) }
+{
+    let plain = without_comments(alloc, text)?;
+    match parse_content_type_in(alloc, plain.as_str(), known) {
+        Ok(mut ctype) => {
+            let name = lenient_name(alloc, ctype.mimetype.as_str())?;
+            ctype.mimetype = name;
+            Ok(ctype)
+        }
+        Err(_) => Err(AllocError),
+    }
+}
+
+/// Returns the name of a type, read leniently.
+#[tactic(auto, unfolding(crate::specs::lenient::Manner::lenient_name))]
+fn lenient_name(alloc: Global, name: &str) -> Result<String, AllocError>
+    ensures { IfOk result (λ made. string_bytes made ≡ lenient_name name.now) }
+{
+    match name.split_once('/') {
+        Some((main, sub)) => name_of_two(alloc, main.trim(), sub.trim()),
+        None => name_of_one(alloc, name),
+    }
+}
+
+/// Returns the name of a type without a slash.
+fn name_of_one(alloc: Global, name: &str) -> Result<String, AllocError>
+    ensures { IfOk result (λ made. string_bytes made ≡ name_of_one name.now) }
+{
+    if name.starts_with("multipart") {
+        return String::from_str(alloc, name);
+    }
+    String::from_str(alloc, PLAIN_NAME)
+}
+
+/// Returns a type and a subtype as one name.
+fn name_of_two(alloc: Global, main: &str, sub: &str) -> Result<String, AllocError>
+    ensures { IfOk result (λ made. string_bytes made ≡ name_of_two main.now sub.now) }
+{
+    if main.is_empty() || sub.is_empty() {
+        return String::from_str(alloc, PLAIN_NAME);
+    }
+    let mut made = String::from_str(alloc, main)?;
+    made.push('/')?;
+    made.push_str(sub)?;
+    Ok(made)
+}
+
+/// Returns the default type of a part.
+fn part_type(alloc: Global, in_digest: bool) -> Result<ParsedContentType, AllocError>
+    ensures { IfOk result (λ ctype. content_type ctype ≡ part_type in_digest) }
+{
+    match ParsedContentType::default(alloc) {
+        Ok(mut ctype) => {
+            if in_digest {
+                ctype.mimetype = String::from_str(alloc, "message/rfc822")?;
+            }
+            Ok(ctype)
+        }
+        Err(_) => Err(AllocError),
+    }
+}
