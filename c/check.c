@@ -4,9 +4,12 @@
  *                         pointers with length 0, and each allocation refused in turn
  *   check threads FILE..  eight threads, each over all cases and files, with the results of one
  *   check lines FILE..    the line of each mail, or that of its refusal, as rocktray json --mail writes it
+ *   check stack FILE..    the bytes of stack that calls on ranges, calls on mails and rocktray_json change at most
+ *   check records FILE..  the records of each mail and what the calls on ranges read of it, as test_c.py reads them
  *
  * The first two end in `N passed, N failed`.
  */
+#define _GNU_SOURCE /* for pthread_attr_setstack */
 #include <rocktray.h>
 
 #include <pthread.h>
@@ -14,6 +17,7 @@
 #include <stdio.h>
 #include <stdlib.h>
 #include <string.h>
+#include <strings.h>
 
 #define THREADS 8
 
@@ -61,7 +65,10 @@ void __wrap_free(void *block)
 
 /* Cases. */
 
-enum kind { JSON, CONTENT, TEXT, HEADER, RAW_HEADER, IDS, OWN_IDS, RECIPIENTS, REASON };
+enum kind {
+    JSON, CONTENT, TEXT, HEADER, RAW_HEADER, IDS, OWN_IDS, RECIPIENTS, BOUNCED_ID, UNQUOTED, VALUE, FILE_NAME, SAFE_NAME,
+    BODY, DAMAGED_BODY, BODY_TEXT, REASON
+};
 
 struct bytes {
     const uint8_t *at;
@@ -75,7 +82,7 @@ struct test {
     enum kind kind;
     struct bytes input;
     struct bytes name;
-    size_t number; /* of a header, or the code for a reason */
+    size_t number; /* of a header, of an encoding, or the code for a reason */
     uint32_t code;
     struct bytes result;
 };
@@ -147,6 +154,39 @@ static const struct test tests[] = {
     { RECIPIENTS, BYTES("Subject: no report\n\n"), NOTHING, 0, ROCKTRAY_DONE, BYTES("[]\n") },
     { RECIPIENTS, NOTHING, NOTHING, 0, ROCKTRAY_DONE, BYTES("[]\n") },
     { RECIPIENTS, BYTES(" x"), NOTHING, 0, ROCKTRAY_LEADING_SPACE, NOTHING },
+    /* RFC 3464, section 2 */
+    { BOUNCED_ID, BYTES("Content-Type: multipart/report; boundary=b\n\n--b\nContent-Type: message/rfc822\n\n"
+                        "Message-ID: <1@a>\n\nx\n--b--\n"), NOTHING, 0, ROCKTRAY_DONE, BYTES("1@a") },
+    { BOUNCED_ID, NOTHING, NOTHING, 0, ROCKTRAY_ABSENT, NOTHING },
+    { BOUNCED_ID, BYTES(" x"), NOTHING, 0, ROCKTRAY_LEADING_SPACE, NOTHING },
+    /* the mboxrd format */
+    { UNQUOTED, BYTES("a\n>From b\n>>From c\n>x\n"), NOTHING, 0, ROCKTRAY_DONE, BYTES("a\nFrom b\n>From c\n>x\n") },
+    { UNQUOTED, NOTHING, NOTHING, 0, ROCKTRAY_DONE, BYTES("") },
+    /* RFC 2047; RFC 5322, section 2.2.3 */
+    { VALUE, BYTES("=?utf-8?q?caf=C3=A9?=\r\n at noon"), NOTHING, 0, ROCKTRAY_DONE, BYTES("caf\xc3\xa9 at noon") },
+    { VALUE, BYTES("=?koi8-r?b?0NI=?="), NOTHING, 0, ROCKTRAY_DONE, BYTES("\xd0\xbf\xd1\x80") },
+    { VALUE, NOTHING, NOTHING, 0, ROCKTRAY_DONE, BYTES("") },
+    /* RFC 2183, section 2.3; RFC 2231 */
+    { FILE_NAME, BYTES("attachment; filename=a.pdf"), NOTHING, 0, ROCKTRAY_DONE, BYTES("a.pdf") },
+    { FILE_NAME, BYTES("attachment; filename*=utf-8''%E2%82%AC"), NOTHING, 0, ROCKTRAY_DONE, BYTES("\xe2\x82\xac") },
+    { FILE_NAME, BYTES("inline"), BYTES("image/png; name=\"b c.png\""), 0, ROCKTRAY_DONE, BYTES("b c.png") },
+    { FILE_NAME, NOTHING, BYTES("text/plain"), 0, ROCKTRAY_ABSENT, NOTHING },
+    { SAFE_NAME, BYTES("../a\\b\n"), NOTHING, 0, ROCKTRAY_DONE, BYTES(".._a_b_") },
+    { SAFE_NAME, NOTHING, NOTHING, 0, ROCKTRAY_DONE, BYTES("_") },
+    { SAFE_NAME, BYTES("\xff"), NOTHING, 0, ROCKTRAY_NOT_UTF8, NOTHING },
+    /* RFC 2045, section 6; RFC 4648, section 10 */
+    { BODY, BYTES("Zm9v\nYmFy"), NOTHING, ROCKTRAY_BASE64, ROCKTRAY_DONE, BYTES("foobar") },
+    { DAMAGED_BODY, BYTES("Zm9vY"), NOTHING, ROCKTRAY_BASE64, ROCKTRAY_DONE, BYTES("foo") },
+    { BODY, BYTES("a=3Db=\nc"), NOTHING, ROCKTRAY_QUOTED_PRINTABLE, ROCKTRAY_DONE, BYTES("a=bc") },
+    { BODY, BYTES("a=3D\0\xff"), NOTHING, ROCKTRAY_BINARY, ROCKTRAY_DONE, BYTES("a=3D\0\xff") },
+    { BODY, BYTES("a=3D"), NOTHING, 77, ROCKTRAY_DONE, BYTES("a=3D") },
+    { BODY, NOTHING, NOTHING, ROCKTRAY_7BIT, ROCKTRAY_DONE, BYTES("") },
+    { BODY_TEXT, BYTES("5 \x80"), BYTES("text/plain; charset=windows-1252"), ROCKTRAY_8BIT, ROCKTRAY_DONE,
+      BYTES("5 \xe2\x82\xac") },
+    { BODY_TEXT, BYTES("0NI="), BYTES("text/plain; charset=koi8-r"), ROCKTRAY_BASE64, ROCKTRAY_DONE,
+      BYTES("\xd0\xbf\xd1\x80") },
+    { BODY_TEXT, BYTES("\xe2\x82\xac"), NOTHING, ROCKTRAY_7BIT, ROCKTRAY_DONE, BYTES("\xe2\x82\xac") },
+    { BODY_TEXT, NOTHING, NOTHING, ROCKTRAY_7BIT, ROCKTRAY_DONE, BYTES("") },
     { REASON, NOTHING, NOTHING, ROCKTRAY_TOO_DEEP, ROCKTRAY_DONE, BYTES("Recursion limit reached") },
     { REASON, NOTHING, NOTHING, ROCKTRAY_DATE_MONTH, ROCKTRAY_DONE, BYTES("no month") },
     { REASON, NOTHING, NOTHING, 1000, ROCKTRAY_DONE, BYTES("unknown code") },
@@ -157,7 +197,12 @@ static const struct test tests[] = {
 static uint32_t call(const struct test *test, uint8_t *buffer, size_t capacity, size_t *needed)
 {
     const struct bytes in = test->input, name = test->name;
+    const bool is_body = test->kind >= BODY && test->kind <= BODY_TEXT;
+    bool is_damaged;
+    uint8_t before;
     uint32_t code = 0;
+    memset(&is_damaged, 0xA5, sizeof is_damaged);
+    memcpy(&before, &is_damaged, 1);
     is_library = 1;
     switch (test->kind) {
     case JSON: code = rocktray_json(in.at, in.length, buffer, capacity, needed); break;
@@ -172,9 +217,28 @@ static uint32_t call(const struct test *test, uint8_t *buffer, size_t capacity, 
     case IDS: code = rocktray_ids(in.at, in.length, true, buffer, capacity, needed); break;
     case OWN_IDS: code = rocktray_ids(in.at, in.length, false, buffer, capacity, needed); break;
     case RECIPIENTS: code = rocktray_recipients(in.at, in.length, buffer, capacity, needed); break;
+    case BOUNCED_ID: code = rocktray_bounced_id(in.at, in.length, buffer, capacity, needed); break;
+    case UNQUOTED: code = rocktray_unquoted(in.at, in.length, buffer, capacity, needed); break;
+    case VALUE: code = rocktray_value(in.at, in.length, buffer, capacity, needed); break;
+    case FILE_NAME:
+        code = rocktray_file_name(in.at, in.length, name.at, name.length, buffer, capacity, needed);
+        break;
+    case SAFE_NAME: code = rocktray_safe_name(in.at, in.length, buffer, capacity, needed); break;
+    case BODY:
+    case DAMAGED_BODY:
+        code = rocktray_body(test->number, in.at, in.length, buffer, capacity, needed, &is_damaged);
+        break;
+    case BODY_TEXT:
+        code = rocktray_body_text(test->number, in.at, in.length, name.at, name.length, buffer, capacity, needed,
+                                  &is_damaged);
+        break;
     case REASON: code = rocktray_reason((uint32_t)test->number, buffer, capacity, needed); break;
     }
     is_library = 0;
+    if (is_body && code == ROCKTRAY_NO_MEMORY && memcmp(&before, &is_damaged, 1) != 0)
+        return 1000;
+    if (is_body && code <= ROCKTRAY_TOO_SHORT && test->result.at && is_damaged != (test->kind == DAMAGED_BODY))
+        return 1001;
     return code;
 }
 
@@ -338,6 +402,198 @@ static void check_levels(void)
     }
 }
 
+/* Records. */
+
+/* The records of a mail, in arrays of their own. */
+struct records {
+    struct rocktray_part *parts;
+    struct rocktray_header_record *headers;
+    size_t parts_length, headers_length;
+};
+
+static uint32_t fill(struct bytes mail, size_t limit, struct records *records)
+{
+    uint32_t code;
+    is_library = 1;
+    code = rocktray_parts(mail.at, mail.length, limit, records->parts, records->parts_length, &records->parts_length,
+                          records->headers, records->headers_length, &records->headers_length);
+    is_library = 0;
+    return code;
+}
+
+/* The records of a mail, or the code of its refusal. */
+static uint32_t records_of(struct bytes mail, struct records *records)
+{
+    uint32_t code;
+    memset(records, 0, sizeof *records);
+    code = fill(mail, SIZE_MAX, records);
+    if (code != ROCKTRAY_TOO_SHORT)
+        return code;
+    records->parts = malloc(records->parts_length * sizeof *records->parts);
+    records->headers = malloc(records->headers_length * sizeof *records->headers + 1);
+    return fill(mail, SIZE_MAX, records);
+}
+
+static void free_records(struct records *records)
+{
+    free(records->parts);
+    free(records->headers);
+}
+
+#define TREE "Content-Type: multipart/mixed; boundary=b\nSubject: x\n\npre\n--b\n\none\n--b\n" \
+             "Content-Type: multipart/mixed; boundary=c\n\n--c\n" \
+             "Content-Disposition: attachment; filename=f\nContent-Transfer-Encoding: base64\n\nZm9v\n--c--\n--b--\n"
+
+/* One call with these capacities: its code, and that all is unchanged after any code but ROCKTRAY_DONE. */
+static int fills(struct bytes mail, size_t limit, size_t parts, size_t headers, uint32_t code, size_t all_parts,
+                 size_t all_headers)
+{
+    struct records records = { (void *)filled_buffer(parts * sizeof(struct rocktray_part)),
+                               (void *)filled_buffer(headers * sizeof(struct rocktray_header_record)), parts, headers };
+    const int is_set = code <= ROCKTRAY_TOO_SHORT;
+    int is_right = fill(mail, limit, &records) == code && records.parts_length == (is_set ? all_parts : parts)
+        && records.headers_length == (is_set ? all_headers : headers);
+    if (code != ROCKTRAY_DONE)
+        is_right = is_right && is_filled((uint8_t *)records.parts, 0, parts * sizeof(struct rocktray_part))
+            && is_filled((uint8_t *)records.headers, 0, headers * sizeof(struct rocktray_header_record));
+    free_records(&records);
+    return is_right;
+}
+
+static void check_fields(void)
+{
+    static const uint64_t wanted[4][11] = {
+        { ROCKTRAY_NONE, 0, 0, 221, 54, 57, 0, 2, 0, 0, 0 },
+        { 0, 1, 62, 66, 63, 66, 2, 0, 0, 0, ROCKTRAY_IS_LEAF | ROCKTRAY_IS_TEXT },
+        { 0, 1, 71, 214, 114, 114, 2, 1, 0, 0, 0 },
+        { 2, 2, 118, 208, 0, 0, 3, 2, ROCKTRAY_BASE64, ROCKTRAY_ATTACHED,
+          ROCKTRAY_IS_LEAF | ROCKTRAY_IS_ATTACHMENT | ROCKTRAY_IS_EXTRACTED },
+    };
+    const struct bytes mail = BYTES(TREE);
+    struct records records;
+    count(records_of(mail, &records) == ROCKTRAY_DONE && records.parts_length == 4 && records.headers_length == 5,
+          "the number of records", 0);
+    for (size_t i = 0; i < 4; i++) {
+        const struct rocktray_part *part = &records.parts[i];
+        count(part->parent == wanted[i][0] && part->level == wanted[i][1] && part->first_header == wanted[i][6]
+                  && part->header_count == wanted[i][7] && part->encoding == wanted[i][8]
+                  && part->disposition == wanted[i][9] && part->flags == wanted[i][10],
+              "the record of a part", i);
+    }
+    count(memcmp(mail.at + records.parts[3].body_start, "Zm9v", records.parts[3].body_end - records.parts[3].body_start)
+              == 0 && records.parts[0].start == 0 && records.parts[0].end == mail.length
+              && memcmp(mail.at + records.parts[1].start, "\none", 4) == 0,
+          "the ranges of parts", 0);
+    count(memcmp(mail.at + records.headers[3].start, "Content-Disposition", records.headers[3].key_end
+                 - records.headers[3].start) == 0
+              && memcmp(mail.at + records.headers[3].value_start, "attachment; filename=f",
+                        records.headers[3].value_end - records.headers[3].value_start) == 0
+              && records.headers[3].end == records.headers[4].start,
+          "the ranges of headers", 0);
+    free_records(&records);
+}
+
+static void check_records(void)
+{
+    const struct bytes mail = BYTES(TREE), nothing = NOTHING, space = BYTES(" x"), block = BYTES("A: b\n\nx");
+    struct rocktray_header_record headers[2];
+    size_t needed = 77;
+    struct records records;
+    long all;
+    check_fields();
+    count(fills(mail, SIZE_MAX, 4, 5, ROCKTRAY_DONE, 4, 5), "the right arrays", 0);
+    count(fills(mail, SIZE_MAX, 9, 9, ROCKTRAY_DONE, 4, 5), "larger arrays", 0);
+    count(fills(mail, SIZE_MAX, 3, 5, ROCKTRAY_TOO_SHORT, 4, 5), "too few parts", 0);
+    count(fills(mail, SIZE_MAX, 4, 4, ROCKTRAY_TOO_SHORT, 4, 5), "too few headers", 0);
+    count(fills(mail, 9, 4, 5, ROCKTRAY_DONE, 4, 5), "the limit", 0);
+    count(fills(mail, 8, 4, 5, ROCKTRAY_TOO_MANY, 4, 5), "more than the limit", 0);
+    count(fills(mail, 0, 0, 0, ROCKTRAY_TOO_MANY, 4, 5), "more than none", 0);
+    count(fills(space, SIZE_MAX, 4, 5, ROCKTRAY_LEADING_SPACE, 0, 0), "a refused mail", 0);
+    count(fills(nothing, SIZE_MAX, 1, 0, ROCKTRAY_DONE, 1, 0), "no mail", 0);
+    count(rocktray_headers(block.at, block.length, 1, headers, 2, &needed) == ROCKTRAY_DONE && needed == 1
+              && headers[0].start == 0 && headers[0].key_end == 1 && headers[0].value_start == 3
+              && headers[0].value_end == 4 && headers[0].end == 5,
+          "a block", 0);
+    needed = 77;
+    count(rocktray_headers(block.at, block.length, 0, headers, 2, &needed) == ROCKTRAY_TOO_MANY && needed == 77,
+          "a block with more than the limit", 0);
+    count(rocktray_headers(block.at, block.length, 1, NULL, 0, &needed) == ROCKTRAY_TOO_SHORT && needed == 1,
+          "a block without an array", 0);
+    count(rocktray_headers(space.at, space.length, 1, headers, 2, &needed) == ROCKTRAY_LEADING_SPACE, "no block", 0);
+    calls = 0;
+    records_of(mail, &records);
+    free_records(&records);
+    all = calls;
+    for (long at = 1; at <= all / 2; at++) {
+        calls = blocks = 0;
+        refuse_at = at;
+        count(fills(mail, SIZE_MAX, 9, 9, ROCKTRAY_NO_MEMORY, 9, 9) && blocks == 0, "a refused allocation of records",
+              (size_t)at);
+        refuse_at = 0;
+    }
+}
+
+/* RFC 2045, section 5 */
+static void check_type(void)
+{
+    const struct bytes value = BYTES("Text/HTML; Charset=koi8-r; a=\"b c\"");
+    static const char wanted[] = "text/htmlkoi8-rab ccharsetkoi8-r";
+    static const uint64_t ends_wanted[] = { 9, 15, 16, 19, 26, 32 };
+    uint64_t ends[6];
+    char strings[40];
+    size_t ends_needed = 77, needed = 77;
+    uint32_t code = rocktray_type(value.at, value.length, ends, 6, &ends_needed, strings, sizeof strings, &needed);
+    count(code == ROCKTRAY_DONE && ends_needed == 6 && needed == 32 && memcmp(strings, wanted, 32) == 0
+              && memcmp(ends, ends_wanted, sizeof ends) == 0,
+          "a type", 0);
+    ends[0] = 5, strings[0] = 'x', ends_needed = needed = 77;
+    code = rocktray_type(value.at, value.length, ends, 5, &ends_needed, strings, sizeof strings, &needed);
+    count(code == ROCKTRAY_TOO_SHORT && ends_needed == 6 && needed == 32 && ends[0] == 5 && strings[0] == 'x',
+          "a type with one end too many", 0);
+    code = rocktray_type(value.at, value.length, ends, 6, &ends_needed, strings, 31, &needed);
+    count(code == ROCKTRAY_TOO_SHORT && ends[0] == 5 && strings[0] == 'x', "a type that is too long", 0);
+    calls = 0;
+    refuse_at = 1;
+    is_library = 1;
+    ends_needed = needed = 77;
+    code = rocktray_type(value.at, value.length, ends, 6, &ends_needed, strings, sizeof strings, &needed);
+    is_library = 0;
+    refuse_at = 0;
+    count(code == ROCKTRAY_NO_MEMORY && ends_needed == 77 && needed == 77 && ends[0] == 5 && strings[0] == 'x',
+          "a type without memory", 0);
+}
+
+/* RFC 5322, section 3.4 */
+static void check_addresses(void)
+{
+    const struct bytes value = BYTES("Ann <a@b>, team: \"x y\"@c;, junk");
+    static const char wanted[] = "Anna@bteam\"x y\"@cjunk";
+    static const uint64_t records_wanted[4][6] = {
+        { ROCKTRAY_MAILBOX, ROCKTRAY_NONE, 0, 3, 3, 6 },
+        { ROCKTRAY_GROUP, ROCKTRAY_NONE, 6, 10, 10, 10 },
+        { ROCKTRAY_MAILBOX, 1, 10, 10, 10, 17 },
+        { ROCKTRAY_UNKNOWN, ROCKTRAY_NONE, 17, 17, 17, 22 },
+    };
+    struct rocktray_address found[4];
+    char strings[40];
+    size_t records_needed = 77, needed = 77;
+    uint32_t code = rocktray_addresses(value.at, value.length, found, 4, &records_needed, strings, sizeof strings, &needed);
+    count(code == ROCKTRAY_DONE && records_needed == 4 && needed == 22 && memcmp(strings, wanted, 17) == 0,
+          "addresses", 0);
+    for (size_t i = 0; i < 4 && code == ROCKTRAY_DONE; i++)
+        count(memcmp(&found[i], records_wanted[i], sizeof found[i]) == 0, "the record of an address", i);
+    code = rocktray_addresses(value.at, value.length, found, 3, &records_needed, strings, sizeof strings, &needed);
+    count(code == ROCKTRAY_TOO_SHORT && records_needed == 4 && needed == 22, "one address too many", 0);
+    records_needed = needed = 77;
+    refuse_at = 1;
+    calls = 0;
+    is_library = 1;
+    code = rocktray_addresses(value.at, value.length, found, 4, &records_needed, strings, sizeof strings, &needed);
+    is_library = 0;
+    refuse_at = 0;
+    count(code == ROCKTRAY_NO_MEMORY && records_needed == 77 && needed == 77, "addresses without memory", 0);
+}
+
 /* The version of the library as a text. */
 static const char *version_text(void)
 {
@@ -358,6 +614,9 @@ static int check_cases(void)
     check_dates();
     check_mailboxes();
     check_levels();
+    check_records();
+    check_type();
+    check_addresses();
     return 0;
 }
 
@@ -418,6 +677,75 @@ static int write_lines(char **names)
     return 0;
 }
 
+/* Writes the result of a call in hexadecimal digits, or its code. */
+static void print_result(const char *name, enum kind kind, struct bytes input, struct bytes other, size_t number)
+{
+    struct test test = { kind, input, other, number, 0, NOTHING };
+    uint32_t code;
+    struct bytes result = result_of(&test, &code);
+    printf(" %s=", name);
+    if (code != ROCKTRAY_DONE)
+        printf("!%u", code);
+    for (size_t i = 0; i < result.length && code == ROCKTRAY_DONE; i++)
+        printf("%02x", result.at[i]);
+    free((void *)result.at);
+}
+
+static struct bytes range(struct bytes mail, uint64_t start, uint64_t end)
+{
+    struct bytes bytes = { mail.at + start, end - start };
+    return bytes;
+}
+
+/* The raw value of the first header of a part with this name. */
+static struct bytes named(struct bytes mail, const struct records *records, const struct rocktray_part *part,
+                          const char *name)
+{
+    for (uint64_t i = part->first_header; i < part->first_header + part->header_count; i++) {
+        const struct rocktray_header_record *header = &records->headers[i];
+        if (header->key_end - header->start == strlen(name)
+            && strncasecmp((const char *)mail.at + header->start, name, strlen(name)) == 0)
+            return range(mail, header->value_start, header->value_end);
+    }
+    return range(mail, 0, 0);
+}
+
+static void print_part(struct bytes mail, const struct records *records, const struct rocktray_part *part)
+{
+    const struct bytes body = range(mail, part->body_start, part->body_end);
+    const struct bytes type = named(mail, records, part, "Content-Type");
+    printf("part parent=%lld level=%llu start=%llu end=%llu encoding=%llu disposition=%llu flags=%llu size=%zu",
+           (long long)part->parent, (unsigned long long)part->level, (unsigned long long)part->start,
+           (unsigned long long)part->end, (unsigned long long)part->encoding, (unsigned long long)part->disposition,
+           (unsigned long long)part->flags, body.length);
+    print_result("file_name", FILE_NAME, named(mail, records, part, "Content-Disposition"), type, 0);
+    print_result("text", BODY_TEXT, body, type, part->encoding);
+    printf("\n");
+    for (uint64_t i = part->first_header; i < part->first_header + part->header_count; i++) {
+        const struct rocktray_header_record *header = &records->headers[i];
+        printf("header key=");
+        for (uint64_t j = header->start; j < header->key_end; j++)
+            printf("%02x", mail.at[j]);
+        print_result("value", VALUE, range(mail, header->value_start, header->value_end), range(mail, 0, 0), 0);
+        printf("\n");
+    }
+}
+
+static int write_records(char **names)
+{
+    for (; *names; names++) {
+        struct bytes mail = read_file(*names);
+        struct records records;
+        uint32_t code = records_of(mail, &records);
+        printf("mail code=%u\n", code);
+        for (size_t i = 0; code == ROCKTRAY_DONE && i < records.parts_length; i++)
+            print_part(mail, &records, &records.parts[i]);
+        free_records(&records);
+        free((void *)mail.at);
+    }
+    return 0;
+}
+
 /* Threads. */
 
 static struct bytes *files;
@@ -428,8 +756,8 @@ static uint64_t run_all(void)
 {
     uint64_t sum = 14695981039346656037u;
     for (size_t i = 0; i < count_of_files + TESTS; i++) {
-        for (int kind = JSON; kind <= RECIPIENTS; kind++) {
-            struct test test = { kind, i < TESTS ? tests[i].input : files[i - TESTS], BYTES("subject"), 0, 0, NOTHING };
+        for (int kind = JSON; kind <= BODY_TEXT; kind++) {
+            struct test test = { (enum kind)kind, i < TESTS ? tests[i].input : files[i - TESTS], BYTES("subject"), 0, 0, NOTHING };
             uint32_t code;
             struct bytes result = result_of(&test, &code);
             sum = (sum ^ code) * 1099511628211u;
@@ -470,6 +798,108 @@ static int check_threads(char **names)
     return 0;
 }
 
+/* Stack. */
+
+#define STACK (1 << 20)
+
+/* A mail with 100 levels of parts, the last of which has an encoded name and text in a charset of several bytes. */
+static struct bytes deepest_mail(void)
+{
+    static char text[20000];
+    struct bytes mail = { (uint8_t *)text, 0 };
+    for (int i = 0; i < 100; i++)
+        sprintf(text + strlen(text), "Subject: =?gb18030?b?xOO6ww==?=\nFrom: \"a\" <a@b>\nDate: 1 Jan 2012 20:57 +0200\n"
+                                     "Content-Type: multipart/report; boundary=b%03d\n\n--b%03d\n", i, i);
+    strcat(text, "Content-Type: message/rfc822\nContent-Disposition: attachment; filename*=utf-8''%E2%82%AC\n\n"
+                 "Message-ID: <1@a>\nContent-Type: text/plain; charset=gb18030\n\n\xc4\xe3");
+    mail.length = strlen(text);
+    return mail;
+}
+
+/* A mail that forwards a mail, and so on for 120 mails. */
+static struct bytes forwarded_mail(void)
+{
+    static char text[5000];
+    struct bytes mail = { (uint8_t *)text, 0 };
+    for (int i = 0; i < 120; i++)
+        strcat(text, "Content-Type: message/rfc822\n\n");
+    mail.length = strlen(text);
+    return mail;
+}
+
+static void run_kinds(enum kind from, enum kind to)
+{
+    for (size_t i = 0; i < count_of_files + TESTS; i++) {
+        for (int kind = from; kind <= (int)to; kind++) {
+            struct test test = { (enum kind)kind, i < TESTS ? tests[i].input : files[i - TESTS], BYTES("subject"),
+                                 ROCKTRAY_BASE64, 0, NOTHING };
+            uint32_t code;
+            free((void *)result_of(&test, &code).at);
+        }
+    }
+}
+
+static void *run_lines(void *unused)
+{
+    run_kinds(JSON, JSON);
+    return unused;
+}
+
+static void *run_mails(void *unused)
+{
+    run_kinds(CONTENT, BOUNCED_ID);
+    for (size_t i = 0; i < count_of_files + TESTS; i++) {
+        struct records records;
+        records_of(i < TESTS ? tests[i].input : files[i - TESTS], &records);
+        free_records(&records);
+    }
+    return unused;
+}
+
+static void *run_ranges(void *unused)
+{
+    size_t ends_needed, needed;
+    run_kinds(UNQUOTED, BODY_TEXT);
+    for (size_t i = 0; i < count_of_files + TESTS; i++) {
+        const struct bytes in = i < TESTS ? tests[i].input : files[i - TESTS];
+        rocktray_headers(in.at, in.length, SIZE_MAX, NULL, 0, &needed);
+        rocktray_type(in.at, in.length, NULL, 0, &ends_needed, NULL, 0, &needed);
+        rocktray_addresses(in.at, in.length, NULL, 0, &ends_needed, NULL, 0, &needed);
+    }
+    return unused;
+}
+
+/* The bytes of a stack that a thread changes. */
+static size_t stack_of(void *(*run)(void *))
+{
+    pthread_t thread;
+    pthread_attr_t attributes;
+    size_t unused = 0;
+    uint8_t *stack = aligned_alloc(4096, STACK);
+    memset(stack, 0xA5, STACK);
+    pthread_attr_init(&attributes);
+    if (pthread_attr_setstack(&attributes, stack, STACK) || pthread_create(&thread, &attributes, run, NULL))
+        exit(1);
+    pthread_join(thread, NULL);
+    while (unused < STACK && stack[unused] == 0xA5)
+        unused++;
+    free(stack);
+    return STACK - unused;
+}
+
+static int write_stack(char **names)
+{
+    while (names[count_of_files])
+        count_of_files++;
+    files = malloc((count_of_files + 2) * sizeof *files);
+    for (size_t i = 0; i < count_of_files; i++)
+        files[i] = read_file(names[i]);
+    files[count_of_files++] = deepest_mail();
+    files[count_of_files++] = forwarded_mail();
+    printf("ranges %zu, mails %zu, lines %zu\n", stack_of(run_ranges), stack_of(run_mails), stack_of(run_lines));
+    return 0;
+}
+
 int main(int argc, char **argv)
 {
     if (argc == 2 && strcmp(argv[1], "cases") == 0)
@@ -478,6 +908,10 @@ int main(int argc, char **argv)
         check_threads(argv + 2);
     else if (argc > 1 && strcmp(argv[1], "lines") == 0)
         return write_lines(argv + 2);
+    else if (argc > 1 && strcmp(argv[1], "stack") == 0)
+        return write_stack(argv + 2);
+    else if (argc > 1 && strcmp(argv[1], "records") == 0)
+        return write_records(argv + 2);
     else
         return 2;
     printf("%ld passed, %ld failed\n", passed, failed);

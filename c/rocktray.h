@@ -32,6 +32,9 @@
  *
  * Time. A call takes time linear in the length of its input, times the depth of nested parts.
  *
+ * Stack. A call that reads a whole mail or part needs up to 128 KB of stack, if its parts are 100 levels deep;
+ * rocktray_json up to 256 KB, if mails forward mails. All other calls need up to 16 KB.
+ *
  * ABI. Later versions with the same major number keep the calls, the codes, and the layout of the records. They may add
  * calls, codes and flags.
  */
@@ -154,6 +157,7 @@ static_assert(sizeof(struct rocktray_address) == 48, "six numbers of 64 bits");
 #elif defined(__STDC_VERSION__) && __STDC_VERSION__ >= 201112L
 _Static_assert(sizeof(struct rocktray_part) == 88, "eleven numbers of 64 bits");
 _Static_assert(sizeof(struct rocktray_header_record) == 40, "five numbers of 64 bits");
+_Static_assert(sizeof(struct rocktray_address) == 48, "six numbers of 64 bits");
 #endif
 
 /* Reads a mail and fills a record for it and for each of its parts, each before its own parts and in their order, and a

@@ -1,64 +1,49 @@
-/* Shows the subject of a mail, and the size and the first bytes of its first attachment. */
+/* Shows the subject of a mail, and the name, the size and the first bytes of each attachment. */
 #include <rocktray.h>
 #include <stdio.h>
-#include <stdlib.h>
 #include <string.h>
+#include <strings.h>
 
-typedef uint32_t body_call(const uint8_t *, size_t, uint8_t *, size_t, size_t *);
+static char mail[1 << 24], file[1 << 24], name[1000];
+static struct rocktray_part parts[1000];
+static struct rocktray_header_record headers[10000];
 
-/* Returns the result of a call in a new buffer, or prints why there is none and returns NULL. */
-static uint8_t *result_of(body_call *call, const uint8_t *mail, size_t length, size_t *result_length)
+/* Returns the raw value of the first header of a part with this name, and its length, 0 if there is none. */
+static const char *first(const struct rocktray_part *part, const char *wanted, size_t *length)
 {
-    size_t capacity = length + 64;
-    uint8_t *buffer = malloc(capacity);
-    uint32_t code = buffer ? call(mail, length, buffer, capacity, result_length) : ROCKTRAY_NO_MEMORY;
-    if (code == ROCKTRAY_TOO_SHORT) { /* now the length is known */
-        free(buffer);
-        capacity = *result_length;
-        buffer = malloc(capacity);
-        code = buffer ? call(mail, length, buffer, capacity, result_length) : ROCKTRAY_NO_MEMORY;
+    for (uint64_t i = part->first_header; i < part->first_header + part->header_count; i++) {
+        const char *key = mail + headers[i].start;
+        *length = headers[i].value_end - headers[i].value_start;
+        if (headers[i].key_end - headers[i].start == strlen(wanted) && strncasecmp(key, wanted, strlen(wanted)) == 0)
+            return mail + headers[i].value_start;
     }
-    if (code == ROCKTRAY_DONE)
-        return buffer;
-    uint8_t text[100];
-    size_t text_length = 0;
-    rocktray_reason(code, text, sizeof text, &text_length);
-    fprintf(stderr, "refused: %.*s\n", (int)text_length, (char *)text);
-    free(buffer);
-    return NULL;
+    *length = 0;
+    return mail;
 }
 
 int main(int argc, char **argv)
 {
-    static uint8_t mail[1 << 20];
-    FILE *file = argc == 2 ? fopen(argv[1], "rb") : NULL;
-    if (!file)
-        return 2;
-    size_t length = fread(mail, 1, sizeof mail, file), subject_length, line_length;
-    fclose(file);
-
-    uint8_t subject[1000];
-    uint32_t code = rocktray_header(mail, length, (const uint8_t *)"Subject", 7, 0, subject, sizeof subject,
-                                    &subject_length);
-    if (code == ROCKTRAY_DONE)
-        printf("Subject: %.*s\n", (int)subject_length, (char *)subject);
-    else if (code == ROCKTRAY_ABSENT)
-        printf("no subject\n");
-
-    /* a JSON parser would read the line; here the first attachment is found by hand */
-    uint8_t *line = result_of(rocktray_json, mail, length, &line_length);
-    if (!line)
-        return 1;
-    line[line_length - 1] = 0; /* replaces the LF; the line itself contains no NUL */
-    char *part = strstr((char *)line, "\"attachment\":true");
-    char *start = part ? strstr(part, "\"start\":") : NULL, *end = part ? strstr(part, "\"end\":") : NULL;
-    if (start && end) {
-        size_t from = strtoul(start + 8, NULL, 10), to = strtoul(end + 6, NULL, 10), size;
-        uint8_t *content = result_of(rocktray_content, mail + from, to - from, &size);
-        if (content)
-            printf("an attachment of %zu bytes, which begins %.4s\n", size, (char *)content);
-        free(content);
+    FILE *input = argc == 2 ? fopen(argv[1], "rb") : NULL;
+    size_t length = input ? fread(mail, 1, sizeof mail, input) : 0, count, headers_count, size, d_length, t_length;
+    uint32_t code = rocktray_parts(mail, length, SIZE_MAX, parts, 1000, &count, headers, 10000, &headers_count);
+    if (code != ROCKTRAY_DONE) {
+        code = rocktray_reason(code, name, sizeof name, &size);
+        return fprintf(stderr, "%.*s\n", (int)size, name), 1;
     }
-    free(line);
+    const char *subject = first(&parts[0], "Subject", &length);
+    if (rocktray_value(subject, length, name, sizeof name, &size) == ROCKTRAY_DONE)
+        printf("Subject: %.*s\n", (int)size, name);
+    for (struct rocktray_part *part = parts; part < parts + count; part++) {
+        bool is_damaged;
+        const char *type = first(part, "Content-Type", &t_length);
+        const char *disposition = first(part, "Content-Disposition", &d_length);
+        if (!(part->flags & ROCKTRAY_IS_ATTACHMENT))
+            continue;
+        if (rocktray_file_name(disposition, d_length, type, t_length, name, sizeof name, &size) == ROCKTRAY_DONE)
+            printf("%.*s: ", (int)size, name);
+        if (rocktray_body(part->encoding, mail + part->body_start, part->body_end - part->body_start, file, sizeof file,
+                          &size, &is_damaged) == ROCKTRAY_DONE)
+            printf("%zu bytes, which begin %.4s%s\n", size, file, is_damaged ? " (damaged)" : "");
+    }
     return 0;
 }

@@ -75,6 +75,75 @@ def test_lines(check, hostile):
             assert same or as_json(line, path) == json.loads(line_of_json), path
 
 
+ENCODINGS = ["7bit", "8bit", "binary", "quoted-printable", "base64"]
+DISPOSITIONS = [None, "inline", "attachment", "form-data"]
+
+
+def records_of(output):
+    """The mails in the output of `check records`: the code of each, and its parts with their headers."""
+    mails = []
+    for line in output.splitlines():
+        kind, *words = line.split(" ")
+        values = dict(word.split("=", 1) for word in words)
+        if kind == "mail":
+            mails.append((int(values["code"]), []))
+        elif kind == "part":
+            mails[-1][1].append(values | {"headers": []})
+        else:
+            mails[-1][1][-1]["headers"].append([bytes.fromhex(values["key"]).decode("latin-1"), text_in(values["value"])])
+    return mails
+
+
+def text_in(word):
+    """The text in hexadecimal digits, or None for the code of what is absent."""
+    return None if word == "!3" else bytes.fromhex(word).decode()
+
+
+def member_of(part):
+    """What a record says, as the JSON says it."""
+    flags, disposition = int(part["flags"]), int(part["disposition"])
+    return {
+        "start": int(part["start"]), "end": int(part["end"]), "size": int(part["size"]),
+        "encoding": ENCODINGS[int(part["encoding"])], "headers": part["headers"], "file_name": text_in(part["file_name"]),
+        "attachment": bool(flags & 2), "extracted": bool(flags & 4), "text": text_in(part["text"]) if flags & 8 else None,
+        "disposition": DISPOSITIONS[disposition] if disposition < 4 else "another",
+    }
+
+
+def paths_of(parts):
+    """The path of each part, by the parents."""
+    paths, counts = [], {}
+    for number, part in enumerate(parts):
+        parent = int(part["parent"])
+        assert int(part["level"]) == (0 if parent == -1 else int(parts[parent]["level"]) + 1)
+        counts[parent] = counts.get(parent, 0) + 1
+        alone = "1" if len(parts) == 1 else ""
+        paths.append(alone if parent == -1 else f"{paths[parent]}.{counts[parent]}".lstrip("."))
+    return paths
+
+
+def test_records(check, hostile):
+    """Of the samples and of 20,000 made mails the records and the calls on ranges say what rocktray json writes."""
+    paths = [str(path) for path in [*SAMPLES, *hostile]]
+    for first in range(0, len(paths), 1000):
+        batch = paths[first : first + 1000]
+        ours = run_check(check, "records", *batch)
+        assert (ours.returncode, ours.stderr) == (0, b"")
+        lines = run([*command("json"), "--mail", *batch]).stdout.decode().split("\n")[:-1]
+        found = records_of(ours.stdout.decode())
+        assert len(found) == len(lines) == len(batch)
+        for path, (code, parts), line in zip(batch, found, map(json.loads, lines)):
+            assert (code != 0) == ("error" in line), path
+            wanted = [part for part in line.get("parts", []) if part["inside"] is None]
+            assert paths_of(parts) == [part["path"] for part in wanted], path
+            for part, json_part in zip(parts, wanted):
+                if json_part["disposition"] not in DISPOSITIONS:
+                    json_part["disposition"] = "another"
+                assert member_of(part) == {name: json_part[name] for name in member_of(part)}, path
+                is_mail = json_part["type"] in ("message/rfc822", "message/global")
+                assert bool(int(part["flags"]) & 16) == is_mail, path
+
+
 def test_exports(c_library):
     """The library needs the C library alone, and exports the calls of the header and nothing else."""
     library = c_library / "lib" / "librocktray.so"
@@ -83,6 +152,19 @@ def test_exports(c_library):
     exports = run(["nm", "-D", "--defined-only", library]).stdout.decode().split()[2::3]
     header = (TOP / "c" / "rocktray.h").read_text()
     assert sorted(exports) == sorted(set(re.findall(r"\brocktray_[a-z_]*(?=\()", header)))
+
+
+def test_stack(c_library, hostile, tmp_path):
+    """The calls need no more stack than rocktray.h says."""
+    kit = os.path.dirname(subprocess.run(["rt", "doc"], capture_output=True, text=True, check=True).stdout.strip())
+    gcc(*STRICT, "-O1", f"-I{c_library}/include", "-o", tmp_path / "check", TOP / "c" / "check.c",
+        "-Wl,--wrap=malloc,--wrap=realloc,--wrap=free", TOP / "crates" / "mail_c" / "out" / "libmail_c.a",
+        f"{kit}/c/liblibc_c.a", "-lpthread")
+    words = run([tmp_path / "check", "stack", *SAMPLES, *hostile[:300]]).stdout.decode()
+    used = [int(number) for number in re.findall(r"\d+", words)]
+    header = (TOP / "c" / "rocktray.h").read_text()
+    mails, lines, ranges = (1024 * int(number) for number in re.findall(r"up to (\d+) KB", header))
+    assert len(used) == 3 and used[0] <= ranges and used[1] <= mails and used[2] <= lines, words
 
 
 @pytest.mark.quick

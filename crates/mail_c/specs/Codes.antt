@@ -1,7 +1,7 @@
 -- The codes that the exported calls return; the crate's own form.
-use Rattle.std.specs.Prelude.{ℕ, List, [], ◌∷◌, ◌==◌, codes, if◌then◌else◌}
+use Rattle.std.specs.Prelude.{◌≡◌, ◌⊎◌, ℕ, List, [], ◌∷◌, ◌==◌, Result, Ok, Err, codes, if◌then◌else◌}
 use Rattle.std.specs.Option.{option_map_or}
-use Rattle.mailparse.specs.Refusal.{Refusal}
+use Rattle.mailparse.specs.Refusal.{Reads, Refusal}
 use Rattle.mailparse.specs.RefusalKinds.{error_kind, kind_of}
 use Rattle.mailparse.specs.declared.error.MailParseError.{MailParseError}
 use Rattle.mailparse.specs.declared.error.RefusalKind.{RefusalKind}
@@ -29,6 +29,10 @@ absent = 3
 abbrev pub not_utf8 : ℕ
 not_utf8 = 20
 
+-- there are more records than the limit
+abbrev pub too_many : ℕ
+too_many = 22
+
 -- the code of a kind of refusal
 abbrev pub kind_code : RefusalKind → ℕ
 kind_code LeadingSpace = 16
@@ -41,6 +45,16 @@ kind_code Other = 21
 -- the code of a refusal
 abbrev pub refusal_code : Refusal → ℕ
 refusal_code refusal = kind_code (kind_of refusal)
+
+-- the result of a reading, or the code of its refusal
+abbrev pub coded : {A : Type 0} → Reads A → Result A ℕ
+coded (Ok x) = Ok x
+coded (Err refusal) = Err (refusal_code refusal)
+
+-- the result, seen by the view, is that of the definition, or memory ran out
+abbrev pub IsCoded : {X Y : Type 0} → (X → Y) → Result X ℕ → Result Y ℕ → Type 0
+IsCoded view (Ok x) given = given ≡ Ok (view x)
+IsCoded view (Err code) given = (code ≡ no_memory) ⊎ (given ≡ Err code)
 
 -- the code of an error: that of its kind of refusal, or that memory ran out
 abbrev pub error_code : MailParseError → ℕ
@@ -62,6 +76,7 @@ texts =
     ∷ (16, codes "Header cannot start with a space; it is likely an overhanging line from a previous header")
     ∷ (17, codes "Headers were followed by an unexpected lone CR character!") ∷ (18, codes "Recursion limit reached")
     ∷ (19, codes "Base64 decode error") ∷ (20, codes "The text is not UTF-8") ∷ (21, codes "The input is refused")
+    ∷ (22, codes "The mail has too many parts and headers")
     ∷ (32, codes "no day of the month") ∷ (33, codes "no month") ∷ (34, codes "no year") ∷ (35, codes "no time of day") ∷ (36, codes "no zone")
     ∷ (37, codes "text after the zone") ∷ []
 

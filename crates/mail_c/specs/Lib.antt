@@ -2,3 +2,8 @@ pub mod Codes
 pub mod Buffer
 pub mod Results
 pub mod Numbers
+pub mod Records
+pub mod RecordViews
+pub mod Ranges
+pub mod Strings
+pub mod AddressRecords

@@ -26,6 +26,9 @@ pub(crate) const NOT_UTF8: u32 = 20;
 /// A refusal that has no code of its own.
 pub(crate) const REFUSED: u32 = 21;
 
+/// There are more records than the limit.
+pub(crate) const TOO_MANY: u32 = 22;
+
 /// Returns the code of an error: that of its kind of refusal, or `NO_MEMORY` if it is not a refusal.
 pub(crate) fn code_of(error: &MailParseError) -> u32
     ensures { result ≡ error_code error.now }
@@ -81,6 +84,7 @@ pub(crate) fn reason(code: u32) -> &'static str
         19 => "Base64 decode error",
         20 => "The text is not UTF-8",
         21 => "The input is refused",
+        22 => "The mail has too many parts and headers",
         32 => "no day of the month",
         33 => "no month",
         34 => "no year",

@@ -7,26 +7,40 @@
 //! memory or a reference.
 #![tactic(auto)]
 
-ghost use Rattle.std.specs.Prelude.{◌≡◌, length};
-ghost use Rattle.mail_codec.specs.Charset.{Charsets};
+ghost use Rattle.std.specs.Prelude.{◌≡◌, length, Ok};
+ghost use Rattle.mail_charsets.specs.All.{all_known};
+ghost use Rattle.mail_charsets.specs.declared.all.AllCharsets as all_charsets;
 ghost use Rattle.mail_data.specs.Mailbox.{front_length};
 ghost use Rattle.mail_data.specs.MailboxFormats.{entries_in};
-ghost use Rattle.mail_c.specs.Buffer.{Ends, filled, written_code};
+ghost use Rattle.mail_c.specs.AddressRecords.{addresses_read};
+ghost use Rattle.mail_c.specs.Buffer.{Ends, EndsBoth, EndsItems, filled, output, written_code};
 ghost use Rattle.mail_c.specs.Codes.{reason};
 ghost use Rattle.mail_c.specs.Numbers.{ReturnsDate, ReturnsOffsets, date, first_offsets};
 ghost use Rattle.mail_c.specs.Numbers.{format_named};
+ghost use Rattle.mail_c.specs.Ranges as read;
+ghost use Rattle.mail_c.specs.Ranges.{EndsDecoded};
+ghost use Rattle.mail_c.specs.Records.{header_block, records};
+ghost use Rattle.mail_c.specs.Strings.{AreTypeStrings, EndsStrings};
 ghost use Rattle.mail_c.specs.Results.{IsJson, content, ids, raw_value, recipients, text, value};
 
+mod addresses;
 mod buffer;
 mod codes;
 mod numbers;
+mod ranges;
+mod records;
 mod results;
+mod strings;
 
-use buffer::{write_bytes, write_result};
+use addresses::{AddressRecord, write_addresses};
+use buffer::{write_bytes, write_headers, write_records, write_result};
 use codes::reason;
 use mail_charsets::AllCharsets;
 use mail_version::VERSION_NUMBER;
+use ranges::write_decoded;
+use records::{HeaderRecord, Part};
 use std::alloc::Global;
+use strings::write_strings;
 
 /// Returns the charsets in which mails are read: all those of the Encoding Standard.
 fn charsets() -> AllCharsets {
@@ -41,6 +55,199 @@ pub extern "C" fn rocktray_version() -> u32
     VERSION_NUMBER
 }
 
+/// Fills the records of a mail, of its parts, and of their headers.
+#[unsafe(no_mangle)]
+pub extern "C" fn rocktray_parts(
+    alloc: Global,
+    mail: &[u8],
+    limit: usize,
+    parts: &mut [Part],
+    parts_needed: &mut usize,
+    headers: &mut [HeaderRecord],
+    headers_needed: &mut usize,
+) -> u32
+    ensures { (all : all_charsets.AllCharsets) ×
+        EndsBoth (output parts.old parts.new parts_needed.old parts_needed.new)
+        (output headers.old headers.new headers_needed.old headers_needed.new) result
+        (records (all_known all) limit mail.now) }
+{
+    let found = records::mail_records(alloc, mail, limit, &charsets());
+    write_records(parts, parts_needed, headers, headers_needed, found)
+}
+
+/// Fills the records of the headers of a mail or a part.
+#[unsafe(no_mangle)]
+pub extern "C" fn rocktray_headers(
+    alloc: Global,
+    part: &[u8],
+    limit: usize,
+    headers: &mut [HeaderRecord],
+    needed: &mut usize,
+) -> u32
+    ensures { EndsItems (output headers.old headers.new needed.old needed.new) result
+        (header_block limit part.now) }
+{
+    write_headers(headers, needed, records::headers(alloc, part, limit))
+}
+
+/// Writes the decoded value of a header, given its raw value.
+#[unsafe(no_mangle)]
+pub extern "C" fn rocktray_value(
+    alloc: Global,
+    raw_value: &[u8],
+    buffer: &mut [u8],
+    needed: &mut usize,
+) -> u32
+    ensures { (all : all_charsets.AllCharsets) ×
+        Ends buffer.old buffer.new needed.old needed.new result
+        (λ found. read.value (all_known all) raw_value.now ≡ found) }
+{
+    write_result(buffer, needed, ranges::value(alloc, raw_value, &charsets()))
+}
+
+/// Writes the strings of a type, given its raw value.
+#[unsafe(no_mangle)]
+pub extern "C" fn rocktray_type(
+    alloc: Global,
+    raw_value: &[u8],
+    ends: &mut [u64],
+    ends_needed: &mut usize,
+    buffer: &mut [u8],
+    needed: &mut usize,
+) -> u32
+    ensures { (all : all_charsets.AllCharsets) ×
+        EndsStrings (output ends.old ends.new ends_needed.old ends_needed.new)
+        (output buffer.old buffer.new needed.old needed.new) result
+        (AreTypeStrings (read.type_of (all_known all) raw_value.now)) }
+{
+    let found = strings::type_strings(alloc, raw_value, &charsets());
+    write_strings(ends, ends_needed, buffer, needed, found)
+}
+
+/// Writes the file name of a part, given the raw values of its disposition and its type.
+#[unsafe(no_mangle)]
+pub extern "C" fn rocktray_file_name(
+    alloc: Global,
+    disposition: &[u8],
+    ctype: &[u8],
+    buffer: &mut [u8],
+    needed: &mut usize,
+) -> u32
+    ensures { (all : all_charsets.AllCharsets) ×
+        Ends buffer.old buffer.new needed.old needed.new result
+        (λ found. read.file_name (all_known all) disposition.now ctype.now ≡ found) }
+{
+    write_result(
+        buffer,
+        needed,
+        ranges::file_name(alloc, disposition, ctype, &charsets()),
+    )
+}
+
+/// Writes a name that is safe in any directory.
+#[unsafe(no_mangle)]
+pub extern "C" fn rocktray_safe_name(
+    alloc: Global,
+    name: &[u8],
+    buffer: &mut [u8],
+    needed: &mut usize,
+) -> u32
+    ensures { Ends buffer.old buffer.new needed.old needed.new result
+        (λ found. read.safe_name name.now ≡ found) }
+{
+    write_result(buffer, needed, ranges::safe_name(alloc, name))
+}
+
+/// Writes the decoded bytes of a body, and whether it is damaged (1 or 0).
+#[unsafe(no_mangle)]
+pub extern "C" fn rocktray_body(
+    alloc: Global,
+    encoding: u64,
+    body: &[u8],
+    buffer: &mut [u8],
+    needed: &mut usize,
+    is_damaged: &mut u8,
+) -> u32
+    ensures { EndsDecoded (output buffer.old buffer.new needed.old needed.new)
+        is_damaged.old is_damaged.new result (read.body encoding body.now) }
+{
+    write_decoded(
+        buffer,
+        needed,
+        is_damaged,
+        ranges::body(alloc, encoding, body),
+    )
+}
+
+/// Writes the text of a body, given the raw value of its type, and whether the body is damaged (1
+/// or 0).
+#[unsafe(no_mangle)]
+pub extern "C" fn rocktray_body_text(
+    alloc: Global,
+    encoding: u64,
+    body: &[u8],
+    ctype: &[u8],
+    buffer: &mut [u8],
+    needed: &mut usize,
+    is_damaged: &mut u8,
+) -> u32
+    ensures { (all : all_charsets.AllCharsets) ×
+        EndsDecoded (output buffer.old buffer.new needed.old needed.new)
+        is_damaged.old is_damaged.new result
+        (read.body_text (all_known all) encoding body.now ctype.now) }
+{
+    let found = ranges::body_text(alloc, encoding, body, ctype, &charsets());
+    write_decoded(buffer, needed, is_damaged, found)
+}
+
+/// Fills the records of the addresses in a raw value, and writes their strings.
+#[unsafe(no_mangle)]
+pub extern "C" fn rocktray_addresses(
+    alloc: Global,
+    raw_value: &[u8],
+    addresses: &mut [AddressRecord],
+    addresses_needed: &mut usize,
+    buffer: &mut [u8],
+    needed: &mut usize,
+) -> u32
+    ensures { (all : all_charsets.AllCharsets) ×
+        EndsBoth (output addresses.old addresses.new addresses_needed.old addresses_needed.new)
+        (output buffer.old buffer.new needed.old needed.new) result
+        (Ok (addresses_read (all_known all) raw_value.now)) }
+{
+    let found = addresses::addresses(alloc, raw_value, &charsets());
+    write_addresses(addresses, addresses_needed, buffer, needed, found)
+}
+
+/// Writes the id of the mail that a delivery report is about.
+#[unsafe(no_mangle)]
+pub extern "C" fn rocktray_bounced_id(
+    alloc: Global,
+    mail: &[u8],
+    buffer: &mut [u8],
+    needed: &mut usize,
+) -> u32
+    ensures { (all : all_charsets.AllCharsets) ×
+        Ends buffer.old buffer.new needed.old needed.new result
+        (λ found. read.bounced_id (all_known all) mail.now ≡ found) }
+{
+    write_result(buffer, needed, ranges::bounced_id(alloc, mail, &charsets()))
+}
+
+/// Writes a mail of a mailbox in the format mboxrd as it was before it was quoted.
+#[unsafe(no_mangle)]
+pub extern "C" fn rocktray_unquoted(
+    alloc: Global,
+    mail: &[u8],
+    buffer: &mut [u8],
+    needed: &mut usize,
+) -> u32
+    ensures { Ends buffer.old buffer.new needed.old needed.new result
+        (λ found. read.unquoted mail.now ≡ found) }
+{
+    write_result(buffer, needed, ranges::unquoted(alloc, mail))
+}
+
 /// Writes a mail as a line of JSON, as `rocktray json` does.
 #[unsafe(no_mangle)]
 pub extern "C" fn rocktray_json(
@@ -49,8 +256,9 @@ pub extern "C" fn rocktray_json(
     buffer: &mut [u8],
     needed: &mut usize,
 ) -> u32
-    ensures { (known : Charsets) × Ends buffer.old buffer.new needed.old needed.new result
-        (IsJson known mail.now) }
+    ensures { (all : all_charsets.AllCharsets) ×
+        Ends buffer.old buffer.new needed.old needed.new result
+        (IsJson (all_known all) mail.now) }
 {
     write_result(buffer, needed, results::json(alloc, mail, &charsets()))
 }
@@ -77,8 +285,9 @@ pub extern "C" fn rocktray_text(
     buffer: &mut [u8],
     needed: &mut usize,
 ) -> u32
-    ensures { (known : Charsets) × Ends buffer.old buffer.new needed.old needed.new result
-        (λ found. text known part.now ≡ found) }
+    ensures { (all : all_charsets.AllCharsets) ×
+        Ends buffer.old buffer.new needed.old needed.new result
+        (λ found. text (all_known all) part.now ≡ found) }
 {
     write_result(buffer, needed, results::text(alloc, part, &charsets()))
 }
@@ -93,8 +302,9 @@ pub extern "C" fn rocktray_header(
     buffer: &mut [u8],
     needed: &mut usize,
 ) -> u32
-    ensures { (known : Charsets) × Ends buffer.old buffer.new needed.old needed.new result
-        (λ found. value known part.now name.now number ≡ found) }
+    ensures { (all : all_charsets.AllCharsets) ×
+        Ends buffer.old buffer.new needed.old needed.new result
+        (λ found. value (all_known all) part.now name.now number ≡ found) }
 {
     write_result(
         buffer,
@@ -131,8 +341,9 @@ pub extern "C" fn rocktray_recipients(
     buffer: &mut [u8],
     needed: &mut usize,
 ) -> u32
-    ensures { (known : Charsets) × Ends buffer.old buffer.new needed.old needed.new result
-        (λ found. recipients known mail.now ≡ found) }
+    ensures { (all : all_charsets.AllCharsets) ×
+        Ends buffer.old buffer.new needed.old needed.new result
+        (λ found. recipients (all_known all) mail.now ≡ found) }
 {
     write_result(
         buffer,

@@ -10,4 +10,4 @@ returns c =
     let known = all_known c.charsets.result in
     let given = value known c.args.part.now c.args.name.now c.args.number in
     let found = gives (λ (found : Found). given ≡ found) given c.value.result refl c.value.ensures in
-    (known, ends (λ (found : Found). given ≡ found) c.value.result _ _ _ _ _ found c.write_result.ensures)
+    (c.charsets.result, ends (λ (found : Found). given ≡ found) c.value.result _ _ _ _ _ found c.write_result.ensures)

@@ -6,4 +6,4 @@ use Rattle.mail_c.proofs.rocktray_json.Goals as goal
 pub returns : goal.returns
 returns c =
     let known = all_known c.charsets.result in
-    (known, ends (IsJson known c.args.mail.now) c.json.result _ _ _ _ _ c.json.ensures c.write_result.ensures)
+    (c.charsets.result, ends (IsJson known c.args.mail.now) c.json.result _ _ _ _ _ c.json.ensures c.write_result.ensures)

@@ -10,4 +10,4 @@ returns c =
     let known = all_known c.charsets.result in
     let given = recipients known c.args.mail.now in
     let found = gives (λ (found : Found). given ≡ found) given c.recipients.result refl c.recipients.ensures in
-    (known, ends (λ (found : Found). given ≡ found) c.recipients.result _ _ _ _ _ found c.write_result.ensures)
+    (c.charsets.result, ends (λ (found : Found). given ≡ found) c.recipients.result _ _ _ _ _ found c.write_result.ensures)

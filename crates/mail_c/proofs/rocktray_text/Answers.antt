@@ -10,4 +10,4 @@ returns c =
     let known = all_known c.charsets.result in
     let given = text known c.args.part.now in
     let found = gives (λ (found : Found). given ≡ found) given c.text.result refl c.text.ensures in
-    (known, ends (λ (found : Found). given ≡ found) c.text.result _ _ _ _ _ found c.write_result.ensures)
+    (c.charsets.result, ends (λ (found : Found). given ≡ found) c.text.result _ _ _ _ _ found c.write_result.ensures)

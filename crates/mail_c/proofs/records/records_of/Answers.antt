@@ -1,0 +1,16 @@
+use Rattle.std.proofs.Common.{◌≡◌, List, length, map, ap, subst, ◌∙◌}
+use Rattle.std.specs.Prelude.{IfOk}
+use Rattle.mail_c.specs.RecordViews.{item_view, lists}
+use Rattle.mail_c.specs.Records.{Item, records_in}
+use Rattle.mail_c.specs.declared.records.Node.{Node}
+use Rattle.mail_c.proofs.lemmas.Records.{items-first}
+use Rattle.mail_c.proofs.records.records_of.Goals as goal
+
+pub returns : goal.returns
+returns g c =
+    let known = g.K.KnownCharsets.known c.args.known.now in
+    let none = c.new-nodes.result.ok.0 ∙ ap (λ (nodes : List Node). length nodes) c.new-nodes.ensures.items in
+    let same = ap (map item_view) c.as_slice.ensures.value
+    ∙ items-first _ c.push_nodes.new.found.items _ _ _ _ c.new-nodes.ensures.items none c.in_ok-push_nodes.ensures.trees c.in_ok-push_nodes.ensures.ranges
+    c.in_ok-push_nodes.ensures.families in
+    subst (λ (items : List Item). IfOk c.records_in.result (λ found. lists found ≡ records_in known items)) same c.records_in.ensures

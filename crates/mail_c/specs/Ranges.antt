@@ -1,0 +1,105 @@
+-- What is read of ranges of a mail: of raw values, of names and of bodies; the crate's own form.
+use Rattle.std.specs.Prelude.{◌≡◌, ◌⊎◌, ℕ, ◌+◌, Bool, ◌==◌, List, [], ◌∷◌, ◌++◌, length, flat_map, Option, Some, None, is_some, option_and_then, Result, Ok, Err, if◌then◌else◌}
+use Rattle.std.specs.Global.{Vec}
+use Rattle.mail_codec.specs.Charset.{Charsets}
+use Rattle.mailparse.specs.Body.{BodyKind, in_base64, in_quoted_printable, in_7bit}
+use Rattle.mailparse.specs.ContentType.{ContentType, content_type_in}
+use Rattle.mailparse.specs.Disposition.{disposition_in}
+use Rattle.mailparse.specs.Mail.{read_mail_in}
+use Rattle.mailparse.specs.Refusal.{◌>>=◌, Reads}
+use Rattle.mailparse.specs.Value.{lenient_value_in}
+use Rattle.mail_data.specs.Bounce.{original_message_id}
+use Rattle.mail_data.specs.FileNames as names
+use Rattle.mail_data.specs.Files.{filled, name_in}
+use Rattle.mail_data.specs.QuotedLines as quoted
+use Rattle.mail_data.specs.lenient.Content.{Content, lenient_content}
+use Rattle.mail_data.specs.lenient.Texts.{BodyText, text_read}
+use Rattle.mail_c.specs.Buffer.{Found, IsFilled, IsKept, Output, fits, written_code}
+use Rattle.mail_c.specs.Codes.{no_memory}
+use Rattle.mail_c.specs.Results.{text_in}
+use Rattle.mail_c.specs.declared.ranges.Decoded as made
+
+-- the transfer encoding with a number; any other number than these two is that of a body that is not encoded
+abbrev pub kind_numbered : ℕ → BodyKind
+kind_numbered number = if number == 4 then in_base64 else (if number == 3 then in_quoted_printable else in_7bit)
+
+-- a name that is safe in any directory
+unfoldable pub safe_name : List ℕ → Found
+safe_name bytes = do
+  name ← text_in bytes
+  Ok (Some (names.safe_name name))
+
+-- a mail of a mailbox in the format mboxrd, as it was before it was quoted
+unfoldable pub unquoted : List ℕ → Found
+unquoted mail = Ok (Some (quoted.unquoted mail))
+
+-- the bytes or the text of a body, and whether the body is damaged
+pub record Decoded : Type 0 where
+  pub bytes : List ℕ
+  pub is_damaged : Bool
+
+abbrev pub decoded_view : made.Decoded → Decoded
+decoded_view found = record { bytes = found.bytes.items; is_damaged = found.is_damaged }
+
+-- the content of a body in the encoding with a number: all of it, or the bytes before the damage
+unfoldable pub body : ℕ → List ℕ → Decoded
+body number raw =
+    let content = lenient_content (kind_numbered number) raw in
+    record { bytes = content.bytes; is_damaged = is_some content.fault }
+
+-- no charset is known: encoded words stay as they are
+abbrev pub no_charsets : Charsets
+no_charsets label = None
+
+-- Under the charsets that are known.
+module _ (known : Charsets) where
+  -- the value of a header with this raw value
+  unfoldable pub value : List ℕ → Found
+  value raw = Ok (Some (lenient_value_in known raw))
+
+  -- the type that a raw value gives
+  abbrev pub type_of : List ℕ → ContentType
+  type_of raw = content_type_in known (lenient_value_in known raw)
+
+  -- the file name in the raw values of a disposition and of a type, which are cut into parameters while their encoded words stay as they are,
+  -- so that none can end a parameter or begin one
+  unfoldable pub undecoded_name : List ℕ → List ℕ → Option (List ℕ)
+  undecoded_name disposition ctype =
+      name_in (disposition_in known (lenient_value_in no_charsets disposition)) (content_type_in known (lenient_value_in no_charsets ctype))
+
+  -- the same, with its encoded words decoded
+  unfoldable pub file_name : List ℕ → List ℕ → Found
+  file_name disposition ctype =
+      Ok (option_and_then (λ name. filled (Some (lenient_value_in known name))) (undecoded_name disposition ctype))
+
+  -- the text of a body in the encoding with a number, whose type has this raw value
+  unfoldable pub body_text : ℕ → List ℕ → List ℕ → Decoded
+  body_text number raw ctype =
+      let read = text_read known (type_of ctype).charset (lenient_content (kind_numbered number) raw) in
+      record { bytes = read.text; is_damaged = read.is_damaged }
+
+  -- the id of the mail that a delivery report is about
+  unfoldable pub bounced_id : List ℕ → Found
+  bounced_id raw = do
+    mail ← read_mail_in known 100 raw
+    Ok (original_message_id known mail)
+
+-- a flag of C
+abbrev pub flag : Bool → ℕ
+flag is = if is then 1 else 0
+
+-- The output buffer of a call, and its flag before and after it.
+module _ (out : Output ℕ) (was is code : ℕ) where
+  -- what was found was written, or memory ran out and all is unchanged
+  abbrev pub WritesDecoded : Decoded → Type 0
+  WritesDecoded found = (code ≡ written_code out.old found.bytes) × IsFilled (fits out.old found.bytes) out found.bytes × (is ≡ flag found.is_damaged)
+
+  abbrev pub KeepsAll : Type 0
+  KeepsAll = (code ≡ no_memory) × IsKept out × (is ≡ was)
+
+  abbrev pub EndsDecoded : Decoded → Type 0
+  EndsDecoded found = KeepsAll ⊎ WritesDecoded found
+
+  abbrev pub WritesDecodedOr : {E : Type 0} → Result made.Decoded E → Type 0
+  WritesDecodedOr (Ok found) = WritesDecoded (decoded_view found)
+  WritesDecodedOr (Err e) = KeepsAll

@@ -1,0 +1,240 @@
+//! Records of the addresses in a header.
+ghost use Rattle.std.specs.Prelude.{◌≡◌, ◌++◌, [], ◌∷◌, List, length, map, IfOk, OnOk};
+ghost use Rattle.mail_address.specs.AddressViews.{element_view, group_view, mailbox_view};
+ghost use Rattle.mail_address.specs.AddressViews.{member_view, unknown_view};
+ghost use Rattle.mail_c.specs.AddressRecords.{AreRecords, Entry, addresses_found, addresses_read};
+ghost use Rattle.mail_c.specs.AddressRecords.{element_entries, entries_from, group_entry};
+ghost use Rattle.mail_c.specs.AddressRecords.{single_entry};
+ghost use Rattle.mail_c.specs.Buffer.{WritesBoth, output};
+
+use crate::codes::{DONE, NO_MEMORY, TOO_SHORT};
+use crate::records::NONE;
+use mail_address::{Address, Group, Mailbox, Member, Unknown, read_addresses};
+use mailparse::{KnownCharsets, MailParseError};
+use std::alloc::Global;
+
+/// An element of a list of addresses, as `struct rocktray_address`.
+#[repr(C)]
+#[derive(Clone, Copy)]
+pub struct AddressRecord {
+    /// What it is: 0 for a mailbox, 1 for a group and 2 for text that is none.
+    pub kind: u64,
+    /// The index of its group, or `NONE`.
+    pub group: u64,
+    /// The start of its name in the strings.
+    pub name_start: u64,
+    /// The end of its name.
+    pub name_end: u64,
+    /// The start of its address in the strings.
+    pub address_start: u64,
+    /// The end of its address.
+    pub address_end: u64,
+}
+
+/// The records of a list of addresses, and their strings.
+#[derive(Drop)]
+pub(crate) struct AddressRecords {
+    pub(crate) records: Vec<AddressRecord>,
+    pub(crate) strings: Vec<u8>,
+}
+
+/// Returns the records of the addresses in a raw value.
+pub(crate) fn addresses<K: KnownCharsets>(
+    alloc: Global,
+    raw: &[u8],
+    known: &K,
+) -> Result<AddressRecords, MailParseError>
+    ensures { IfOk result (λ found. (found.records.items, found.strings.items)
+        ≡ addresses_read (K.known known.now) raw.now) }
+{
+    let list = read_addresses(alloc, raw)?;
+    let mut found = AddressRecords {
+        records: Vec::new(alloc),
+        strings: Vec::new(alloc),
+    };
+    push_elements(alloc, &mut found, list.as_slice(), known)?;
+    Ok(found)
+}
+
+/// Appends the records of the elements of a list to none.
+fn push_elements<K: KnownCharsets>(
+    alloc: Global,
+    found: &mut AddressRecords,
+    list: &[Address<'_>],
+    known: &K,
+) -> Result<(), MailParseError>
+    ensures { OnOk result (AreRecords [] found.old →
+        AreRecords (entries_from (K.known known.now) 0 (map element_view list.now)) found.new) }
+{
+    for element in list {
+        push_element(alloc, found, element, known)?;
+    }
+    Ok(())
+}
+
+/// Appends the records of an element.
+fn push_element<K: KnownCharsets>(
+    alloc: Global,
+    found: &mut AddressRecords,
+    element: &Address<'_>,
+    known: &K,
+) -> Result<(), MailParseError>
+    ensures { OnOk result ((entries : List Entry) → AreRecords entries found.old →
+        AreRecords (entries ++ element_entries (K.known known.now) (length entries)
+        (element_view element.now)) found.new) }
+{
+    match element {
+        Address::Mailbox(mailbox) => push_mailbox(alloc, found, NONE, mailbox, known),
+        Address::Group(group) => push_group(alloc, found, group, known),
+        Address::Unknown(unknown) => push_unknown(found, NONE, unknown),
+    }
+}
+
+/// Appends the records of a group and of its members.
+fn push_group<K: KnownCharsets>(
+    alloc: Global,
+    found: &mut AddressRecords,
+    group: &Group<'_>,
+    known: &K,
+) -> Result<(), MailParseError>
+    ensures { OnOk result ((entries : List Entry) → AreRecords entries found.old →
+        AreRecords (entries ++ group_entry (K.known known.now) group.now.display_name.now
+        ∷ map (single_entry (K.known known.now) (length entries))
+        (group_view group.now).members) found.new) }
+{
+    let index = found.records.len() as u64;
+    let name = group.get_display_name(alloc, known)?;
+    push_entry(found, 1, NONE, name.as_bytes(), b"")?;
+    push_members(alloc, found, index, group.members.as_slice(), known)
+}
+
+/// Appends the records of members of the group with this index.
+fn push_members<K: KnownCharsets>(
+    alloc: Global,
+    found: &mut AddressRecords,
+    group: u64,
+    members: &[Member<'_>],
+    known: &K,
+) -> Result<(), MailParseError>
+    ensures { OnOk result ((entries : List Entry) → AreRecords entries found.old →
+        AreRecords (entries ++ map (single_entry (K.known known.now) group)
+        (map member_view members.now)) found.new) }
+{
+    for member in members {
+        push_member(alloc, found, group, member, known)?;
+    }
+    Ok(())
+}
+
+/// Appends the record of a member of the group with this index.
+fn push_member<K: KnownCharsets>(
+    alloc: Global,
+    found: &mut AddressRecords,
+    group: u64,
+    member: &Member<'_>,
+    known: &K,
+) -> Result<(), MailParseError>
+    ensures { OnOk result ((entries : List Entry) → AreRecords entries found.old →
+        AreRecords (entries ++ single_entry (K.known known.now) group (member_view member.now)
+        ∷ []) found.new) }
+{
+    match member {
+        Member::Mailbox(mailbox) => push_mailbox(alloc, found, group, mailbox, known),
+        Member::Unknown(unknown) => push_unknown(found, group, unknown),
+    }
+}
+
+/// Appends the record of a mailbox in the group with this index, or in none.
+fn push_mailbox<K: KnownCharsets>(
+    alloc: Global,
+    found: &mut AddressRecords,
+    group: u64,
+    mailbox: &Mailbox<'_>,
+    known: &K,
+) -> Result<(), MailParseError>
+    ensures { OnOk result ((entries : List Entry) → AreRecords entries found.old →
+        AreRecords (entries ++ single_entry (K.known known.now) group (mailbox_view mailbox.now)
+        ∷ []) found.new) }
+{
+    let name = mailbox.get_display_name(alloc, known)?;
+    let address = mailbox.get_address(alloc)?;
+    push_entry(found, 0, group, name.as_bytes(), address.as_bytes())
+}
+
+/// Appends the record of text that is no address, in the group with this index, or in none.
+fn push_unknown(
+    found: &mut AddressRecords,
+    group: u64,
+    unknown: &Unknown<'_>,
+) -> Result<(), MailParseError>
+    ensures { OnOk result ((entries : List Entry) → AreRecords entries found.old →
+        AreRecords (entries ++ record {
+          kind = 2;
+          group = group;
+          name = [];
+          address = unknown.now.text.now;
+        } ∷ []) found.new) }
+{
+    push_entry(found, 2, group, b"", unknown.text)
+}
+
+/// Appends a record.
+fn push_entry(
+    found: &mut AddressRecords,
+    kind: u64,
+    group: u64,
+    name: &[u8],
+    address: &[u8],
+) -> Result<(), MailParseError>
+    ensures { OnOk result ((entries : List Entry) → AreRecords entries found.old →
+        AreRecords (entries ++ record {
+          kind = kind;
+          group = group;
+          name = name.now;
+          address = address.now;
+        } ∷ []) found.new) }
+{
+    let start = found.strings.len() as u64;
+    found.strings.extend_from_slice(name)?;
+    let middle = found.strings.len() as u64;
+    found.strings.extend_from_slice(address)?;
+    let end = found.strings.len() as u64;
+    found.records.push(AddressRecord {
+        kind,
+        group,
+        name_start: start,
+        name_end: middle,
+        address_start: middle,
+        address_end: end,
+    })?;
+    Ok(())
+}
+
+/// Writes records and strings to the front of two buffers if both fit, and the numbers of both.
+/// Returns the code.
+pub(crate) fn write_addresses(
+    addresses: &mut [AddressRecord],
+    addresses_needed: &mut usize,
+    buffer: &mut [u8],
+    needed: &mut usize,
+    found: Result<AddressRecords, MailParseError>,
+) -> u32
+    ensures { WritesBoth (output addresses.old addresses.new addresses_needed.old
+        addresses_needed.new) (output buffer.old buffer.new needed.old needed.new) result
+        (addresses_found found) }
+{
+    let Ok(found) = found else {
+        return NO_MEMORY;
+    };
+    *addresses_needed = found.records.len();
+    *needed = found.strings.len();
+    if addresses.len() < found.records.len() {
+        return TOO_SHORT;
+    }
+    if buffer.len() < found.strings.len() {
+        return TOO_SHORT;
+    }
+    addresses[..found.records.len()].copy_from_slice(found.records.as_slice());
+    buffer[..found.strings.len()].copy_from_slice(found.strings.as_slice());
+    DONE
+}

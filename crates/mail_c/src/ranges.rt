@@ -1,0 +1,225 @@
+//! What is read of ranges of a mail: of raw values, of names and of bodies.
+ghost use Rattle.std.specs.Prelude.{◌≡◌, Ok, Some, IfOk, string_bytes};
+ghost use Rattle.mail_data.specs.Files.{filled};
+ghost use Rattle.mailparse.specs.Map.{text_found};
+ghost use Rattle.mailparse.specs.Body.{kind_named};
+ghost use Rattle.mailparse.specs.BodyViews.{name_of};
+ghost use Rattle.mailparse.specs.Outcome.{AnswersOrMemory};
+ghost use Rattle.mailparse.specs.Views.{content_type};
+ghost use Rattle.mail_c.specs.Buffer.{bytes_found, output};
+ghost use Rattle.mail_c.specs.Ranges.{WritesDecodedOr, body, body_text, bounced_id, decoded_view};
+ghost use Rattle.mail_c.specs.Ranges.{file_name, kind_numbered, no_charsets, safe_name, type_of};
+ghost use Rattle.mail_c.specs.Ranges.{undecoded_name, unquoted, value};
+
+use crate::buffer::write_bytes;
+use crate::codes::NO_MEMORY;
+use crate::results::text_in;
+use mail_codec::charset::Charset;
+use mail_data::bounce::original_message_id;
+use mail_data::files::{named_file, safe_file_name};
+use mail_data::lenient::{lenient_content, lenient_text};
+use mail_data::mailbox::quoted;
+use mailparse::body::Body;
+use mailparse::{
+    KnownCharsets, MailParseError, ParsedContentType, parse_content_disposition_in,
+    parse_content_type_in, parse_mail_in, value_text_in,
+};
+use std::alloc::{AllocError, Global};
+
+/// Returns the decoded value of a header, given its raw value.
+#[tactic(auto, unfolding(crate::specs::Ranges::value))]
+pub(crate) fn value<K: KnownCharsets>(
+    alloc: Global,
+    raw: &[u8],
+    known: &K,
+) -> Result<Option<Vec<u8>>, MailParseError>
+    ensures { AnswersOrMemory bytes_found result (value (K.known known.now) raw.now) }
+{
+    let text = value_text_in(alloc, raw, known)?;
+    Ok(Some(text.into_bytes()))
+}
+
+/// Returns the type in a raw value.
+pub(crate) fn type_of<K: KnownCharsets>(
+    alloc: Global,
+    raw: &[u8],
+    known: &K,
+) -> Result<ParsedContentType, MailParseError>
+    ensures { AnswersOrMemory content_type result
+        (Ok (type_of (K.known known.now) raw.now)) }
+{
+    let text = value_text_in(alloc, raw, known)?;
+    parse_content_type_in(alloc, text.as_str(), known)
+}
+
+/// No charsets: encoded words stay as they are.
+struct NoCharsets;
+
+impl KnownCharsets for NoCharsets {
+    type Decoder = Charset;
+
+    ghost known = { λ _ label. no_charsets label };
+
+    fn for_label(&self, _label: &[u8]) -> Option<Charset> {
+        None
+    }
+}
+
+/// Returns the file name in the raw values of a disposition and of a type.
+#[tactic(auto, unfolding(crate::specs::Ranges::file_name))]
+pub(crate) fn file_name<K: KnownCharsets>(
+    alloc: Global,
+    disposition: &[u8],
+    ctype: &[u8],
+    known: &K,
+) -> Result<Option<Vec<u8>>, MailParseError>
+    ensures { AnswersOrMemory bytes_found result
+        (file_name (K.known known.now) disposition.now ctype.now) }
+{
+    let Some(name) = undecoded_name(alloc, disposition, ctype, known)? else {
+        return Ok(None);
+    };
+    match filled(value_text_in(alloc, name.as_bytes(), known)?) {
+        Some(name) => Ok(Some(name.into_bytes())),
+        None => Ok(None),
+    }
+}
+
+/// Returns the same with its encoded words, which end no parameter and begin none.
+#[tactic(auto, unfolding(crate::specs::Ranges::undecoded_name))]
+fn undecoded_name<K: KnownCharsets>(
+    alloc: Global,
+    disposition: &[u8],
+    ctype: &[u8],
+    known: &K,
+) -> Result<Option<String>, MailParseError>
+    ensures { AnswersOrMemory text_found result
+        (Ok (undecoded_name (K.known known.now) disposition.now ctype.now)) }
+{
+    let text = value_text_in(alloc, disposition, &NoCharsets)?;
+    let disposition = parse_content_disposition_in(alloc, text.as_str(), known)?;
+    let text = value_text_in(alloc, ctype, &NoCharsets)?;
+    let ctype = parse_content_type_in(alloc, text.as_str(), known)?;
+    Ok(named_file(alloc, &disposition, &ctype)?)
+}
+
+/// Returns the text, or `None` if it consists of whitespace.
+fn filled(text: String) -> Option<String>
+    ensures { text_found result ≡ filled (Some (string_bytes text)) }
+{
+    if text.as_str().trim().is_empty() {
+        None
+    } else {
+        Some(text)
+    }
+}
+
+/// Returns a name that is safe in any directory.
+#[tactic(auto, unfolding(crate::specs::Ranges::safe_name))]
+pub(crate) fn safe_name(alloc: Global, name: &[u8]) -> Result<Option<Vec<u8>>, MailParseError>
+    ensures { AnswersOrMemory bytes_found result (safe_name name.now) }
+{
+    let name = text_in(name)?;
+    let safe = safe_file_name(alloc, name)?;
+    Ok(Some(safe.into_bytes()))
+}
+
+/// Returns a mail of a mailbox in the format mboxrd as it was before it was quoted.
+#[tactic(auto, unfolding(crate::specs::Ranges::unquoted))]
+pub(crate) fn unquoted(alloc: Global, mail: &[u8]) -> Result<Option<Vec<u8>>, MailParseError>
+    ensures { AnswersOrMemory bytes_found result (unquoted mail.now) }
+{
+    let text = quoted::unquoted(alloc, mail)?;
+    Ok(Some(text))
+}
+
+/// Returns the id of the mail that a delivery report is about.
+#[tactic(auto, unfolding(crate::specs::Ranges::bounced_id))]
+pub(crate) fn bounced_id<K: KnownCharsets>(
+    alloc: Global,
+    raw: &[u8],
+    known: &K,
+) -> Result<Option<Vec<u8>>, MailParseError>
+    ensures { AnswersOrMemory bytes_found result (bounced_id (K.known known.now) raw.now) }
+{
+    let mail = parse_mail_in(alloc, raw, known)?;
+    match original_message_id(alloc, &mail, known)? {
+        Some(id) => Ok(Some(id.into_bytes())),
+        None => Ok(None),
+    }
+}
+
+/// The decoded bytes of a body, or its text, and whether the body is damaged.
+#[derive(Drop)]
+pub(crate) struct Decoded {
+    pub(crate) bytes: Vec<u8>,
+    pub(crate) is_damaged: bool,
+}
+
+/// Returns the decoded bytes of a body in the transfer encoding with this number.
+pub(crate) fn body(alloc: Global, encoding: u64, raw: &[u8]) -> Result<Decoded, MailParseError>
+    ensures { AnswersOrMemory decoded_view result (Ok (body encoding raw.now)) }
+{
+    let ctype = ParsedContentType::default(alloc)?;
+    let name = encoding_named(alloc, encoding)?;
+    let body = Body::new(raw, &ctype, &name);
+    let content = lenient_content(alloc, &body)?;
+    let is_damaged = content.fault.is_some();
+    let bytes = content.bytes.into_owned(alloc)?;
+    Ok(Decoded { bytes, is_damaged })
+}
+
+/// Returns the text of such a body, given the raw value of its type.
+pub(crate) fn body_text<K: KnownCharsets>(
+    alloc: Global,
+    encoding: u64,
+    raw: &[u8],
+    raw_type: &[u8],
+    known: &K,
+) -> Result<Decoded, MailParseError>
+    ensures { AnswersOrMemory decoded_view result
+        (Ok (body_text (K.known known.now) encoding raw.now raw_type.now)) }
+{
+    let ctype = type_of(alloc, raw_type, known)?;
+    let name = encoding_named(alloc, encoding)?;
+    let body = Body::new(raw, &ctype, &name);
+    let content = lenient_content(alloc, &body)?;
+    let is_damaged = content.fault.is_some();
+    let text = lenient_text(alloc, content.bytes.as_slice(), &ctype, known)?;
+    let bytes = text.into_bytes();
+    Ok(Decoded { bytes, is_damaged })
+}
+
+/// Returns the name of the transfer encoding with a number, if bodies are encoded in it.
+#[tactic(auto, unfolding(mailparse::specs::Body::kind_named))]
+fn encoding_named(alloc: Global, number: u64) -> Result<Option<String>, AllocError>
+    ensures { IfOk result (λ name. kind_named (name_of name) ≡ kind_numbered number) }
+{
+    if number == 4 {
+        return Ok(Some(String::from_str(alloc, "base64")?));
+    }
+    if number == 3 {
+        return Ok(Some(String::from_str(alloc, "quoted-printable")?));
+    }
+    Ok(None)
+}
+
+/// Writes what was decoded to the front of the buffer, its length to `needed`, and whether the body
+/// is damaged to `is_damaged`. Returns the code.
+pub(crate) fn write_decoded(
+    buffer: &mut [u8],
+    needed: &mut usize,
+    is_damaged: &mut u8,
+    found: Result<Decoded, MailParseError>,
+) -> u32
+    ensures { WritesDecodedOr (output buffer.old buffer.new needed.old needed.new)
+        is_damaged.old is_damaged.new result found }
+{
+    match found {
+        Ok(found) => {
+            *is_damaged = if found.is_damaged { 1 } else { 0 };
+            write_bytes(buffer, needed, found.bytes.as_slice())
+        }
+        Err(_) => NO_MEMORY,
+    }
+}

@@ -1,0 +1,458 @@
+//! Records of a mail, of its parts and of their headers.
+ghost use Rattle.std.specs.Prelude.{◌≡◌, ◌≤◌, ◌<◌, ◌+◌, ◌^◌, ◌++◌, [], ◌∷◌, length, map, vec_len, IfOk, OnOk};
+ghost use Rattle.mailparse.specs.Body.{BodyKind};
+ghost use Rattle.mailparse.specs.BodyViews.{Content, IsBody};
+ghost use Rattle.mailparse.specs.Mail.{root, shown_as_in, trees_within};
+ghost use Rattle.mailparse.specs.Views as views;
+ghost use Rattle.mailparse.specs.Views.{placement_of, placements_of, tree_of};
+ghost use Rattle.mail_c.specs.Codes.{IsCoded};
+ghost use Rattle.mailparse.specs.Disposition.{Disposition};
+ghost use Rattle.mail_data.specs.InnerMails.{forwards};
+ghost use Rattle.mail_data.specs.lenient.Encoding.{lenient_body_kind};
+ghost use Rattle.mail_json.specs.Part.{is_attachment, is_read};
+ghost use Rattle.mail_c.specs.Records.{bit, disposition_number, encoding_number, families, flags};
+ghost use Rattle.mail_c.specs.Records.{header_block, header_records, item_headers, items_of};
+ghost use Rattle.mail_c.specs.Records.{kind_number, limited, none, part_record, records, records_in};
+ghost use Rattle.mail_c.specs.RecordViews.{family_view, item_view, lists, lists_found};
+
+use crate::codes::{NO_MEMORY, TOO_MANY, code_of};
+use mail_data::files::{describes_attachment, is_attachment_disposition, is_leaf, is_shown};
+use mail_data::lenient::lenient_body;
+use mail_data::texts::text_type;
+use mailparse::body::Body;
+use mailparse::{
+    DispositionType, KnownCharsets, MailHeaderMap, MailParseError, ParsedContentDisposition,
+    ParsedMail, header_places, parse_headers, parse_mail_in,
+};
+use std::alloc::{AllocError, Global};
+
+/// The parent of a mail itself.
+pub(crate) const NONE: u64 = 0xFFFF_FFFF_FFFF_FFFF;
+
+/// A mail or a part of it, as `struct rocktray_part`.
+#[repr(C)]
+#[derive(Clone, Copy)]
+pub struct Part {
+    /// The index of the part that contains it, or `NONE`.
+    pub parent: u64,
+    /// Its level: 0 for a mail itself.
+    pub level: u64,
+    /// The start of its bytes.
+    pub start: u64,
+    /// Their end.
+    pub end: u64,
+    /// The start of its body.
+    pub body_start: u64,
+    /// The end of its body.
+    pub body_end: u64,
+    /// The index of its first header.
+    pub first_header: u64,
+    /// The number of its headers.
+    pub header_count: u64,
+    /// The number of its transfer encoding.
+    pub encoding: u64,
+    /// The number of its disposition.
+    pub disposition: u64,
+    /// The sum of its flags.
+    pub flags: u64,
+}
+
+/// A header, as `struct rocktray_header_record`.
+#[repr(C)]
+#[derive(Clone, Copy)]
+pub struct HeaderRecord {
+    /// The start of the header and of its key.
+    pub start: u64,
+    /// The end of its key.
+    pub key_end: u64,
+    /// The start of its value.
+    pub value_start: u64,
+    /// The end of its value.
+    pub value_end: u64,
+    /// The end of the header.
+    pub end: u64,
+}
+
+/// The records of a mail.
+#[derive(Drop)]
+pub(crate) struct Records {
+    pub(crate) parts: Vec<Part>,
+    pub(crate) headers: Vec<HeaderRecord>,
+}
+
+/// A message of a mail, with the index of the part that contains it, and its level.
+#[derive(Drop)]
+struct Node<'m, 'a> {
+    part: &'m ParsedMail<'a>,
+    parent: u64,
+    level: u64,
+}
+
+/// Returns the records of a mail, or the code of its refusal, `TOO_MANY` if there are more than
+/// `limit`.
+pub(crate) fn mail_records<K: KnownCharsets>(
+    alloc: Global,
+    raw: &[u8],
+    limit: usize,
+    known: &K,
+) -> Result<Records, u32>
+    ensures { IsCoded lists result (records (K.known known.now) limit raw.now) }
+{
+    match parse_mail_in(alloc, raw, known) {
+        Ok(mail) => tree_records(alloc, &mail, limit, known),
+        Err(error) => Err(code_of(&error)),
+    }
+}
+
+/// Returns the records of a mail that was read, or `TOO_MANY` if there are more than `limit`.
+fn tree_records<K: KnownCharsets>(
+    alloc: Global,
+    mail: &ParsedMail<'_>,
+    limit: usize,
+    known: &K,
+) -> Result<Records, u32>
+    ensures { let t = tree_of mail.now in
+        let found = records_in (K.known known.now)
+        (items_of (trees_within t) (placements_of mail.now) (families 0 none 0 t)) in
+        IsCoded lists result (limited limit (length found.0 + length found.1) found) }
+{
+    match records_of(alloc, mail, known) {
+        Ok(found) => within(found, limit),
+        Err(_) => Err(NO_MEMORY),
+    }
+}
+
+/// Returns the records, or `TOO_MANY` if there are more than `limit`.
+fn within(found: Records, limit: usize) -> Result<Records, u32>
+    ensures { lists_found result
+        ≡ limited limit (vec_len found.parts + vec_len found.headers) (lists found) }
+{
+    if limit < found.parts.len() {
+        return Err(TOO_MANY);
+    }
+    if limit - found.parts.len() < found.headers.len() {
+        return Err(TOO_MANY);
+    }
+    Ok(found)
+}
+
+/// Returns the records of the headers of a message, or the code of the refusal of its block,
+/// `TOO_MANY` if there are more than `limit`.
+pub(crate) fn headers(alloc: Global, raw: &[u8], limit: usize) -> Result<Vec<HeaderRecord>, u32>
+    ensures { IsCoded (λ found. found.items) result (header_block limit raw.now) }
+{
+    match parse_headers(alloc, raw) {
+        Ok((headers, _)) => first_headers(alloc, raw, headers.len(), limit),
+        Err(error) => Err(code_of(&error)),
+    }
+}
+
+/// Returns the records of the first `count` headers of a message, or `TOO_MANY` if that is more
+/// than `limit`.
+fn first_headers(
+    alloc: Global,
+    raw: &[u8],
+    count: usize,
+    limit: usize,
+) -> Result<Vec<HeaderRecord>, u32>
+    ensures { IsCoded (λ found. found.items) result
+        (limited limit count (header_records 0 raw.now count)) }
+{
+    if limit < count {
+        return Err(TOO_MANY);
+    }
+    let mut found = Vec::new(alloc);
+    match push_headers(&mut found, raw, 0, count) {
+        Ok(()) => Ok(found),
+        Err(_) => Err(NO_MEMORY),
+    }
+}
+
+/// Returns the records of a mail that was read.
+fn records_of<K: KnownCharsets>(
+    alloc: Global,
+    mail: &ParsedMail<'_>,
+    known: &K,
+) -> Result<Records, MailParseError>
+    ensures { let t = tree_of mail.now in IfOk result (λ found. lists found
+        ≡ records_in (K.known known.now)
+        (items_of (trees_within t) (placements_of mail.now) (families 0 none 0 t))) }
+{
+    let mut nodes = Vec::new(alloc);
+    push_nodes(mail, NONE, 0, &mut nodes)?;
+    records_in(alloc, nodes.as_slice(), known)
+}
+
+/// Returns the records of messages.
+fn records_in<K: KnownCharsets>(
+    alloc: Global,
+    nodes: &[Node<'_, '_>],
+    known: &K,
+) -> Result<Records, MailParseError>
+    ensures { IfOk result (λ found. lists found
+        ≡ records_in (K.known known.now) (map item_view nodes.now)) }
+{
+    let mut records = Records {
+        parts: Vec::new(alloc),
+        headers: Vec::new(alloc),
+    };
+    for node in nodes {
+        push_record(alloc, node, &mut records, known)?;
+    }
+    Ok(records)
+}
+
+/// Appends a message with this parent and level, and then its parts.
+fn push_nodes<'m, 'a>(
+    mail: &'m ParsedMail<'a>,
+    parent: u64,
+    level: u64,
+    found: &mut Vec<Node<'m, 'a>>,
+) -> Result<(), AllocError>
+    requires { level ≤ vec_len found.old }
+    ensures trees { OnOk result (map (λ node. tree_of node.part.now) found.new.items
+        ≡ map (λ node. tree_of node.part.now) found.old.items ++ trees_within (tree_of mail.now)) }
+    ensures ranges { OnOk result (map (λ node. placement_of node.part.now) found.new.items
+        ≡ map (λ node. placement_of node.part.now) found.old.items ++ placements_of mail.now) }
+    ensures families { OnOk result (map family_view found.new.items
+        ≡ map family_view found.old.items
+        ++ families (vec_len found.old) parent level (tree_of mail.now)) }
+    ensures len { OnOk result (vec_len found.new
+        ≡ vec_len found.old + length (trees_within (tree_of mail.now))) }
+{
+    let index = found.len() as u64;
+    found.push(Node {
+        part: mail,
+        parent,
+        level,
+    })?;
+    for part in &mail.subparts {
+        push_nodes(part, index, level + 1, found)?;
+    }
+    Ok(())
+}
+
+/// Appends the record of a message, and those of its headers.
+fn push_record<K: KnownCharsets>(
+    alloc: Global,
+    node: &Node<'_, '_>,
+    records: &mut Records,
+    known: &K,
+) -> Result<(), MailParseError>
+    ensures parts { OnOk result (records.new.parts.items ≡ records.old.parts.items
+        ++ part_record (K.known known.now) (vec_len records.old.headers) (item_view node.now)
+        ∷ []) }
+    ensures headers { OnOk result (records.new.headers.items ≡ records.old.headers.items
+        ++ item_headers (item_view node.now)) }
+{
+    let first = records.headers.len() as u64;
+    let entry = record_of(alloc, node, first, known)?;
+    let (start, count) = (start_of(node.part), header_count(node.part));
+    push_headers(&mut records.headers, bytes_of(node.part), start, count)?;
+    records.parts.push(entry)?;
+    Ok(())
+}
+
+/// Returns the record of a message whose first header has this index.
+fn record_of<K: KnownCharsets>(
+    alloc: Global,
+    node: &Node<'_, '_>,
+    first: u64,
+    known: &K,
+) -> Result<Part, MailParseError>
+    ensures { IfOk result (λ made.
+        made ≡ part_record (K.known known.now) first (item_view node.now)) }
+{
+    let bytes = node.part.byte_range();
+    let body = node.part.body_range();
+    let count = header_count(node.part);
+    let encoding = encoding_of(alloc, node.part)?;
+    let shown = disposition_of(alloc, node.part, known)?;
+    Ok(Part {
+        parent: node.parent,
+        level: node.level,
+        start: bytes.start as u64,
+        end: bytes.end as u64,
+        body_start: body.start as u64,
+        body_end: body.end as u64,
+        first_header: first,
+        header_count: count as u64,
+        encoding,
+        disposition: shown.0,
+        flags: shown.1,
+    })
+}
+
+/// Returns the offset at which a message begins.
+fn start_of(part: &ParsedMail<'_>) -> usize
+    ensures { result ≡ (placement_of part.now).whole.start }
+{
+    part.byte_range().start
+}
+
+/// Returns the number of headers of a message.
+fn header_count(part: &ParsedMail<'_>) -> usize
+    ensures { result ≡ length (root (tree_of part.now)).headers }
+{
+    part.headers.len()
+}
+
+/// Returns the bytes of a message.
+fn bytes_of<'m>(part: &'m ParsedMail<'_>) -> &'m [u8]
+    ensures { result.now ≡ (root (tree_of part.now)).bytes }
+{
+    part.raw_bytes
+}
+
+/// Appends the records of the first `count` headers of a message that starts at this offset.
+#[tactic(auto, unfolding(crate::specs::Records::header_records))]
+fn push_headers(
+    headers: &mut Vec<HeaderRecord>,
+    raw: &[u8],
+    start: usize,
+    count: usize,
+) -> Result<(), AllocError>
+    ensures { OnOk result (headers.new.items ≡ headers.old.items
+        ++ header_records start raw.now count) }
+{
+    // A message ends within its mail, so the sum fits.
+    if usize::MAX - start < raw.len() {
+        return Err(AllocError);
+    }
+    let mut at = 0;
+    for number in 0..count {
+        let places = header_places(&raw[at..]);
+        let first = start + at;
+        headers.push(HeaderRecord {
+            start: first as u64,
+            key_end: (first + places.key_end) as u64,
+            value_start: (first + places.value_start) as u64,
+            value_end: (first + places.value_end) as u64,
+            end: (first + places.length) as u64,
+        })?;
+        at += places.length;
+    }
+    Ok(())
+}
+
+/// Returns the number of the transfer encoding of a part.
+fn encoding_of(alloc: Global, part: &ParsedMail<'_>) -> Result<u64, MailParseError>
+    ensures { IfOk result (λ number.
+        number ≡ encoding_number (lenient_body_kind (root (tree_of part.now)))) }
+{
+    let body = lenient_body(alloc, part)?;
+    Ok(encoding_number(&body))
+}
+
+/// Returns the number of the transfer encoding of a body.
+fn encoding_number(body: &Body<'_>) -> u64
+    ensures { (kind : BodyKind) (given : Content) → IsBody kind given body.now →
+        result ≡ encoding_number kind }
+{
+    match body {
+        Body::SevenBit(_) => 0,
+        Body::EightBit(_) => 1,
+        Body::Binary(_) => 2,
+        Body::QuotedPrintable(_) => 3,
+        Body::Base64(_) => 4,
+    }
+}
+
+/// Returns the number of the disposition of a part, and the sum of its flags.
+fn disposition_of<K: KnownCharsets>(
+    alloc: Global,
+    part: &ParsedMail<'_>,
+    known: &K,
+) -> Result<(u64, u64), MailParseError>
+    ensures { let t = tree_of part.now in
+        let disposition = shown_as_in (K.known known.now) (root t) in
+        IfOk result (λ found. found
+        ≡ (disposition_number disposition (root t), flags t disposition)) }
+{
+    let disposition = part.get_content_disposition_in(alloc, known)?;
+    let number = disposition_number(part, &disposition.disposition);
+    let flags = flags(alloc, part, &disposition)?;
+    Ok((number, flags))
+}
+
+/// Returns the number of the disposition of a part, 0 if it has no such header.
+fn disposition_number(part: &ParsedMail<'_>, kind: &DispositionType) -> u64
+    ensures { (d : Disposition) → d.kind ≡ views.kind kind.now →
+        result ≡ disposition_number d (root (tree_of part.now)) }
+{
+    match part.headers.get_first_header("Content-Disposition") {
+        None => 0,
+        Some(_) => kind_number(kind),
+    }
+}
+
+/// Returns the number of a kind of disposition.
+fn kind_number(kind: &DispositionType) -> u64
+    ensures { result ≡ kind_number (views.kind kind.now) }
+{
+    match kind {
+        DispositionType::Inline => 1,
+        DispositionType::Attachment => 2,
+        DispositionType::FormData => 3,
+        DispositionType::Extension(_) => 4,
+    }
+}
+
+/// Returns the sum of the flags of a part of this disposition.
+#[tactic(auto, unfolding(crate::specs::Records::flags))]
+fn flags(
+    alloc: Global,
+    part: &ParsedMail<'_>,
+    disposition: &ParsedContentDisposition,
+) -> Result<u64, AllocError>
+    ensures { IfOk result (λ sum.
+        sum ≡ flags (tree_of part.now) (views.disposition disposition.now)) }
+{
+    let leaf = is_leaf(part);
+    let attached = is_attachment(alloc, part, disposition)?;
+    let extracted = (leaf && !is_shown(part)) || attached;
+    let read = is_read(part, disposition);
+    Ok(bit(leaf, 1) + bit(attached, 2) + bit(extracted, 4) + bit(read, 8) + bit(forwards(part), 16))
+}
+
+/// Returns a flag as a term of the sum.
+fn bit(is: bool, value: u64) -> u64
+    ensures value { result ≡ bit is value }
+    ensures bounds { result ≤ value }
+{
+    if is { value } else { 0 }
+}
+
+/// Returns whether a part of this disposition is an attachment.
+fn is_attachment(
+    alloc: Global,
+    part: &ParsedMail<'_>,
+    disposition: &ParsedContentDisposition,
+) -> Result<bool, AllocError>
+    ensures { IfOk result (λ is.
+        is ≡ is_attachment (tree_of part.now) (views.disposition disposition.now)) }
+{
+    if !is_leaf(part) {
+        return Ok(false);
+    }
+    describes_attachment(alloc, disposition, &part.ctype)
+}
+
+/// Returns whether the body of a part of this disposition is a text that is shown.
+fn is_read(part: &ParsedMail<'_>, disposition: &ParsedContentDisposition) -> bool
+    ensures { result ≡ is_read (tree_of part.now) (views.disposition disposition.now) }
+{
+    !is_attachment_disposition(&disposition.disposition)
+        && is_leaf(part)
+        && text_type(part.ctype.mimetype.as_str()).starts_with("text/")
+}
+
+/// Returns whether a part forwards a mail.
+fn forwards(part: &ParsedMail<'_>) -> bool
+    ensures { result ≡ forwards (root (tree_of part.now)) }
+{
+    matches!(
+        part.ctype.mimetype.as_str(),
+        "message/rfc822" | "message/global"
+    )
+}
