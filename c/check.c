@@ -66,8 +66,8 @@ void __wrap_free(void *block)
 /* Cases. */
 
 enum kind {
-    JSON, CONTENT, TEXT, HEADER, RAW_HEADER, IDS, OWN_IDS, RECIPIENTS, BOUNCED_ID, UNQUOTED, VALUE, FILE_NAME, SAFE_NAME,
-    BODY, DAMAGED_BODY, BODY_TEXT, REASON
+    JSON, CONTENT, TEXT, HEADER, RAW_HEADER, IDS, OWN_IDS, RECIPIENTS, BOUNCED_ID, UNQUOTED, VALUE, FILE_NAME,
+    SAFE_NAME, BODY, DAMAGED_BODY, BODY_TEXT, REASON
 };
 
 struct bytes {
@@ -577,7 +577,8 @@ static void check_addresses(void)
     struct rocktray_address found[4];
     char strings[40];
     size_t records_needed = 77, needed = 77;
-    uint32_t code = rocktray_addresses(value.at, value.length, found, 4, &records_needed, strings, sizeof strings, &needed);
+    uint32_t code = rocktray_addresses(value.at, value.length, found, 4, &records_needed, strings, sizeof strings,
+                                       &needed);
     count(code == ROCKTRAY_DONE && records_needed == 4 && needed == 22 && memcmp(strings, wanted, 17) == 0,
           "addresses", 0);
     for (size_t i = 0; i < 4 && code == ROCKTRAY_DONE; i++)
@@ -757,7 +758,8 @@ static uint64_t run_all(void)
     uint64_t sum = 14695981039346656037u;
     for (size_t i = 0; i < count_of_files + TESTS; i++) {
         for (int kind = JSON; kind <= BODY_TEXT; kind++) {
-            struct test test = { (enum kind)kind, i < TESTS ? tests[i].input : files[i - TESTS], BYTES("subject"), 0, 0, NOTHING };
+            struct test test = { (enum kind)kind, i < TESTS ? tests[i].input : files[i - TESTS], BYTES("subject"), 0,
+                                 0, NOTHING };
             uint32_t code;
             struct bytes result = result_of(&test, &code);
             sum = (sum ^ code) * 1099511628211u;
@@ -808,7 +810,7 @@ static struct bytes deepest_mail(void)
     static char text[20000];
     struct bytes mail = { (uint8_t *)text, 0 };
     for (int i = 0; i < 100; i++)
-        sprintf(text + strlen(text), "Subject: =?gb18030?b?xOO6ww==?=\nFrom: \"a\" <a@b>\nDate: 1 Jan 2012 20:57 +0200\n"
+        sprintf(text + strlen(text), "Subject: =?gb18030?b?xOO6ww==?=\nFrom: \"a\" <a@b>\nDate: 1 Jan 2012 20:57 +02\n"
                                      "Content-Type: multipart/report; boundary=b%03d\n\n--b%03d\n", i, i);
     strcat(text, "Content-Type: message/rfc822\nContent-Disposition: attachment; filename*=utf-8''%E2%82%AC\n\n"
                  "Message-ID: <1@a>\nContent-Type: text/plain; charset=gb18030\n\n\xc4\xe3");

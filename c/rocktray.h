@@ -147,7 +147,7 @@ struct rocktray_address {
     uint64_t kind;                       /* enum rocktray_address_kind */
     uint64_t group;                      /* the index of the group that it is in, or ROCKTRAY_NONE */
     uint64_t name_start, name_end;       /* the display name in UTF-8; empty if it has none */
-    uint64_t address_start, address_end; /* the address in canonical form; of unknown text its bytes; of a group empty */
+    uint64_t address_start, address_end; /* the address in canonical form; of unknown text its bytes; else empty */
 };
 
 #if defined(__cplusplus) && __cplusplus >= 201103L
@@ -209,8 +209,8 @@ uint32_t rocktray_addresses(const void *raw_value, size_t raw_value_length, stru
                             size_t addresses_capacity, size_t *addresses_needed, void *buffer, size_t capacity,
                             size_t *needed);
 
-/* Writes the id of the mail that a delivery report is about, with no angle brackets. Returns ROCKTRAY_ABSENT if the mail
- * is no such report or does not give the id. Refuses as rocktray_json does. */
+/* Writes the id of the mail that a delivery report is about, with no angle brackets. Returns ROCKTRAY_ABSENT if the
+ * mail is no such report or does not give the id. Refuses as rocktray_json does. */
 uint32_t rocktray_bounced_id(const void *mail, size_t mail_length, void *buffer, size_t capacity, size_t *needed);
 
 /* Writes a mail of a mailbox in the format mboxrd without the `>` that its writer put before lines `From `. */

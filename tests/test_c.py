@@ -90,7 +90,8 @@ def records_of(output):
         elif kind == "part":
             mails[-1][1].append(values | {"headers": []})
         else:
-            mails[-1][1][-1]["headers"].append([bytes.fromhex(values["key"]).decode("latin-1"), text_in(values["value"])])
+            key = bytes.fromhex(values["key"]).decode("latin-1")
+            mails[-1][1][-1]["headers"].append([key, text_in(values["value"])])
     return mails
 
 
@@ -104,8 +105,9 @@ def member_of(part):
     flags, disposition = int(part["flags"]), int(part["disposition"])
     return {
         "start": int(part["start"]), "end": int(part["end"]), "size": int(part["size"]),
-        "encoding": ENCODINGS[int(part["encoding"])], "headers": part["headers"], "file_name": text_in(part["file_name"]),
-        "attachment": bool(flags & 2), "extracted": bool(flags & 4), "text": text_in(part["text"]) if flags & 8 else None,
+        "encoding": ENCODINGS[int(part["encoding"])], "headers": part["headers"],
+        "file_name": text_in(part["file_name"]), "attachment": bool(flags & 2), "extracted": bool(flags & 4),
+        "text": text_in(part["text"]) if flags & 8 else None,
         "disposition": DISPOSITIONS[disposition] if disposition < 4 else "another",
     }
 
