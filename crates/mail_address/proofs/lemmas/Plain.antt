@@ -303,11 +303,11 @@ address-front bytes white local domain after start host white_is is_start is_hos
         let sum : white + local + 1 + (domain + after) ≡ suc (white + local) + (domain + after) = omega arith in
         let there : drop (white + local) bytes ≡ drop local start = drop-sum white local bytes ∙ ap (drop local) (sym is_start) in
         let shift : suc (white + local) ≡ white + suc local = omega arith in
-        let behind : drop (suc (white + local)) bytes ≡ host =
+        let past : drop (suc (white + local)) bytes ≡ host =
         ap (λ n. drop n bytes) shift ∙ drop-sum white (suc local) bytes ∙ ap (drop (suc local)) (sym is_start) ∙ sym is_host in
         ap (λ n. take n bytes) sum
         ∙ cut-more 64 (white + local) (domain + after) bytes (ap (begins (λ b. eqb b 64)) there ∙ at)
-        ∙ ap (λ h. take (white + local) bytes ++ 64 ∷ take (domain + after) h) behind
+        ∙ ap (λ h. take (white + local) bytes ++ 64 ∷ take (domain + after) h) past
 
 -- ---- elements
 

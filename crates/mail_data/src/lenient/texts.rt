@@ -22,7 +22,7 @@ pub struct BodyText {
     /// The name of the charset in which it was read, such as `utf-8`.
     pub charset: String,
     /// Whether the body is damaged, as `lenient_content` reports it: the text is that of the bytes
-    /// before the damage.
+    /// that could be read.
     pub is_damaged: bool,
 }
 
@@ -44,7 +44,7 @@ pub struct BodyText {
 ///
 /// let mail = parse_mail(alloc, b"Content-Transfer-Encoding: base64\n\nY2Fmw6k*")?;
 /// let read = body_text(alloc, &mail, &())?;
-/// assert_eq!(rt; read.text.as_str(), "caf");
+/// assert_eq!(rt; read.text.as_str(), "café");
 /// assert!(rt; read.is_damaged);
 /// ```
 pub fn body_text<K: KnownCharsets>(
