@@ -87,4 +87,8 @@ PyObject *bytes_and_back(struct request *request, size_t guess);
 /* Appends an item, which it takes over, to a list. Returns 0, or -1 for an error, also if the item is NULL. */
 int append(PyObject *list, PyObject *item);
 
+/* read(data[, start, end], limit): reads a mail. The state of the module is the type of its result. */
+PyObject *read_mail(PyObject *module, PyObject *const *arguments, Py_ssize_t count);
+extern PyType_Spec reading_spec;
+
 #endif

@@ -204,8 +204,6 @@ static int take_text(struct input *input, PyObject *text)
 /* Functions. */
 
 CALL(json, INPUT)
-CALL(content, INPUT)
-CALL(text, INPUT)
 CALL(recipients, INPUT)
 CALL(header, INPUT, OTHER, it->number)
 CALL(raw_header, INPUT, OTHER, it->number)
@@ -231,20 +229,6 @@ static PyObject *json(PyObject *module, PyObject *data)
     struct request it = { .call = call_json };
     (void)module;
     return take(&it.input, data) < 0 ? NULL : bytes_and_back(&it, 2 * it.input.length + SHORT);
-}
-
-static PyObject *content(PyObject *module, PyObject *data)
-{
-    struct request it = { .call = call_content };
-    (void)module;
-    return take(&it.input, data) < 0 ? NULL : bytes_and_back(&it, it.input.length);
-}
-
-static PyObject *text(PyObject *module, PyObject *data)
-{
-    struct request it = { .call = call_text };
-    (void)module;
-    return take(&it.input, data) < 0 ? NULL : text_and_back(&it, it.input.length);
 }
 
 static PyObject *recipients(PyObject *module, PyObject *data)
@@ -372,30 +356,75 @@ static PyObject *mails(PyObject *module, PyObject *const *arguments, Py_ssize_t 
     return list;
 }
 
+CALL(bounced_id, INPUT)
+CALL(safe_name, INPUT)
+CALL(unquoted, INPUT)
+
+static PyObject *bounced_id(PyObject *module, PyObject *data)
+{
+    struct request it = { .call = call_bounced_id };
+    (void)module;
+    return take(&it.input, data) < 0 ? NULL : text_and_back(&it, 0);
+}
+
+static PyObject *safe_name(PyObject *module, PyObject *name)
+{
+    struct request it = { .call = call_safe_name };
+    (void)module;
+    return take_text(&it.input, name) < 0 ? NULL : text_of(&it, 0);
+}
+
+static PyObject *unquoted(PyObject *module, PyObject *data)
+{
+    struct request it = { .call = call_unquoted };
+    (void)module;
+    return take(&it.input, data) < 0 ? NULL : bytes_and_back(&it, it.input.length);
+}
+
 static PyMethodDef functions[] = {
     { "version", version, METH_NOARGS, NULL },
     { "reason", reason, METH_O, NULL },
     { "json", json, METH_O, NULL },
-    { "content", content, METH_O, NULL },
-    { "text", text, METH_O, NULL },
     { "recipients", recipients, METH_O, NULL },
+    { "bounced_id", bounced_id, METH_O, NULL },
     { "header", FAST(header), METH_FASTCALL, NULL },
     { "raw_header", FAST(raw_header), METH_FASTCALL, NULL },
     { "ids", FAST(ids), METH_FASTCALL, NULL },
     { "date", date, METH_O, NULL },
     { "mails", FAST(mails), METH_FASTCALL, NULL },
+    { "unquoted", unquoted, METH_O, NULL },
+    { "safe_name", safe_name, METH_O, NULL },
+    { "read", FAST(read_mail), METH_FASTCALL, NULL },
     { NULL, NULL, 0, NULL },
 };
 
+/* The state of the module is the type of readings. */
+static int fill_module(PyObject *module)
+{
+    PyObject *type = PyType_FromSpec(&reading_spec);
+    *(PyObject **)PyModule_GetState(module) = type;
+    return type && PyModule_AddObjectRef(module, "Reading", type) == 0 ? 0 : -1;
+}
+
+static void free_module(void *module)
+{
+    PyObject **state = PyModule_GetState(module);
+    if (state)
+        Py_CLEAR(*state);
+}
+
 static PyModuleDef_Slot module_slots[] = {
+    { Py_mod_exec, fill_module },
     { 0, NULL },
 };
 
 static PyModuleDef definition = {
     PyModuleDef_HEAD_INIT,
     .m_name = "rocktray._engine",
+    .m_size = sizeof(PyObject *),
     .m_methods = functions,
     .m_slots = module_slots,
+    .m_free = free_module,
 };
 
 PyMODINIT_FUNC PyInit__engine(void);

@@ -2,15 +2,20 @@
 
 from __future__ import annotations
 
-import codecs
-import mmap
-from typing import Iterator, List, Optional, Tuple, Union
+from typing import TYPE_CHECKING, Any, Iterator, List, Optional, Tuple, Union
 
 from . import _engine
 
-Bytes = Union[bytes, bytearray, memoryview, mmap.mmap]
+if TYPE_CHECKING:
+    import mmap
+
+    Bytes = Union[bytes, bytearray, memoryview, mmap.mmap]
+
 NOT_BASE64 = 19
+TOO_MANY = 22
 DATE_YEAR = 34
+# a limit that no mail reaches
+UNLIMITED = 2**63 - 1
 # the most mails of a mailbox that are found by one call
 MOST = 1000
 
@@ -41,31 +46,12 @@ def version() -> str:
     return f"{number // 10000}.{number // 100 % 100}.{number % 100}"
 
 
-def json_line(mail: Bytes) -> bytes:
-    """The line of JSON of a mail."""
-    return _engine.json(mail)
-
-
-def content(part: Bytes) -> bytes:
-    """The decoded bytes of the body of a part."""
-    return _engine.content(part)
-
-
-def text(part: Bytes) -> str:
-    """The text of the body of a part."""
-    return _engine.text(part)
-
-
-# the headers of a text whose charset reads each byte as a different character, and these characters
-_EACH_BYTE = b"Content-Type: text/plain; charset=windows-1252\nContent-Transfer-Encoding: base64\n\n"
-_CHARACTERS = codecs.charmap_build("".join(bytes((n,)).decode("cp1252", "ignore") or chr(n) for n in range(256)))
-
-
-def base64_front(body: bytes) -> bytes:
-    """The bytes of a body in Base64 that can be read. Of all calls `rocktray_text` alone returns them, as a text."""
-    # the group before it keeps its first bytes from being a byte order mark
-    characters = text(_EACH_BYTE + b"AAAA" + body)[3:]
-    return codecs.charmap_encode(characters, "strict", _CHARACTERS)[0]
+def name_of(name: str) -> Optional[bytes]:
+    """The name of a header as headers have it: each byte is the character of its number. `None` if none can have it."""
+    try:
+        return name.encode("latin-1")
+    except UnicodeEncodeError:
+        return None
 
 
 def header(mail: Bytes, name: str, number: int = 0) -> Optional[str]:
@@ -82,16 +68,6 @@ def ids(text: str, needs_at: bool) -> List[str]:
     """The message ids in a text."""
     found = _engine.ids(text, needs_at)
     return found[1:-1].split("><") if found else []
-
-
-def recipients(mail: Bytes) -> bytes:
-    """The recipients of a delivery report, as a list in JSON."""
-    return _engine.recipients(mail)
-
-
-def date(value: str) -> Tuple[int, bool]:
-    """The seconds from 1970 to a date, and whether its zone is known."""
-    return _engine.date(value)
 
 
 _next_mail = _engine.mails

@@ -6,58 +6,35 @@ import email.message
 import email.policy
 import json
 from datetime import datetime
-from typing import Any, Dict, Iterator, List, Optional, Tuple, TypeVar, Union, cast, overload
+from typing import TYPE_CHECKING, Any, Callable, Dict, Iterator, List, NamedTuple, Optional, Tuple, TypeVar, Union
+from typing import cast, overload
 
-from . import _library
-from ._library import Refused
-from ._part import Header, Part, values_of
-from ._values import Address, Recipient, addresses_of, time_of
+from . import _engine, _library
+from ._library import UNLIMITED, Refused
+from ._node import IS_ATTACHMENT, IS_EXTRACTED, IS_MAIL, IS_TEXT, Node, add_inside, nodes_of
+from ._part import Header, Part
+from ._values import Address, Recipient, time_of
 
-Bytes = _library.Bytes
+if TYPE_CHECKING:
+    from ._library import Bytes
+
 Default = TypeVar("Default")
-_FORWARDING = ("message/rfc822", "message/global")
-_Tree = Tuple[List[Optional[int]], List[List[int]]]
+Value = TypeVar("Value")
 
 
-def _own_parts(value: Dict[str, Any]) -> List[Dict[str, Any]]:
-    """The objects of the mail and of its parts. Those of the mails inside it come after them."""
-    parts = cast("List[Dict[str, Any]]", value["parts"])
-    if value["forwarded"]:
-        for index, part in enumerate(parts):
-            if part["inside"] is not None:
-                return parts[:index]
-    return parts
+class Rest(NamedTuple):
+    """What only the JSON has of a part."""
+
+    error: str
+    text_charset: Optional[str]
+    report: Optional[List[List[Tuple[str, str]]]]
 
 
-def _tree_of(parts: List[Dict[str, Any]]) -> _Tree:
-    """For each part the index of the one that contains it, and the indexes of those that it contains: its own parts, or
-    the first one of the mail that it forwards.
-    """
-    parents: List[Optional[int]] = []
-    children: List[List[int]] = [[] for _ in parts]
-    own: Dict[str, int] = {}
-    forwarding: Dict[str, int] = {}
-    for index, part in enumerate(parts):
-        path, inside = part["path"], part["inside"]
-        if index == 0 or inside != parts[index - 1]["inside"]:
-            own = {path if inside is None else inside: index}
-            parent = None if inside is None else forwarding[inside]
-        else:
-            own[path] = index
-            parent = own[path.rpartition(".")[0]]
-        if part["type"] in _FORWARDING:
-            forwarding[path] = index
-        parents.append(parent)
-        if parent is not None:
-            children[parent].append(index)
-    return parents, children
-
-
-def _checked(raw: Any) -> Bytes:
+def _checked(raw: Any) -> "Bytes":
     """A buffer of contiguous bytes. Raises `TypeError` for what is no buffer, and says how to get the bytes of a mail."""
     try:
         with memoryview(raw) as view:
-            return cast(Bytes, raw if view.c_contiguous else view.tobytes())
+            return cast("Bytes", raw if view.c_contiguous else view.tobytes())
     except TypeError:
         kind = type(raw).__name__
     for name in ("read_bytes", "as_bytes", "read"):
@@ -69,32 +46,31 @@ def _checked(raw: Any) -> Bytes:
 
 class Mail:
     """A mail. Its bytes are read when it is first used; `parse` reads them at once. What it has is decoded when it is
-    asked for: its subject, date, ids and recipients, and headers by name, by themselves, and all else at once.
+    asked for, and most of it remembered.
 
-    It takes any bytes-like object, such as an `mmap`, and copies it only for its parts and for `raw`. Bytes that change
-    give results of no use. Raises `TypeError` for anything but bytes.
+    It takes any bytes-like object, such as an `mmap`, and copies none of it: bytes that change give results of no use.
+    With more parts and headers than `limit` it is refused. Raises `TypeError` for anything but bytes.
 
     >>> mail = parse(b"Subject: Hi\\nDate: Fri, 21 Nov 1997 09:55:06 -0600\\n\\nHello\\n")
     >>> mail.subject, mail.date.isoformat(), mail.text
     ('Hi', '1997-11-21T15:55:06+00:00', 'Hello\\n')
     """
 
-    __slots__ = ("place", "_data", "_raw", "_read", "_line", "_parts_tree", "_encoded")
+    __slots__ = ("place", "_data", "_raw", "_limit", "_read", "_own", "_all", "_known")
 
     place: Optional[Tuple[int, int]]
     """The offsets at which it begins and ends in its mailbox, or `None` outside of one."""
-    _read: Union[None, List[Dict[str, Any]], Refused]
-    _line: Optional[Dict[str, Any]]
-    _parts_tree: Optional[_Tree]
-    _encoded: Dict[int, "Mail"]
+    _read: Union[None, _engine.Reading, Refused]
+    _own: Optional[List[Node]]
+    _all: Optional[List[Node]]
 
-    def __init__(self, raw: Bytes, place: Optional[Tuple[int, int]] = None) -> None:
+    def __init__(self, raw: "Bytes", place: Optional[Tuple[int, int]] = None, limit: Optional[int] = None) -> None:
         self._raw = raw if isinstance(raw, bytes) else None
         self._data = _checked(raw) if self._raw is None else raw
         self.place = place
-        self._read = self._line = None
-        self._parts_tree = None
-        self._encoded = {}
+        self._limit = UNLIMITED if limit is None else limit
+        self._read = self._own = self._all = None
+        self._known: Dict[Any, Any] = {}
 
     @property
     def raw(self) -> bytes:
@@ -105,12 +81,13 @@ class Mail:
                 raw = self._raw = view.tobytes()
         return raw
 
-    def _recipients(self) -> List[Dict[str, Any]]:
-        """The recipients in the JSON. To find them the whole mail is read, so this raises `Refused` if it is refused."""
+    @property
+    def _reading(self) -> _engine.Reading:
+        """The records of the mail. Raises `Refused` if it is refused."""
         read = self._read
         if read is None:
             try:
-                read = cast("List[Dict[str, Any]]", json.loads(_library.recipients(self._data)))
+                read = _engine.read(self._data, self._limit)
             except Refused as error:
                 read = error
             self._read = read
@@ -118,24 +95,25 @@ class Mail:
             raise Refused(read.text, read.number, self.place)
         return read
 
-    @property
-    def _object(self) -> Dict[str, Any]:
-        """The object of the mail in the JSON."""
-        line = self._line
-        if line is None:
-            try:
-                line = self._line = cast("Dict[str, Any]", json.loads(_library.json_line(self._data)))
-            except Refused as error:
-                raise Refused(error.text, error.number, self.place) from None
-        return line
+    def _remember(self, key: Any, find: Callable[[], Value]) -> Value:
+        """What is known by this key, which is found once."""
+        known = self._known
+        if key not in known:
+            known[key] = find()
+        return cast(Value, known[key])
 
-    def _value(self, name: str) -> Optional[str]:
-        """The value of the first header with this name, if the mail is not refused."""
-        if self._line is None:
-            self._recipients()
-        return _library.header(self._data, name)
+    def _value(self, name: bytes) -> Optional[str]:
+        """The value of the first header with this name."""
+        known = self._known
+        if name not in known:
+            known[name] = self._reading.value(0, name, 0)
+        return cast("Optional[str]", known[name])
 
-    def _ids(self, name: str, needs_at: bool) -> List[str]:
+    def _addresses(self, name: bytes) -> List[Address]:
+        """The mailboxes in the headers with this name."""
+        return self._remember((name,), lambda: [Address(*pair) for pair in self._reading.addresses(0, name)]).copy()
+
+    def _ids(self, name: bytes, needs_at: bool) -> List[str]:
         """The ids in the first header with this name."""
         value = self._value(name)
         return [] if value is None else _library.ids(value, needs_at)
@@ -149,7 +127,7 @@ class Mail:
         ['Hi', 'Headers were followed by an unexpected lone CR character!']
         """
         try:
-            self._recipients()
+            self._reading
         except Refused as error:
             return error.text
         return None
@@ -159,13 +137,22 @@ class Mail:
         """The object that `rocktray json` writes for the mail (docs/mail_json.schema.json). It is read anew
         each time, and yours to change.
         """
-        self._recipients()
-        return cast("Dict[str, Any]", json.loads(_library.json_line(self._data)))
+        self._reading
+        return cast("Dict[str, Any]", json.loads(_engine.json(self._data)))
+
+    @property
+    def _rest(self) -> List[Rest]:
+        """Of each part what only the JSON has."""
+
+        def found() -> List[Rest]:
+            return [Rest(part.get("error"), part.get("text_charset"), part["report"]) for part in self.json["parts"]]
+
+        return self._remember("rest", found)
 
     @property
     def subject(self) -> Optional[str]:
         """The value of the first Subject, or `None`."""
-        return self._value("Subject")
+        return self._value(b"subject")
 
     @property
     def from_(self) -> List[Address]:
@@ -174,43 +161,47 @@ class Mail:
         >>> parse(b"From: =?utf-8?q?Doe=2C_Jos=C3=A9?= <j@example.org>\\n\\n").from_
         [Address(name='Doe, José', address='j@example.org')]
         """
-        return addresses_of(self._object["from"])
+        return self._addresses(b"from")
 
     @property
     def to(self) -> List[Address]:
         """The mailboxes in To."""
-        return addresses_of(self._object["to"])
+        return self._addresses(b"to")
 
     @property
     def cc(self) -> List[Address]:
         """The mailboxes in Cc."""
-        return addresses_of(self._object["cc"])
+        return self._addresses(b"cc")
 
     @property
     def bcc(self) -> List[Address]:
         """The mailboxes in Bcc."""
-        return addresses_of(self._object["bcc"])
+        return self._addresses(b"bcc")
 
     @property
     def sender(self) -> List[Address]:
         """The mailbox in Sender: who sent the mail, if that is not its only author."""
-        return addresses_of(self._object["sender"])
+        return self._addresses(b"sender")
 
     @property
     def reply_to(self) -> List[Address]:
         """The mailboxes in Reply-To."""
-        return addresses_of(self._object["reply_to"])
+        return self._addresses(b"reply-to")
 
     def _date(self) -> Tuple[Optional[datetime], Optional[str], bool]:
-        """The time in the first Date, what is wrong in it, and whether its zone is known or it has none to know."""
-        value, is_zone_known = self._value("Date"), True
-        if value is None:
-            return None, None, True
-        try:
-            seconds, is_zone_known = _library.date(value)
-            return time_of(seconds), None, is_zone_known
-        except Refused as error:
-            return None, error.text, is_zone_known
+        """The time in the first Date, what is wrong in it, and whether its zone is known or it is none."""
+
+        def found() -> Tuple[Optional[datetime], Optional[str], bool]:
+            value, is_zone_known = self._value(b"date"), True
+            if value is None:
+                return None, None, True
+            try:
+                seconds, is_zone_known = _engine.date(value)
+                return time_of(seconds), None, is_zone_known
+            except Refused as error:
+                return None, error.text, is_zone_known
+
+        return self._remember("date", found)
 
     @property
     def date(self) -> Optional[datetime]:
@@ -230,23 +221,24 @@ class Mail:
     @property
     def message_id(self) -> Optional[str]:
         """The mail's own id, without angle brackets, or `None`."""
-        found = self._ids("Message-ID", False)
+        found = self._ids(b"message-id", False)
         return found[0] if found else None
 
     @property
     def in_reply_to(self) -> List[str]:
         """The ids in In-Reply-To."""
-        return self._ids("In-Reply-To", True)
+        return self._ids(b"in-reply-to", True)
 
     @property
     def references(self) -> List[str]:
         """The ids in References, in order."""
-        return self._ids("References", True)
+        return self._ids(b"references", True)
 
     @property
     def bounced_id(self) -> Optional[str]:
         """The id of the mail that a delivery report is about, or `None`."""
-        return cast("Optional[str]", self._object["bounced_id"])
+        self._reading
+        return self._remember("bounced_id", lambda: _engine.bounced_id(self._data))
 
     @property
     def recipients(self) -> List[Recipient]:
@@ -255,12 +247,17 @@ class Mail:
         >>> parse(b"X-Failed-Recipients: a@b\\n\\n").recipients[0].final_recipient
         'a@b'
         """
-        return [Recipient(**value) for value in self._recipients()]
+        self._reading
+
+        def found() -> List[Recipient]:
+            return [Recipient(**value) for value in json.loads(_engine.recipients(self._data))]
+
+        return self._remember("recipients", found).copy()
 
     @property
     def headers(self) -> List[Header]:
         """The headers of the mail, in order."""
-        return next(self.walk()).headers
+        return self._part(0).headers
 
     def header(self, name: str, number: int = 0) -> Optional[str]:
         """The value of the header with this name and number, counting from 0, or `None`.
@@ -268,7 +265,12 @@ class Mail:
         >>> parse(b"Received: one\\nReceived: two\\n\\n").header("received", 1)
         'two'
         """
-        return None if number < 0 else _library.header(self._data, name, number)
+        if number < 0:
+            return None
+        if not isinstance(self._read, _engine.Reading):
+            return _library.header(self._data, name, number)
+        key = _library.name_of(name)
+        return None if key is None else self._read.value(0, key, number)
 
     def __getitem__(self, name: str) -> Optional[str]:
         """The value of the first header with this name, or `None`, as in `email`."""
@@ -292,30 +294,32 @@ class Mail:
         >>> mail["subject"], mail["Date"], mail.get_all("received"), mail.get_all("Date", [])
         ('Hi', None, ['one', 'two'], [])
         """
-        return values_of(self._object["parts"][0]["headers"], name) or failobj
+        key = _library.name_of(name)
+        return (self._reading.values(0, key) if key is not None else []) or failobj
 
     @property
-    def _tree(self) -> _Tree:
-        """Which part contains which."""
-        tree = self._parts_tree
-        if tree is None:
-            tree = self._parts_tree = _tree_of(self._object["parts"])
-        return tree
+    def _own_nodes(self) -> List[Node]:
+        """The mail itself and its parts."""
+        own = self._own
+        if own is None:
+            own = self._own = nodes_of(self._data, self._reading)
+        return own
+
+    @property
+    def _nodes(self) -> List[Node]:
+        """The mail itself and its parts, and then those of the mails inside it."""
+        nodes = self._all
+        if nodes is None:
+            nodes = self._own_nodes.copy()
+            if any(node.flags & IS_MAIL for node in nodes):
+                add_inside(nodes, self._own_nodes, self._limit)
+            self._all = nodes
+        return nodes
 
     def _part(self, index: int) -> Part:
         """The part with this index, which counts those of the mails inside too."""
-        return Part(self, self._object["parts"][index], index)
-
-    def _encoded_mail(self, index: int) -> Tuple["Mail", int]:
-        """The mail inside an encoded part to which the part with this index belongs, and its index in that mail."""
-        parents, parts = self._tree[0], self._object["parts"]
-        first, container = index, parents[index]
-        while container is not None and parts[container]["inside"] == parts[index]["inside"]:
-            first, container = container, parents[container]
-        assert container is not None
-        if container not in self._encoded:
-            self._encoded[container] = Mail(self._part(container).extracted_content())
-        return self._encoded[container], index - first
+        own = self._own_nodes
+        return Part(self, own[index] if index < len(own) else self._nodes[index])
 
     def walk(self) -> Iterator[Part]:
         """The mail itself and then its parts, each before its own parts. `forwarded` has the mails inside it.
@@ -324,8 +328,8 @@ class Mail:
         >>> [(part.path, part.content_type, part.text) for part in parse(raw).walk()]
         [('', 'multipart/mixed', None), ('1', 'text/plain', 'one'), ('2', 'text/plain', 'two')]
         """
-        for index, value in enumerate(_own_parts(self._object)):
-            yield Part(self, value, index)
+        for node in self._own_nodes:
+            yield Part(self, node)
 
     def files(self) -> List[Part]:
         """The parts that the program `rocktray extract` saves: the attachments, and all else that is not shown as text,
@@ -335,7 +339,7 @@ class Mail:
         >>> [(file.path, file.extracted_content()) for file in mail.files()], mail.attachments()
         ([('1', b'%PDF')], [])
         """
-        return [Part(self, value, index) for index, value in enumerate(self._object["parts"]) if value["extracted"]]
+        return [Part(self, node) for node in self._nodes if node.flags & IS_EXTRACTED]
 
     def attachments(self) -> List[Part]:
         """The mail's own parts whose disposition is 'attachment' or that have a file name. `files` has more.
@@ -344,14 +348,14 @@ class Mail:
         >>> [(file.file_name, file.content) for file in parse(raw).attachments()]
         [('a.txt', b'text')]
         """
-        return [part for part in self.walk() if part.is_attachment]
+        return [Part(self, node) for node in self._own_nodes if node.flags & IS_ATTACHMENT]
 
     def _text_of(self, content_type: str) -> Optional[str]:
         """The text of the first part of this type that is no attachment, otherwise of the first one with a text."""
-        texts = [p for p in self.walk() if p.text is not None and _text_type(p.content_type) == content_type]
-        for part in texts:
-            if not part.is_attachment:
-                return part.text
+        texts = [node for node in self._own_nodes if node.flags & IS_TEXT and _text_type(node.type[0]) == content_type]
+        for node in texts:
+            if not node.flags & IS_ATTACHMENT:
+                return node.text
         return texts[0].text if texts else None
 
     @property
@@ -371,7 +375,7 @@ class Mail:
         >>> inside[0].subject
         'inside'
         """
-        return [Mail(part.content) for part in self.walk() if part.content_type in _FORWARDING]
+        return [Mail(Part(self, node).content, limit=self._limit) for node in self._own_nodes if node.flags & IS_MAIL]
 
     def bounces(self) -> List[Recipient]:
         """The recipients of a delivery report (RFC 3464). The list is empty if the mail is none.
@@ -394,7 +398,7 @@ class Mail:
         return hash((self.raw, self.place))
 
     def __reduce__(self) -> Tuple[Any, ...]:
-        return Mail, (self.raw, self.place)
+        return Mail, (self.raw, self.place, self._limit)
 
     def __repr__(self) -> str:
         error = self.error
@@ -406,8 +410,9 @@ def _text_type(content_type: str) -> str:
     return "text/plain" if content_type == "text" else content_type
 
 
-def parse(raw: Bytes) -> Mail:
-    """Reads a mail. Raises `Refused` if it is refused, and `TypeError` if it is not bytes; else only `MemoryError`.
+def parse(raw: "Bytes", limit: Optional[int] = None) -> Mail:
+    """Reads a mail. Raises `Refused` if it is refused, also for more than `limit` parts and headers, and `TypeError` if it
+    is not bytes; else only `MemoryError`.
 
     >>> parse(b"Subject: Hi\\n\\nHello").subject
     'Hi'
@@ -416,6 +421,6 @@ def parse(raw: Bytes) -> Mail:
         ...
     rocktray.Refused: Header cannot start with a space; it is likely an overhanging line from a previous header
     """
-    mail = Mail(raw)
-    mail._recipients()
+    mail = Mail(raw, None, limit)
+    mail._reading
     return mail

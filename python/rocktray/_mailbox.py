@@ -12,7 +12,7 @@ from itertools import islice
 from types import TracebackType
 from typing import Any, Deque, Iterator, List, NamedTuple, Optional, Protocol, Tuple, Type, Union
 
-from . import _library
+from . import _engine, _library
 from ._mail import Mail
 
 FORMATS = ("mbox", "mboxrd", "mboxcl")
@@ -33,7 +33,6 @@ _COMPRESSED = (
 _LONGEST_START = 6
 _HEADER = re.compile(rb"[!-9;-~]+[ \t]*:")
 _COUNT = re.compile(rb"content-length:\s*([0-9]{1,9})(?![0-9])")
-_QUOTED = re.compile(rb"^>(>*From )", re.MULTILINE)
 
 
 class Readable(Protocol):
@@ -118,10 +117,13 @@ class Mailbox:
     goes to one of them.
     """
 
-    def __init__(self, path: Union[str, "os.PathLike[str]", Readable], format: str = "mbox") -> None:
+    def __init__(
+        self, path: Union[str, "os.PathLike[str]", Readable], format: str = "mbox", limit: Optional[int] = None
+    ) -> None:
         if format not in FORMATS:
             raise ValueError(f"{format!r} is none of {', '.join(FORMATS)}")
         self._format = format
+        self._limit = limit
         self._is_counted = format == "mboxcl"
         self._is_quoted = format == "mboxrd"
         # reentrant, for the handler of a signal that closes the mailbox
@@ -221,8 +223,8 @@ class Mailbox:
                     raise StopIteration
         raw = data[start:end]
         if self._is_quoted and b">From " in raw:
-            raw = _QUOTED.sub(rb"\1", raw)
-        return Mail(raw, (offset + start, offset + end))
+            raw = _engine.unquoted(raw)
+        return Mail(raw, (offset + start, offset + end), self._limit)
 
     def __len__(self) -> int:
         """The number of mails that a loop would return now: at first all. It is found by reading the file, once. Raises
@@ -349,13 +351,16 @@ def _is_count_known(data: bytes, start: int, after: int) -> bool:
     return start + len(block) + max(map(int, _COUNT.findall(block)), default=0) + SEPARATOR <= len(data)
 
 
-def open_mailbox(path: Union[str, "os.PathLike[str]", Readable], format: str = "mbox") -> Mailbox:
+def open_mailbox(
+    path: Union[str, "os.PathLike[str]", Readable], format: str = "mbox", limit: Optional[int] = None
+) -> Mailbox:
     """The mails of a mailbox, one after another, each read when it is first used.
 
     `path` may also be that of a pipe, or a file object open for reading bytes, such as `gzip.open(path)`. It is read in
     blocks, so that only the largest mail has to fit into memory. `format` is 'mbox' (RFC 4155), 'mboxrd', or 'mboxcl'
-    for a mailbox whose mails have a Content-Length. A mail that is refused is there too: its `error` says why, and
-    everything else about it raises `Refused`, so a loop begins with `if mail.error: continue`.
+    for a mailbox whose mails have a Content-Length. A mail that is refused, also for more than `limit` parts and headers,
+    is there too: its `error` says why, and everything else about it raises `Refused`, so a loop begins with
+    `if mail.error: continue`.
 
     Raises `ValueError` if the input is compressed, a single mail or no mailbox at all, and `OSError` if it cannot be
     read. If another program shortens the file meanwhile, the mails up to there are returned, and then
@@ -368,4 +373,4 @@ def open_mailbox(path: Union[str, "os.PathLike[str]", Readable], format: str = "
     ['1', '2']
     >>> os.unlink(file.name)
     """
-    return Mailbox(path, format)
+    return Mailbox(path, format, limit)

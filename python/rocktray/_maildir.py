@@ -15,8 +15,9 @@ class Maildir:
     `len` counts them.
     """
 
-    def __init__(self, path: Union[str, "os.PathLike[str]"]) -> None:
+    def __init__(self, path: Union[str, "os.PathLike[str]"], limit: Optional[int] = None) -> None:
         self._path = os.path.abspath(path)
+        self._limit = limit
         if not set(_DIRECTORIES).intersection(os.listdir(self._path)):
             raise ValueError(f"{os.fspath(path)!r} is no Maildir: it has no directory 'cur' or 'new'")
 
@@ -40,7 +41,7 @@ class Maildir:
             while found is not None:
                 try:
                     with open(found, "rb") as file:
-                        yield found, Mail(file.read())
+                        yield found, Mail(file.read(), limit=self._limit)
                     break
                 except FileNotFoundError:
                     found = self._moved(found)
@@ -61,9 +62,9 @@ class Maildir:
         return f"<rocktray.Maildir {self._path!r}>"
 
 
-def open_maildir(path: Union[str, "os.PathLike[str]"]) -> Maildir:
+def open_maildir(path: Union[str, "os.PathLike[str]"], limit: Optional[int] = None) -> Maildir:
     """The mails of a Maildir: the files in its directories `cur` and `new`. Directories inside it, such as `.Sent`, are
-    Maildirs of their own.
+    Maildirs of their own. A mail with more than `limit` parts and headers is refused.
 
     Raises `ValueError` if the directory has neither of them, and `OSError` if it cannot be read.
 
@@ -74,4 +75,4 @@ def open_maildir(path: Union[str, "os.PathLike[str]"]) -> Maildir:
     ...     [mail.subject for mail in open_maildir(path)], [name[-5:] for name, _ in open_maildir(path).items()]
     (['Hi'], ['new/1'])
     """
-    return Maildir(path)
+    return Maildir(path, limit)

@@ -2,52 +2,17 @@
 
 from __future__ import annotations
 
-import re
-from typing import TYPE_CHECKING, Any, Dict, List, Optional, Tuple, Union, cast
+from typing import TYPE_CHECKING, Any, Dict, List, Optional, Tuple, Union
 
-from . import _library
+from . import _engine, _library
 from ._library import Refused
+from ._node import ENCODINGS, IS_ATTACHMENT, IS_EXTRACTED, IS_TEXT, Node
 
 if TYPE_CHECKING:
     from ._mail import Mail
 
-# a line end that ends a header: no blank follows it
-_HEADER_END = re.compile(rb"\n(?![ \t])")
-
-
-def _read_block(mail: bytes, start: int, end: int, count: int) -> Tuple[List[bytes], int]:
-    """The raw values of the `count` headers of the part at these offsets, and the offset at which its body begins
-    (docs/RULES.md, "Header lines").
-    """
-    found = []
-    for _ in range(count):
-        line_end = mail.find(b"\n", start, end)
-        colon = mail.find(b":", start, end if line_end < 0 else line_end)
-        if colon < 0:
-            found.append(b"")
-            start = end if line_end < 0 else line_end + 1
-            continue
-        header_end = _HEADER_END.search(mail, colon, end)
-        value_end, start = header_end.span() if header_end else (end, end)
-        found.append(mail[colon + 1 : value_end].lstrip(b" ").rstrip(b"\r\n"))
-    return found, start + (2 if mail.startswith(b"\r\n", start, end) else mail.startswith(b"\n", start, end))
-
-
-class _RawValues:
-    """The raw values of the headers of a part: all are read when the first is used."""
-
-    __slots__ = ("_part", "_values")
-
-    def __init__(self, part: "Part") -> None:
-        self._part = part
-        self._values: Optional[List[bytes]] = None
-
-    def __getitem__(self, index: int) -> bytes:
-        values = self._values
-        if values is None:
-            values, _ = self._part._read_block()
-            self._values = values
-        return values[index]
+# the types of the parts with a report
+_REPORTS = ("delivery-status", "global-delivery-status", "feedback-report", "disposition-notification")
 
 
 class Header:
@@ -58,18 +23,19 @@ class Header:
     ('Subject', 'café at noon', b'=?utf-8?q?caf=C3=A9?=\\r\\n at noon')
     """
 
-    __slots__ = ("name", "value", "_raw_values", "_index")
+    __slots__ = ("name", "value", "_raw", "_index")
 
-    def __init__(self, name: str, value: str, raw_values: Union[_RawValues, Tuple[bytes]], index: int = 0) -> None:
+    def __init__(self, name: str, value: str, raw: Union[Node, bytes], index: int = 0) -> None:
         self.name = name
         self.value = value
-        self._raw_values = raw_values
+        self._raw = raw
         self._index = index
 
     @property
     def raw(self) -> bytes:
-        """The raw value, without decoding. The first use reads those of all headers of the part, in linear time."""
-        return self._raw_values[self._index]
+        """The raw value, without decoding."""
+        raw = self._raw
+        return raw if isinstance(raw, bytes) else raw.reading.raw_value(raw.number, self._index)
 
     def __eq__(self, other: object) -> bool:
         return isinstance(other, Header) and (self.name, self.value, self.raw) == (other.name, other.value, other.raw)
@@ -78,29 +44,14 @@ class Header:
         return hash((self.name, self.value))
 
     def __reduce__(self) -> Tuple[Any, ...]:
-        return Header, (self.name, self.value, (self.raw,))
+        return Header, (self.name, self.value, self.raw)
 
     def __repr__(self) -> str:
         return f"Header({self.name!r}, {self.value!r})"
 
 
-def folded(name: str) -> bytes:
-    """The name of a header without the case of its ASCII letters."""
-    return name.encode("utf-8", "surrogatepass").lower()
-
-
-def values_of(headers: List[List[str]], name: str) -> List[str]:
-    """The values of the headers with this name."""
-    key = folded(name)
-    return [value for header, value in headers if folded(header) == key]
-
-
-# the encodings that leave the bytes of a body as they are
-_IDENTITY = ("7bit", "8bit", "binary")
-
-
 class Part:
-    """A part of a mail, or the mail itself: the members of its object in the JSON, and its bytes.
+    """A part of a mail, or the mail itself. What it has is decoded when it is first used.
 
     >>> mail = parse(b"Content-Type: text/html; charset=iso-8859-2\\n\\n<p>\\xb9</p>")
     >>> part = next(mail.walk())
@@ -108,27 +59,26 @@ class Part:
     ('text/html', 'iso-8859-2', b'<p>\\xb9</p>', '<p>š</p>')
     """
 
-    __slots__ = ("_mail", "_object", "_index")
+    __slots__ = ("_mail", "_node")
 
-    def __init__(self, mail: "Mail", value: Dict[str, Any], index: int) -> None:
+    def __init__(self, mail: "Mail", node: Node) -> None:
         self._mail = mail
-        self._object = value
-        self._index = index
+        self._node = node
 
     @property
     def path(self) -> str:
         """The path, as IMAP numbers parts: '' for a mail with parts, '1' for one without, and then '2.1' and so on."""
-        return cast(str, self._object["path"])
+        return self._node.path
 
     @property
     def inside(self) -> Optional[str]:
         """The path of the part with the forwarded mail that this part belongs to, or `None` for the mail's own parts."""
-        return cast("Optional[str]", self._object["inside"])
+        return self._node.inside
 
     @property
     def parent(self) -> Optional["Part"]:
         """The part that contains this one: a multipart, or the part with a forwarded mail. `None` for the mail itself."""
-        index = self._mail._tree[0][self._index]
+        index = self._node.parent
         return None if index is None else self._mail._part(index)
 
     @property
@@ -140,116 +90,114 @@ class Part:
         >>> forwarding.children[0].header("subject"), forwarding.parent.content_type
         ('in', 'multipart/mixed')
         """
-        return [self._mail._part(index) for index in self._mail._tree[1][self._index]]
+        nodes = self._mail._nodes
+        return [Part(self._mail, nodes[index]) for index in self._node.children]
 
     @property
     def content_type(self) -> str:
         """The type in lower case, such as 'text/plain'."""
-        return cast(str, self._object["type"])
+        return self._node.type[0]
 
     @property
     def params(self) -> Dict[str, str]:
         """The parameters of the type, by their names in lower case."""
-        return dict(self._object["params"])
+        return dict(self._node.type[2])
 
     @property
     def charset(self) -> str:
         """The label of the charset, or 'us-ascii' if none is given. `text_charset` is the one that was used."""
-        return cast(str, self._object["charset"])
+        return self._node.type[1]
 
     @property
     def disposition(self) -> Optional[str]:
         """The disposition in lower case, such as 'attachment', or `None` without that header."""
-        return cast("Optional[str]", self._object["disposition"])
+        return self._node.names[1]
 
     @property
     def file_name(self) -> Optional[str]:
         """The name of the file as the sender wrote it, or `None`. It may contain slashes: never open it as it is."""
-        return cast("Optional[str]", self._object["file_name"])
+        return self._node.names[0]
+
+    @property
+    def safe_name(self) -> Optional[str]:
+        """The file name made safe for any directory, or `None`: at most 255 bytes, without slashes and control characters,
+        and neither empty nor '.' nor '..'.
+
+        >>> part = next(parse(b"Content-Type: image/png; name=../../logo.png\\n\\n").walk())
+        >>> part.file_name, part.safe_name
+        ('../../logo.png', '.._.._logo.png')
+        """
+        name = self.file_name
+        return None if name is None else _engine.safe_name(name)
 
     @property
     def content_id(self) -> Optional[str]:
         """The id in the first Content-ID, without angle brackets, or `None`. HTML refers to it by `cid:`."""
-        return cast("Optional[str]", self._object["content_id"])
+        value = self.header("Content-ID")
+        found = [] if value is None else _library.ids(value, False)
+        return found[0] if found else None
 
     @property
     def is_attachment(self) -> bool:
         """Whether the part is an attachment: its disposition is 'attachment', or it has a file name."""
-        return cast(bool, self._object["attachment"])
+        return bool(self._node.flags & IS_ATTACHMENT)
 
     @property
     def is_extracted(self) -> bool:
         """Whether the program `rocktray extract` saves the part: it is one of `Mail.files`."""
-        return cast(bool, self._object["extracted"])
+        return bool(self._node.flags & IS_EXTRACTED)
 
     @property
     def encoding(self) -> str:
         """The transfer encoding of the body, such as 'base64'."""
-        return cast(str, self._object["encoding"])
+        return ENCODINGS[self._node.encoding]
 
     @property
     def start(self) -> Optional[int]:
         """The offset in the mail at which the part begins, or `None` if it is inside an encoded mail."""
-        return cast("Optional[int]", self._object["start"])
+        return None if self._node.is_encoded else self._node.start
 
     @property
     def end(self) -> Optional[int]:
         """The offset in the mail at which the part ends, or `None` if it is inside an encoded mail."""
-        return cast("Optional[int]", self._object["end"])
+        return None if self._node.is_encoded else self._node.end
 
     @property
     def size(self) -> int:
         """The number of bytes of the body in its transfer encoding."""
-        return cast(int, self._object["size"])
+        return self._node.body_end - self._node.body_start
 
     @property
     def decoded_size(self) -> Optional[int]:
         """The number of bytes of `content`, or `None` if it is refused."""
-        return cast("Optional[int]", self._object["decoded_size"])
+        size, is_damaged = self._node.size
+        return None if is_damaged else size
 
     @property
     def headers(self) -> List[Header]:
         """The headers, in order."""
-        raw_values = _RawValues(self)
-        return [Header(name, value, raw_values, index) for index, (name, value) in enumerate(self._object["headers"])]
+        node = self._node
+        return [Header(name, value, node, index) for index, (name, value) in enumerate(node.headers)]
 
     def header(self, name: str, number: int = 0) -> Optional[str]:
         """The value of the header with this name and number, counting from 0, or `None`."""
-        found = values_of(self._object["headers"], name)
-        return found[number] if 0 <= number < len(found) else None
-
-    def _location(self) -> Tuple[bytes, int, int]:
-        """The bytes of a mail and the offsets at which the part begins and ends in them: those of this mail, or of an
-        encoded one in it.
-        """
-        mail, value = self._mail, self._object
-        if value["start"] is None:
-            mail, index = mail._encoded_mail(self._index)
-            value = mail._object["parts"][index]
-        return mail.raw, value["start"], value["end"]
-
-    def _read_block(self) -> Tuple[List[bytes], int]:
-        """The raw values of the headers, and the offset at which the body begins."""
-        return _read_block(*self._location(), len(self._object["headers"]))
+        key = _library.name_of(name)
+        return None if key is None or number < 0 else self._node.reading.value(self._node.number, key, number)
 
     @property
     def raw(self) -> bytes:
         """The part's own bytes, headers and body."""
-        raw, start, end = self._location()
-        return raw[start:end]
+        return self._node.bytes_from(self._node.start)
 
     @property
     def content(self) -> bytes:
         """The decoded bytes of the body, without its transfer encoding. Raises `Refused` if it is not valid Base64:
         `is_damaged` says so before, and `extracted_content` has its front.
         """
-        value = self._object
-        if "error" in value:
-            raise Refused(value["error"], _library.NOT_BASE64)
-        raw, start, end = self._location()
-        if value["encoding"] in _IDENTITY and not value["type"].startswith("multipart"):
-            return raw[end - value["size"] : end]
-        return _library.content(raw[start:end])
+        content, is_damaged = self._node.body()
+        if is_damaged:
+            raise Refused(self._mail._rest[self._node.index].error, _library.NOT_BASE64)
+        return content
 
     def extracted_content(self) -> bytes:
         """The bytes that `rocktray extract` saves: the content, or of damaged Base64 the bytes that can be read. If the
@@ -259,12 +207,8 @@ class Part:
         >>> part.is_damaged, part.extracted_content()
         (True, b'\\x89PNG\\r\\n')
         """
-        value = self._object
-        if value["size"] > 0 and "error" not in value:
-            return self.content
-        raw, _, end = self._location()
-        _, body = self._read_block()
-        return _library.base64_front(raw[body : body + value["size"]]) if value["size"] > 0 else raw[body:end]
+        node = self._node
+        return node.body()[0] if self.size > 0 else node.bytes_from(node.body_start)
 
     @property
     def report(self) -> Optional[List[List[Tuple[str, str]]]]:
@@ -275,32 +219,33 @@ class Part:
         >>> [dict(block) for block in part.report]
         [{'Feedback-Type': 'abuse', 'Version': '1'}]
         """
-        blocks = self._object["report"]
+        kind, _, name = self.content_type.partition("/")
+        blocks = self._mail._rest[self._node.index].report if kind == "message" and name in _REPORTS else None
         return None if blocks is None else [[(name, value) for name, value in block] for block in blocks]
 
     @property
     def text(self) -> Optional[str]:
         """The text, if the part is a text and no attachment, otherwise `None`. Of damaged Base64 it is the front."""
-        return cast("Optional[str]", self._object["text"])
+        return self._node.text
 
     @property
     def text_charset(self) -> Optional[str]:
         """The charset in which the text was read, or `None` if there is no text."""
-        return cast("Optional[str]", self._object.get("text_charset"))
+        return self._mail._rest[self._node.index].text_charset if self._node.flags & IS_TEXT else None
 
     @property
     def is_damaged(self) -> bool:
         """Whether the body is damaged Base64: `content` is refused, and a text is what can be read of it."""
-        return "error" in self._object
+        return self._node.size[1]
 
     def __eq__(self, other: object) -> bool:
-        return isinstance(other, Part) and self._mail == other._mail and self._index == other._index
+        return isinstance(other, Part) and self._mail == other._mail and self._node.index == other._node.index
 
     def __hash__(self) -> int:
-        return hash((self._mail, self._index))
+        return hash((self._mail, self._node.index))
 
     def __reduce__(self) -> Tuple[Any, ...]:
-        return _part_of, (self._mail, self._index)
+        return _part_of, (self._mail, self._node.index)
 
     def __repr__(self) -> str:
         return f"<rocktray.Part {self.path!r} {self.content_type}>"

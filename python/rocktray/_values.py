@@ -4,9 +4,9 @@ from __future__ import annotations
 
 import re
 from datetime import datetime, timedelta, timezone
-from typing import Any, List, NamedTuple, Optional
+from typing import List, NamedTuple, Optional
 
-from . import _library
+from . import _engine, _library
 from ._library import Refused
 
 _EPOCH = datetime(1970, 1, 1, tzinfo=timezone.utc)
@@ -45,19 +45,6 @@ class Recipient(NamedTuple):
     diagnostic_code: Optional[str]
 
 
-def addresses_of(value: Any) -> List[Address]:
-    """The mailboxes in a member of the JSON, including those of groups."""
-    found: List[Address] = []
-    for item in value:
-        if "members" in item:
-            found += addresses_of(item["members"])
-        elif "address" in item:
-            found.append(Address(item["name"] or "", item["address"]))
-        else:
-            found.append(Address(item["unknown"], ""))
-    return found
-
-
 def time_of(seconds: int) -> datetime:
     """The time of a date that is read. Raises `Refused` if it is after the last year of Python's `datetime`."""
     try:
@@ -77,7 +64,7 @@ def read_date(text: str) -> datetime:
     rocktray.Refused: no month
     """
     _check_text(text, "a date")
-    seconds, _ = _library.date(text)
+    seconds, _ = _engine.date(text)
     return time_of(seconds)
 
 

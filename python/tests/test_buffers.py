@@ -11,6 +11,7 @@ import threading
 import pytest
 
 import rocktray
+from rocktray import _engine
 
 RAW = (
     b"Subject: Hi\nContent-Type: multipart/mixed; boundary=b\n\n--b\n\ntext\n--b\nContent-Disposition: attachment; filename=a\n"
@@ -64,7 +65,7 @@ def test_large_buffers_are_read_without_the_lock(mapped):
 
 
 def test_no_copy(tmp_path):
-    """200 MB in an mmap: neither the mail nor its headers take memory of that size."""
+    """200 MB in an mmap: neither the mail nor what is asked of it takes memory of that size."""
     (tmp_path / "mail").write_bytes(RAW.replace(b"text\n", b"text of a line of a letter\n" * 7_500_000))
     succeeds(
         """
@@ -78,10 +79,25 @@ resource.setrlimit(resource.RLIMIT_DATA, (own() + (100 << 20),) * 2)
 for kind in (data, memoryview(data)):
     mail = rocktray.parse(kind)
     assert mail.subject == mail["Subject"] == "Hi" and mail.date is None and mail.recipients == []
+    assert [it.raw for it in mail.headers][0] == b"Hi"
+    assert [part.size > 100_000_000 for part in mail.walk()] == [False, True, False, False]
+    assert [file.extracted_content() for file in mail.files()] == [b"%PDF", b"Subject: in\\n"]
+    assert len(mail.files()) == 2 and mail.files()[1].children[0]._mail is mail
 assert own() < 60 << 20, own()
 """,
         tmp_path / "mail",
     )
+
+
+def test_bytes_that_become_fewer():
+    data = bytearray(RAW)
+    mail = rocktray.parse(data)
+    del data[100:]
+    for call in (lambda: mail.subject, lambda: mail.headers, lambda: mail.from_, lambda: next(mail.walk()).content, lambda: mail["x"]):
+        with pytest.raises(BufferError, match="became fewer"):
+            call()
+    data += b"x" * 10_000
+    assert isinstance(mail.subject, str) or mail.subject is None
 
 
 def test_closed_map(mapped):
@@ -121,7 +137,7 @@ while time.monotonic() < end:
     try:
         mail = rocktray.parse(data)
         mail.subject, mail.text, [part.content for part in mail.walk()], mail.headers, mail.files()
-    except (rocktray.Refused, IndexError, KeyError, BufferError):
+    except (rocktray.Refused, IndexError):
         pass
 ended.append(1)
 thread.join()
@@ -142,12 +158,11 @@ def test_the_lock_is_free():
     thread = threading.Thread(target=count)
     thread.start()
     before = len(steps)
-    try:
-        rocktray.parse(raw)
-        while_reading = len(steps) - before
-    finally:
-        reading.set()
-        thread.join()
+    with pytest.raises(rocktray.Refused):
+        _engine.read(raw, 1000)
+    while_reading = len(steps) - before
+    reading.set()
+    thread.join()
     assert while_reading > 10
 
 
@@ -183,10 +198,11 @@ def test_memory_of_all_members(samples, hostile):
     def run(count):
         for k in range(count):
             try:
-                mail = rocktray.parse(mails[k % len(mails)])
+                mail = rocktray.parse(mails[k % len(mails)], limit=50)
                 all_of_parts(mail)
                 mail.to, mail.html, mail.recipients, mail.bounced_id, mail.get_all("received"), mail["\u20ac"]
-            except rocktray.Refused:
+                mail._reading.raw_value(0, 10**6)
+            except (rocktray.Refused, IndexError):
                 pass
 
     run(3000)
@@ -206,9 +222,15 @@ large = b"A: b\\n" * 300 + raw
 def work():
     engine, found = rocktray._engine, []
     for data in (raw, large):
-        found += [engine.json(data), engine.recipients(data), engine.content(data), engine.text(data)]
+        reading = engine.read(data, 10**6)
+        found += [reading.part(0), reading.value(0, b"subject", 0), reading.values(0, b"from"), reading.headers(0), len(reading)]
+        found += [reading.raw_value(0, 0), reading.addresses(0, b"from")]
+        for part in range(len(reading)):
+            found += [reading.type(part), reading.disposition(part), reading.file_name(part)]
+            found += [reading.body(part), reading.body_size(part), reading.text(part)]
+        found += [engine.json(data), engine.recipients(data), engine.bounced_id(data), engine.unquoted(data)]
         found += [engine.header(data, b"from", 0), engine.raw_header(data, b"from", 0), engine.header(data, b"x-none", 0)]
-    found += [engine.ids("<a@b>", True), engine.date("1 Jan 2000 00:00"), engine.reason(17), engine.version()]
+    found += [engine.ids("<a@b>", True), engine.date("1 Jan 2000 00:00"), engine.reason(17), engine.version(), engine.safe_name("a/b")]
     return found + engine.mails(b"From a Fri Jul  8 12:08:34 2011\\nSubject: 1\\n\\n" * 3, 0, 999, False, 10)
 wanted, refused = work(), 0
 for start in range(1, 5000):
@@ -221,7 +243,7 @@ for start in range(1, 5000):
         break
     finally:
         _testcapi.remove_mem_hooks()
-assert refused > 10 and start < 4999 and work() == wanted, (refused, start)
+assert refused > 50 and start < 4999 and work() == wanted, (refused, start)
 """,
         os.path.join(os.path.dirname(__file__), "..", "..", "samples", "attachment.eml"),
     )

@@ -1,10 +1,13 @@
-"""What is decoded when it is asked for: the same as the JSON has, and without it."""
+"""What is decoded when it is asked for: the same as the JSON has, once, and without the JSON."""
 
+import io
 import json
+import pickle
 
 import pytest
 
 import rocktray
+from rocktray import _engine
 
 TEXT = b"Content-Type: text/plain\n\nsome text\n"
 FORWARDED = b"Content-Type: multipart/mixed; boundary=b\n\n--b\n" + TEXT + b"\n--b\nContent-Type: message/rfc822\n\n" + TEXT + b"\n--b--\n"
@@ -46,7 +49,7 @@ def test_members_are_those_of_the_json(samples, hostile):
         mail = rocktray.Mail(raw)
         if mail.error:
             continue
-        line = mail.json if made % 2 else mail._object  # before the JSON is read, and after it
+        line = mail.json
         for name in ("from", "to", "cc", "bcc", "sender", "reply_to"):
             assert getattr(mail, name.replace("from", "from_")) == list(pairs_of(line[name])), raw
         assert (mail.subject, mail.in_reply_to, mail.references) == (line["subject"], line["in_reply_to"], line["references"])
@@ -55,22 +58,52 @@ def test_members_are_those_of_the_json(samples, hostile):
         assert mail.date_error == line.get("date_error") or line["date"] is not None
         assert mail.is_date_zone_known == ("date_zone_unknown" not in line)
         assert (mail.bounced_id, [one._asdict() for one in mail.recipients]) == (line["bounced_id"], line["recipients"])
-        assert [part_of_json(mail._part(index)) for index in range(len(line["parts"]))] == line["parts"], raw
+        assert [part_of_json(mail._part(index)) for index in range(len(mail._nodes))] == line["parts"], raw
         made += 1
     assert made > 1000
 
 
-def test_headers_need_no_json(samples, monkeypatch):
-    """What a mail's own headers have, and whether it is refused, is read without the JSON."""
+def test_nothing_but_the_json_is_json(samples, monkeypatch):
+    """All else is decoded of the records."""
 
     def refuse(*_):
         raise AssertionError("the JSON was read")
 
-    monkeypatch.setattr(rocktray._library._engine, "json", refuse)
+    monkeypatch.setattr(rocktray._mail._engine, "json", refuse, raising=False)
     for raw in samples.values():
         mail = rocktray.parse(raw)
-        assert mail.subject == mail["Subject"] and mail.error is None
-        assert [mail.date, mail.date_error, mail.message_id, mail.references, mail.in_reply_to, mail.recipients, mail.raw]
+        found = [mail.subject, mail.from_, mail.date, mail.message_id, mail.references, mail.text, mail.html, mail.headers]
+        for part in [*mail.walk(), *mail.files(), *mail.attachments()]:
+            found += [part.content_type, part.params, part.file_name, part.safe_name, part.disposition, part.content_id]
+            found += [part.headers, part.text, part.size, part.decoded_size, part.extracted_content(), part.children]
+        assert found
+
+
+def test_what_is_decoded_is_remembered(samples):
+    mail = rocktray.parse(samples["attachment"])
+    assert mail.subject is mail.subject and mail.text is mail.text
+    first, again = (next(mail.walk()) for _ in range(2))
+    assert first.content_type is again.content_type
+    assert mail.date is mail.date
+
+
+def test_limit(tmp_path):
+    raw = b"Content-Type: multipart/mixed; boundary=b\n\n" + b"--b\n\n" * 1000 + b"--b--\n"
+    assert len(list(rocktray.parse(raw).walk())) == 1001
+    assert len(list(rocktray.parse(raw, limit=1002).walk())) == 1001
+    for call in (lambda: rocktray.parse(raw, limit=1001), lambda: rocktray.Mail(raw, limit=5).subject):
+        with pytest.raises(rocktray.Refused) as caught:
+            call()
+        assert caught.value.number == 22
+    inside = rocktray.parse(b"Content-Type: message/rfc822\n\n" + raw, limit=100)
+    with pytest.raises(rocktray.Refused):
+        inside.files()
+    box = io.BytesIO(b"From a Fri Jul  8 12:08:34 2011\n" + raw + b"\nFrom a Fri Jul  8 12:08:34 2011\nSubject: 2\n\n")
+    assert [mail.error or mail.subject for mail in rocktray.open_mailbox(box, limit=10)] == [caught.value.text, "2"]
+    (tmp_path / "cur").mkdir()
+    (tmp_path / "cur" / "1").write_bytes(raw)
+    assert [mail.error for mail in rocktray.open_maildir(tmp_path, limit=10)] == [caught.value.text]
+    assert rocktray.Mail(raw, limit=5).error and pickle.loads(pickle.dumps(rocktray.Mail(raw, limit=5))).error
 
 
 def test_many_parts_and_headers():
@@ -93,7 +126,13 @@ def test_long_results():
     part = next(mail.walk())
     assert mail.to == [(f"n{number}", f"{number}@b") for number in range(3000)]
     assert part.params == {f"p{number}": str(number) for number in range(2000)}
-    assert part.file_name == name and mail.subject == "x" * 100_000
+    assert part.file_name == name and len(part.safe_name.encode()) == 254 and mail.subject == "x" * 100_000
     text = rocktray.parse(b"Content-Type: text/plain; charset=iso-8859-5\n\n" + b"\xd0" * 100_000)
     assert text.text == "а" * 100_000
     assert len(json.dumps(mail.json)) > 100_000
+
+
+def test_safe_names():
+    for name, wanted in (("../../etc/passwd", ".._.._etc_passwd"), ("..", "_"), ("résumé.pdf", "résumé.pdf"), ("a\tb", "a_b"), ("", "_")):
+        assert _engine.safe_name(name) == wanted
+    assert next(rocktray.parse(b"\n").walk()).safe_name is None
