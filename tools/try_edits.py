@@ -75,6 +75,14 @@ def batches_of(edits):
     return batches
 
 
+def function_of(directories, directory, what):
+    """The function to whose proof an error belongs, or None. Functions that call one another share a directory, where the
+    name of a goal begins with that of its function."""
+    goal = re.match(r"`(\w+)-", what)
+    beside = f"{os.path.dirname(directory)}/{goal[1]}" if goal else None
+    return directories.get(directory) or directories.get(beside)
+
+
 def judge(edits, text):
     """What to say of each edit after a check that printed this text. An edit is `refused` where each of its functions
     has a goal that is not proved; all other functions have to be fine."""
@@ -89,7 +97,7 @@ def judge(edits, text):
         found[name] = None if status == "proved" or waits else goals
     directories = {"proofs/" + it.partition("::")[2].replace("::", "/"): it for it in found}
     for directory, place, what in ERROR.findall(text):
-        name = directories.get(directory.replace("+", ""))
+        name = function_of(directories, directory.replace("+", ""), what)
         if name:
             found[name] = (found[name] or []) + [f"{place}: {what[:150]}"] * (not IS_GONE.search(what))
         elif not FOLLOWS.search(what):
@@ -217,7 +225,7 @@ def self_test():
     assert (one.changes, two.functions, two.changes) == ((("a", " x", ""),), ("a", "b"), (("a", "y", "z"),))
     assert batches_of([one, two, one._replace(functions=("b",))]) == [[one, one._replace(functions=("b",))], [two]]
     assert replaced("a", "f(x) g(y)", [("f(x)", "f(yy)"), ("(y)", "(x)")]) == "f(yy) g(x)"
-    said = "./proofs/b/A.antt:6:1: error: `returns`: differs\n./proofs/+c/A.antt:2:3: error: it has no field `x`\n"
+    said = "./proofs/+both/A.antt:6:1: error: `b-returns`: differs\n./proofs/+c/A.antt:2:3: error: it has no field `x`\n"
     said += "fn low::d: proved\nfn low::a: no proof: `search` did not prove `goal`; it calls `low::b`, which is not proved\n"
     said += "fn low::b: not proved; it calls `low::a`, which is not proved\nfn low::c: not proved\nonly=4 proved=1\n"
     said += "fn low::e: no proof: it calls `low::a` and `low::b`, which are not proved\n"
