@@ -114,7 +114,8 @@ static const struct test tests[] = {
     { TEXT, BYTES(PART "shift_jis\n\n\x83\x65"), NOTHING, 0, ROCKTRAY_DONE, BYTES("\xe3\x83\x86") },
     { TEXT, BYTES(PART "euc-kr\n\n\xc7\xd1"), NOTHING, 0, ROCKTRAY_DONE, BYTES("\xed\x95\x9c") },
     { TEXT, BYTES(PART "utf-8\n\n\xff"), NOTHING, 0, ROCKTRAY_DONE, BYTES("\xef\xbf\xbd") },
-    { TEXT, BYTES(IN_BASE64 "Zm9v*mFy"), NOTHING, 0, ROCKTRAY_DONE, BYTES("foo") },
+    { TEXT, BYTES(IN_BASE64 "Zm9v*YmFy"), NOTHING, 0, ROCKTRAY_DONE, BYTES("foobar") },
+    { TEXT, BYTES(IN_BASE64 "Zm9v*Y"), NOTHING, 0, ROCKTRAY_DONE, BYTES("foo") },
     { TEXT, NOTHING, NOTHING, 0, ROCKTRAY_DONE, BYTES("") },
     { TEXT, BYTES(" x"), NOTHING, 0, ROCKTRAY_LEADING_SPACE, NOTHING },
     /* RFC 2047; RFC 5322, section 2.2.3 */
