@@ -10,20 +10,20 @@ use mail_inputs::{Consumer, Content, Name, PROGRAM, is_directory, read_inputs, s
 use mail_json::InputKind;
 use mail_program::{Fault, Outcome};
 use std::alloc::Global;
-use std::io::{self, BufWriter, Read, Write};
+use std::io::{self, BufWriter, Printer, Read, Write};
 use std::process::ExitCode;
 use std::rt::Files;
 use std::str;
 
 /// Writes the only file of an input that the choice keeps.
 #[derive(Drop)]
-struct OnlyWriter<'r, W> {
-    out: W,
+struct OnlyWriter<'r, P: Print> {
+    out: BufWriter<Printer<'r, P>>,
     kind: InputKind,
     options: SaveOptions<'r>,
 }
 
-impl<'r, W: Write> Consumer for OnlyWriter<'r, W> {
+impl<'r, P: Print> Consumer for OnlyWriter<'r, P> {
     fn read<R: Files + Eprint + AllocGlobal, I: Read>(
         &mut self,
         rt: &R,
