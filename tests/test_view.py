@@ -80,6 +80,7 @@ def view(raw):
     for path, part in parts_of(mail):
         if not has_parts(part):
             size, name = f"{len(body_of(part))} bytes", file_name(part)
+            name = name and re.sub(r"\r?\n[ \t]*", " ", name)  # a line end in a name is read as in a value
             row = f"{path:4}  {part.get_content_type():24}  {size}"
             lines.append("Part:     " + (shown(f"{row:46}  {name}") if name else row))
     return "".join(line + "\n" for line in lines)
