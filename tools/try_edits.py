@@ -89,7 +89,7 @@ def judge(edits, text):
     if not re.search(r"^only=\d+ proved=", text, re.M):
         first = next((it for it in text.split("\n") if "error" in it), text[-300:])
         return dict.fromkeys(edits, f"the check gives no verdict: {first}")
-    found, others, told = {}, [], {}
+    found, others, told, cycles = {}, [], {}, set()
     for kind, name, status, rest in TOLD.findall(text):
         own = WAITS.sub("", rest).strip(" :;")
         waits = rest and not own and (status == "no proof" or kind != "fn")
@@ -98,12 +98,16 @@ def judge(edits, text):
     directories = {"proofs/" + it.partition("::")[2].replace("::", "/"): it for it in found}
     for directory, place, what in ERROR.findall(text):
         name = function_of(directories, directory.replace("+", ""), what)
+        if name and directory.replace("+", "") not in directories:
+            cycles.add(name.rpartition("::")[0])
         if name:
             found[name] = (found[name] or []) + [f"{place}: {what[:150]}"] * (not IS_GONE.search(what))
         elif not FOLLOWS.search(what):
             others.append(f"{directory}/{place}: {what[:150]}")
     changed = {it for edit in edits for it in edit.functions}
-    others += [name for name, goals in found.items() if goals is not None and name not in changed]
+    # a function that calls one of these, and is called by it, is not proved without it
+    in_cycle = {name for name, goals in found.items() if goals == [] and name.rpartition("::")[0] in cycles}
+    others += [name for name, goals in found.items() if goals is not None and name not in changed | in_cycle]
     if others:
         return dict.fromkeys(edits, f"what no edit changes is not proved: {others[0]}")
     for edit in edits:
@@ -228,6 +232,7 @@ def self_test():
     said = "./proofs/+both/A.antt:6:1: error: `b-returns`: differs\n./proofs/+c/A.antt:2:3: error: it has no field `x`\n"
     said += "fn low::d: proved\nfn low::a: no proof: `search` did not prove `goal`; it calls `low::b`, which is not proved\n"
     said += "fn low::b: not proved; it calls `low::a`, which is not proved\nfn low::c: not proved\nonly=4 proved=1\n"
+    said += "fn low::f: not proved\n"
     said += "fn low::e: no proof: it calls `low::a` and `low::b`, which are not proved\n"
     edits = [one._replace(name=it, functions=(f"low::{it}",)) for it in "abcd"]
     assert [it[:7] for it in judge(edits, said).values()] == ["refused", "refused", "its pro", "NOT REF"]
