@@ -11,6 +11,7 @@ Files that begin as those of other formats do, such as images, are counted and s
 """
 import argparse
 import collections
+import concurrent.futures
 import hashlib
 import json
 import os
@@ -19,7 +20,6 @@ import re
 import shutil
 import subprocess
 import sys
-import tempfile
 import uuid
 import zlib
 
@@ -207,23 +207,32 @@ def read(name, options, files, out, program):
             os.remove(unfinished)
 
 
-def run(wanted, scheduler, **places):
-    """Reads these parts on the workers. Yields the name of each part that is not read, with the error."""
-    import dask  # here, so that --help needs no dask
-    from dask.distributed import Client, progress, wait
+def run_here(wanted, places):
+    """Reads these parts in threads. Yields the name of each part that is not read, with the error."""
 
-    with tempfile.TemporaryDirectory() as scratch:
-        dask.config.set({"temporary-directory": scratch})
-        here = {"processes": False, "n_workers": 1, "threads_per_worker": os.cpu_count(), "dashboard_address": None}
-        with Client(**{"address": scheduler} if scheduler else here) as client:
-            futures = client.map(read, *zip(*((name, *part) for name, part in wanted.items())), pure=False, **places)
-            if sys.stdout.isatty():
-                progress(futures)
-            wait(futures)
-            results = dict(client.gather(futures, errors="skip"))
-            for name, future in zip(wanted, futures):
-                if name not in results or results[name]:
-                    yield name, results[name] if name in results else repr(future.exception())
+    def result(item):
+        try:
+            return read(item[0], *item[1], **places)
+        except OSError as fault:
+            return item[0], str(fault)
+
+    with concurrent.futures.ThreadPoolExecutor(os.cpu_count()) as pool:
+        yield from ((name, fault) for name, fault in pool.map(result, wanted.items()) if fault)
+
+
+def run_there(wanted, scheduler, places):
+    """Reads these parts on the workers. Yields the name of each part that is not read, with the error."""
+    from dask.distributed import Client, progress, wait  # here, so that --help needs no dask
+
+    with Client(address=scheduler) as client:
+        futures = client.map(read, *zip(*((name, *part) for name, part in wanted.items())), pure=False, **places)
+        if sys.stdout.isatty():
+            progress(futures)
+        wait(futures)
+        results = dict(client.gather(futures, errors="skip"))
+        for name, future in zip(wanted, futures):
+            if name not in results or results[name]:
+                yield name, results[name] if name in results else repr(future.exception())
 
 
 def parts_of(found, paths, most, options, program):
@@ -280,7 +289,9 @@ def main():
     wanted = parts_of(found, given.paths, given.bytes, ["--hash"] * given.hash, key)
     unread = {name: part for name, part in wanted.items() if not os.path.exists(os.path.join(given.out, name))}
     try:
-        refused = dict(run(unread, given.scheduler, out=given.out, program=program)) if unread else {}
+        places = {"out": given.out, "program": program}
+        is_far = given.scheduler and unread
+        refused = dict(run_there(unread, given.scheduler, places) if is_far else run_here(unread, places))
     except KeyboardInterrupt:
         print("index_archive.py: interrupted; the next run goes on from here", file=sys.stderr, flush=True)
         os._exit(130)  # without the messages of what dask still runs
