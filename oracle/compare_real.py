@@ -320,6 +320,9 @@ def main():
     if missing:
         parser.error(f"{missing[0]} is not there")
     programs = {name: f"{TOP}/crates/{name}/out/{name}" for name in ("rocktray", "mail_jobs")}
+    for name, path in programs.items():
+        if not os.path.isfile(path):
+            sys.exit(f"compare_real.py: {name} is not built: run tools/program.sh {name}")
     counts = Counts(asked.show)
     batch = []
     for name, mail in mails_at(asked.paths):

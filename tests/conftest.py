@@ -91,7 +91,7 @@ def c_library(tmp_path_factory):
     if not (TOP / "crates" / "mail_c" / "out" / "libmail_c.a").is_file():
         missing("the C library is not built: run tools/make_c_library.sh")
     prefix = tmp_path_factory.mktemp("library") / "prefix"
-    subprocess.run([TOP / "tools" / "make_c_library.sh", prefix], check=True, stdout=subprocess.DEVNULL)
+    subprocess.run([TOP / "tools" / "make_c_library.sh", prefix], check=True, stdout=subprocess.DEVNULL, env={**os.environ, "BUILT": "only"})
     return prefix
 
 

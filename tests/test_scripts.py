@@ -67,7 +67,8 @@ def test_launcher(link):
 @pytest.mark.quick
 @pytest.mark.parametrize("command", [
     ["./mail_show", "samples/plain.eml"], ["tools/program.sh", "rocktray"],
-    ["tools/make_c_library.sh", "/tmp/rocktray"], ["tools/make_wheel.py", "/tmp/wheels"], ["./test"],
+    ["tools/make_c_library.sh", "/tmp/rocktray"], ["tools/make_wheel.py", "/tmp/wheels"], ["./test"], [".ci/run"],
+    ["tools/make_release.py", "/tmp/release"], ["tools/try_edits.py"],
 ])
 def test_without_the_kit(command, tmp_path):
     """Without the kit, and in a copy where nothing is built, one line says what is needed."""
@@ -76,7 +77,7 @@ def test_without_the_kit(command, tmp_path):
     ended = subprocess.run(command, stdin=subprocess.DEVNULL, capture_output=True, text=True, timeout=20, cwd=copy,
                            env={"PATH": "/usr/bin:/bin"})
     assert (ended.returncode, ended.stdout) == (2, "")
-    assert re.fullmatch(r"\w[\w.]*: this needs the Rattle kit, whose command is rt(; README.md says how to get a release)?\n", ended.stderr)
+    assert re.fullmatch(r"[\w./]+: this needs the Rattle kit, whose command is rt(; README.md says how to get a release)?\n", ended.stderr)
 
 
 @pytest.mark.quick

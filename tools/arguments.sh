@@ -46,21 +46,21 @@ version() {
 check_arguments() {
     given=0
     are_names=
-    for word; do
+    for argument; do
         if [ -n "$are_names" ]; then
             given=$((given + 1))
             continue
         fi
-        case $word in
+        case $argument in
             -h | --help) help; exit 0 ;;
-            --version) case $arguments in *'[--version]'*) echo "$script $(version)"; exit 0 ;; esac; usage "there is no option $word" ;;
+            --version) case $arguments in *'[--version]'*) echo "$script $(version)"; exit 0 ;; esac; usage "there is no option $argument" ;;
             '') usage 'an argument is empty' ;;
             -) given=$((given + 1)) ;;
             --) are_names=1 ;;
             -*)
                 case " $arguments " in
-                    *" [$word] "*) ;;
-                    *) usage "there is no option $word" ;;
+                    *" [$argument] "*) ;;
+                    *) usage "there is no option $argument" ;;
                 esac
                 ;;
             *) given=$((given + 1)) ;;
@@ -69,8 +69,8 @@ check_arguments() {
     least=0
     most=0
     set -f # text in brackets is not a pattern for files
-    for word in $arguments; do
-        case $word in
+    for argument in $arguments; do
+        case $argument in
             '[-'*) ;;
             '['*'..]') most=$((most + $#)) ;;
             *'..') least=$((least + 1)); most=$((most + $#)) ;;

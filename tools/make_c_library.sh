@@ -2,12 +2,20 @@
 # make_c_library.sh PREFIX: installs the C library into the directory PREFIX: lib/librocktray.so, lib/librocktray.a,
 # include/rocktray.h and lib/pkgconfig/rocktray.pc. It prints where the shared library is.
 #
-# If crates/mail_c/out/libmail_c.a is missing or older than a source, the crate is proved and the
-# archive built first, with progress on standard error (docs/CONTRIBUTING.md says how long). It needs the kit and a C compiler (CC, or cc), and the library
-# needs the C library alone.
+# If crates/mail_c/out/libmail_c.a is missing or older than a source, the crate is proved and the archive built first,
+# with progress on standard error (docs/CONTRIBUTING.md says how long). With BUILT=only in the environment an archive that
+# has to be built is an error. It needs the kit and a C compiler (CC, or cc), and the library needs the C library alone.
+# Without the kit the library is that of a release that is unpacked at the top of the checkout.
 arguments='PREFIX'
 . "$(dirname "$0")/arguments.sh"
+. "$here/released.sh"
 [ -d "$(dirname "$1")" ] || usage "there is no directory $(dirname "$1")"
+if library=$(unpacked lib/librocktray.so); then
+    mkdir -p "$1"
+    cp -R "$(dirname "$library")" "$(dirname "$library")/../include" "$1"
+    echo "$(cd "$1" && pwd)/lib/librocktray.so"
+    exit
+fi
 crate=$top/crates/mail_c
 archive=$crate/out/libmail_c.a
 compiler=${CC:-cc}
@@ -25,6 +33,10 @@ build() {
 }
 
 if [ ! -f "$archive" ] || [ -n "$(find "$top"/crates/*/src -name '*.rt' -newer "$archive" -print -quit)" ]; then
+    if [ "${BUILT:-}" = only ]; then
+        echo "$script: mail_c is not built" >&2
+        exit 1
+    fi
     echo "$script: proving mail_c" >&2
     build
 fi

@@ -1,10 +1,10 @@
 #!/bin/sh
-# program.sh NAME: prints where the program of the crate NAME is, a directory crates/NAME with
-# src/main.rt.
-# Without the kit it is that of a release: one unpacked at the top of the checkout, or one on the PATH.
+# program.sh NAME: prints where the program of the crate NAME is, a directory crates/NAME with src/main.rt.
 #
-# If the program is missing or older than a source, the crate is proved and the program built first,
-# with progress on standard error (docs/CONTRIBUTING.md says how long). With BUILT=only in the environment a program that has to be built is an error.
+# If the program is missing or older than a source, the crate is proved and the program built first, with progress on
+# standard error (docs/CONTRIBUTING.md says how long). With BUILT=only in the environment a program that has to be built
+# is an error. Without the kit the program is that of a release: one that is unpacked at the top of the checkout, or one
+# on the PATH.
 arguments='NAME'
 . "$(dirname "$0")/arguments.sh"
 . "$here/released.sh"
@@ -48,8 +48,8 @@ build() {
     cd "$crate"
     set --
     if [ -f args ]; then
-        while read -r word; do
-            set -- "$@" "$word"
+        while read -r argument; do
+            set -- "$@" "$argument"
         done < args
     fi
     {

@@ -121,6 +121,7 @@ def stamps_in(top):
     """The text by which rt recognizes each library of a repository; nothing if the kit does not give it this way."""
     kit = Path(subprocess.run(["rt", "doc"], stdout=subprocess.PIPE, text=True, check=True).stdout.strip()).parent
     sys.path.insert(0, f"{kit}/bin")
+    sys.dont_write_bytecode = True  # nothing is written into the kit
     try:
         import rtlib
 
@@ -251,6 +252,9 @@ def main():
     edits = [edit for path in paths for edit in edits_in(path.parts[-3], path.read_text("utf-8"))]
     for it in set(words.names) - {it.crate for it in edits} - {it.name for it in edits}:
         reader.error(f"there is no crate with edits, and no edit, of the name {it}")
+    if shutil.which("rt") is None:
+        print("try_edits.py: this needs the Rattle kit, whose command is rt", file=sys.stderr)
+        return 2
     with tempfile.TemporaryDirectory(prefix="try-edits-") as scratch:
         signal.signal(signal.SIGTERM, lambda *_: (shutil.rmtree(scratch, ignore_errors=True), os._exit(1)))
         run = Run(scratch, words.jobs, words.ci)
