@@ -35,7 +35,7 @@ try_program() {
     equal "$(ls "$2" | wc -l)" "$(wc -l < lines)"
 }
 
-# try_c EXAMPLE SAMPLES WORD..: compiles the example and runs it; the words are those of the compiler
+# try_c EXAMPLE SAMPLES FLAG..: compiles the example with these flags and runs it
 try_c() {
     example=$1 mails=$2
     shift 2
@@ -77,9 +77,9 @@ tree=$(echo /release/rocktray-*-linux-x86_64)
 note "a mail is shown $(($(date +%s) - start)) s after the archive was there"
 try_program "$tree/bin/rocktray" "$tree/share/doc/rocktray/samples"
 "$tree/bin/mail_show" "$tree/share/doc/rocktray/samples/attachment.eml" | grep -q '^part 2: '
-words=$(PKG_CONFIG_PATH=$tree/lib/pkgconfig pkg-config --cflags --libs rocktray)
+flags=$(PKG_CONFIG_PATH=$tree/lib/pkgconfig pkg-config --cflags --libs rocktray)
 # shellcheck disable=SC2086
-LD_LIBRARY_PATH=$tree/lib try_c "$tree/share/doc/rocktray/attachments.c" "$tree/share/doc/rocktray/samples" $words
+LD_LIBRARY_PATH=$tree/lib try_c "$tree/share/doc/rocktray/attachments.c" "$tree/share/doc/rocktray/samples" $flags
 try_c "$tree/share/doc/rocktray/attachments.c" "$tree/share/doc/rocktray/samples" "-I$tree/include" "$tree/lib/librocktray.a"
 (cd "$tree" && find . -type f | sort | sed 's,^\./,,') > found
 sed -n '/^ "contents": {/,/^ }/s/^  "\(.*\)": ".*/\1/p' BUILD.json | sort | diff - found

@@ -221,14 +221,14 @@ def check_manuals(directory, binaries):
     commands = make_manuals.read_commands(binaries / "rocktray")
     bash, zsh, fish = (next((directory / "share").rglob(name)).read_text() for name in ("completions/rocktray", "_rocktray", "rocktray.fish"))
     for name, command in commands.items():
-        named = {word[2:] for option in command.options for word in option.words if word.startswith("--")}
+        named = {it[2:] for option in command.options for it in option.names if it.startswith("--")}
         page = directory / "share" / "man" / "man1" / f"rocktray{'-' * bool(name)}{name}.1"
         assert named and named <= options_in(page.read_text())
         assert named <= options_in(re.search(rf"^        {name or chr(39) * 2}\) (.*)$", bash, re.M)[1])
         assert named <= {it for line in fish.splitlines() if name in line for it in re.findall(r"-l ([\w-]+)", line)}
         assert named <= options_in(zsh)
     assert set(commands) == {"", *SUBCOMMANDS}
-    return {word[2:] for command in commands.values() for option in command.options for word in option.words if word.startswith("--")}
+    return {it[2:] for command in commands.values() for option in command.options for it in option.names if it.startswith("--")}
 
 
 @pytest.fixture(scope="module")

@@ -17,9 +17,9 @@ PROGRAM = "rocktray"
 
 
 class Option(NamedTuple):
-    """An option of a command: its words, the name of its value, whether a value may be left out, and its choices."""
+    """An option of a command: its names, the name of its value, whether a value may be left out, and its choices."""
 
-    words: list
+    names: list
     value: Optional[str]
     is_optional: bool
     choices: list
@@ -34,9 +34,9 @@ class Command(NamedTuple):
     options: list
 
 
-def run(*words):
+def run(*command):
     """What a command writes to standard output."""
-    return subprocess.run([os.fspath(word) for word in words], stdout=subprocess.PIPE, check=True, text=True).stdout
+    return subprocess.run([os.fspath(argument) for argument in command], stdout=subprocess.PIPE, check=True, text=True).stdout
 
 
 def rows(text, title):
@@ -55,11 +55,11 @@ def rows(text, title):
 
 def option_of(left, right):
     """The option of a row."""
-    words = re.findall(r"(?<![\w<-])--?[\w-]+", left)
+    names = re.findall(r"(?<![\w<-])--?[\w-]+", left)
     value = re.search(r"<(.+?)>", left)
     choices = re.search(r" ?\[possible values: (.*?)\]", right)
     said = right.replace(choices[0], "") if choices else right
-    return Option(words, value and value[1], "[=" in left, choices[1].split(", ") if choices else [], said)
+    return Option(names, value and value[1], "[=" in left, choices[1].split(", ") if choices else [], said)
 
 
 def command_of(text):
@@ -77,12 +77,12 @@ def read_commands(program):
 def bash(commands):
     """The completions for bash."""
     lines = [f"# bash completion for {PROGRAM}", "_rocktray() {", "    local cur prev words cword split"]
-    lines += ["    _init_completion -s -n := || return", "    local command= word", "    for word in \"${words[@]:1:cword-1}\"; do"]
-    lines += [f"        case $word in {'|'.join(commands[''].commands)}) command=$word; break ;; esac", "    done"]
+    lines += ["    _init_completion -s -n := || return", "    local command= argument", "    for argument in \"${words[@]:1:cword-1}\"; do"]
+    lines += [f"        case $argument in {'|'.join(commands[''].commands)}) command=$argument; break ;; esac", "    done"]
     lines += ["    case $command:$prev in"]
     for name, command in commands.items():
         for option in command.options:
-            where = "|".join(f"{name}:{word}" for word in option.words)
+            where = "|".join(f"{name}:{it}" for it in option.names)
             if option.choices:
                 lines.append(f"        {where}) $split && COMPREPLY=($(compgen -W '{' '.join(option.choices)}' -- \"$cur\")) && return ;;")
             elif option.value == "DIRECTORY":
@@ -91,10 +91,9 @@ def bash(commands):
                 lines.append(f"        {where}) return ;;")
     lines += ["    esac", "    $split && return", "    case $command in"]
     for name, command in commands.items():
-        words = " ".join([*command.commands, *(word + "=" * option.is_optional for option in command.options for word in option.words)])
+        known = " ".join([*command.commands, *(it + "=" * option.is_optional for option in command.options for it in option.names)])
         files = " [[ $cur == -* ]] || _filedir;" if name else ""
-        words_of_option = " ".join(word for option in command.options for word in option.words)
-        said = words if not name else words_of_option
+        said = known if not name else " ".join(it for option in command.options for it in option.names)
         lines.append(f"        {name or chr(39) * 2}) COMPREPLY=($(compgen -W '{said}' -- \"$cur\"));{files} return ;;")
     lines += [f"        help) COMPREPLY=($(compgen -W '{' '.join(commands[''].commands)}' -- \"$cur\")) ;;", "    esac", "} &&"]
     return "\n".join([*lines, f"complete -F _rocktray {PROGRAM}", ""])
@@ -107,7 +106,7 @@ def quoted(text):
 
 def zsh_option(option):
     """The specification of an option for _arguments."""
-    names = option.words
+    names = option.names
     form = f"({' '.join(names)})" if len(names) > 1 else ""
     action = f"({' '.join(option.choices)})" if option.choices else "_files -/" if option.value == "DIRECTORY" else ""
     value = f"{'::' if option.is_optional else ':'}{quoted(option.value)}:{action}" if option.value else ""
@@ -139,13 +138,13 @@ def fish(commands):
     for name, command in commands.items():
         where = f"'__fish_seen_subcommand_from {name}'" if name else "__fish_use_subcommand"
         for option in command.options:
-            words = " ".join(f"-l {word[2:]}" if word.startswith("--") else f"-s {word[1:]}" for word in option.words)
+            names = " ".join(f"-l {it[2:]}" if it.startswith("--") else f"-s {it[1:]}" for it in option.names)
             value = "" if not option.value or option.is_optional else " -r"
             if option.choices:
                 value += f" -a '{' '.join(option.choices)}'"
             elif option.value == "DIRECTORY":
                 value = " -x -a '(__fish_complete_directories)'"
-            lines.append(f"complete -c {PROGRAM} -n {where} {words}{value} -d {fish_text(option.help)}")
+            lines.append(f"complete -c {PROGRAM} -n {where} {names}{value} -d {fish_text(option.help)}")
     return "\n".join([*lines, f"complete -c {PROGRAM} -n '__fish_seen_subcommand_from help' -f -a '{' '.join(commands[''].commands)}'", ""])
 
 
@@ -154,14 +153,14 @@ def fish_text(text):
     return "'" + text.replace("\\", "\\\\").replace("'", "\\'") + "'"
 
 
-def page(program, words, about, version, epoch, see):
+def page(program, arguments, about, version, epoch, see):
     """The manual page of a command, made by help2man from what it prints."""
     name = about[0].lower() + about[1:]
     command = ["help2man", "--no-info", "--no-discard-stderr", "--section=1", f"--name={name}", f"--source=Rocktray {version}"]
-    command += [f"--version-string={version}", "--manual=Rocktray", f"--include={see}", " ".join([str(program), *words])]
+    command += [f"--version-string={version}", "--manual=Rocktray", f"--include={see}", " ".join([str(program), *arguments])]
     made = subprocess.run(command, stdout=subprocess.PIPE, check=True, text=True,
                           env={**os.environ, "SOURCE_DATE_EPOCH": str(epoch), "LC_ALL": "C.UTF-8"}).stdout
-    title = "-".join([program.name, *words])
+    title = "-".join([program.name, *arguments])
     made = made.replace(str(program), program.name)
     made = re.sub(r"^\.TH \S+", f".TH {title.upper()}", made, count=1, flags=re.M)
     return re.sub(r"^(\.SH NAME\n).*?( \\- )", lambda found: found[1] + title.replace("-", "\\-") + found[2], made, count=1, flags=re.M)
