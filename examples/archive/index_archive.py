@@ -17,11 +17,12 @@ import json
 import os
 import pathlib
 import re
-import shutil
 import subprocess
 import sys
 import uuid
 import zlib
+
+from program import rocktray
 
 OURS = re.compile(r"[0-9a-f]{32}\.jsonl|\.part-[0-9a-f]{32}")
 NO_TEXT = re.compile("[\udc80-\udcff]")
@@ -43,7 +44,6 @@ FOREIGN = (
     (b"\x7fELF", "programs"),
 )
 INDEXES = re.compile(r"dovecot[.-].*|\..*|.*\.(?:msf|idx|cmeta)")
-BUILT = os.path.join(os.path.dirname(os.path.abspath(__file__)), "../../crates/rocktray/out/rocktray")
 
 
 def state(path):
@@ -269,7 +269,7 @@ def arguments():
     parser.add_argument("out", metavar="OUT", type=os.path.abspath)
     parser.add_argument("paths", metavar="PATH", nargs="+", type=os.path.abspath, help="a directory or a mailbox")
     parser.add_argument("--scheduler", metavar="ADDRESS", help="by default, as many parts are read at once as there are processors here")
-    parser.add_argument("--program", metavar="ROCKTRAY", help="by default the built rocktray of this repository, or the installed one")
+    parser.add_argument("--program", metavar="ROCKTRAY", help="by default the one that is built here, in a release that is unpacked here, or installed")
     parser.add_argument("--hash", action="store_true", help="write the SHA-256 of each attachment")
     parser.add_argument("--skip-bad", action="store_true", help="end with exit status 0 although files could not be read")
     parser.add_argument("--bytes", type=int, default=32 << 20, help="the greatest size of a part; 32 MiB by default")
@@ -280,9 +280,7 @@ def main():
     """Reads the missing parts, and writes MANIFEST."""
     parser = arguments()
     given = parser.parse_args()
-    program = os.path.abspath(given.program or (BUILT if os.path.isfile(BUILT) else shutil.which("rocktray") or BUILT))
-    if not os.path.isfile(program):
-        parser.error(f"{program} is missing: build it by tools/program.sh rocktray, or install rocktray")
+    program = rocktray(given.program)
     os.makedirs(given.out, exist_ok=True)
     found = Found(given.out)
     key = hashlib.sha256(pathlib.Path(program).read_bytes()).hexdigest()

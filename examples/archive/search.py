@@ -26,12 +26,12 @@ import glob
 import json
 import os
 import re
-import shutil
 import sqlite3
 import subprocess
 import sys
 
-BUILT = os.path.join(os.path.dirname(os.path.abspath(__file__)), "../../crates/rocktray/out/rocktray")
+from program import rocktray
+
 COLUMNS = ("message_id", "date", "time", "sender", "recipients", "subject", "list_id", "files", "copies", "file", "start", "end")
 FOUND = """
 select message_id, date, datetime(date, 'unixepoch'), sender, recipients, subject, list_id,
@@ -165,7 +165,7 @@ def write_mailbox(found, _):
 
 def write_shown(found, given):
     """Shows each mail by rocktray show."""
-    program = given.program or shutil.which("rocktray") or BUILT
+    program = rocktray(given.program)
     for mail, _, _ in found:
         sys.stdout.flush()
         subprocess.run([program, "show", "-"], input=bytes_of(mail), check=True)
@@ -199,7 +199,7 @@ def arguments():
     parser.add_argument("--thread", metavar="ID", help="all mails of the thread of a message id, as a tree")
     parser.add_argument("--limit", metavar="COUNT", type=int, help="the maximum number of mails; 20 by default, but for a thread")
     parser.add_argument("--snippets", action="store_true", help="write some of the text around the words that match")
-    parser.add_argument("--program", metavar="ROCKTRAY", help="the program of --show; by default the installed or the built one")
+    parser.add_argument("--program", metavar="ROCKTRAY", help="the program of --show; by default that of index_archive.py")
     output = parser.add_mutually_exclusive_group()
     output.add_argument("--show", action="store_const", dest="output", const="show", help="show the mails by rocktray show")
     output.add_argument("--raw", action="store_const", dest="output", const="raw", help="write the bytes of the only mail")

@@ -12,7 +12,6 @@ import glob
 import json
 import os
 import re
-import shutil
 import sqlite3
 import subprocess
 import sys
@@ -24,6 +23,7 @@ import flask
 import pygal
 
 import search
+from program import rocktray
 
 PAGE = 25
 # the number of the latest mails that are counted beside a search
@@ -280,7 +280,7 @@ def main():
     parser.add_argument("database", metavar="DATABASE")
     parser.add_argument("--host", default="127.0.0.1", help="the address to answer on; 127.0.0.1 by default, which is this machine alone")
     parser.add_argument("--port", type=int, default=8025)
-    parser.add_argument("--program", metavar="ROCKTRAY", help="by default the built rocktray of this repository, or the installed one")
+    parser.add_argument("--program", metavar="ROCKTRAY", help="by default the one that is built here, in a release that is unpacked here, or installed")
     given = parser.parse_args()
     if not glob.glob(os.path.join(glob.escape(given.database), "[0-9]*.sqlite")):
         parser.error(f"{given.database} has no slices of load_sqlite.py")
@@ -288,7 +288,7 @@ def main():
     if given.host not in ("127.0.0.1", "localhost", "::1"):
         print("web.py: anyone who reaches this port can read the archive; there are no passwords", file=sys.stderr)
         hosts = None
-    program = given.program or (search.BUILT if os.path.isfile(search.BUILT) else shutil.which("rocktray") or search.BUILT)
+    program = rocktray(given.program)
     create_app(given.database, program, hosts).run(given.host, given.port, threaded=True)
 
 
