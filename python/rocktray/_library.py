@@ -4,7 +4,10 @@ from __future__ import annotations
 
 from typing import TYPE_CHECKING, Any, Iterator, List, Optional, Tuple, Union
 
-from . import _engine
+try:
+    from . import _engine
+except ImportError as why:
+    raise ImportError("rocktray cannot load its extension: install the wheel of a release, or ./python by pip") from why
 
 if TYPE_CHECKING:
     import mmap
