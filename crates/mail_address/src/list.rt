@@ -13,10 +13,10 @@ ghost use Rattle.mail_address.specs.Addresses.{name_len, separator_len, single_a
 ghost use Rattle.mail_address.specs.AddressViews.{element_view, group_view, mailbox_view};
 ghost use Rattle.mail_address.specs.AddressViews.{member_view};
 ghost use Rattle.mail_address.specs.MailboxViews.{parts};
-ghost use Rattle.mail_address.specs.private.Plain.{IsElement, IsFront, IsMember};
+ghost use Rattle.mail_address.specs.private.Plain.{IsFront, IsSingle};
 
 use crate::mailbox::{is_phrase, mailbox_of};
-use crate::plain::{Plain, ends_element, ends_member, plain_mailbox};
+use crate::plain::{Level, Plain, ends_single, plain_mailbox};
 use crate::text::{address_text, name_text};
 use crate::tokens::{Span, begins_at, is_all_white, run};
 use mail_codec::charset::KnownCharsets;
@@ -242,7 +242,7 @@ fn push_element<'a>(
     ensures bounds { IfOk result (λ len. len ≤ length bytes.now) }
     ensures takes_some { IfOk result (λ len. 0 < len) }
 {
-    if let Some((mailbox, len)) = plain_element(start, bytes) {
+    if let Some((mailbox, len)) = plain_single(Level::List, start, bytes) {
         list.push(Address::Mailbox(mailbox))?;
         return Ok(bytes.len().min(len + 1));
     }
@@ -279,51 +279,30 @@ fn mailbox_at<'a>(start: usize, bytes: &'a [u8], plain: &Plain<'a>) -> Mailbox<'
     }
 }
 
-/// Returns the plain mailbox at the front and its length, if it is an element of a list.
-fn plain_element(start: usize, bytes: &[u8]) -> Option<(Mailbox<'_>, usize)>
-    ensures { IfSome result (λ found. IsElement start bytes.now (mailbox_view found.0) found.1) }
+/// Returns the plain mailbox at the front and its length, if it is an element of a list or a member
+/// of a group.
+fn plain_single(level: Level, start: usize, bytes: &[u8]) -> Option<(Mailbox<'_>, usize)>
+    ensures { IfSome result (λ found.
+        IsSingle level start bytes.now (mailbox_view found.0) found.1) }
 {
     match plain_mailbox(bytes) {
-        Some(plain) => front_element(start, bytes, &plain),
+        Some(plain) => front_single(level, start, bytes, &plain),
         None => None,
     }
 }
 
 /// Returns that mailbox and its length, if a separator or nothing follows it.
-fn front_element<'a>(
+fn front_single<'a>(
+    level: Level,
     start: usize,
     bytes: &'a [u8],
     plain: &Plain<'a>,
 ) -> Option<(Mailbox<'a>, usize)>
     requires front { IsFront bytes.now (parts plain.now.parts) plain.now.len }
-    ensures { IfSome result (λ found. IsElement start bytes.now (mailbox_view found.0) found.1) }
+    ensures { IfSome result (λ found.
+        IsSingle level start bytes.now (mailbox_view found.0) found.1) }
 {
-    if !ends_element(&bytes[plain.len..]) {
-        return None;
-    }
-    Some((mailbox_at(start, bytes, plain), plain.len))
-}
-
-/// Returns the plain mailbox at the front and its length, if it is a member of a group.
-fn plain_member(start: usize, bytes: &[u8]) -> Option<(Mailbox<'_>, usize)>
-    ensures { IfSome result (λ found. IsMember start bytes.now (mailbox_view found.0) found.1) }
-{
-    match plain_mailbox(bytes) {
-        Some(plain) => front_member(start, bytes, &plain),
-        None => None,
-    }
-}
-
-/// Returns that mailbox and its length, if a comma or nothing follows it.
-fn front_member<'a>(
-    start: usize,
-    bytes: &'a [u8],
-    plain: &Plain<'a>,
-) -> Option<(Mailbox<'a>, usize)>
-    requires front { IsFront bytes.now (parts plain.now.parts) plain.now.len }
-    ensures { IfSome result (λ found. IsMember start bytes.now (mailbox_view found.0) found.1) }
-{
-    if !ends_member(&bytes[plain.len..]) {
+    if !ends_single(level, &bytes[plain.len..]) {
         return None;
     }
     Some((mailbox_at(start, bytes, plain), plain.len))
@@ -464,7 +443,7 @@ fn push_member<'a>(
     ensures bounds { IfOk result (λ len. len ≤ length bytes.now) }
     ensures takes_some { IfOk result (λ len. 0 < len) }
 {
-    if let Some((mailbox, len)) = plain_member(start, bytes) {
+    if let Some((mailbox, len)) = plain_single(Level::Group, start, bytes) {
         list.push(Member::Mailbox(mailbox))?;
         return Ok(bytes.len().min(len + 1));
     }

@@ -2,15 +2,21 @@
 //! address of atoms and dots. Most mailboxes of real mail are plain.
 ghost use Rattle.std.specs.Prelude.{◌≡◌, ◌+◌, ◌≤◌, ◌==◌, IfSome, length};
 ghost use Rattle.std.specs.List.{prefix_len};
-ghost use Rattle.mail_codec.specs.Ascii.{comma};
-ghost use Rattle.mail_address.specs.Addresses.{is_separator};
 ghost use Rattle.mail_address.specs.MailboxViews.{parts};
 ghost use Rattle.mail_address.specs.private.Plain.{IsFront, dot_atom_len, ends_at, is_inner_byte};
 ghost use Rattle.mail_address.specs.private.Plain.{is_phrase_byte, plain_name_len, quoted_len};
-ghost use Rattle.mail_address.specs.private.Plain.{word_name_len};
+ghost use Rattle.mail_address.specs.private.Plain.{separates, word_name_len};
 
 use crate::mailbox::{Parts, are_clean};
 use crate::tokens::{begins_at, is_atom_byte, is_white, white_len};
+
+/// What an element without members is part of: a list, whose separators are commas and semicolons,
+/// or a group, whose separators are commas.
+#[derive(Clone, Copy)]
+pub(crate) enum Level {
+    List,
+    Group,
+}
 
 /// A plain mailbox at the front of bytes: its parts, and its length.
 #[derive(Clone, Copy)]
@@ -118,24 +124,17 @@ fn plain_name_len(bytes: &[u8]) -> usize
     white + word_name_len(&bytes[white..])
 }
 
-/// Returns whether the bytes are none, or begin with a separator of elements.
-pub(crate) fn ends_element(bytes: &[u8]) -> bool
-    ensures { result ≡ ends_at is_separator bytes.now }
+/// Returns whether the bytes are none, or begin with a separator.
+pub(crate) fn ends_single(level: Level, bytes: &[u8]) -> bool
+    ensures { result ≡ ends_at (separates level) bytes.now }
 {
     let Some((first, _)) = bytes.split_first() else {
         return true;
     };
-    *first == b',' || *first == b';'
-}
-
-/// Returns whether the bytes are none, or begin with a comma.
-pub(crate) fn ends_member(bytes: &[u8]) -> bool
-    ensures { result ≡ ends_at (λ b. b == comma) bytes.now }
-{
-    let Some((first, _)) = bytes.split_first() else {
-        return true;
-    };
-    *first == b','
+    match level {
+        Level::List => *first == b',' || *first == b';',
+        Level::Group => *first == b',',
+    }
 }
 
 /// Returns the mailbox at the front, if it is plain. What follows it may be anything.

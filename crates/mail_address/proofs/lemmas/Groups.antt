@@ -73,7 +73,7 @@ members-read : {start : ℕ} {bytes : List ℕ} {members : List Single} → AreM
 members-read {start} {bytes} (no_member white) = white-alone bytes white start
 members-read {start} {bytes} (one_member {m = m} is) =
     ap (items member_at member_len start) (sym (append-nil bytes))
-    ∙ member-first bytes [] [] at_end (λ span over. mailbox-passed over is) (mailbox-not_white is) (Some m) (mailbox-read bytes m is) start
+    ∙ member-first bytes [] [] at_end (λ span crosses. mailbox-passed crosses is) (mailbox-not_white is) (Some m) (mailbox-read bytes m is) start
     ∙ ap (λ ss. mailbox_at start bytes m ∷ ss) (no_members (start + min (suc (length bytes)) (length (bytes ++ []))))
 members-read {start} (blank_member {white = white} {rest = rest} is more e) =
     let len = length-append white (44 ∷ rest) in
@@ -83,7 +83,7 @@ members-read {start} (blank_member {white = white} {rest = rest} is more e) =
     ∙ members-read more
 members-read {start} (next_member {text = text} {rest = rest} {m = m} is more e) =
     ap (items member_at member_len start) e
-    ∙ member-first text (44 ∷ rest) rest (at_comma rest) (λ span over. mailbox-passed over is) (mailbox-not_white is) (Some m) (mailbox-read text m is) start
+    ∙ member-first text (44 ∷ rest) rest (at_comma rest) (λ span crosses. mailbox-passed crosses is) (mailbox-not_white is) (Some m) (mailbox-read text m is) start
     ∙ ap (λ n. mailbox_at start text m ∷ items member_at member_len (start + n) rest) (short text 44 rest)
     ∙ ap (λ ss. mailbox_at start text m ∷ ss) (members-read more)
 

@@ -118,43 +118,43 @@ pub record GoesOver (words : Words) (P : List ℕ → Type 0) : Type 0 where
   pub dot : P (46 ∷ [])
   pub word : {bytes : List ℕ} → IsWord words bytes → P bytes
 
-over : {words : Words} (span : Span) → is_in span Blank ≡ true → is_in span Comment ≡ true → is_in span Dot ≡ true → ((bytes : List ℕ) → IsWord words bytes → IsPassed span bytes)
+goes_over : {words : Words} (span : Span) → is_in span Blank ≡ true → is_in span Comment ≡ true → is_in span Dot ≡ true → ((bytes : List ℕ) → IsWord words bytes → IsPassed span bytes)
     → GoesOver words (IsPassed span)
-over span blank comment dot word =
+goes_over span blank comment dot word =
     record { none = λ rest. omega arith; both = passed-append span; white = λ is. white-passed span blank comment is; dot = λ rest. run-token span (46 ∷ []) rest Dot (omega arith) (dot-front rest) dot; word = λ is. word _ is }
 
 pub over-words : (span : Span) → is_in span Blank ≡ true → is_in span Comment ≡ true → is_in span Dot ≡ true → is_in span Atom ≡ true → is_in span Quoted ≡ true
     → GoesOver any_words (IsPassed span)
-over-words span blank comment dot goes quoted = over span blank comment dot (λ bytes is. go is)
+over-words span blank comment dot goes quoted = goes_over span blank comment dot (λ bytes is. go is)
   where
     go : {bytes : List ℕ} → IsWord any_words bytes → IsPassed span bytes
     go (any_word (quoted_word between e)) = closed-passed span (quoted-closed between e) quoted
     go (any_word (atom_word {b = b} {bytes = bytes} h)) = atoms-passed span goes (b ∷ bytes) h
 
 pub over-atoms : (span : Span) → is_in span Blank ≡ true → is_in span Comment ≡ true → is_in span Dot ≡ true → is_in span Atom ≡ true → GoesOver atoms (IsPassed span)
-over-atoms span blank comment dot goes = over span blank comment dot (λ bytes is. go is)
+over-atoms span blank comment dot goes = goes_over span blank comment dot (λ bytes is. go is)
   where
     go : {bytes : List ℕ} → IsWord atoms bytes → IsPassed span bytes
     go (atom {b = b} {bytes = bytes} h) = atoms-passed span goes (b ∷ bytes) h
 
 pub over-literals : (span : Span) → is_in span Blank ≡ true → is_in span Comment ≡ true → is_in span Dot ≡ true → is_in span Literal ≡ true → GoesOver literals (IsPassed span)
-over-literals span blank comment dot goes = over span blank comment dot (λ bytes is. go is)
+over-literals span blank comment dot goes = goes_over span blank comment dot (λ bytes is. go is)
   where
     go : {bytes : List ℕ} → IsWord literals bytes → IsPassed span bytes
     go (literal between e) = closed-passed span (literal-closed between e) goes
 
 padded-passed : {words : Words} {P : List ℕ → Type 0} → GoesOver words P → {bytes : List ℕ} → IsPadded words bytes → P bytes
-padded-passed {words} {P} over is =
+padded-passed {words} {P} goes_over is =
     subst P (sym is.made)
-    (over.both is.before (is.word ++ is.after) (over.white is.white_before) (over.both is.word is.after (over.word is.is_word) (over.white is.white_after)))
+    (goes_over.both is.before (is.word ++ is.after) (goes_over.white is.white_before) (goes_over.both is.word is.after (goes_over.word is.is_word) (goes_over.white is.white_after)))
 
 dot_words-passed : {words : Words} {P : List ℕ → Type 0} → GoesOver words P → {bytes : List ℕ} → AreDotWords words bytes → P bytes
-dot_words-passed {words} {P} over dots_end = over.none
-dot_words-passed {words} {P} over (dot_word {word = word} {rest = rest} is more e) =
-    subst P (sym e) (over.both (46 ∷ []) (word ++ rest) over.dot (over.both word rest (padded-passed over is) (dot_words-passed over more)))
+dot_words-passed {words} {P} goes_over dots_end = goes_over.none
+dot_words-passed {words} {P} goes_over (dot_word {word = word} {rest = rest} is more e) =
+    subst P (sym e) (goes_over.both (46 ∷ []) (word ++ rest) goes_over.dot (goes_over.both word rest (padded-passed goes_over is) (dot_words-passed goes_over more)))
 
 pub dotted-passed : {words : Words} {P : List ℕ → Type 0} → GoesOver words P → {bytes : List ℕ} → AreDotted words bytes → P bytes
-dotted-passed {words} {P} over are = subst P (sym are.made) (over.both are.first are.rest (padded-passed over are.is_first) (dot_words-passed over are.are_rest))
+dotted-passed {words} {P} goes_over are = subst P (sym are.made) (goes_over.both are.first are.rest (padded-passed goes_over are.is_first) (dot_words-passed goes_over are.are_rest))
 
 domain-passed : {P : List ℕ → Type 0} → GoesOver atoms P → GoesOver literals P → {bytes : List ℕ} → IsDomain bytes → P bytes
 domain-passed one two (dotted are) = dotted-passed one are
@@ -185,19 +185,19 @@ pub route-passed : {P : List ℕ → Type 0} → GoesOver atoms P → GoesOver l
 route-passed one two at comma is = stops-passed one two at comma (route-stops is)
 
 phrase_rest-passed : {P : List ℕ → Type 0} → GoesOver any_words P → {bytes : List ℕ} → IsPhraseRest bytes → P bytes
-phrase_rest-passed {P} over phrase_ends = over.none
-phrase_rest-passed {P} over (phrase_white {white = white} {rest = rest} is more e) = subst P (sym e) (over.both white rest (over.white is) (phrase_rest-passed over more))
-phrase_rest-passed {P} over (phrase_dot {rest = rest} more) = over.both (46 ∷ []) rest over.dot (phrase_rest-passed over more)
-phrase_rest-passed {P} over (phrase_word {word = word} {rest = rest} is more e) = subst P (sym e) (over.both word rest (over.word (any_word is)) (phrase_rest-passed over more))
+phrase_rest-passed {P} goes_over phrase_ends = goes_over.none
+phrase_rest-passed {P} goes_over (phrase_white {white = white} {rest = rest} is more e) = subst P (sym e) (goes_over.both white rest (goes_over.white is) (phrase_rest-passed goes_over more))
+phrase_rest-passed {P} goes_over (phrase_dot {rest = rest} more) = goes_over.both (46 ∷ []) rest goes_over.dot (phrase_rest-passed goes_over more)
+phrase_rest-passed {P} goes_over (phrase_word {word = word} {rest = rest} is more e) = subst P (sym e) (goes_over.both word rest (goes_over.word (any_word is)) (phrase_rest-passed goes_over more))
 
 pub phrase-passed : {P : List ℕ → Type 0} → GoesOver any_words P → {bytes : List ℕ} → IsPhrase bytes → P bytes
-phrase-passed {P} over is =
+phrase-passed {P} goes_over is =
     subst P (sym is.made)
-    (over.both is.before (is.first ++ is.rest) (over.white is.white_before) (over.both is.first is.rest (over.word (any_word is.is_first)) (phrase_rest-passed over is.is_rest)))
+    (goes_over.both is.before (is.first ++ is.rest) (goes_over.white is.white_before) (goes_over.both is.first is.rest (goes_over.word (any_word is.is_first)) (phrase_rest-passed goes_over is.is_rest)))
 
 pub name-passed : {P : List ℕ → Type 0} → GoesOver any_words P → {bytes : List ℕ} → IsName bytes → P bytes
-name-passed over (no_name white) = over.white white
-name-passed over (phrase is) = phrase-passed over is
+name-passed goes_over (no_name white) = goes_over.white white
+name-passed goes_over (phrase is) = phrase-passed goes_over is
 
 -- ---- whitespace, wholly
 

@@ -12,7 +12,9 @@ use Rattle.mail_address.specs.Enclosed.{IsBetween, no_bytes, plain_byte}
 use Rattle.mail_address.specs.Grammar.{address, AreDotted, atom, atoms, dot_word, dots_end, dotted, IsName, IsPhraseRest, IsWhite, named_address, no_name, no_route, phrase, phrase_dot, phrase_ends, phrase_white, phrase_word, white_byte, white_ends}
 use Rattle.mail_address.specs.Mailbox.{are_clean, Parts}
 use Rattle.mail_address.specs.Names.{atom_word, quoted_word}
-use Rattle.mail_address.specs.private.Plain.{atoms_place, dot_atom_len, ends_at, ends_in_atom, is_inner_byte, is_phrase_byte, IsDotAtom, IsElement, IsFront, IsMember, plain_name_len, quoted_len, word_name_len}
+use Rattle.mail_address.specs.private.Plain.{atoms_place, dot_atom_len, ends_at, ends_in_atom, is_inner_byte, is_phrase_byte, IsDotAtom, IsElement, IsFront, IsMember, IsSingle, plain_name_len, quoted_len, separates, word_name_len}
+use Rattle.mail_address.specs.declared.plain.Level.{Level}
+use Rattle.mail_address.specs.declared.plain.Level.TheVariants as levels
 use Rattle.mail_address.specs.Text.{address_bytes, bare, local_text, needs_no_quotes, quoted_text}
 use Rattle.mail_address.specs.Tokens.{is_atom_byte, is_white}
 use Rattle.mail_address.proofs.lemmas.Addresses.{begins-within}
@@ -339,29 +341,35 @@ module _ (bytes : List ℕ) (m : Parts) (len : ℕ) (front : IsFront bytes m len
   least = ap (λ n. min (suc n) (length (take len bytes ++ drop len bytes))) text-len ∙ ap (λ b. min (suc len) (length b)) cut
 
   -- the mailbox is the element at the front
-  pub plain_element : ends_at is_separator (drop len bytes) ≡ true → (start : ℕ) (s : Single) → s ≡ as_single start (take len bytes) (Some m) → IsElement start bytes s len
+  plain_element : ends_at is_separator (drop len bytes) ≡ true → (start : ℕ) (s : Single) → s ≡ as_single start (take len bytes) (Some m) → IsElement start bytes s len
   plain_element h start s same =
       let end = element-end (drop len bytes) h in
       record {
         within = front.within;
         at =
-            ap (element_at start) (sym cut) ∙ element-is (take len bytes) (drop len bytes) end.0 end.1 (λ span over. mailbox-passed over front.is) (mailbox-not_white front.is)
+            ap (element_at start) (sym cut) ∙ element-is (take len bytes) (drop len bytes) end.0 end.1 (λ span crosses. mailbox-passed crosses front.is) (mailbox-not_white front.is)
             (Some m) (mailbox-read (take len bytes) m front.is) start ∙ ap (λ t. single t ∷ []) (sym same);
         len_is =
-            ap element_len (sym cut) ∙ element_len-is (take len bytes) (drop len bytes) end.0 end.1 (λ span over. mailbox-passed over front.is) (mailbox-not_white front.is)
+            ap element_len (sym cut) ∙ element_len-is (take len bytes) (drop len bytes) end.0 end.1 (λ span crosses. mailbox-passed crosses front.is) (mailbox-not_white front.is)
             (Some m) (mailbox-read (take len bytes) m front.is) ∙ least;
       }
 
   -- the mailbox is the member at the front
-  pub plain_member : ends_at (λ b. eqb b 44) (drop len bytes) ≡ true → (start : ℕ) (s : Single) → s ≡ as_single start (take len bytes) (Some m) → IsMember start bytes s len
+  plain_member : ends_at (λ b. eqb b 44) (drop len bytes) ≡ true → (start : ℕ) (s : Single) → s ≡ as_single start (take len bytes) (Some m) → IsMember start bytes s len
   plain_member h start s same =
       let end = member-end (drop len bytes) h in
       record {
         within = front.within;
         at =
-            ap (member_at start) (sym cut) ∙ member-is (take len bytes) (drop len bytes) end.0 end.1 (λ span over. mailbox-passed over front.is) (mailbox-not_white front.is)
+            ap (member_at start) (sym cut) ∙ member-is (take len bytes) (drop len bytes) end.0 end.1 (λ span crosses. mailbox-passed crosses front.is) (mailbox-not_white front.is)
             (Some m) (mailbox-read (take len bytes) m front.is) start ∙ ap (λ (t : Single). t ∷ []) (sym same);
         len_is =
-            ap member_len (sym cut) ∙ member_len-is (take len bytes) (drop len bytes) end.0 end.1 (λ span over. mailbox-passed over front.is) (mailbox-not_white front.is)
+            ap member_len (sym cut) ∙ member_len-is (take len bytes) (drop len bytes) end.0 end.1 (λ span crosses. mailbox-passed crosses front.is) (mailbox-not_white front.is)
             (Some m) (mailbox-read (take len bytes) m front.is) ∙ least;
       }
+
+  -- either, by what ends it
+  pub plain_single : (level : Level) → ends_at (separates level) (drop len bytes) ≡ true → (start : ℕ) (s : Single) → s ≡ as_single start (take len bytes) (Some m)
+      → IsSingle level start bytes s len
+  plain_single levels.List h start s same = plain_element h start s same
+  plain_single levels.Group h start s same = plain_member h start s same

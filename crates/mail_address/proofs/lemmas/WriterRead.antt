@@ -38,15 +38,15 @@ use Rattle.mail_address.proofs.lemmas.WriterWords.{address-shows, domain-is_doma
 -- ---- runs over a mailbox
 
 pub mailbox-passed : {span : Span} → Crosses span → {text : List ℕ} {m : Parts} → IsMailbox text m → IsPassed span text
-mailbox-passed {span} over (address {local = local} {domain = domain} is_local is_domain clean e) =
+mailbox-passed {span} crosses (address {local = local} {domain = domain} is_local is_domain clean e) =
     passed-same span e
-    (passed-append span local (64 ∷ domain) (dotted-passed over.over_words is_local) (at_domain-passed over.over_atoms over.over_literals (at-passed span over.at) [] domain white_ends is_domain))
-mailbox-passed {span} over (named_address {name = name} {may_be_route = may_be_route} {local = local} {domain = domain} {after = after} is_name is_route is_local is_domain clean is_white e) =
+    (passed-append span local (64 ∷ domain) (dotted-passed crosses.over_words is_local) (at_domain-passed crosses.over_atoms crosses.over_literals (at-passed span crosses.at) [] domain white_ends is_domain))
+mailbox-passed {span} crosses (named_address {name = name} {may_be_route = may_be_route} {local = local} {domain = domain} {after = after} is_name is_route is_local is_domain clean is_white e) =
     let inner : List ℕ = may_be_route ++ (local ++ 64 ∷ domain) in
     passed-same span (e ∙ ap (λ b. name ++ b) (sym (delimited 60 62 inner after)))
-    (passed-append span name (bracketed inner ++ after) (name-passed over.over_words is_name)
-    (passed-append span (bracketed inner) after (λ rest. enclosed-passed span (bracketed inner) rest over.angle (in_angles (spec-angles is_route is_local is_domain) refl))
-    (over.over_words.white is_white)))
+    (passed-append span name (bracketed inner ++ after) (name-passed crosses.over_words is_name)
+    (passed-append span (bracketed inner) after (λ rest. enclosed-passed span (bracketed inner) rest crosses.angle (in_angles (spec-angles is_route is_local is_domain) refl))
+    (crosses.over_words.white is_white)))
 
 -- ---- a mailbox is more than whitespace
 
@@ -71,7 +71,7 @@ module _ (text : List ℕ) (m : Parts) (is : IsMailbox text m) (start : ℕ) whe
   mailbox-first : {after left : List ℕ} → IsElementEnd after left
       → items element_at element_len start (text ++ after) ≡ element ∷ items element_at element_len (start + min (suc (length text)) (length (text ++ after))) left
   mailbox-first {after} {left} end =
-      single-first text after left end (λ span over. mailbox-passed over is) (mailbox-not_white is) (Some m) (mailbox-read text m is) start
+      single-first text after left end (λ span crosses. mailbox-passed crosses is) (mailbox-not_white is) (Some m) (mailbox-read text m is) start
 
   mailbox-at : (b : ℕ) (rest : List ℕ) → IsElementEnd (b ∷ rest) rest
       → items element_at element_len start (text ++ b ∷ rest) ≡ element ∷ items element_at element_len (start + suc (length text)) rest
@@ -192,7 +192,7 @@ module _ (known : Charsets) (knows : KnowUtf8 known) where
           let is = mailbox-written before m white h.0.0 able in
           let n : ℕ = min (suc (length text)) (length (text ++ after)) in (
             start + n,
-            ap (map (single_shows known)) (member-first text after left end (λ span over. mailbox-passed over is) (mailbox-not_white is) (Some (parts_of before m))
+            ap (map (single_shows known)) (member-first text after left end (λ span crosses. mailbox-passed crosses is) (mailbox-not_white is) (Some (parts_of before m))
                 (mailbox-read text (parts_of before m) is) start)
                 ∙ ap (λ s. s ∷ map (single_shows known) (items member_at member_len (start + n) left)) (mailbox-shows before m start text white h.0.0 able),
           )
@@ -329,7 +329,7 @@ module _ (known : Charsets) (knows : KnowUtf8 known) where
       let is = mailbox-written before m white texts able in
       let n : ℕ = min (suc (length text)) (length (text ++ after)) in (
         start + n,
-        ap (map (element_shows known)) (single-first text after left (ends end) (λ span over. mailbox-passed over is) (mailbox-not_white is) (Some (parts_of before m))
+        ap (map (element_shows known)) (single-first text after left (ends end) (λ span crosses. mailbox-passed crosses is) (mailbox-not_white is) (Some (parts_of before m))
             (mailbox-read text (parts_of before m) is) start)
             ∙ ap (λ s. seen_single s ∷ map (element_shows known) (items element_at element_len (start + n) left)) (mailbox-shows before m start text white texts able),
       )

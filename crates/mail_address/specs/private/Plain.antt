@@ -1,12 +1,14 @@
 -- Plain mailboxes, which are read without tokens: a name of atoms or one quoted string, and an address of atoms and dots.
 use Rattle.std.specs.Prelude.{◌≡◌, ◌≤◌, ℕ, suc, ◌+◌, Bool, true, false, not, ◌&&◌, ◌||◌, ◌==◌, min, List, [], ◌∷◌, length, take, drop, if◌then◌else◌}
 use Rattle.std.specs.List.{prefix_len}
-use Rattle.mail_codec.specs.Ascii.{backslash, opening_parenthesis, quote}
+use Rattle.mail_codec.specs.Ascii.{backslash, comma, opening_parenthesis, quote}
 use Rattle.mail_codec.specs.Places.{begins}
-use Rattle.mail_address.specs.Addresses.{element_at, element_len, member_at, member_len, Single, single}
+use Rattle.mail_address.specs.Addresses.{element_at, element_len, is_separator, member_at, member_len, Single, single}
 use Rattle.mail_address.specs.Grammar.{IsMailbox}
 use Rattle.mail_address.specs.Mailbox.{Parts}
 use Rattle.mail_address.specs.Tokens.{comment_token, dot, is_atom_byte, is_in, is_white}
+use Rattle.mail_address.specs.declared.plain.Level.{Level}
+use Rattle.mail_address.specs.declared.plain.Level.TheVariants as levels
 use Rattle.mail_address.specs.declared.tokens.Span.TheVariants.{White}
 
 -- the offset at which the atoms and single dots at the front end; the byte before them is one of an atom or not
@@ -76,6 +78,16 @@ pub record IsMember (start : ℕ) (bytes : List ℕ) (s : Single) (len : ℕ) : 
   pub within : len ≤ length bytes
   pub at : member_at start bytes ≡ s ∷ []
   pub len_is : member_len bytes ≡ min (suc len) (length bytes)
+
+-- a separator of elements, or of the members of a group
+abbrev pub separates : Level → ℕ → Bool
+separates levels.List = is_separator
+separates levels.Group = λ b. b == comma
+
+-- the element or the member at the front is this mailbox
+abbrev pub IsSingle : Level → ℕ → List ℕ → Single → ℕ → Type 0
+IsSingle levels.List = IsElement
+IsSingle levels.Group = IsMember
 
 -- the length of the whitespace or of the comment at the front, or 0
 abbrev pub white_step : List ℕ → ℕ
