@@ -10,6 +10,7 @@ use Rattle.mail_address.specs.Folding.{unfolded, without_white}
 use Rattle.mail_address.specs.Tokens.{at_sign, dot, front_token, is_all_white, is_atom_byte, run, step}
 use Rattle.mail_address.specs.Mailbox.{after_white, is_dotted, within_ends}
 use Rattle.mail_address.specs.Addresses.{items}
+use Rattle.mail_address.specs.PhraseWords.{encoded_len}
 
 -- the bytes without each backslash that quotes the byte after it; the first byte is quoted or not
 abbrev pub unquoted : Bool → List ℕ → List ℕ
@@ -50,15 +51,23 @@ address_front_at start bytes = address_front bytes
 unfoldable pub bare : List ℕ → List ℕ
 bare bytes = items address_front_at front_len 0 bytes
 
--- the length of the token at the front, or of the whitespace and comments there
+-- the length of the word at the front of a phrase: of an encoded word, or else of a token
+abbrev pub front_word_len : List ℕ → ℕ
+front_word_len bytes = if encoded_len bytes == 0 then front_len bytes else encoded_len bytes
+
+-- its meaning: an encoded word stays as it is
+abbrev pub front_word : List ℕ → List ℕ
+front_word bytes = if encoded_len bytes == 0 then front_meaning bytes else take (encoded_len bytes) bytes
+
+-- the length of that word, or of the whitespace and comments at the front
 unfoldable pub word_or_white_len : List ℕ → ℕ
-word_or_white_len bytes = if step White bytes == 0 then front_len bytes else run White bytes
+word_or_white_len bytes = if step White bytes == 0 then front_word_len bytes else run White bytes
 
 -- the meaning of the front of a phrase: of whitespace and comments one space, and at the end nothing
 unfoldable pub word_or_space : List ℕ → List ℕ
 word_or_space bytes =
     if is_all_white bytes then [] else
-    if step White bytes == 0 then front_meaning bytes else space ∷ []
+    if step White bytes == 0 then front_word bytes else space ∷ []
 
 -- the same, of an item at an offset
 abbrev pub word_at : ℕ → List ℕ → List ℕ

@@ -7,7 +7,7 @@ use crate::tokens::is_white;
 use std::alloc::{AllocError, Global};
 
 /// Returns whether a byte is a control character.
-fn is_control(byte: u8) -> bool
+pub(crate) fn is_control(byte: u8) -> bool
     ensures { result ≡ is_control byte }
 {
     byte < b' ' || byte == 127

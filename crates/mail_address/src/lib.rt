@@ -15,6 +15,7 @@ mod headers;
 pub mod laws;
 mod list;
 mod mailbox;
+mod phrase_words;
 mod plain;
 mod text;
 mod tokens;

@@ -6,13 +6,15 @@ ghost use Rattle.mailparse.specs.Value.{lenient_value_in, value_text};
 ghost use Rattle.mail_address.specs.Text.{address_bytes, address_front, address_meaning, bare};
 ghost use Rattle.mail_address.specs.Text.{escaped_byte, front_len};
 ghost use Rattle.mail_address.specs.Text.{front_meaning, local_text, meaning, needs_no_quotes};
-ghost use Rattle.mail_address.specs.Text.{phrase_text, quoted_text, unquoted, word_or_space};
+ghost use Rattle.mail_address.specs.Text.{phrase_text, front_word, front_word_len, quoted_text};
+ghost use Rattle.mail_address.specs.Text.{unquoted, word_or_space};
 ghost use Rattle.mail_address.specs.Text.{word_or_white_len, words_text};
 ghost use Rattle.mail_address.specs.Tokens.{dot, is_atom_byte};
 ghost use Rattle.mail_address.specs.private.Plain.{IsDotAtom};
 
 use crate::folding::{push_without_white, unfolded};
 use crate::mailbox::{after_white, is_dotted, within_ends};
+use crate::phrase_words::encoded_len;
 use crate::plain::dot_atom_len;
 use crate::tokens::{Kind, Span, front_token, is_all_white, is_atom_byte, run, step};
 use mail_codec::charset::{KnownCharsets, decode_latin1};
@@ -110,17 +112,37 @@ fn bare(alloc: Global, bytes: &[u8]) -> Result<Vec<u8>, AllocError>
     Ok(text)
 }
 
-/// Returns the length of the token at the front, or of the whitespace and comments there.
+/// Returns the length of the word at the front of a phrase.
+fn front_word_len(bytes: &[u8]) -> usize
+    ensures value { result ≡ front_word_len bytes.now }
+    ensures bounds { result ≤ length bytes.now }
+{
+    let len = encoded_len(bytes);
+    if len == 0 { front_len(bytes) } else { len }
+}
+
+/// Returns the length of that word, or of the whitespace and comments at the front.
 #[tactic(auto, unfolding(crate::specs::Text::word_or_white_len))]
 fn word_or_white_len(bytes: &[u8]) -> usize
     ensures value { result ≡ word_or_white_len bytes.now }
     ensures bounds { result ≤ length bytes.now }
 {
     if step(Span::White, bytes) == 0 {
-        front_len(bytes)
+        front_word_len(bytes)
     } else {
         run(Span::White, bytes)
     }
+}
+
+/// Appends the meaning of the word at the front of a phrase: an encoded word stays as it is.
+fn push_front_word(text: &mut Vec<u8>, bytes: &[u8]) -> Result<(), AllocError>
+    ensures { OnOk result (text.new.items ≡ text.old.items ++ front_word bytes.now) }
+{
+    let len = encoded_len(bytes);
+    if len == 0 {
+        return push_front(text, bytes);
+    }
+    text.extend_from_slice(&bytes[..len])
 }
 
 /// Appends the meaning of the front of a phrase: a space for whitespace and comments, except at the
@@ -133,7 +155,7 @@ fn push_word(text: &mut Vec<u8>, bytes: &[u8]) -> Result<(), AllocError>
         return Ok(());
     }
     if step(Span::White, bytes) == 0 {
-        return push_front(text, bytes);
+        return push_front_word(text, bytes);
     }
     text.push(b' ')?;
     Ok(())

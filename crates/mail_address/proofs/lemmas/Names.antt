@@ -13,7 +13,7 @@ use Rattle.mail_address.specs.Addresses.{after_name, element_at, element_len, in
 use Rattle.mail_address.specs.Enclosed.{IsBetween, no_bytes, quoted_pair, plain_byte, IsInAngles, in_angles}
 use Rattle.mail_address.specs.Mailbox.{after_route, after_white, is_phrase, mailbox_of, Parts, spec_mailbox, within_ends}
 use Rattle.mail_address.specs.Names.{AreNameWords, bracketed, IsNameWord, last_word, next_word, quoted_word, named}
-use Rattle.mail_address.specs.Text.{escaped_byte, front_len, front_meaning, meaning, quoted_text, unquoted, word_at, word_or_space, word_or_white_len}
+use Rattle.mail_address.specs.Text.{escaped_byte, front_len, front_meaning, meaning, front_word, front_word_len, quoted_text, unquoted, word_at, word_or_space, word_or_white_len}
 use Rattle.mail_address.specs.Tokens.{front_token, is_all_white, is_in, run, step}
 use Rattle.mail_address.specs.Grammar.{any_word, any_words, atoms, IsPhrase, IsPhraseRest, IsWhite, literals, phrase, phrase_ends, phrase_white, phrase_word, white_byte, white_ends}
 use Rattle.mail_address.proofs.lemmas.Addresses.{element_len-some, items-more, member_len-some}
@@ -310,11 +310,11 @@ unfolding front_len
 quoted-len text rest = ap (λ t. t.len) (quoted-token text rest)
 
 -- a word at the front of a phrase is its meaning, and not whitespace
-pub word-meaning : (bytes : List ℕ) → Front bytes → 0 < length bytes → word_or_space bytes ≡ front_meaning bytes
+pub word-meaning : (bytes : List ℕ) → Front bytes → 0 < length bytes → word_or_space bytes ≡ front_word bytes
 unfolding word_or_space
 word-meaning bytes front some = rw (all_white-not bytes front some) (rw (step-white bytes front) refl)
 
-pub word-len : (bytes : List ℕ) → Front bytes → word_or_white_len bytes ≡ front_len bytes
+pub word-len : (bytes : List ℕ) → Front bytes → word_or_white_len bytes ≡ front_word_len bytes
 unfolding word_or_white_len
 word-len bytes front = rw (step-white bytes front) refl
 

@@ -7,7 +7,8 @@ use Rattle.mail_codec.specs.Latin1.{latin1_text}
 use Rattle.mailparse.specs.Value.{value_text}
 use Rattle.mail_address.specs.declared.tokens.Span.TheVariants.{White}
 use Rattle.mail_address.specs.Tokens.{run, step}
-use Rattle.mail_address.specs.Text.{front_len, word_or_white_len}
+use Rattle.mail_address.specs.PhraseWords.{encoded_len}
+use Rattle.mail_address.specs.Text.{front_len, front_word_len, word_or_white_len}
 use Rattle.mail_address.proofs.lemmas.Bounds.{token-fits}
 use Rattle.mail_address.proofs.lemmas.Tokens.{far-more}
 use Rattle.mail_address.proofs.lemmas.Addresses.{MadeTo, MadeTo-more}
@@ -19,10 +20,15 @@ unfolding front_len
 front_len-some [] low = absurd (omega arith)
 front_len-some (b ∷ rest) low = (token-fits b rest).0
 
+front_word-some : (bytes : List ℕ) → 0 < length bytes → 0 < front_word_len bytes
+front_word-some bytes low =
+    cond_both (eqb (encoded_len bytes) 0) (front_len bytes) (encoded_len bytes) (λ n. 0 < n) (λ e. front_len-some bytes low)
+    (λ e. let some = eqb-false (encoded_len bytes) 0 e in omega (arith, some))
+
 pub word_or_white-some : (bytes : List ℕ) → 0 < length bytes → 0 < word_or_white_len bytes
 unfolding word_or_white_len
 word_or_white-some bytes low =
-    cond_both (eqb (step White bytes) 0) (front_len bytes) (run White bytes) (λ n. 0 < n) (λ e. front_len-some bytes low)
+    cond_both (eqb (step White bytes) 0) (front_word_len bytes) (run White bytes) (λ n. 0 < n) (λ e. front_word-some bytes low)
     (λ e. let some = eqb-false (step White bytes) 0 e in let more = far-more (step White) bytes low some in omega (arith, more, some))
 
 -- ---- a loop over tokens, whose position is known from the bytes left

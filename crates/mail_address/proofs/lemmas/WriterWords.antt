@@ -1,9 +1,9 @@
 -- What names, local parts and domains are written as, and what they are read as.
 use Rattle.std.proofs.Common.{◌≡◌, ◌≢◌, ℕ, zero, suc, ◌+◌, ◌<◌, ◌≤◌, Bool, true, false, cond, eqb, ◌&&◌, ◌||◌, List, [], ◌∷◌, ◌++◌, length, take, drop, refl, sym, ap, subst, ◌∙◌, arith, append_assoc, length-append, length-drop}
-use Rattle.std.specs.Prelude.{codes, encode_utf8_all}
-use Rattle.std.specs.List.{list_all}
+use Rattle.std.specs.Prelude.{codes, encode_utf8_all, nat_lt, not}
+use Rattle.std.specs.List.{list_all, prefix_len}
 use Rattle.std.specs.Str.{chars, IsUtf8}
-use Rattle.std.proofs.lemmas.Bool.{and_from, and_parts, cond_both, cond-false, cond-true, eqb-true, false≢true, ne_eqb}
+use Rattle.std.proofs.lemmas.Bool.{and_from, and_parts, cond_both, cond-false, cond-true, eq-eqb, eqb-true, false≢true, false_from_ne_true, le-ltb, ltb-true, ne_eqb, not-true, or_from, or_left}
 use Rattle.std.proofs.lemmas.List.{append-nil, drop_all, drop_at, take_all, take_at, take-append-drop}
 use Rattle.std.proofs.lemmas.List.Folds.{list_all-append}
 use Rattle.std.proofs.lemmas.Str.{encodes-chars, scalars-chars}
@@ -12,22 +12,23 @@ use Rattle.base64.specs.GeneralPurpose.{IsBytes}
 use Rattle.base64.proofs.Tables.{all_below_at}
 use Rattle.mail_codec.specs.Base64.{letter}
 use Rattle.mail_codec.specs.Charset.{Charsets}
-use Rattle.mail_codec.specs.Places.{begins}
+use Rattle.mail_codec.specs.Places.{begins, has_prefix, is_empty}
 use Rattle.mailparse.specs.Value.{lenient_value_in}
 use Rattle.mail_address.specs.Encode.{is_plain_value, KnowUtf8, letters, one_word}
-use Rattle.mail_address.proofs.lemmas.EncodeRead.{plain_reads, word_bytes_are, words_read}
+use Rattle.mail_address.proofs.lemmas.EncodeRead.{plain_is, plain_reads, word_bytes_are, words_read}
 use Rattle.mail_address.proofs.lemmas.EncodeWord.{letters_pass}
 use Rattle.mail_address.specs.declared.tokens.Kind.{Kind}
 use Rattle.mail_address.specs.declared.tokens.Kind.TheVariants.{Atom, Literal, Quoted}
 use Rattle.mail_address.specs.declared.tokens.Span.TheVariants.{Atoms, Literals, White}
 use Rattle.mail_address.specs.declared.writer.NewMailbox.{NewMailbox}
 use Rattle.mail_address.specs.Addresses.{items, items_within}
-use Rattle.mail_address.specs.Grammar.{any_word, any_words, AreDotted, AreDotWords, atom, atoms, dot_word, dots_end, dotted, in_brackets, IsDomain, IsPadded, IsPhrase, IsPhraseRest, IsWhite, IsWord, literals, phrase_ends, phrase_white, phrase_word, white_ends, Words}
-use Rattle.mail_address.specs.Folding.{has_no_control, unfolded, without_white}
+use Rattle.mail_address.specs.Grammar.{any_word, any_words, AreDotted, AreDotWords, atom, atoms, dot_word, dots_end, dotted, in_brackets, IsDomain, IsPadded, IsPhrase, IsPhraseRest, IsWhite, IsWord, literals, phrase_ends, phrase_white, phrase_word, white_byte, white_comment, white_ends, Words}
+use Rattle.mail_address.specs.Folding.{has_no_control, is_control, unfolded, without_white}
 use Rattle.mail_address.specs.Mailbox.{after_white, are_clean, is_dotted, within_ends}
 use Rattle.mail_address.specs.Names.{IsNameWord, atom_word}
-use Rattle.mail_address.specs.Text.{address_bytes, address_front, address_front_at, address_meaning, bare, front_len, front_meaning, local_text, meaning, needs_no_quotes, phrase_text, quoted_text, word_at, word_or_space, word_or_white_len, unquoted, words_text}
-use Rattle.mail_address.specs.Tokens.{front_token, is_all_white, is_atom_byte, is_in, is_white, run, step}
+use Rattle.mail_address.specs.PhraseWords.{encoded_len, has_encoding, is_label_byte, is_word_end, may_follow, text_step}
+use Rattle.mail_address.specs.Text.{address_bytes, address_front, address_front_at, address_meaning, bare, front_len, front_meaning, local_text, meaning, needs_no_quotes, phrase_text, front_word, front_word_len, quoted_text, word_at, word_or_space, word_or_white_len, unquoted, words_text}
+use Rattle.mail_address.specs.Tokens.{far, front_token, is_all_white, is_atom_byte, is_in, is_special, is_white, run, step}
 use Rattle.mail_address.specs.Writer.{are_atoms, are_atoms_after, is_literal, is_writable, written_local, written_phrase}
 use Rattle.mail_address.proofs.lemmas.Addresses.{items-more}
 use Rattle.mail_address.proofs.lemmas.Folding.{all-drop, plain_clean, quoted-no_control, unfolded-same}
@@ -36,7 +37,7 @@ use Rattle.mail_address.proofs.lemmas.GrammarRead.{prefix-whole, white-no_atom}
 use Rattle.mail_address.proofs.lemmas.Names.{after_white-same, Front, no_white-front, no_words, quoted-is_word, quoted-len, quoted-meaning, quoted-token, word-len, word-meaning, one_space, space-rest}
 use Rattle.mail_address.proofs.lemmas.Passed.{atom_byte-front, dot-front, passed-whole, white-passed, white-whole}
 use Rattle.mail_address.proofs.lemmas.Text.{front_len-some, word_or_white-some}
-use Rattle.mail_address.proofs.lemmas.Tokens.{atom_byte-visible, byte-other, far-stop, no_atom_bytes}
+use Rattle.mail_address.proofs.lemmas.Tokens.{atom_byte-visible, byte-other, far-more, far-stop, no_atom_bytes}
 
 -- ---- whitespace around a phrase
 
@@ -76,7 +77,7 @@ phrase-nothing {white} is =
 
 -- ---- one word of a phrase, and then the rest
 
-word-then : (word rest meant : List ℕ) → Front (word ++ rest) → 0 < length word → front_meaning (word ++ rest) ≡ meant → front_len (word ++ rest) ≡ length word → (start : ℕ)
+word-then : (word rest meant : List ℕ) → Front (word ++ rest) → 0 < length word → front_word (word ++ rest) ≡ meant → front_word_len (word ++ rest) ≡ length word → (start : ℕ)
     → items word_at word_or_white_len start (word ++ rest) ≡ meant ++ items word_at word_or_white_len (start + length word) rest
 word-then word rest meant front some means len start =
     let all = length-append word rest in
@@ -99,13 +100,40 @@ atom-some (atom h) = omega arith
 atom-front : {word : List ℕ} → IsWord atoms word → (rest : List ℕ) → begins is_atom_byte rest ≡ false → Front (word ++ rest)
 atom-front {word} is rest ends = record { kind = Atom; len = length word; token = atom-token is rest ends; is_word = refl; no_white = refl }
 
-atom-then : {word : List ℕ} → IsWord atoms word → (rest : List ℕ) → begins is_atom_byte rest ≡ false → (start : ℕ)
+-- a word that is no encoded word
+plain-word : (bytes : List ℕ) → encoded_len bytes ≡ 0 → (front_word bytes ≡ front_meaning bytes) × (front_word_len bytes ≡ front_len bytes)
+plain-word bytes none =
+    let is = ap (λ n. eqb n 0) none in
+    (cond-true (eqb (encoded_len bytes) 0) (front_meaning bytes) (take (encoded_len bytes) bytes) is, cond-true (eqb (encoded_len bytes) 0) (front_len bytes) (encoded_len bytes) is)
+
+no_opening-none : (bytes : List ℕ) → has_prefix (codes "=?") bytes ≡ false → encoded_len bytes ≡ 0
+unfolding encoded_len
+no_opening-none bytes h =
+    ap (λ t. cond (t && (has_encoding (drop (prefix_len is_label_byte (drop 2 bytes) + 2) bytes)
+    && is_word_end (drop (prefix_len is_label_byte (drop 2 bytes) + 5 + far text_step (drop (prefix_len is_label_byte (drop 2 bytes) + 5) bytes)) bytes)))
+    (prefix_len is_label_byte (drop 2 bytes) + 5 + far text_step (drop (prefix_len is_label_byte (drop 2 bytes) + 5) bytes) + 2) 0) h
+
+and_false : (t : Bool) → t && false ≡ false
+and_false true = refl
+and_false false = refl
+
+-- the bytes after an atom do not open an encoded word with it
+opening-after : {word : List ℕ} → IsWord atoms word → (rest : List ℕ) → begins is_atom_byte rest ≡ false → has_prefix (codes "=?") word ≡ false → has_prefix (codes "=?") (word ++ rest) ≡ false
+unfolding is_atom_byte
+opening-after (atom {b = b} {bytes = c ∷ bytes} is) rest ends h = h
+opening-after (atom {b = b} {bytes = []} is) [] ends h = h
+opening-after (atom {b = b} {bytes = []} is) (c ∷ rest) ends h =
+    let other : eqb 63 c ≡ false = ne_eqb 63 c (λ e. false≢true (sym ends ∙ ap is_atom_byte (sym e))) in
+    ap (λ t. eqb 61 b && (t && true)) other ∙ and_false (eqb 61 b)
+
+atom-then : {word : List ℕ} → IsWord atoms word → (rest : List ℕ) → begins is_atom_byte rest ≡ false → has_prefix (codes "=?") word ≡ false → (start : ℕ)
     → items word_at word_or_white_len start (word ++ rest) ≡ word ++ items word_at word_or_white_len (start + length word) rest
 unfolding front_meaning front_len
-atom-then {word} is rest ends start =
+atom-then {word} is rest ends plain start =
     let token = atom-token is rest ends in
+    let none = plain-word (word ++ rest) (no_opening-none (word ++ rest) (opening-after is rest ends plain)) in
     word-then word rest word (atom-front is rest ends) (atom-some is)
-    (ap (λ t. meaning t.kind (take t.len (word ++ rest))) token ∙ take_at word rest (length word) refl) (ap (λ t. t.len) token) start
+    (none.0 ∙ ap (λ t. meaning t.kind (take t.len (word ++ rest))) token ∙ take_at word rest (length word) refl) (none.1 ∙ ap (λ t. t.len) token) start
 
 quoted-front : (text rest : List ℕ) → Front (quoted_text text ++ rest)
 quoted-front text rest = record { kind = Quoted; len = length (quoted_text text); token = quoted-token text rest; is_word = refl; no_white = refl }
@@ -114,10 +142,15 @@ quoted-some : (text : List ℕ) → 0 < length (quoted_text text)
 unfolding quoted_text
 quoted-some text = omega arith
 
+quoted-no_opening : (text rest : List ℕ) → has_prefix (codes "=?") (quoted_text text ++ rest) ≡ false
+unfolding quoted_text
+quoted-no_opening text rest = refl
+
 quoted-then : (text rest : List ℕ) (start : ℕ)
     → items word_at word_or_white_len start (quoted_text text ++ rest) ≡ text ++ items word_at word_or_white_len (start + length (quoted_text text)) rest
 quoted-then text rest start =
-    word-then (quoted_text text) rest text (quoted-front text rest) (quoted-some text) (quoted-meaning text rest) (quoted-len text rest) start
+    let none = plain-word (quoted_text text ++ rest) (no_opening-none (quoted_text text ++ rest) (quoted-no_opening text rest)) in
+    word-then (quoted_text text) rest text (quoted-front text rest) (quoted-some text) (none.0 ∙ quoted-meaning text rest) (none.1 ∙ quoted-len text rest) start
 
 pub quoted-shows : (text : List ℕ) {white : List ℕ} → IsWhite white → phrase_text (quoted_text text ++ white) ≡ text
 quoted-shows text {white} is =
@@ -146,19 +179,27 @@ space-then rest front some start =
 
 -- ---- names that are words
 
+-- none of them begins with `=?`
 data AreAtoms : List ℕ → Type 0 where
-  last_atom : {word : List ℕ} → IsWord atoms word → AreAtoms word
-  next_atom : {word rest text : List ℕ} → IsWord atoms word → AreAtoms rest → text ≡ word ++ 32 ∷ rest → AreAtoms text
+  last_atom : {word : List ℕ} → IsWord atoms word → has_prefix (codes "=?") word ≡ false → AreAtoms word
+  next_atom : {word rest text : List ℕ} → IsWord atoms word → has_prefix (codes "=?") word ≡ false → AreAtoms rest → text ≡ word ++ 32 ∷ rest → AreAtoms text
 
 -- bytes of a word, and then the end, or a space and words
 data GoesOn : List ℕ → Type 0 where
   word_ends : (word : List ℕ) → list_all is_atom_byte word ≡ true → GoesOn word
   goes_on : (word : List ℕ) {rest text : List ℕ} → list_all is_atom_byte word ≡ true → AreAtoms rest → text ≡ word ++ 32 ∷ rest → GoesOn text
 
-atom-before : (b : ℕ) {text : List ℕ} → is_atom_byte b ≡ true → GoesOn text → AreAtoms (b ∷ text)
-atom-before b h (word_ends word all) = last_atom (atom {b = b} {bytes = word} (and_from _ _ h all))
-atom-before b h (goes_on word {rest = rest} all more e) =
-    next_atom {word = b ∷ word} {rest = rest} (atom {b = b} {bytes = word} (and_from _ _ h all)) more (ap (λ (t : List ℕ). b ∷ t) e)
+-- the front of bytes without `=?`
+opening-front : (word rest : List ℕ) → has_prefix (codes "=?") (word ++ rest) ≡ false → has_prefix (codes "=?") word ≡ false
+opening-front [] rest h = refl
+opening-front (b ∷ []) rest h = and_false (eqb 61 b)
+opening-front (b ∷ c ∷ word) rest h = h
+
+atom-before : (b : ℕ) {text : List ℕ} → is_atom_byte b ≡ true → has_prefix (codes "=?") (b ∷ text) ≡ false → GoesOn text → AreAtoms (b ∷ text)
+atom-before b h plain (word_ends word all) = last_atom (atom {b = b} {bytes = word} (and_from _ _ h all)) plain
+atom-before b h plain (goes_on word {rest = rest} all more e) =
+    next_atom {word = b ∷ word} {rest = rest} (atom {b = b} {bytes = word} (and_from _ _ h all))
+    (opening-front (b ∷ word) (32 ∷ rest) (sym (ap (λ (t : List ℕ). has_prefix (codes "=?") (b ∷ t)) e) ∙ plain)) more (ap (λ (t : List ℕ). b ∷ t) e)
 
 byte-before : (b : ℕ) {text : List ℕ} → is_atom_byte b ≡ true → GoesOn text → GoesOn (b ∷ text)
 byte-before b h (word_ends word all) = word_ends (b ∷ word) (and_from _ _ h all)
@@ -168,41 +209,41 @@ abbrev AtomsAfter : Bool → List ℕ → Type 0
 AtomsAfter false text = AreAtoms text
 AtomsAfter true text = GoesOn text
 
-atoms-made : (in_word : Bool) (text : List ℕ) → are_atoms_after in_word text ≡ true → AtomsAfter in_word text
-atoms-made true [] h = word_ends [] refl
-atoms-made false [] h = absurd (false≢true h)
-atoms-made in_word (b ∷ rest) h = go (eqb b 32) refl in_word (atoms-made false rest) (atoms-made true rest) h
+atoms-made : (in_word : Bool) (text : List ℕ) → ((k : ℕ) → has_prefix (codes "=?") (drop k text) ≡ false) → are_atoms_after in_word text ≡ true → AtomsAfter in_word text
+atoms-made true [] plain h = word_ends [] refl
+atoms-made false [] plain h = absurd (false≢true h)
+atoms-made in_word (b ∷ rest) plain h = go (eqb b 32) refl in_word (atoms-made false rest (λ k. plain (suc k))) (atoms-made true rest (λ k. plain (suc k))) h
   where
     go : (space : Bool) → eqb b 32 ≡ space → (in_word : Bool) → (are_atoms_after false rest ≡ true → AreAtoms rest) → (are_atoms_after true rest ≡ true → GoesOn rest)
         → cond space (in_word && are_atoms_after false rest) (is_atom_byte b && are_atoms_after true rest) ≡ true → AtomsAfter in_word (b ∷ rest)
     go true e true new more h = goes_on [] {rest = rest} refl (new h) (ap (λ (c : ℕ). c ∷ rest) (eqb-true b 32 e))
     go true e false new more h = absurd (false≢true h)
     go false e true new more h = let both = and_parts (is_atom_byte b) (are_atoms_after true rest) h in byte-before b both.0 (more both.1)
-    go false e false new more h = let both = and_parts (is_atom_byte b) (are_atoms_after true rest) h in atom-before b both.0 (more both.1)
+    go false e false new more h = let both = and_parts (is_atom_byte b) (are_atoms_after true rest) h in atom-before b both.0 (plain 0) (more both.1)
 
 white-begins : (white : List ℕ) → IsWhite white → begins is_atom_byte white ≡ false
 white-begins white is = ap (begins is_atom_byte) (sym (append-nil white)) ∙ white-no_atom is [] refl
 
 atoms-front : {text : List ℕ} → AreAtoms text → (white : List ℕ) → IsWhite white → Front (text ++ white)
-atoms-front (last_atom is) white w = atom-front is white (white-begins white w)
-atoms-front (next_atom {word = word} {rest = rest} is more e) white w =
+atoms-front (last_atom is plain) white w = atom-front is white (white-begins white w)
+atoms-front (next_atom {word = word} {rest = rest} is plain more e) white w =
     subst (λ t. Front (t ++ white)) (sym e) (subst Front (sym (append_assoc word (32 ∷ rest) white)) (atom-front is (32 ∷ (rest ++ white)) no_atom_bytes.1))
 
 atoms-some : {text : List ℕ} → AreAtoms text → (white : List ℕ) → 0 < length (text ++ white)
-atoms-some {text} (last_atom is) white = let low = atom-some is in let len = length-append text white in omega (arith, low, len)
-atoms-some {text} (next_atom {word = word} {rest = rest} is more e) white =
+atoms-some {text} (last_atom is plain) white = let low = atom-some is in let len = length-append text white in omega (arith, low, len)
+atoms-some {text} (next_atom {word = word} {rest = rest} is plain more e) white =
     let low = atom-some is in
     let all = ap length e ∙ length-append word (32 ∷ rest) in
     let len = length-append text white in
     omega (arith, low, all, len)
 
 atoms-show : {text : List ℕ} → AreAtoms text → (white : List ℕ) → IsWhite white → (start : ℕ) → items word_at word_or_white_len start (text ++ white) ≡ text
-atoms-show {text} (last_atom is) white w start =
-    atom-then is white (white-begins white w) start ∙ ap (λ r. text ++ r) (white-shows white w (start + length text)) ∙ append-nil text
-atoms-show {text} (next_atom {word = word} {rest = rest} is more e) white w start =
+atoms-show {text} (last_atom is plain) white w start =
+    atom-then is white (white-begins white w) plain start ∙ ap (λ r. text ++ r) (white-shows white w (start + length text)) ∙ append-nil text
+atoms-show {text} (next_atom {word = word} {rest = rest} is plain more e) white w start =
     ap (λ t. items word_at word_or_white_len start (t ++ white)) e
     ∙ ap (items word_at word_or_white_len start) (append_assoc word (32 ∷ rest) white)
-    ∙ atom-then is (32 ∷ (rest ++ white)) no_atom_bytes.1 start
+    ∙ atom-then is (32 ∷ (rest ++ white)) no_atom_bytes.1 plain start
     ∙ ap (λ r. word ++ r) (space-then (rest ++ white) (atoms-front more white w) (atoms-some more white) (start + length word)
     ∙ ap (λ (r : List ℕ). 32 ∷ r) (atoms-show more white w (start + length word + 1)))
     ∙ sym e
@@ -214,14 +255,14 @@ white-rest : {white : List ℕ} → IsWhite white → IsPhraseRest white
 white-rest {white} is = phrase_white {white = white} {rest = []} is phrase_ends (sym (append-nil white))
 
 atoms-rest : {text : List ℕ} → AreAtoms text → (white : List ℕ) → IsWhite white → IsPhraseRest (text ++ white)
-atoms-rest {text} (last_atom is) white w = phrase_word {word = text} {rest = white} (name-word is) (white-rest w) refl
-atoms-rest (next_atom {word = word} {rest = rest} is more e) white w =
+atoms-rest {text} (last_atom is plain) white w = phrase_word {word = text} {rest = white} (name-word is) (white-rest w) refl
+atoms-rest (next_atom {word = word} {rest = rest} is plain more e) white w =
     phrase_word {word = word} {rest = 32 ∷ (rest ++ white)} (name-word is)
     (space-rest (atoms-rest more white w))
     (ap (λ t. t ++ white) e ∙ append_assoc word (32 ∷ rest) white)
 
 atoms-phrase : {text : List ℕ} → AreAtoms text → (before white : List ℕ) → IsWhite before → IsWhite white → IsPhrase (before ++ (text ++ white))
-atoms-phrase {text} (last_atom is) before white b w = record {
+atoms-phrase {text} (last_atom is plain) before white b w = record {
   before = before;
   first = text;
   rest = white;
@@ -230,7 +271,7 @@ atoms-phrase {text} (last_atom is) before white b w = record {
   is_rest = white-rest w;
   made = refl;
 }
-atoms-phrase (next_atom {word = word} {rest = rest} is more e) before white b w = record {
+atoms-phrase (next_atom {word = word} {rest = rest} is plain more e) before white b w = record {
   before = before;
   first = word;
   rest = 32 ∷ (rest ++ white);
@@ -269,12 +310,97 @@ quoted-written known name reads = record {
       ap (lenient_value_in known) (phrase-skipped b (quoted_text name ++ white) ∙ quoted-shows name w) ∙ reads;
 }
 
-word-atoms : (name : List ℕ) → IsUtf8 name → AreAtoms (one_word name)
+-- ---- encoded words
+
+-- a byte of a text that an encoded word carries
+abbrev is_carried : ℕ → Bool
+is_carried b = is_atom_byte b && not (eqb b 63)
+
+-- whitespace or a comment may follow a word, and so may nothing
+white-follows : {white : List ℕ} → IsWhite white → (is_empty white || begins may_follow white) ≡ true
+white-follows white_ends = refl
+white-follows (white_byte {b = b} is more) = or_left (is_white b || eqb b 34) (eqb b 40) (or_left (is_white b) (eqb b 34) is)
+white-follows (white_comment {inner = inner} commented more e) = ap (λ b. is_empty b || begins may_follow b) e
+
+atom-no_control : (b : ℕ) → is_atom_byte b ≡ true → is_control b ≡ false
 unfolding is_atom_byte
-word-atoms name utf8 =
-    last_atom (atom {b = 61} {bytes = codes "?utf-8?B?" ++ (letters name ++ codes "?=")}
+atom-no_control b h =
+    let low = ltb-true 32 b (and_parts (nat_lt 32 b) (not (eqb b 127)) (and_parts (nat_lt 32 b && not (eqb b 127)) (not (is_special b)) h).0).0 in
+    or_from (nat_lt b 32) (eqb b 127) (le-ltb b 32 (omega (arith, low))) (byte-other is_atom_byte b 127 h refl)
+
+carried-step : (b : ℕ) (rest : List ℕ) → is_carried b ≡ true → text_step (b ∷ rest) ≡ 1
+carried-step b rest h =
+    let both = and_parts (is_atom_byte b) (not (eqb b 63)) h in
+    let other : eqb 63 b ≡ false = ne_eqb 63 b (λ e. false≢true (sym (not-true (eqb b 63) both.1) ∙ eq-eqb b 63 (sym e))) in
+    rw (atom-no_control b both.0, other) refl
+
+-- the text of an encoded word ends before its `?=`
+carried-far : (text white : List ℕ) → list_all is_carried text ≡ true → IsWhite white → far text_step (text ++ (63 ∷ 61 ∷ white)) ≡ length text
+carried-far [] white h is = far-stop text_step (63 ∷ 61 ∷ white) (ap (λ t. cond t 0 1) (white-follows is))
+carried-far (b ∷ text) white h is =
+    let rest : List ℕ = text ++ (63 ∷ 61 ∷ white) in
+    let both = and_parts (is_carried b) (list_all is_carried text) h in
+    let one = carried-step b rest both.0 in
+    let later = carried-far text white both.1 is in
+    let more = far-more text_step (b ∷ rest) (omega arith) (λ e. absurd (omega (arith, e, one))) in
+    let left = ap (λ n. far text_step (drop n (b ∷ rest))) one in
+    omega (arith, one, later, more, left)
+
+word-encoded : (bytes white : List ℕ) → list_all is_carried (letters bytes) ≡ true → IsWhite white → encoded_len (one_word bytes ++ white) ≡ length (one_word bytes)
+unfolding encoded_len
+word-encoded bytes white h is =
+    let text : List ℕ = letters bytes in
+    let whole : List ℕ = codes "=?utf-8?B?" ++ (text ++ (63 ∷ 61 ∷ white)) in
+    let len = length-append text (codes "?=") in
+    ap (λ t. encoded_len (codes "=?utf-8?B?" ++ t)) (append_assoc text (63 ∷ 61 ∷ []) white)
+    ∙ ap (λ n. cond (is_word_end (drop (10 + n) whole)) (10 + n + 2) 0) (carried-far text white h is)
+    ∙ ap (λ r. cond (is_word_end r) (10 + length text + 2) 0)
+    (drop-append-add (codes "=?utf-8?B?") (text ++ (63 ∷ 61 ∷ white)) (length text) ∙ drop_at text (63 ∷ 61 ∷ white) (length text) refl)
+    ∙ ap (λ t. cond t (10 + length text + 2) 0) (white-follows is)
+    ∙ omega (arith, len)
+
+letters-pass : (test : ℕ → Bool) → ((v : ℕ) → v < 64 → test (letter v) ≡ true) → test 61 ≡ true → (name : List ℕ) → IsUtf8 name → list_all test (letters name) ≡ true
+letters-pass test each pad name utf8 =
+    letters_pass test each pad name (subst IsBytes (encodes-chars name utf8) (word_bytes_are (chars name) (scalars-chars name utf8)))
+
+letters-carried : (name : List ℕ) → IsUtf8 name → list_all is_carried (letters name) ≡ true
+unfolding is_atom_byte
+letters-carried name utf8 = letters-pass is_carried (λ v low. all_below_at (λ v. is_carried (letter v)) 64 v refl low) refl name utf8
+
+word-atom : (name : List ℕ) → IsUtf8 name → IsWord atoms (one_word name)
+unfolding is_atom_byte
+word-atom name utf8 =
+    atom {b = 61} {bytes = codes "?utf-8?B?" ++ (letters name ++ codes "?=")}
     (list_all-append is_atom_byte (letters name) (codes "?=")
-    ∙ ap (λ t. t && true) (letters_pass is_atom_byte (λ v low. all_below_at (λ v. is_atom_byte (letter v)) 64 v refl low) refl name (subst IsBytes (encodes-chars name utf8) (word_bytes_are (chars name) (scalars-chars name utf8))))))
+    ∙ ap (λ t. t && true) (letters-pass is_atom_byte (λ v low. all_below_at (λ v. is_atom_byte (letter v)) 64 v refl low) refl name utf8))
+
+encoded-written : (known : Charsets) (name : List ℕ) → IsUtf8 name → lenient_value_in known (one_word name) ≡ name → IsWritten known name (one_word name)
+encoded-written known name utf8 reads =
+    let word : List ℕ = one_word name in
+    let is = word-atom name utf8 in
+    let some = atom-some is in
+    record {
+      phrase_is = λ before white b w. record {
+        before = before;
+        first = word;
+        rest = white;
+        white_before = b;
+        is_first = name-word is;
+        is_rest = white-rest w;
+        made = refl;
+      };
+      shows = λ before white b w.
+          let front = atom-front is white (white-begins white w) in
+          let len = word-encoded name white (letters-carried name utf8) w in
+          let not_none = ap (λ n. eqb n 0) len ∙ ne_eqb (length word) 0 (λ e. absurd (omega (arith, some, e))) in
+          ap (lenient_value_in known)
+          (phrase-skipped b (word ++ white) ∙ phrase-starts (word ++ white) front
+          ∙ word-then word white word front some
+          (cond-false (eqb (encoded_len (word ++ white)) 0) _ _ not_none ∙ ap (λ n. take n (word ++ white)) len ∙ take_at word white (length word) refl)
+          (cond-false (eqb (encoded_len (word ++ white)) 0) _ _ not_none ∙ len) 0
+          ∙ ap (λ r. word ++ r) (white-shows white w (0 + length word)) ∙ append-nil word)
+          ∙ reads;
+    }
 
 word-reads : (known : Charsets) → KnowUtf8 known → (name : List ℕ) → IsUtf8 name → lenient_value_in known (one_word name) ≡ name
 word-reads known knows name utf8 =
@@ -286,9 +412,9 @@ pub phrase-written : (known : Charsets) → KnowUtf8 known → (name : List ℕ)
 unfolding written_phrase
 phrase-written known knows name utf8 =
     cond_both (is_plain_value name) _ _ (IsWritten known name)
-    (λ plain. cond_both (are_atoms name) _ _ (IsWritten known name) (λ words. atoms-written known name name (atoms-made false name words) (plain_reads known name plain))
+    (λ plain. cond_both (are_atoms name) _ _ (IsWritten known name) (λ words. atoms-written known name name (atoms-made false name (plain_is name plain).no_opening words) (plain_reads known name plain))
     (λ words. quoted-written known name (plain_reads known name plain)))
-    (λ plain. atoms-written known name (one_word name) (word-atoms name utf8) (word-reads known knows name utf8))
+    (λ plain. encoded-written known name utf8 (word-reads known knows name utf8))
 
 -- ---- local parts and domains
 
