@@ -18,5 +18,6 @@ pub mod EncodeWord
 pub mod EncodeRead
 pub mod WriterWords
 pub mod WriterRead
+pub mod Accepted
 pub mod Plain
 pub mod Groups

@@ -16,6 +16,7 @@ pub mod Safe
 pub mod WordTokens
 pub mod Encode
 pub mod Writer
+pub mod Accepted
 pub use Rattle.mail_codec.specs.Ascii
 pub use Rattle.mail_codec.specs.Places
 pub use Rattle.mail_codec.specs.Charset

@@ -6,6 +6,7 @@ ghost use Rattle.mail_codec.specs.Tables.{charsets_with};
 ghost use Rattle.mailparse.specs.Header.{Header};
 ghost use Rattle.mail_codec.specs.declared.charset.tables.SingleByteTable.{SingleByteTable};
 ghost use Rattle.mail_address.specs.Encode.{KnowUtf8};
+ghost use Rattle.mail_address.specs.Accepted.{AreAllAccepted};
 ghost use Rattle.mail_address.specs.Addresses.{addresses, element_at, element_len};
 ghost use Rattle.mail_address.specs.Addresses.{Group, group, is_separator, items, single};
 ghost use Rattle.mail_address.specs.Enclosed.{IsEnclosed, IsInAngles};
@@ -154,6 +155,21 @@ pub fn addresses_contain_no_control()
     ensures value { (raw : List ℕ) → AreAllSafe (addresses raw) }
     ensures headers { (name : List ℕ) (headers : List Header) →
         AreAllSafe (addresses_of name headers) }
+{}
+
+/// Every address that is read can be written: `write_addresses` accepts the local part and the
+/// domain that `Mailbox::get_local_part` and `Mailbox::get_domain` return. If they are UTF-8, it
+/// writes the address as `Mailbox::get_address` returns it.
+///
+/// # Examples
+///
+/// ```rust
+/// mail_address::laws::addresses_that_are_read_can_be_written();
+/// ```
+pub fn addresses_that_are_read_can_be_written()
+    ensures value { (raw : List ℕ) → AreAllAccepted (addresses raw) }
+    ensures headers { (name : List ℕ) (headers : List Header) →
+        AreAllAccepted (addresses_of name headers) }
 {}
 
 /// What `write_addresses` writes reads back: as many elements, in order, with the same names,

@@ -5,6 +5,7 @@ ghost use Rattle.std.specs.Prelude.{string_bytes};
 ghost use Rattle.mail_codec.specs.Places.{begins};
 ghost use Rattle.mailparse.specs.Outcome.{GivesText};
 ghost use Rattle.mailparse.specs.Value.{lenient_value_in, value_text};
+ghost use Rattle.mail_address.specs.Accepted.{bare_text};
 ghost use Rattle.mail_address.specs.Text.{address_bytes, phrase_text};
 ghost use Rattle.mail_address.specs.Addresses.{addresses, after_name, element_at, element_len};
 ghost use Rattle.mail_address.specs.Addresses.{group_at, group_len, inner_len, is_group};
@@ -17,7 +18,7 @@ ghost use Rattle.mail_address.specs.private.Plain.{IsFront, IsSingle};
 
 use crate::mailbox::{is_phrase, mailbox_of};
 use crate::plain::{Level, Plain, ends_single, plain_mailbox};
-use crate::text::{address_text, name_text};
+use crate::text::{address_text, bare_text, name_text};
 use crate::tokens::{Span, begins_at, is_all_white, run};
 use mail_codec::charset::KnownCharsets;
 use mailparse::MailParseError;
@@ -109,6 +110,60 @@ impl<'a> Mailbox<'a> {
             ≡ value_text (address_bytes self.now.local_part.now self.now.domain.now)) }
     {
         address_text(alloc, self.local_part, self.domain)
+    }
+
+    /// Returns the local part as text: without quotes, comments and whitespace, and without the
+    /// folding of a quoted string (RFC 5322, section 3.4.1).
+    ///
+    /// With `get_domain` it is an address that `write_addresses` accepts. Bytes that are not UTF-8
+    /// are read as Latin-1. Allocates the text.
+    ///
+    /// # Errors
+    ///
+    /// If memory runs out.
+    ///
+    /// # Examples
+    ///
+    /// ```rust
+    /// use mail_address::{Address, read_addresses};
+    ///
+    /// for address in &read_addresses(alloc, b"Ann <"a b"@(home)example . org>")? {
+    ///     if let Address::Mailbox(mailbox) = address {
+    ///         assert_eq!(rt; mailbox.get_local_part(alloc)?.as_str(), "a b");
+    ///     }
+    /// }
+    /// ```
+    pub fn get_local_part(&self, alloc: Global) -> Result<String, AllocError>
+        ensures { IfOk result (λ text. string_bytes text ≡ bare_text self.now.local_part.now) }
+    {
+        bare_text(alloc, self.local_part)
+    }
+
+    /// Returns the domain as text: without comments and whitespace, with the brackets of a domain
+    /// literal (RFC 5322, section 3.4.1).
+    ///
+    /// With `get_local_part` it is an address that `write_addresses` accepts. Bytes that are not
+    /// UTF-8 are read as Latin-1. Allocates the text.
+    ///
+    /// # Errors
+    ///
+    /// If memory runs out.
+    ///
+    /// # Examples
+    ///
+    /// ```rust
+    /// use mail_address::{Address, read_addresses};
+    ///
+    /// for address in &read_addresses(alloc, b"ann@(home)example . org")? {
+    ///     if let Address::Mailbox(mailbox) = address {
+    ///         assert_eq!(rt; mailbox.get_domain(alloc)?.as_str(), "example.org");
+    ///     }
+    /// }
+    /// ```
+    pub fn get_domain(&self, alloc: Global) -> Result<String, AllocError>
+        ensures { IfOk result (λ text. string_bytes text ≡ bare_text self.now.domain.now) }
+    {
+        bare_text(alloc, self.domain)
     }
 }
 

@@ -3,6 +3,7 @@ ghost use Rattle.std.specs.Prelude.{◌≡◌, ◌++◌, ◌<◌, ◌≤◌, ◌
 ghost use Rattle.std.specs.List.{list_all};
 ghost use Rattle.mailparse.specs.Outcome.{GivesText};
 ghost use Rattle.mailparse.specs.Value.{lenient_value_in, value_text};
+ghost use Rattle.mail_address.specs.Accepted.{bare_text};
 ghost use Rattle.mail_address.specs.Text.{address_bytes, address_front, address_meaning, bare};
 ghost use Rattle.mail_address.specs.Text.{escaped_byte, front_len};
 ghost use Rattle.mail_address.specs.Text.{front_meaning, local_text, meaning, needs_no_quotes};
@@ -263,6 +264,14 @@ fn bytes_text(alloc: Global, bytes: &[u8]) -> Result<String, AllocError>
         Ok(text) => Ok(String::from_str(alloc, text)?),
         Err(_) => Ok(decode_latin1(alloc, bytes)?.into_owned(alloc)?),
     }
+}
+
+/// Returns a local part or a domain as text.
+pub(crate) fn bare_text(alloc: Global, bytes: &[u8]) -> Result<String, AllocError>
+    ensures { IfOk result (λ text. string_bytes text ≡ bare_text bytes.now) }
+{
+    let text = bare(alloc, bytes)?;
+    bytes_text(alloc, text.as_slice())
 }
 
 /// Returns an address in canonical form, as text.

@@ -88,13 +88,13 @@ word-then word rest meant front some means len start =
     ∙ ap (λ n. meant ++ items word_at word_or_white_len (start + n) (drop n (word ++ rest))) (word-len (word ++ rest) front ∙ len)
     ∙ ap (λ r. meant ++ items word_at word_or_white_len (start + length word) r) (drop_at word rest (length word) refl)
 
-atom-token : {word : List ℕ} → IsWord atoms word → (rest : List ℕ) → begins is_atom_byte rest ≡ false → front_token (word ++ rest) ≡ record { kind = Atom; len = length word }
+pub atom-token : {word : List ℕ} → IsWord atoms word → (rest : List ℕ) → begins is_atom_byte rest ≡ false → front_token (word ++ rest) ≡ record { kind = Atom; len = length word }
 atom-token (atom {b = b} {bytes = bytes} h) rest ends =
     let both = and_parts (is_atom_byte b) (list_all is_atom_byte bytes) h in
     let all = prefix-whole bytes rest both.1 ends in
     atom_byte-front b (bytes ++ rest) both.0 ∙ ap (λ n. record { kind = Atom; len = n }) (omega (arith, all))
 
-atom-some : {word : List ℕ} → IsWord atoms word → 0 < length word
+pub atom-some : {word : List ℕ} → IsWord atoms word → 0 < length word
 atom-some (atom h) = omega arith
 
 atom-front : {word : List ℕ} → IsWord atoms word → (rest : List ℕ) → begins is_atom_byte rest ≡ false → Front (word ++ rest)
@@ -497,7 +497,7 @@ unfolding needs_no_quotes
 dot_atom-parts text h = and_parts (list_all is_dot_atom text) (is_dotted Atoms text) h
 
 -- a word with nothing around it
-padded-alone : {words : Words} {word : List ℕ} → IsWord words word → IsPadded words word
+pub padded-alone : {words : Words} {word : List ℕ} → IsWord words word → IsPadded words word
 padded-alone {words} {word} is = record {
   before = [];
   word = word;

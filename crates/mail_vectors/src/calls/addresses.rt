@@ -9,6 +9,7 @@
 //! write_mailboxes [NAME LOCAL DOMAIN].. => BYTES
 //! write_group NAME [NAME LOCAL DOMAIN].. => BYTES
 //! read_written [NAME LOCAL DOMAIN].. => ITEM..     the elements of what `write_mailboxes` writes
+//! rewrite VALUE => BYTES..                 each mailbox of a list that was read, written again
 //! ```
 
 use crate::calls::tables::all_tables;
@@ -30,6 +31,7 @@ pub fn make(row: &Row, answer: &mut Answer) -> Decision {
         "write_mailboxes" => answer.put(written(row)),
         "write_group" => answer.put(written_group(row)),
         "read_written" => read_written(row, answer)?,
+        "rewrite" => rewrite(row, answer)?,
         _ => return Ok(false),
     }
     Ok(true)
@@ -158,4 +160,27 @@ fn read_written(row: &Row, answer: &mut Answer) -> Outcome {
     let value = written(row)?;
     write_list(answer, &read_addresses(row.alloc, value.as_slice())?, &());
     Ok(())
+}
+
+/// Writes each mailbox of a list that was read.
+fn rewrite(row: &Row, answer: &mut Answer) -> Outcome {
+    for address in &read_addresses(row.alloc, row.bytes(0))? {
+        if let Address::Mailbox(mailbox) = address {
+            answer.put(rewritten(row.alloc, mailbox));
+        }
+    }
+    Ok(())
+}
+
+/// Returns the written list of a mailbox that was read.
+fn rewritten(alloc: Global, mailbox: &Mailbox<'_>) -> Result<Vec<u8>, MailParseError> {
+    let display_name = mailbox.get_display_name(alloc, &())?;
+    let local_part = mailbox.get_local_part(alloc)?;
+    let domain = mailbox.get_domain(alloc)?;
+    let new = NewMailbox {
+        display_name: display_name.as_str(),
+        local_part: local_part.as_str(),
+        domain: domain.as_str(),
+    };
+    write(alloc, &[NewAddress::Mailbox(new)])
 }
