@@ -1,5 +1,5 @@
 //! Looking headers up by their names.
-ghost use Rattle.std.specs.Prelude.{◌≡◌, map, List, IsOk, IsNone, Ok};
+ghost use Rattle.std.specs.Prelude.{◌≡◌, map, false, List, IsOk, IsNone, IsTrue, Ok};
 ghost use Rattle.std.specs.Option.{option_copied};
 ghost use Rattle.std.specs.Str.{str_eq_ignore_ascii_case};
 ghost use Rattle.mail_codec.specs.Latin1.{latin1_text};
@@ -245,15 +245,32 @@ impl MailHeaderMap for Headers<'_> {
 
 /// Whether the bytes of a key are the characters of a name, ignoring ASCII case.
 ///
-/// The bytes of an ASCII name, as nearly every name is, are compared as they are first, since most
-/// mails spell a name as the caller does.
+/// Most keys differ from the name in the first byte. The bytes of an ASCII name, as nearly every
+/// name is, are compared as they are first, since most mails spell a name as the caller does.
 fn is_key(key: &[u8], name: &str) -> bool
     ensures { result ≡ str_eq_ignore_ascii_case (latin1_text key.now) name.now }
 {
+    if begins_otherwise(key, name) {
+        return false;
+    }
     if !name.is_ascii() {
         return is_spelled_by(key, name);
     }
     key == name.as_bytes() || key.eq_ignore_ascii_case(name.as_bytes())
+}
+
+/// Whether the name begins with an ASCII character and the key with another one, ignoring case.
+#[inline(always)]
+fn begins_otherwise(key: &[u8], name: &str) -> bool
+    ensures { IsTrue result → str_eq_ignore_ascii_case (latin1_text key.now) name.now ≡ false }
+{
+    let Some(byte) = key.first() else {
+        return false;
+    };
+    match name.as_bytes().first() {
+        Some(wanted) => wanted.is_ascii() && !byte.eq_ignore_ascii_case(wanted),
+        None => false,
+    }
 }
 
 /// Whether the bytes of a key are the characters of a name, ignoring ASCII case.
