@@ -3,7 +3,7 @@ ghost use Rattle.std.specs.Prelude.{◌≡◌, ◌↔◌, Ok, IfOk, IsOk, IsErr,
 ghost use Rattle.std.specs.Cow.{cow_str_bytes, IsBorrowedStr};
 ghost use Rattle.mailparse.specs.Header.{Header, key_text};
 ghost use Rattle.mailparse.specs.Outcome.{Answers, AnswersOrMemory, GivesText, ReadsText};
-ghost use Rattle.mailparse.specs.Value.{lenient_value, lenient_value_in, strict_value};
+ghost use Rattle.mailparse.specs.Value.{IsPlain, lenient_value, lenient_value_in, strict_value};
 
 mod encoded_word;
 pub(crate) mod parse;
@@ -150,24 +150,59 @@ impl<'a> MailHeader<'a> {
         Ok(self.get_value_ref_in(alloc, known)?.into_owned(alloc)?)
     }
 
-    /// Returns the text of the value as `get_value` does, borrowed if it is a part of the value's
-    /// bytes.
-    pub(crate) fn get_value_ref(&self, alloc: Global) -> Result<CowStr<'_>, AllocError>
-        ensures { IfOk result (λ text. cow_str_bytes text ≡ lenient_value self.now.value) }
+    /// Returns the text of the value as `get_value` does, borrowed if it is plain: printable ASCII
+    /// without `=?` that does not begin with a space (RFC 5322, section 2.2; RFC 2047, section 2).
+    ///
+    /// When it is plain, it succeeds without allocating. The text of another value of one line may
+    /// be borrowed too. Control characters stay in it, as with `get_value`.
+    ///
+    /// # Errors
+    ///
+    /// `AllocError` if it runs out of memory.
+    ///
+    /// # Examples
+    ///
+    /// ```rust
+    /// use mailparse::parse_header;
+    ///
+    /// let (header, _) = parse_header(b"Subject: Hi there")?;
+    /// assert_eq!(rt; header.get_value_ref(alloc)?.as_str(), "Hi there");
+    /// ```
+    pub fn get_value_ref(&self, alloc: Global) -> Result<CowStr<'_>, AllocError>
+        ensures read { IfOk result (λ text. cow_str_bytes text ≡ lenient_value self.now.value) }
+        ensures borrowed { IsPlain self.now.value → IfOk result (λ text. IsBorrowedStr text) }
+        ensures no_alloc { IsPlain self.now.value → IsOk result }
     {
         self.get_value_ref_in(alloc, &())
     }
 
-    /// Returns the text of the value as `get_value_in` does, borrowed if it is a part of the
-    /// value's bytes.
+    /// Returns the text of the value as `get_value_in` does, borrowed as by `get_value_ref` (RFC
+    /// 2047, section 2).
+    ///
+    /// # Errors
+    ///
+    /// `AllocError` if it runs out of memory; never for a plain value, as `get_value_ref` says.
+    ///
+    /// # Examples
+    ///
+    /// ```rust
+    /// use mailparse::{SingleByteTable, parse_header};
+    ///
+    /// let tables = [SingleByteTable { labels: &["x-euro"], high: &['€'; 128] }];
+    /// let (header, _) = parse_header(b"Subject: =?X-Euro?Q?5_=80?=")?;
+    /// let text = header.get_value_ref_in(alloc, &tables.as_slice())?;
+    /// assert_eq!(rt; text.as_str(), "5 €");
+    /// ```
     #[tactic(auto, using(crate::proofs::lemmas::Value::header_values))]
-    pub(crate) fn get_value_ref_in<K: KnownCharsets>(
+    pub fn get_value_ref_in<K: KnownCharsets>(
         &self,
         alloc: Global,
         known: &K,
     ) -> Result<CowStr<'_>, AllocError>
-        ensures { IfOk result (λ text.
+        ensures read { IfOk result (λ text.
             cow_str_bytes text ≡ lenient_value_in (K.known known.now) self.now.value) }
+        ensures borrowed { IsPlain self.now.value → IfOk result (λ text. IsBorrowedStr text) }
+        ensures no_alloc { IsPlain self.now.value → IsOk result }
     {
         match str::from_utf8(self.get_value_raw()) {
             Ok(text) => value_ref(alloc, text, known),

@@ -1,7 +1,7 @@
 -- A plain value is its own text; the strict and the lenient reading agree.
-use Rattle.std.proofs.Common.{◌≡◌, ◌≢◌, ◌⊎◌, ℕ, zero, suc, ◌<◌, ◌≤◌, Bool, true, false, cond, eqb, ltb, ◌&&◌, List, [], ◌∷◌, ◌++◌, length, map, take, drop, get_or, None, Some, Ok, Err, refl, zero-add, sym, ap, subst, ◌∙◌, inl, inr, ⊎_elim, arith}
+use Rattle.std.proofs.Common.{◌≡◌, ◌≢◌, ◌⊎◌, ℕ, zero, suc, ◌<◌, ◌≤◌, Bool, true, false, cond, eqb, ltb, ◌&&◌, List, [], ◌∷◌, ◌++◌, length, map, take, drop, get_or, Option, is_some, None, Some, Ok, Err, refl, zero-add, sym, ap, subst, ◌∙◌, inl, inr, ⊎_elim, arith}
 use Rattle.std.proofs.Math.Nat.{sub-zero}
-use Rattle.std.proofs.lemmas.Bool.{cond-true, cond-false, false≢true, eq-eqb, ne_eqb, cases_lt, or_from, and_left, and_right, le-ltb}
+use Rattle.std.proofs.lemmas.Bool.{cond-true, cond-false, false≢true, eq-eqb, eqb-true, ne_eqb, cases_lt, or_from, and_left, and_right, le-ltb}
 use Rattle.std.proofs.lemmas.List.{append-nil, length-drop, take_all, get_or_past, get_or_default}
 use Rattle.std.proofs.lemmas.List.Elements.{All-head}
 use Rattle.std.proofs.lemmas.List.Splits.{slice_split_none}
@@ -20,7 +20,7 @@ use Rattle.mailparse.proofs.lemmas.Value.{lenient-utf8}
 use Rattle.std.proofs.lemmas.Str.{IsUtf8-from_ascii}
 use Rattle.mailparse.specs.Value.{IsPlain, Token, newline, token_of, outside_token, line_tokens, tokens_of_lines, value_tokens, shown_tokens, shown_after, unfolded_value, lenient_value, lenient_value_in, strict_value}
 use Rattle.mail_codec.proofs.lemmas.Places.{first_place-≤, first_place-passes, first_place-before, begins-at}
-use Rattle.mail_codec.proofs.lemmas.PlacesSearches.{place_none}
+use Rattle.mail_codec.proofs.lemmas.PlacesSearches.{place_none, place_some}
 use Rattle.mailparse.proofs.lemmas.Places.{Nowhere, nowhere_found, nowhere_behind, not_some}
 use Rattle.mailparse.proofs.lemmas.Unfolded.{settled, token_of-outside}
 use Rattle.mailparse.proofs.lemmas.Tokens.{token_ranges_only}
@@ -181,9 +181,49 @@ strict_succeeds bytes value h = go (is_utf8 bytes) h
     go true e = cc
     go false e = cc
 
+-- a plain value is UTF-8
+pub plain_utf8 : (value : List ℕ) → IsPlain value → IsUtf8 value
+plain_utf8 value plain = IsUtf8-from_ascii value (printable_ascii value plain.printable)
+
 -- so the value is read as itself
 pub lenient_value-plain : (value : List ℕ) → IsPlain value → lenient_value value ≡ value
-lenient_value-plain value plain = lenient-utf8 four_charsets value (IsUtf8-from_ascii value (printable_ascii value plain.printable)) ∙ unfolded_value-plain four_charsets value plain
+lenient_value-plain value plain = lenient-utf8 four_charsets value (plain_utf8 value plain) ∙ unfolded_value-plain four_charsets value plain
 
 -- a value that is joined
 pub ruleset joined_values = (not_some, unfolded_value-joined)
+
+-- ---- the searches for what a plain value does not contain
+
+-- a place that passes
+some_passes : (test : List ℕ → Bool) (bytes : List ℕ) (p : ℕ) → Some p ≡ place test bytes → (p < length bytes) × (test (drop p bytes) ≡ true)
+some_passes test bytes p found =
+    let at = place_some test bytes p found in
+    (subst (λ n. n < length bytes) (sym at.0) at.1, ap (λ n. test (drop n bytes)) at.0 ∙ first_place-passes test bytes at.1)
+
+-- a plain value has no line end
+pub plain_feeds : (value : List ℕ) → IsPlain value → is_some (place (begins (λ b. eqb b 10)) value) ≡ false
+plain_feeds value plain = by_place (place (begins (λ b. eqb b 10)) value) refl
+  where
+    by_place : (o : Option ℕ) → o ≡ place (begins (λ b. eqb b 10)) value → is_some o ≡ false
+    by_place None found = refl
+    by_place (Some p) found =
+        let at = some_passes (begins (λ b. eqb b 10)) value p found in
+        let feed : get_or value p 0 ≡ 10 = eqb-true _ 10 (sym (begins-at (λ b. eqb b 10) value p at.0) ∙ at.1) in
+        let printable = plain.printable p 0 at.0 in
+        absurd (omega (arith, feed, printable.0))
+
+-- and loses nothing at its start
+trimmed_plain : (value : List ℕ) → IsPlain value → trim_start value ≡ value
+trimmed_plain [] plain = trim_start-nil
+trimmed_plain (b ∷ value) plain =
+    trim_start-plain b value plain.printable (λ e. absurd (false≢true (sym plain.no_space ∙ ap (λ t. t && true) (eq-eqb 32 b (sym e)))))
+
+-- nor an encoded word
+pub plain_openings : (value line : List ℕ) → IsPlain value → line ≡ trim_start value → None ≡ place begins_opening line
+plain_openings value line plain trimmed = by_place (place begins_opening line) refl
+  where
+    by_place : (o : Option ℕ) → o ≡ place begins_opening line → None ≡ o
+    by_place None found = refl
+    by_place (Some p) found =
+        let at = some_passes begins_opening line p found in
+        absurd (false≢true (sym (plain.no_opening p) ∙ ap (λ l. begins_opening (drop p l)) (sym (trimmed ∙ trimmed_plain value plain)) ∙ at.1))

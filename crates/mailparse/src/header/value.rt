@@ -1,7 +1,7 @@
 //! The text of a header's value: its lines are unfolded (RFC 5322, section 2.2.3) and its encoded
 //! words decoded (RFC 2047, sections 2 and 4).
-ghost use Rattle.std.specs.Prelude.{◌≡◌, ◌==◌, ◌-◌, ◌<◌, ◌∷◌, None, length, map, slice_index, IfOk, IfSome, IsTrue, MatchOption};
-ghost use Rattle.std.specs.Cow.{cow_str_bytes};
+ghost use Rattle.std.specs.Prelude.{◌≡◌, ◌==◌, ◌-◌, ◌<◌, ◌∷◌, None, length, map, slice_index, IfOk, IfSome, IsOk, IsSome, IsTrue, MatchOption};
+ghost use Rattle.std.specs.Cow.{cow_str_bytes, IsBorrowedStr};
 ghost use Rattle.std.specs.List.{join_with_byte};
 ghost use Rattle.std.specs.Str.{IsUtf8, trim_start};
 ghost use Rattle.std.specs.Str.Lines.{lines, strip_carriage_return};
@@ -9,7 +9,7 @@ ghost use Rattle.std.specs.String.{string_bytes};
 ghost use Rattle.mail_codec.specs.Ascii.{carriage_return, line_feed, space};
 ghost use Rattle.mail_codec.specs.Charset.{Charsets};
 ghost use Rattle.mail_codec.specs.Places.{byte_place};
-ghost use Rattle.mailparse.specs.Value.{unfolded_value};
+ghost use Rattle.mailparse.specs.Value.{IsPlain, unfolded_value};
 
 use super::plain::is_bare;
 use super::tokens::push_line;
@@ -28,6 +28,7 @@ fn plain_line(text: &str) -> Option<&str>
         line.now ≡ unfolded_value known text.now) }
     ensures same { IfSome result (λ line.
         length line.now ≡ length text.now → line.now ≡ text.now) }
+    ensures plain { IsPlain text.now → IsSome result }
 {
     if is_bare(text.as_bytes()) {
         return Some(text);
@@ -48,8 +49,10 @@ pub(crate) fn value_ref<'v, K: KnownCharsets>(
     text: &'v str,
     known: &K,
 ) -> Result<CowStr<'v>, AllocError>
-    ensures { IfOk result (λ value.
+    ensures read { IfOk result (λ value.
         cow_str_bytes value ≡ unfolded_value (K.known known.now) text.now) }
+    ensures borrowed { IsPlain text.now → IfOk result (λ value. IsBorrowedStr value) }
+    ensures no_alloc { IsPlain text.now → IsOk result }
 {
     match plain_line(text) {
         Some(line) => Ok(CowStr::Borrowed(line)),
