@@ -12,7 +12,7 @@ pub use base64::{Base64Front, base64_front};
 pub(crate) use comments::without_comments;
 pub(crate) use content::part_content;
 pub use content::{Content, ContentFault, lenient_content};
-pub use date::{DateError, date_of, zoned_date_of};
+pub use date::{DateError, date_and_offset_of, date_of, zoned_date_of};
 pub use encoding::lenient_body;
 pub use ids::{IdRule, find_ids};
 pub use manner::Lenient;

@@ -256,14 +256,25 @@ zone_at bytes =
 abbrev pub since_1970 : ℕ → ℤ
 since_1970 seconds = pos seconds +ℤ neg_ℤ (pos (86400 * day_number 1970 0 1))
 
--- the seconds from 1 January 1970, 0 h UTC, to the date in a text, and whether its zone is known
-unfoldable pub zoned_date_of : List ℕ → Dated Zoned
-zoned_date_of text = do
+-- the seconds by which the clocks of a zone are ahead of UTC, if it is known
+abbrev pub offset_of : Zoned → Option ℤ
+offset_of zone = if zone.1 then Some (neg_ℤ zone.0) else None
+
+-- the seconds from 1 January 1970, 0 h UTC, to the date in a text, and the offset of its zone
+unfoldable pub date_and_offset_of : List ℕ → Dated (ℤ × Option ℤ)
+date_and_offset_of text = do
   day ← day_at text
   time ← time_at day.1
   zone ← zone_at time.1
   if is_empty (after_comments zone.1)
-      then Ok (since_1970 (86400 * day.0 + time.0) +ℤ zone.0.0, zone.0.1) else Err TrailingText
+      then Ok (since_1970 (86400 * day.0 + time.0) +ℤ zone.0.0, offset_of zone.0)
+      else Err TrailingText
+
+-- the same seconds, and whether the zone is known
+unfoldable pub zoned_date_of : List ℕ → Dated Zoned
+zoned_date_of text = do
+  date ← date_and_offset_of text
+  Ok (date.0, is_some date.1)
 
 -- the seconds alone
 abbrev pub date_of : List ℕ → Dated ℤ

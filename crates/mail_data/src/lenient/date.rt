@@ -1,6 +1,7 @@
 //! Dates as mail writes them (RFC 5322, sections 3.3 and 4.3).
 ghost use Rattle.std.specs.Prelude.{◌≡◌, ◌<◌, ◌^◌, neg_ℤ, pos, ◌≤ℤ◌, ◌+ℤ◌};
-ghost use Rattle.mail_data.specs.lenient.Date.{zoned_date_of, date_of, since_1970};
+ghost use Rattle.mail_data.specs.lenient.Date.{date_and_offset_of, date_of, since_1970};
+ghost use Rattle.mail_data.specs.lenient.Date.{zoned_date_of};
 
 mod calendar;
 mod error;
@@ -74,13 +75,41 @@ pub fn date_of(text: &str) -> Result<i64, DateError>
 pub fn zoned_date_of(text: &str) -> Result<(i64, bool), DateError>
     ensures { result ≡ zoned_date_of text.now }
 {
+    let (seconds, offset) = date_and_offset_of(text)?;
+    Ok((seconds, offset.is_some()))
+}
+
+/// Returns the seconds that `date_of` returns, and the offset of the date's zone: the seconds by
+/// which its clocks are ahead of UTC, or `None` if `zoned_date_of` reports that the zone is not known
+/// (RFC 5322, sections 3.3 and 4.3).
+///
+/// Does not allocate.
+///
+/// # Errors
+///
+/// Those of `date_of`.
+///
+/// # Examples
+///
+/// ```rust
+/// use mail_data::lenient::date_and_offset_of;
+///
+/// assert_eq!(rt; date_and_offset_of("1 Jan 1970 09:00 JST").ok(), Some((0, Some(32_400))));
+/// assert_eq!(rt; date_and_offset_of("31 Dec 1969 23:30 -0030").ok(), Some((0, Some(-1_800))));
+/// assert_eq!(rt; date_and_offset_of("1 Jan 1970 00:00 -0000").ok(), Some((0, None)));
+/// ```
+#[tactic(auto, unfolding(crate::specs::lenient::Date::date_and_offset_of))]
+pub fn date_and_offset_of(text: &str) -> Result<(i64, Option<i64>), DateError>
+    ensures { result ≡ date_and_offset_of text.now }
+{
     let (day, rest) = day_at(text.as_bytes())?;
     let (time, rest) = time_at(rest)?;
     let ((zone, is_known), rest) = zone_at(rest)?;
     if !after_comments(rest).is_empty() {
         return Err(DateError::TrailingText);
     }
-    Ok((since_1970(86_400 * day + time, zone), is_known))
+    let offset = if is_known { Some(-zone) } else { None };
+    Ok((since_1970(86_400 * day + time, zone), offset))
 }
 
 /// Converts seconds since the start of 1900 to seconds since 1 January 1970, 0 h UTC, given the
