@@ -1,5 +1,5 @@
 -- The date of a header in seconds: RFC 5322, sections 3.3 and 4.3, read as leniently as mail is written.
-use Rattle.std.specs.Prelude.{ℕ, suc, ◌+◌, ◌*◌, ◌/◌, ◌%◌, ◌-◌, ◌^◌, Bool, not, ◌&&◌, ◌||◌, ◌==◌, nat_lt, nat_le, List, [], ◌∷◌, filter, ℤ, pos, negsuc, ◌+ℤ◌, neg_ℤ, Option, Some, None, is_some, ok_or, unsigned_abs, Ok, Err, codes, if◌then◌else◌}
+use Rattle.std.specs.Prelude.{ℕ, suc, ◌+◌, ◌*◌, ◌/◌, ◌%◌, ◌^◌, Bool, not, ◌&&◌, ◌||◌, ◌==◌, nat_lt, nat_le, List, [], ◌∷◌, filter, ℤ, pos, negsuc, ◌+ℤ◌, neg_ℤ, Option, Some, None, is_some, ok_or, unsigned_abs, Ok, Err, codes, if◌then◌else◌}
 use Rattle.std.specs.Int.{is_in_range}
 use Rattle.std.specs.List.{slice_split}
 use Rattle.std.specs.Option.{option_map_or}

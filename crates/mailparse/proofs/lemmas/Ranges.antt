@@ -114,7 +114,7 @@ module _ (whole : Bool) where
   unfolding cut_parts_as
   cut_parts_as-start dash_boundary bytes i = refl
 
--- a message of any type: before each part stand at least two bytes of a delimiter and its line end
+-- a message of any type: at least two bytes of a delimiter and its line end precede each part
 pub cut_of_as-apart : (whole : Bool) (ctype : ContentType) (bytes : List ℕ) (i : ℕ) → i ≤ length bytes
     → ((cut_of_as whole ctype bytes i).body.start ≡ i) × (i ≤ (cut_of_as whole ctype bytes i).body.end) × Apart 3 (cut_of_as whole ctype bytes i).body.end (cut_of_as whole ctype bytes i).parts (length bytes)
 cut_of_as-apart whole ctype bytes i within = by_delimiter (dash_boundary_of ctype) refl
