@@ -1,5 +1,5 @@
 -- The types of the library, as contracts see them.
-use Rattle.std.specs.Prelude.{ℕ, List, ◌∷◌, drop, map, string_bytes}
+use Rattle.std.specs.Prelude.{ℕ, Bool, true, false, List, ◌∷◌, drop, map, string_bytes}
 use Rattle.std.specs.Global.{Vec}
 use Rattle.std.specs.List.{flat_map}
 use Rattle.mailparse.specs.Header.{Header}
@@ -15,6 +15,8 @@ use Rattle.mailparse.specs.declared.disposition.DispositionType.TheVariants as c
 use Rattle.mailparse.specs.declared.disposition.ParsedContentDisposition.{ParsedContentDisposition}
 use Rattle.mailparse.specs.declared.mail.message.ParsedMail.{ParsedMail}
 use Rattle.mailparse.specs.declared.mail.message.PartsIterator.{PartsIterator}
+use Rattle.mailparse.specs.declared.mail.types.DefaultType.{DefaultType}
+use Rattle.mailparse.specs.declared.mail.types.DefaultType.TheVariants.{Text, Message}
 use Rattle.mailparse.specs.declared.mail.message.ParsedMail.TheOpen.{ParsedMail-F}
 use Rattle.mailparse.specs.declared.mail.message.ParsedMail.TheFolds.{fold-ParsedMail}
 use Rattle.mailparse.specs.declared.mail.message.ParsedMail.TheViews.{out-ParsedMail}
@@ -26,6 +28,11 @@ header_list found = record { headers = found.0.items; index = found.1 }
 -- the content type of a message
 abbrev pub content_type : ParsedContentType → ContentType
 content_type c = record { mimetype = string_bytes c.mimetype; charset = string_bytes c.charset; params = text_at c.params }
+
+-- whether a default type is that of a part of a digest
+abbrev pub in_digest : DefaultType → Bool
+in_digest Text = false
+in_digest Message = true
 
 -- the kind of a disposition
 abbrev pub kind : DispositionType → Kind

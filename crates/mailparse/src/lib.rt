@@ -38,6 +38,7 @@ pub use header::parse::{HeaderPlaces, header_places, parse_header};
 pub use header::{MailHeader, value_text, value_text_in};
 pub use headers::block::parse_headers;
 pub use headers::map::MailHeaderMap;
+pub use mail::types::DefaultType;
 pub use mail::{
     MAX_LEVELS, ParsedMail, PartsIterator, parse_mail, parse_mail_as, parse_mail_in,
     parse_mail_limited, parse_mail_limited_in,

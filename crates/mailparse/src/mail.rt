@@ -8,7 +8,7 @@ ghost use Rattle.mailparse.specs.Mail.{forest, or_kept, read_levels, read_mail, 
 ghost use Rattle.mailparse.specs.Outcome.{Answers, AnswersOrMemory, IsRefusal, IsRefusalOrMemory};
 ghost use Rattle.mailparse.specs.Placement.{placements, placements_as};
 ghost use Rattle.mailparse.specs.Refusal.{Reads};
-ghost use Rattle.mailparse.specs.Views.{content_type, placements_of, tree_of};
+ghost use Rattle.mailparse.specs.Views.{content_type, in_digest, placements_of, tree_of};
 ghost use Rattle.mailparse.specs.private.Delimiters.{IsLineDelimiter};
 
 mod delimiters;
@@ -25,7 +25,7 @@ use mail_codec::bytescan::find_byte;
 use mail_codec::charset::KnownCharsets;
 pub use message::{ParsedMail, PartsIterator};
 use std::alloc::Global;
-use types::{is_digest, line_delimiter_of, part_type};
+use types::{DefaultType, line_delimiter_of, parts_default};
 
 /// The number of levels of parts that `parse_mail` reads below a message, and the greatest limit
 /// that `parse_mail_limited` accepts.
@@ -224,7 +224,7 @@ pub fn parse_mail_as<'a, M: ReadingManner>(
         IsErr (read_headers raw.now) →
         Answers tree_of result (read_mail_as (M.manner manner.now) levels raw.now) }
 {
-    parse_mail_recursive(alloc, raw, 0, false, levels + 1, manner)
+    parse_mail_recursive(alloc, raw, 0, DefaultType::Text, levels + 1, manner)
 }
 
 /// Reads a message that starts at `offset` of the mail and has at most `levels` levels, counting
@@ -233,18 +233,18 @@ fn parse_mail_recursive<'a, M: ReadingManner>(
     alloc: Global,
     raw: &'a [u8],
     offset: usize,
-    in_digest: bool,
+    default: DefaultType,
     levels: u8,
     manner: &M,
 ) -> Result<ParsedMail<'a>, MailParseError>
     requires within { offset + length raw.now < 2 ^ 64 }
     ensures read { AnswersOrMemory tree_of result
-        (read_levels (M.manner manner.now) levels in_digest raw.now) }
+        (read_levels (M.manner manner.now) levels (in_digest default) raw.now) }
     ensures places { IfOk result (λ mail. placements_of mail
         ≡ placements_as (M.manner manner.now).whole_lines offset (tree_of mail)) }
     ensures no_alloc { (M.manner manner.now).keeps_refused ≡ false → 0 < levels →
         header_count raw.now ≡ 0 → IsErr (read_headers raw.now) →
-        Answers tree_of result (read_levels (M.manner manner.now) levels in_digest raw.now) }
+        Answers tree_of result (read_levels (M.manner manner.now) levels (in_digest default) raw.now) }
 {
     if levels == 0 {
         let refusal = MailParseError::Generic("Recursion limit reached");
@@ -254,12 +254,12 @@ fn parse_mail_recursive<'a, M: ReadingManner>(
         Ok(block) => block,
         Err(refusal) => return refused_or_kept(alloc, raw, offset, refusal, manner),
     };
-    let ctype = manner.content_type(alloc, &headers, in_digest)?;
+    let ctype = manner.content_type(alloc, &headers, default)?;
     let Some(line_delimiter) = line_delimiter_of(alloc, &ctype)? else {
         let parts = Vec::new(alloc);
         return Ok(message_of(raw, offset, headers, ctype, body_offset, raw.len(), parts));
     };
-    let is_digest = is_digest(&ctype);
+    let inner = parts_default(&ctype);
     let whole = has_whole_lines(&line_delimiter, manner);
     let (end, first) = cut_preamble(raw, body_offset, line_delimiter.as_slice(), whole);
     let mut subparts = Vec::new(alloc);
@@ -268,7 +268,7 @@ fn parse_mail_recursive<'a, M: ReadingManner>(
         let (part_end, after) = cut_part(raw, start, line_delimiter.as_slice(), whole);
         let part = &raw[start..part_end];
         let begin = offset + start;
-        subparts.push(parse_mail_recursive(alloc, part, begin, is_digest, levels - 1, manner)?)?;
+        subparts.push(parse_mail_recursive(alloc, part, begin, inner, levels - 1, manner)?)?;
         next = after;
     }
     Ok(message_of(raw, offset, headers, ctype, body_offset, end, subparts))
@@ -298,7 +298,7 @@ fn refused_or_kept<'a, M: ReadingManner>(
     if let MailParseError::Memory(e) = refusal {
         return Err(MailParseError::Memory(e));
     }
-    let ctype = part_type(alloc, false)?;
+    let ctype = DefaultType::Text.content_type(alloc)?;
     Ok(message_of(
         raw,
         offset,

@@ -2,11 +2,11 @@
 ghost use Rattle.std.specs.Prelude.{◌≡◌, IfOk};
 ghost use Rattle.mailparse.specs.Manner.{Manner};
 ghost use Rattle.mailparse.specs.Mail.{strict};
-ghost use Rattle.mailparse.specs.Views.{content_type};
+ghost use Rattle.mailparse.specs.Views.{content_type, in_digest};
 
 use crate::content_type::ParsedContentType;
 use crate::header::MailHeader;
-use crate::mail::types::node_type;
+use crate::mail::types::{DefaultType, node_type};
 use mail_codec::charset::KnownCharsets;
 use std::alloc::{AllocError, Global};
 
@@ -19,8 +19,8 @@ pub trait ReadingManner {
     // The choices of this reader.
     ghost manner: { Self → Manner };
 
-    /// Returns the type of a message with these headers, given whether it is part of a digest
-    /// (RFC 2046, section 5.1.5).
+    /// Returns the type of a message with these headers, given the type that it has without a
+    /// `Content-Type` (RFC 2046, section 5.1.5).
     ///
     /// The type decides whether the message has parts, and what their boundary is. Allocates the
     /// type.
@@ -32,20 +32,20 @@ pub trait ReadingManner {
     /// # Examples
     ///
     /// ```rust
-    /// use mailparse::{ReadingManner, Strict, parse_headers};
+    /// use mailparse::{DefaultType, ReadingManner, Strict, parse_headers};
     ///
     /// let (headers, _) = parse_headers(alloc, b"Subject: One\n\n")?;
-    /// let ctype = Strict(&()).content_type(alloc, &headers, true)?;
+    /// let ctype = Strict(&()).content_type(alloc, &headers, DefaultType::Message)?;
     /// assert_eq!(rt; ctype.mimetype.as_str(), "message/rfc822");
     /// ```
     fn content_type(
         &self,
         alloc: Global,
         headers: &Vec<MailHeader<'_>>,
-        in_digest: bool,
+        default: DefaultType,
     ) -> Result<ParsedContentType, AllocError>
         ensures { IfOk result (λ ctype.
-            content_type ctype ≡ (manner self.now).type_of in_digest headers.now.items) };
+            content_type ctype ≡ (manner self.now).type_of (in_digest default) headers.now.items) };
 
     /// Whether a refused message or part is kept, as plain text without headers whose body is all
     /// its bytes. Otherwise the whole mail is refused.
@@ -87,9 +87,9 @@ impl<'k, K: KnownCharsets> ReadingManner for Strict<'k, K> {
         &self,
         alloc: Global,
         headers: &Vec<MailHeader<'_>>,
-        in_digest: bool,
+        default: DefaultType,
     ) -> Result<ParsedContentType, AllocError> {
-        node_type(alloc, headers, in_digest, self.0)
+        node_type(alloc, headers, default, self.0)
     }
 
     fn keeps_refused(&self) -> bool {

@@ -1,13 +1,12 @@
 //! The manner in which mail is read leniently.
 ghost use Rattle.std.specs.Prelude.{◌≡◌, IfOk, string_bytes};
-ghost use Rattle.mailparse.specs.Mail.{part_type};
-ghost use Rattle.mailparse.specs.Views.{content_type};
+ghost use Rattle.mailparse.specs.Views.{content_type, in_digest};
 ghost use Rattle.mail_data.specs.lenient.Manner.{lenient, lenient_name, lenient_type_in, lenient_type_of, name_of_one, name_of_two};
 
 use super::comments::without_comments;
 use mail_codec::charset::KnownCharsets;
 use mailparse::{
-    MailHeader, MailHeaderMap, ParsedContentType, ReadingManner, parse_content_type_in,
+    DefaultType, MailHeader, MailHeaderMap, ParsedContentType, ReadingManner, parse_content_type_in,
 };
 use std::alloc::{AllocError, Global};
 
@@ -44,9 +43,9 @@ impl<'k, K: KnownCharsets> ReadingManner for Lenient<'k, K> {
         &self,
         alloc: Global,
         headers: &Vec<MailHeader<'_>>,
-        in_digest: bool,
+        default: DefaultType,
     ) -> Result<ParsedContentType, AllocError> {
-        type_of(alloc, headers, in_digest, self.0)
+        type_of(alloc, headers, default, self.0)
     }
 
     fn keeps_refused(&self) -> bool {
@@ -63,14 +62,14 @@ impl<'k, K: KnownCharsets> ReadingManner for Lenient<'k, K> {
 fn type_of<K: KnownCharsets>(
     alloc: Global,
     headers: &Vec<MailHeader<'_>>,
-    in_digest: bool,
+    default: DefaultType,
     known: &K,
 ) -> Result<ParsedContentType, AllocError>
     ensures { IfOk result (λ ctype. content_type ctype
-        ≡ lenient_type_of (K.known known.now) in_digest headers.now.items) }
+        ≡ lenient_type_of (K.known known.now) (in_digest default) headers.now.items) }
 {
     let Some(header) = headers.get_first_header("Content-Type") else {
-        return part_type(alloc, in_digest);
+        return default.content_type(alloc);
     };
     match header.get_value_in(alloc, known) {
         Ok(value) => lenient_type(alloc, value.as_str(), known),
@@ -131,19 +130,4 @@ fn name_of_two(alloc: Global, main: &str, sub: &str) -> Result<String, AllocErro
     made.push('/')?;
     made.push_str(sub)?;
     Ok(made)
-}
-
-/// Returns the default type of a part.
-fn part_type(alloc: Global, in_digest: bool) -> Result<ParsedContentType, AllocError>
-    ensures { IfOk result (λ ctype. content_type ctype ≡ part_type in_digest) }
-{
-    match ParsedContentType::default(alloc) {
-        Ok(mut ctype) => {
-            if in_digest {
-                ctype.mimetype = String::from_str(alloc, "message/rfc822")?;
-            }
-            Ok(ctype)
-        }
-        Err(_) => Err(AllocError),
-    }
 }

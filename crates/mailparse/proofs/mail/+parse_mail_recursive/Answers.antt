@@ -9,7 +9,7 @@ use Rattle.mailparse.specs.Block.{HeaderList, read_headers}
 use Rattle.mailparse.specs.Mail.{Tree, tree, Forest, no_parts, forest, dash_boundary_of, whole_lines_for, read_levels}
 use Rattle.mailparse.specs.Outcome.{Answers, AnswersOrMemory}
 use Rattle.mailparse.specs.Refusal.{recursion_limit, Reads}
-use Rattle.mailparse.specs.Views.{content_type, header_list, tree_of}
+use Rattle.mailparse.specs.Views.{content_type, header_list, in_digest, tree_of}
 use Rattle.mailparse.specs.declared.error.MailParseError.{MailParseError}
 use Rattle.mailparse.specs.Header.{Header}
 use Rattle.mailparse.specs.declared.mail.message.ParsedMail.{ParsedMail}
@@ -18,7 +18,7 @@ use Rattle.mailparse.proofs.lemmas.Outcome.{IsRefusal-along, IsRefusalOrMemory-a
 use Rattle.mailparse.proofs.lemmas.Mail.{with_trees, parts_from, parts_step, parts_refused, parts_end, reading, reading-refused, reading-whole, read_levels-none, read_levels-step, read_levels-read, read_levels-refused, read_levels-leaf, line_delimiter_none, line_delimiter_some, IsLineDelimiter-of}
 use Rattle.mailparse.specs.Placement.{Placement, placements_as, placements_in_as}
 use Rattle.mailparse.proofs.lemmas.Delimiters.{part_ranges_as}
-use Rattle.mailparse.proofs.lemmas.Placement.{ArePlaced, placed_whole, placed_step, placed_end, all_placed}
+use Rattle.mailparse.proofs.lemmas.Placement.{ArePlaced, placed_whole, placed_step, placed_end}
 use Rattle.mailparse.proofs.mail.+parse_mail_recursive.Goals as goal
 
 -- the line delimiter that was made
@@ -28,7 +28,7 @@ made o line_delimiter r e h = sym (ap (option_map (λ (l : Vec ℕ). l.items)) e
 pub returns-then-levels-eq0-clause-read : goal.returns-then-levels-eq0-clause-read
 returns-then-levels-eq0-clause-read g t c =
     let manner = g.M.ReadingManner.manner c.args.manner.now in
-    subst (AnswersOrMemory tree_of c.refused_or_kept.result) (sym (read_levels-none manner c.args.levels c.args.in_digest c.args.raw.now c.if-levels-eq0.true))
+    subst (AnswersOrMemory tree_of c.refused_or_kept.result) (sym (read_levels-none manner c.args.levels (in_digest c.args.default) c.args.raw.now c.if-levels-eq0.true))
     (c.refused_or_kept.ensures.read (Err recursion_limit) refl)
 
 pub returns-in-Err-clause-read : goal.returns-in-Err-clause-read
@@ -36,19 +36,19 @@ returns-in-Err-clause-read g t c =
     let manner = g.M.ReadingManner.manner c.args.manner.now in
     let raw = c.args.raw.now in
     let some : 0 < c.args.levels = omega (arith, c.if-levels-eq0.false) in
-    let own = reading manner c.args.levels c.args.in_digest raw in
+    let own = reading manner c.args.levels (in_digest c.args.default) raw in
     let h : AnswersOrMemory header_list (Err c.in-Err.refusal) (read_headers raw) = subst (λ r. AnswersOrMemory header_list r (read_headers raw)) c.in-Err.is c.parse_headers.ensures.read in
-    subst (AnswersOrMemory tree_of c.refused_or_kept-in-Err.result) (sym (read_levels-step manner c.args.levels c.args.in_digest raw some))
-    (c.refused_or_kept-in-Err.ensures.read own (IsRefusalOrMemory-along c.in-Err.refusal (read_headers raw) own (reading-refused manner c.args.levels c.args.in_digest raw) h))
+    subst (AnswersOrMemory tree_of c.refused_or_kept-in-Err.result) (sym (read_levels-step manner c.args.levels (in_digest c.args.default) raw some))
+    (c.refused_or_kept-in-Err.ensures.read own (IsRefusalOrMemory-along c.in-Err.refusal (read_headers raw) own (reading-refused manner c.args.levels (in_digest c.args.default) raw) h))
 
 pub returns-in-Err-clause-no_alloc : goal.returns-in-Err-clause-no_alloc
 returns-in-Err-clause-no_alloc g t c = λ refuses some none refused.
     let manner = g.M.ReadingManner.manner c.args.manner.now in
     let raw = c.args.raw.now in
-    let own = reading manner c.args.levels c.args.in_digest raw in
+    let own = reading manner c.args.levels (in_digest c.args.default) raw in
     let h : Answers header_list (Err c.in-Err.refusal) (read_headers raw) = subst (λ r. Answers header_list r (read_headers raw)) c.in-Err.is (c.parse_headers.ensures.no_alloc none) in
-    subst (Answers tree_of c.refused_or_kept-in-Err.result) (sym (read_levels-step manner c.args.levels c.args.in_digest raw some))
-    (c.refused_or_kept-in-Err.ensures.no_alloc refuses own (IsRefusal-along c.in-Err.refusal (read_headers raw) own (reading-refused manner c.args.levels c.args.in_digest raw) h))
+    subst (Answers tree_of c.refused_or_kept-in-Err.result) (sym (read_levels-step manner c.args.levels (in_digest c.args.default) raw some))
+    (c.refused_or_kept-in-Err.ensures.no_alloc refuses own (IsRefusal-along c.in-Err.refusal (read_headers raw) own (reading-refused manner c.args.levels (in_digest c.args.default) raw) h))
 
 -- the headers that were read
 block_read : (result : Result (Vec Header × ℕ) MailParseError) (found : Vec Header × ℕ) (given : Reads HeaderList) → result ≡ Ok found → AnswersOrMemory header_list result given
@@ -66,7 +66,7 @@ returns-in_default-clause-read g t c =
     let type = sym c.in_ok-ctype.ensures in
     let nothing : None ≡ option_map (λ dash_boundary. 10 ∷ dash_boundary) (dash_boundary_of ctype) = sym (ap (option_map (λ (l : Vec ℕ). l.items)) c.in_default.is) ∙ c.in_ok-line_delimiter.ensures in
     let parts : forest (map tree_of c.new-parts.result.items) ≡ no_parts = ap (λ (ms : List ParsedMail). forest (map tree_of ms)) c.new-parts.ensures.items in
-    read_levels-leaf manner c.args.levels c.args.in_digest raw headers body_offset ctype some (block_read c.parse_headers.result c.in-Ok.block (read_headers raw) c.in-Ok.is c.parse_headers.ensures.read) type (line_delimiter_none (dash_boundary_of ctype) nothing)
+    read_levels-leaf manner c.args.levels (in_digest c.args.default) raw headers body_offset ctype some (block_read c.parse_headers.result c.in-Ok.block (read_headers raw) c.in-Ok.is c.parse_headers.ensures.read) type (line_delimiter_none (dash_boundary_of ctype) nothing)
     ∙ ap (λ (f : Forest). Ok (tree (record { bytes = raw; block = take body_offset raw; headers = headers; ctype = ctype; body = slice_range raw body_offset (length raw) }) f)) (sym parts)
     ∙ ap Ok (sym c.message_of.ensures.read)
 
@@ -88,20 +88,20 @@ returns-in_err-parse_mail_recursive-clause-read g t c =
     let ctype = content_type c.in_ok-ctype.ctype in
     let line_delimiter = c.in-Some.line_delimiter.items in
     let lines = whole_lines_for manner.whole_lines (drop 1 line_delimiter) in
-    let digest = c.is_digest-is_digest.result in
+    let digest = in_digest c.parts_default-inner.result in
     let levels = c.args.levels - 1 in
     let some : 0 < c.args.levels = omega (arith, c.if-levels-eq0.false) in
     let type = sym c.in_ok-ctype.ensures in
-    let whole = reading-whole manner c.args.levels c.args.in_digest raw headers body_offset ctype line_delimiter digest (end_from_as lines (drop 1 line_delimiter) raw body_offset body_offset) (block_read c.parse_headers.result c.in-Ok.block (read_headers raw) c.in-Ok.is c.parse_headers.ensures.read) type
-    (made c.in_ok-line_delimiter.field-0 c.in-Some.line_delimiter _ c.in-Some.is c.in_ok-line_delimiter.ensures) c.is_digest-is_digest.ensures refl in
+    let whole = reading-whole manner c.args.levels (in_digest c.args.default) raw headers body_offset ctype line_delimiter digest (end_from_as lines (drop 1 line_delimiter) raw body_offset body_offset) (block_read c.parse_headers.result c.in-Ok.block (read_headers raw) c.in-Ok.is c.parse_headers.ensures.read) type
+    (made c.in_ok-line_delimiter.field-0 c.in-Some.line_delimiter _ c.in-Some.is c.in_ok-line_delimiter.ensures) c.parts_default-inner.ensures refl in
     let start = c.in-Some-next.start in
     let part_end = c.cut_part-part_end.result.0 in
     let ends : part_end ≡ end_from_as lines (drop 1 line_delimiter) raw start (length raw) = c.cut_part-part_end.ensures.end ∙ ap (λ (t : Bool). end_from_as t (drop 1 c.as_slice-in-Some-next.result.now) raw start (length raw)) c.has_whole_lines-whole.ensures ∙ ap (λ (l : List ℕ). end_from_as lines (drop 1 l) raw start (length raw)) c.as_slice-in-Some-next.ensures.value in
     let all = parts_from manner levels digest (drop 1 line_delimiter) raw (first_part_as lines (drop 1 line_delimiter) raw body_offset) in
     let before = subst (λ (o : Option ℕ). with_trees (map tree_of c.loop-next.subparts.items) (parts_from manner levels digest (drop 1 line_delimiter) raw o) ≡ all) c.in-Some-next.is c.loop-next.invariant.all in
     rw (p.1, p.2) (IsRefusalOrMemory-along c.in_err-parse_mail_recursive.field-0.0 (read_levels manner levels digest (slice_range raw start part_end))
-    (read_levels manner c.args.levels c.args.in_digest raw)
-    (λ r e. read_levels-refused manner c.args.levels c.args.in_digest raw r digest (slice_range raw start part_end) some e
+    (read_levels manner c.args.levels (in_digest c.args.default) raw)
+    (λ r e. read_levels-refused manner c.args.levels (in_digest c.args.default) raw r digest (slice_range raw start part_end) some e
     (whole ∙ ap (read_map (tree (record { bytes = raw; block = take body_offset raw; headers = headers; ctype = ctype; body = slice_range raw body_offset (end_from_as lines (drop 1 line_delimiter) raw body_offset body_offset) })))
     (parts_refused manner levels digest (drop 1 line_delimiter) raw (map tree_of c.loop-next.subparts.items) all start part_end r ends e before)))
     c.in_err-parse_mail_recursive.ensures.read)
@@ -113,7 +113,7 @@ loop-next-preserved g t c =
     let body_offset = c.in-Ok.block.1 in
     let line_delimiter = c.in-Some.line_delimiter.items in
     let lines = whole_lines_for manner.whole_lines (drop 1 line_delimiter) in
-    let digest = c.is_digest-is_digest.result in
+    let digest = in_digest c.parts_default-inner.result in
     let levels = c.args.levels - 1 in
     let start = c.in-Some-next.start in
     let part_end = c.cut_part-part_end.result.0 in
@@ -146,17 +146,17 @@ returns-clause-read g t c =
     let ctype = content_type c.in_ok-ctype.ctype in
     let line_delimiter = c.in-Some.line_delimiter.items in
     let lines = whole_lines_for manner.whole_lines (drop 1 line_delimiter) in
-    let digest = c.is_digest-is_digest.result in
+    let digest = in_digest c.parts_default-inner.result in
     let levels = c.args.levels - 1 in
     let some : 0 < c.args.levels = omega (arith, c.if-levels-eq0.false) in
     let type = sym c.in_ok-ctype.ensures in
     let end = c.cut_preamble-end.result.0 in
     let ends : end ≡ end_from_as lines (drop 1 line_delimiter) raw body_offset body_offset = c.cut_preamble-end.ensures.end ∙ ap (λ (t : Bool). end_from_as t (drop 1 c.as_slice.result.now) raw body_offset body_offset) c.has_whole_lines-whole.ensures ∙ ap (λ (l : List ℕ). end_from_as lines (drop 1 l) raw body_offset body_offset) c.as_slice.ensures.value in
-    let whole = reading-whole manner c.args.levels c.args.in_digest raw headers body_offset ctype line_delimiter digest end (block_read c.parse_headers.result c.in-Ok.block (read_headers raw) c.in-Ok.is c.parse_headers.ensures.read) type
-    (made c.in_ok-line_delimiter.field-0 c.in-Some.line_delimiter _ c.in-Some.is c.in_ok-line_delimiter.ensures) c.is_digest-is_digest.ensures ends in
+    let whole = reading-whole manner c.args.levels (in_digest c.args.default) raw headers body_offset ctype line_delimiter digest end (block_read c.parse_headers.result c.in-Ok.block (read_headers raw) c.in-Ok.is c.parse_headers.ensures.read) type
+    (made c.in_ok-line_delimiter.field-0 c.in-Some.line_delimiter _ c.in-Some.is c.in_ok-line_delimiter.ensures) c.parts_default-inner.ensures ends in
     let all = parts_from manner levels digest (drop 1 line_delimiter) raw (first_part_as lines (drop 1 line_delimiter) raw body_offset) in
     let done = subst (λ (o : Option ℕ). with_trees (map tree_of c.loop-next.subparts.items) (parts_from manner levels digest (drop 1 line_delimiter) raw o) ≡ all) c.in_default-next.is c.loop-next.invariant.all in
-    read_levels-read manner c.args.levels c.args.in_digest raw _ some
+    read_levels-read manner c.args.levels (in_digest c.args.default) raw _ some
     (whole ∙ ap (read_map (tree (record { bytes = raw; block = take body_offset raw; headers = headers; ctype = ctype; body = slice_range raw body_offset end })))
     (parts_end manner levels digest (drop 1 line_delimiter) raw (map tree_of c.loop-next.subparts.items) all done))
     ∙ ap Ok (sym c.message_of-2.ensures.read)
