@@ -16,6 +16,11 @@ equal() {
     [ "$1" = "$2" ] || { printf 'wanted: %s\nfound:  %s\n' "$1" "$2" >&2; exit 1; }
 }
 
+# example PAGE: what the first example of a page prints
+example() {
+    sed -n '/^```console/,/^```$/{/^```$/q; /^```/d; /^\$/d; p}' "$1"
+}
+
 # install PACKAGE..: installs packages
 install() {
     apt-get -qq -y --no-install-recommends install "$@" > log 2>&1 || { tail -n 15 log >&2; exit 1; }
@@ -23,7 +28,7 @@ install() {
 
 # try_program ROCKTRAY SAMPLES: shows a mail, writes its lines and saves its file
 try_program() {
-    "$1" show "$2/attachment.eml" | grep -q 'Rechnung für März €-2025.pdf'
+    equal "$(example README.md)" "$("$1" show "$2/attachment.eml")"
     "$1" json "$2/attachment.eml" | grep -q '"schema":[0-9]*,.*"subject":"The invoice"'
     mkdir saved
     "$1" extract --into saved "$2/attachment.eml" | grep -q '"saved":'
@@ -40,7 +45,7 @@ try_c() {
     example=$1 mails=$2
     shift 2
     cc -Wall -Werror -o attachments "$example" "$@"
-    equal "$(sed -n '/^```console/,/^```$/{/^```/d; /^\$/d; p}' C.md)" "$(./attachments "$mails/attachment.eml")"
+    equal "$(example C.md)" "$(./attachments "$mails/attachment.eml")"
     rm attachments
 }
 

@@ -38,7 +38,7 @@ make_system() {
 try() {
     make_system "$1" || return 1
     mkdir "$work/$1/release"
-    cp "$release"/* "$top/packaging/try_in_tree.sh" "$top/docs/C.md" "$work/$1/release/"
+    cp "$release"/* "$top/packaging/try_in_tree.sh" "$top/README.md" "$top/docs/C.md" "$work/$1/release/"
     chroot "$work/$1" /usr/bin/env -i PATH=/usr/sbin:/usr/bin:/sbin:/bin HOME=/root LC_ALL=C.UTF-8 \
         sh /release/try_in_tree.sh
 }
