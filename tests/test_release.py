@@ -11,10 +11,12 @@ import shutil
 import subprocess
 import tarfile
 import zipfile
+from pathlib import Path
 
 import pytest
 
 import make_manuals
+import make_release
 from support import LOGIC, SUBCOMMANDS, TOP, VERSION, compiled, missing, program, run, text_of
 
 OPTIONS = re.findall(r'^    pub const \w+: &str = "(.*)";$', text_of("crates/rocktray/src/options.rt"), re.M)
@@ -49,13 +51,31 @@ def test_logic():
     assert run(["rt", "version"]).stdout.decode().split()[-1] == LOGIC
 
 
+COMMIT = "0123456789abcdef" * 2 + "01234567"
+
+
 @pytest.mark.quick
-def test_commit():
-    """In the files of a commit the program has its number; in a checkout it has none."""
-    source = run(["git", "archive", "HEAD", "crates/rocktray/src/release.rt"], cwd=TOP).stdout
-    commit = run(["git", "rev-parse", "HEAD"], cwd=TOP).stdout.strip()
-    assert b'const COMMIT: &str = "%b";' % commit in source
-    assert 'const COMMIT: &str = "$Format:%H$";' in text_of("crates/rocktray/src/release.rt")
+@pytest.mark.parametrize("count", [0, 1, 2])
+def test_commit(count, tmp_path):
+    """The commit is written over the text of the source, which has its length and is once in an object."""
+    text = make_release.constant(TOP, "crates/rocktray/src/release.rt", "COMMIT")
+    path = tmp_path / "rocktray.o"
+    path.write_bytes(b"front" + text.encode() * count)
+    if count == 1:
+        assert make_release.write_commit(path, text, COMMIT) == 5
+        assert path.read_bytes() == b"front" + COMMIT.encode()
+    else:
+        with pytest.raises(make_release.Failed, match="once"):
+            make_release.write_commit(path, text, COMMIT)
+
+
+def test_commit_of_the_program(tmp_path):
+    """The built program prints the commit that is written into it, and is otherwise as it was."""
+    text = make_release.constant(TOP, "crates/rocktray/src/release.rt", "COMMIT")
+    path = Path(shutil.copy(program("rocktray"), tmp_path))
+    before = run([path, "--version"]).stdout.decode()
+    make_release.write_commit(path, text, COMMIT)
+    assert run([path, "--version"]).stdout.decode() == before.replace(text, COMMIT) != before
 
 
 def script(path, text):

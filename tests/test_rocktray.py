@@ -89,7 +89,7 @@ def test_control_characters():
 def test_version(words, wanted):
     """The version, the commit of a release and the logic of the kit."""
     ended = run([program("rocktray"), *words])
-    wanted = wanted.format(VERSION) + f"commit unreleased\nlogic {LOGIC}\n"
+    wanted = wanted.format(VERSION) + f"commit none, since it was built from a checkout\nlogic {LOGIC}\n"
     assert (ended.returncode, ended.stdout.decode(), ended.stderr) == (0, wanted, b"")
 
 

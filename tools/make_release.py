@@ -2,8 +2,9 @@
 """Makes a release of the commit that is checked out, in a directory: docs/RELEASING.md says what is in it.
 
 The same commit, kit and tools give the same bytes, wherever and whenever they are made. A checkout with changes is
-refused. The commit is written to another directory by `git archive`, proved and built there, and packed. It needs the
-kit, and what tools/install_needs.sh --release installs.
+refused. The files of the commit are written to another directory by `git archive`, proved there by `rt ci`, built and
+packed. What the kit keeps of earlier proofs of the same files on this machine is not proved again. The commit is
+written into the object of the proved program. It needs the kit, and what tools/install_needs.sh --release installs.
 """
 
 import argparse
@@ -22,10 +23,12 @@ from datetime import datetime, timezone
 from pathlib import Path
 
 import make_manuals
+from try_edits import stamps_in
 
 TOP = Path(__file__).resolve().parent.parent
 PROGRAMS = ("rocktray", "mail_show")
-ROOTS = (*PROGRAMS, "mail_c")
+# what the kit compiles of each crate that is in a release
+COMPILED = {"rocktray": "rocktray.o", "mail_show": "mail_show.o", "mail_c": "libmail_c.a"}
 PROCESSOR = "x86-64-v2"
 # the system whose C library the programs are linked against, and what is taken of it
 OLDEST = "bullseye"
@@ -36,6 +39,8 @@ MIRROR = os.environ.get("MIRROR", "http://deb.debian.org/debian")
 # what the programs and libraries may need at run time
 NEEDED = {"libc.so.6", "ld-linux-x86-64.so.2"}
 DOCUMENTS = ("README.md", "CHANGELOG.md", "SECURITY.md", "LICENSE", "docs/C.md", "docs/SCRIPTS.md", "examples/attachments.c")
+# what is said of programs and libraries that are only packed
+NOT_BUILT = {"proved_objects": {}, "linked_against": "nothing: packed as it was"}
 LICENCES = {"LICENSE-APACHE": "Apache-2.0", "LICENSE-MIT": "MIT", "LICENSE-UNICODE": "Unicode-3.0", "LICENSE-ZMIJ": "MIT"}
 
 
@@ -43,12 +48,12 @@ class Failed(Exception):
     """Why there is no release."""
 
 
-def run(*words, **options):
+def run(*command, **options):
     """What a command writes to standard output."""
-    words = [os.fspath(word) for word in words]
-    ended = subprocess.run(words, stdout=subprocess.PIPE, check=False, text=True, **options)
+    command = [os.fspath(argument) for argument in command]
+    ended = subprocess.run(command, stdout=subprocess.PIPE, check=False, text=True, **options)
     if ended.returncode != 0:
-        raise Failed(f"{' '.join(words)} ended with status {ended.returncode}\n{ended.stdout[-5000:]}")
+        raise Failed(f"{' '.join(command)} ended with status {ended.returncode}\n{ended.stdout[-5000:]}")
     return ended.stdout
 
 
@@ -78,43 +83,78 @@ def check_checkout():
 
 def old_toolchain(work):
     """Makes the kit's toolchain with the C library of an older system, and returns it with the version of that library."""
-    room, keys = work / "old", "/usr/share/keyrings/debian-archive-keyring.gpg"
+    scratch, keys = work / "old", "/usr/share/keyrings/debian-archive-keyring.gpg"
     for name in ("state/lists/partial", "cache/archives/partial", "lib"):
-        (room / name).mkdir(parents=True)
-    (room / "list").write_text(f"deb [signed-by={keys}] {MIRROR} {OLDEST} main\n")
-    options = {"Dir::Etc::sourcelist": room / "list", "Dir::Etc::sourceparts": "-", "Dir::State": room / "state",
-               "Dir::State::status": "/dev/null", "Dir::Cache": room / "cache", "APT::Sandbox::User": "root"}
-    apt = ["apt-get", "-qq", *(word for name, value in options.items() for word in ("-o", f"{name}={value}"))]
-    run(*apt, "update", cwd=room)
-    run(*apt, "download", *OLD_PACKAGES, cwd=room)
-    for path in room.glob("*.deb"):
-        run("dpkg-deb", "-x", path, room / "root")
-    shutil.copytree(kit() / "toolchain" / "lib", room / "lib", dirs_exist_ok=True)
+        (scratch / name).mkdir(parents=True)
+    (scratch / "list").write_text(f"deb [signed-by={keys}] {MIRROR} {OLDEST} main\n")
+    options = {"Dir::Etc::sourcelist": scratch / "list", "Dir::Etc::sourceparts": "-", "Dir::State": scratch / "state",
+               "Dir::State::status": "/dev/null", "Dir::Cache": scratch / "cache", "APT::Sandbox::User": "root"}
+    apt = ["apt-get", "-qq", *(argument for name, value in options.items() for argument in ("-o", f"{name}={value}"))]
+    run(*apt, "update", cwd=scratch)
+    run(*apt, "download", *OLD_PACKAGES, cwd=scratch)
+    for path in scratch.glob("*.deb"):
+        run("dpkg-deb", "-x", path, scratch / "root")
+    shutil.copytree(kit() / "toolchain" / "lib", scratch / "lib", dirs_exist_ok=True)
     for name in OLD_FILES:
-        shutil.copy(next(path for path in (room / "root").rglob(name) if path.parent.name != "lib64"), room / "lib" / name)
-    (room / "bin").symlink_to(kit() / "toolchain" / "bin")
-    (package,) = room.glob("libc6_*.deb")
-    return room, f"libc6 {run('dpkg-deb', '-f', package, 'Version').strip()} of {OLDEST}"
+        shutil.copy(next(path for path in (scratch / "root").rglob(name) if path.parent.name != "lib64"), scratch / "lib" / name)
+    (scratch / "bin").symlink_to(kit() / "toolchain" / "bin")
+    (package,) = scratch.glob("libc6_*.deb")
+    return scratch, f"libc6 {run('dpkg-deb', '-f', package, 'Version').strip()} of {OLDEST}"
 
 
-def build(source, prefix, work):
-    """Proves and builds the programs and the C library, from the files of a commit, into a prefix. Links the programs again
-    against an older C library, whose version is returned."""
-    tools = source / "tools"
-    with ThreadPoolExecutor() as pool:
-        library = pool.submit(run, tools / "make_c_library.sh", prefix)
-        made = {name: pool.submit(run, tools / "program.sh", name) for name in PROGRAMS}
-        old = pool.submit(old_toolchain, work)
-        library.result()
-    (prefix / "bin").mkdir()
-    room, version = old.result()
-    run(os.environ.get("CC", "cc"), "-O2", "-fPIC", "-c", "-o", room / "cpuid.o", source / "packaging" / "cpuid.c")
-    libraries = [kit() / "c" / "libos_c.a", kit() / "c" / "liblibc_c.a"]
-    words = [kit() / "bin" / "rattle-link", "--target", "x86_64-unknown-linux-gnu", "--toolchain", room, "-o"]
-    for name, program in made.items():
-        objects = [Path(program.result().strip()).with_suffix(".o"), room / "cpuid.o", *libraries]
-        run(*words, prefix / "bin" / name, *objects, stderr=subprocess.DEVNULL)
+def prove(source):
+    """Proves all crates, from the files of a commit, and has the kit recognize the libraries that `rt ci` leaves."""
+    run("rt", "ci", cwd=source, stderr=subprocess.STDOUT)
+    for name, text in stamps_in(source).items():
+        made = source / "crates" / name / "out" / "rlib"
+        if made.is_dir():
+            (made / "stamp").write_text(text, encoding="utf-8")
+
+
+def compile_crate(source, name):
+    """Has the kit compile a crate over the proved libraries, and returns where that is. It works in a copy, since `rt` builds
+    one crate of a checkout at a time."""
+    copied = source.with_name(name)
+    shutil.copytree(source, copied, copy_function=os.link)
+    command = ("lib",) if name == "mail_c" else ("run", "--", "--version")
+    run("rt", *command, cwd=copied / "crates" / name, stderr=subprocess.STDOUT)
+    return copied / "crates" / name / "out" / COMPILED[name]
+
+
+def write_commit(path, text, commit):
+    """Writes a commit over the text of the same length that occurs once in an object, and returns its offset."""
+    data, text, commit = path.read_bytes(), text.encode(), commit.encode()
+    if data.count(text) != 1 or len(text) != len(commit):
+        raise Failed(f"{path.name} has not the text {text.decode()} once, or it has not the length of {commit.decode()}")
+    path.write_bytes(data.replace(text, commit))
+    return data.index(text)
+
+
+def link(source, objects, prefix, work):
+    """Links the programs against an older C library, whose version is returned."""
+    toolchain, version = old_toolchain(work)
+    run(os.environ.get("CC", "cc"), "-O2", "-fPIC", "-c", "-o", toolchain / "cpuid.o", source / "packaging" / "cpuid.c")
+    command = [kit() / "bin" / "rattle-link", "--target", "x86_64-unknown-linux-gnu", "--toolchain", toolchain]
+    for name in PROGRAMS:
+        needed = [objects / f"{name}.o", toolchain / "cpuid.o", kit() / "c" / "libos_c.a", kit() / "c" / "liblibc_c.a"]
+        run(*command, "-o", prefix / "bin" / name, *needed, stderr=subprocess.DEVNULL)
     return version
+
+
+def build(source, prefix, work, commit):
+    """Proves and builds the programs and the C library into a prefix, and returns what BUILD.json says of it."""
+    prove(source)
+    objects = work / "objects"
+    with ThreadPoolExecutor() as pool:
+        for path in pool.map(functools.partial(compile_crate, source), COMPILED):
+            copy(path, objects)
+    copy(objects / COMPILED["mail_c"], source / "crates" / "mail_c" / "out")
+    run(source / "tools" / "make_c_library.sh", prefix, env={**os.environ, "BUILT": "only"})
+    (prefix / "bin").mkdir()
+    said = {path.name: {"sha256": digest(path)} for path in sorted(objects.iterdir())}
+    text = constant(source, "crates/rocktray/src/release.rt", "COMMIT")
+    said["rocktray.o"]["commit_at"] = write_commit(objects / "rocktray.o", text, commit)
+    return {"proved_objects": said, "linked_against": link(source, objects, prefix, work)}
 
 
 def copy(path, directory):
@@ -192,7 +232,7 @@ def lines_of_crates(source):
     return {name.split()[0]: below.split() for name, _, below in lines}
 
 
-def crates_inside(source, roots=ROOTS):
+def crates_inside(source, roots=tuple(COMPILED)):
     """The crates of the kit that are in the programs and the library."""
     ours, inside, left = lines_of_crates(source), set(), list(roots)
     while left:
@@ -259,8 +299,8 @@ def spdx(release):
 
 def pack(tree, target, epoch):
     """Packs a directory into a tar.xz."""
-    words = ["tar", "--sort=name", f"--mtime=@{epoch}", "--owner=0", "--group=0", "--numeric-owner", "--format=ustar"]
-    with open(target, "wb") as file, subprocess.Popen([*words, "-C", tree.parent, "-c", tree.name], stdout=subprocess.PIPE) as tar:
+    command = ["tar", "--sort=name", f"--mtime=@{epoch}", "--owner=0", "--group=0", "--numeric-owner", "--format=ustar"]
+    with open(target, "wb") as file, subprocess.Popen([*command, "-C", tree.parent, "-c", tree.name], stdout=subprocess.PIPE) as tar:
         subprocess.run(["xz", "-9", "--threads=1"], stdin=tar.stdout, stdout=file, check=True)
     if tar.returncode != 0:
         raise Failed("tar failed")
@@ -276,23 +316,23 @@ def make_wheel(source, prefix, tree, directory):
 
 def make_packages(source, tree, wheel, work, release):
     """Makes the Debian packages over what the archive and the wheel contain, and returns their paths."""
-    room = work / "packages" / "rocktray"
-    shutil.copytree(source / "packaging" / "debian", room / "debian")
-    shutil.copytree(tree, room / "tree", symlinks=True)
+    package = work / "packages" / "rocktray"
+    shutil.copytree(source / "packaging" / "debian", package / "debian")
+    shutil.copytree(tree, package / "tree", symlinks=True)
     with zipfile.ZipFile(wheel) as file:
-        file.extractall(room / "wheel")
-    check_tag(wheel.name, least_glibc(room / "wheel"))
-    for path in (room / "wheel").glob("*.dist-info/RECORD"):
+        file.extractall(package / "wheel")
+    check_tag(wheel.name, least_glibc(package / "wheel"))
+    for path in (package / "wheel").glob("*.dist-info/RECORD"):
         path.unlink()
-    for path in (room / "wheel").rglob("*.so"):
+    for path in (package / "wheel").rglob("*.so"):
         path.chmod(0o644)
-    copy(tree / "share" / "doc" / "rocktray" / "copyright", room / "debian")
-    maintainer = re.search(r"^Maintainer: (.*)$", (room / "debian" / "control").read_text(), re.M)[1]
+    copy(tree / "share" / "doc" / "rocktray" / "copyright", package / "debian")
+    maintainer = re.search(r"^Maintainer: (.*)$", (package / "debian" / "control").read_text(), re.M)[1]
     when = datetime.fromtimestamp(release["epoch"], timezone.utc).strftime("%a, %d %b %Y %H:%M:%S +0000")
     entry = f"rocktray ({release['version']}) unstable; urgency=medium\n\n  * Release of the commit\n    {release['commit']}.\n"
-    (room / "debian" / "changelog").write_text(f"{entry}\n -- {maintainer}  {when}\n", encoding="utf-8")
-    run("dpkg-buildpackage", "-b", "-us", "-uc", "-d", cwd=room, stderr=subprocess.STDOUT)
-    return sorted(room.parent.glob("*.deb"))
+    (package / "debian" / "changelog").write_text(f"{entry}\n -- {maintainer}  {when}\n", encoding="utf-8")
+    run("dpkg-buildpackage", "-b", "-us", "-uc", "-d", cwd=package, stderr=subprocess.STDOUT)
+    return sorted(package.parent.glob("*.deb"))
 
 
 def describe(release, tree, directory, names):
@@ -302,7 +342,7 @@ def describe(release, tree, directory, names):
     tools = {name: run(name, "--version").splitlines()[0] for name in (os.environ.get("CC", "cc"), "ld", "dpkg-deb", "xz", "help2man")}
     tools["packages"] = run("dpkg-query", "-W", "-f", "${Package} ${Version}; ", "debhelper", "dh-python", "python3-setuptools", "python3-wheel")
     contents = {str(path.relative_to(tree)): digest(path) for path in sorted(tree.rglob("*")) if path.is_file() and not path.is_symlink()}
-    said = {name: release[name] for name in ("version", "commit", "date", "kit", "logic", "least_glibc", "linked_against")}
+    said = {name: release[name] for name in ("version", "commit", "date", "kit", "logic", "least_glibc", "linked_against", "proved_objects")}
     said |= {"processor": PROCESSOR, "system": "Linux", "tools": tools, "spdx": listed.name}
     said |= {"files": {name: digest(directory / name) for name in sorted([*names, listed.name])}, "contents": contents}
     (directory / "BUILD.json").write_text(json.dumps(said, indent=1) + "\n", encoding="utf-8")
@@ -324,11 +364,11 @@ def make(directory, work, built):
     """Makes the release, in a directory of its own."""
     source, prefix = work / "source", built or work / "prefix"
     source.mkdir()
-    archive = subprocess.run(["git", "archive", "HEAD"], cwd=TOP, stdout=subprocess.PIPE, check=True).stdout
+    archive = subprocess.run(["git", "-c", "tar.umask=0022", "archive", "HEAD"], cwd=TOP, stdout=subprocess.PIPE, check=True).stdout
     subprocess.run(["tar", "-x", "-C", source], input=archive, check=True)
     release = facts(source)
     os.environ.update(SOURCE_DATE_EPOCH=str(release["epoch"]), TZ="UTC", LC_ALL="C.UTF-8", PYTHONHASHSEED="0", PYTHONDONTWRITEBYTECODE="1")
-    release["linked_against"] = "nothing: packed as it was" if built else build(source, prefix, work)
+    release |= NOT_BUILT if built else build(source, prefix, work, release["commit"])
     name = f"rocktray-{release['version']}-linux-x86_64"
     tree = work / name
     tree.mkdir()

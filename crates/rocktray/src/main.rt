@@ -15,7 +15,7 @@ use inputs::names_of;
 use mail_inputs::{PROGRAM, arguments, shown};
 use mail_program::{Fault, status_of};
 use options::{EXTRACT, JSON, SHOW, command};
-use release::{LOGIC, commit};
+use release::{COMMIT, LOGIC};
 use std::alloc::{AllocError, Global};
 use std::env::Env;
 use std::io::IsTerminal;
@@ -105,7 +105,7 @@ fn print(rt: &(impl Print + Eprint), error: &Error) -> Result<ExitCode, Fault> {
         }
         ErrorKind::DisplayVersion => {
             rt.print(error)?;
-            println!(rt; "commit {}\nlogic {LOGIC}", commit())?;
+            println!(rt; "commit {COMMIT}\nlogic {LOGIC}")?;
             Ok(ExitCode::SUCCESS)
         }
         _ => {

@@ -1,16 +1,8 @@
 //! What a release was made of.
 
-/// The commit, which `git archive` writes here. In a checkout it begins with `$`.
-const COMMIT: &str = "$Format:%H$";
+/// The commit. It has the length of one, since `tools/make_release.py` writes that of a release over this text, in the
+/// object of the proved program; the program only prints it.
+pub const COMMIT: &str = "none, since it was built from a checkout";
 
 /// The logic of the kit that proves the program, as `rt version` prints it.
 pub const LOGIC: &str = "dac8208d650f15bf";
-
-/// Returns the commit of a release. A program that was built in a checkout has none.
-pub fn commit() -> &'static str {
-    if COMMIT.starts_with('$') {
-        "unreleased"
-    } else {
-        COMMIT
-    }
-}
