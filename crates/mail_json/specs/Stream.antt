@@ -1,5 +1,5 @@
 -- How much of an input is read before lines are written, and which lines those are; the program's own form.
-use Rattle.std.specs.Prelude.{◌≡◌, ℕ, Bool, true, false, ◌&&◌, List, [], ◌++◌, Option, Some, None, is_some, Result, Ok, Err}
+use Rattle.std.specs.Prelude.{◌≡◌, ℕ, Bool, true, false, ◌&&◌, ◌||◌, List, [], ◌++◌, drop, Option, Some, None, is_some, Result, Ok, Err}
 use Rattle.std.specs.Io.KnownBytes.{Appends, Consumes, IsAtEnd}
 use Rattle.mail_json.specs.Options.{Options}
 use Rattle.mail_program.specs.Streams.{IsReadFault}
@@ -17,13 +17,14 @@ use Rattle.mail_json.specs.declared.selection.Selection.TheVariants.{Numbered, W
 use Rattle.mail_json.specs.declared.options.InputKind.{InputKind}
 use Rattle.mail_json.specs.declared.options.InputKind.TheVariants.{Either, Mail, Mailbox}
 use Rattle.mail_json.specs.declared.stream.Wanted.{Wanted}
-use Rattle.mail_json.specs.declared.stream.Wanted.TheVariants.{FirstLine, Front, FirstMail, End}
+use Rattle.mail_json.specs.declared.stream.Wanted.TheVariants.{FirstLine, Front, FrontBefore, FirstMail, End}
 use Rattle.mail_json.specs.declared.written.Written.{Written}
 
 -- the bytes of an input contain what is wanted, and no further bytes change that
 abbrev pub is_there : Wanted → List ℕ → Bool
 is_there FirstLine bytes = has_line bytes
 is_there Front bytes = has_front bytes
+is_there (FrontBefore end) bytes = has_front bytes || has_line (drop end bytes)
 is_there (FirstMail format) bytes = is_some (settled_in format bytes)
 is_there End bytes = false
 

@@ -11,7 +11,7 @@ use crate::options::{InputKind, Source};
 use crate::selection::{NextMail, Selection};
 use crate::stream::{Wanted, Watch, is_mailbox, read_until, write_chosen, write_rest};
 use crate::written::Written;
-use mail_data::mailbox::read_mailbox;
+use mail_data::mailbox::{has_front, read_mailbox};
 use mail_program::Fault;
 use mailparse::KnownCharsets;
 use std::alloc::Global;
@@ -147,7 +147,8 @@ pub fn write_first_part<R: Read, W: Write, M: Watch, K: KnownCharsets>(
 
 /// Writes the lines of the mails of a mailbox that begin in a range, where the reader is at the
 /// `reading_start` of the range. An input whose kind does not say its format is read in the plain
-/// one.
+/// one. If no mail begins in the range, it reads no more than a block past its end, or past the
+/// line that contains its end.
 ///
 /// # Errors
 ///
@@ -187,16 +188,21 @@ pub fn write_range<R: Read, W: Write, M: Watch, K: KnownCharsets>(
         (format_of source.entry.kind) (option_map (λ name. name.now) source.entry.file)
         range.start range.end (reading_start range.start)) }
 {
+    let at = reading_start(range.start);
+    let wanted = Wanted::FrontBefore(range.end.saturating_sub(at));
     let mut read = Vec::new(alloc);
-    let has_ended = read_until(alloc, &mut read, reader, Wanted::Front)?;
+    let has_ended = read_until(alloc, &mut read, reader, wanted)?;
     let mails = read_mailbox(read.as_slice(), source.kind.format());
     let front = mails.front();
     let first = NextMail {
         selection: Selection::within(range.start, range.end),
-        at: reading_start(range.start).saturating_add(front.len()),
+        at: at.saturating_add(front.len()),
     };
     if has_ended {
         return write_mails(alloc, out, mails, source, first);
+    }
+    if !has_front(read.as_slice()) {
+        return Ok(Written::Clean);
     }
     let rest = &read[front.len()..];
     write_rest(alloc, out, reader, rest, source, first, watch)

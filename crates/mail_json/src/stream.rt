@@ -1,6 +1,6 @@
 //! The lines of an input that is read in blocks.
-ghost use Rattle.std.specs.Prelude.{◌≡◌, ◌++◌, IfErr, IfOk, [], option_map, true};
-ghost use Rattle.mail_data.specs.Mailbox.{has_front};
+ghost use Rattle.std.specs.Prelude.{◌≡◌, ◌++◌, IfErr, IfOk, [], drop, option_map, true};
+ghost use Rattle.mail_data.specs.Mailbox.{has_front, has_line};
 ghost use Rattle.mail_data.specs.MailboxFormats.{entries_in};
 ghost use Rattle.mail_data.specs.MailboxParts.{placed_from};
 ghost use Rattle.mail_json.specs.JsonLines.{AreInputLines, WritesInput, WritesLines};
@@ -30,6 +30,8 @@ pub enum Wanted {
     FirstLine,
     /// The text before the first separator of a mailbox.
     Front,
+    /// The same, or the line that contains this offset, which shows that no mail begins before it.
+    FrontBefore(usize),
     /// The first mail of a mailbox in this format.
     FirstMail(Format),
     /// All bytes.
@@ -244,12 +246,22 @@ pub fn read_until<R: Read>(
         if is_there(wanted, bytes.as_slice()) {
             return Ok(false);
         }
-        let most = bytes.len().saturating_mul(2);
+        let most = next_length(wanted, bytes.len());
         if read_more(alloc, bytes, reader, most)? {
             return Ok(true);
         }
     }
     Err(Fault::Input(io::Error::from(ErrorKind::Interrupted)))
+}
+
+/// Returns how many bytes are read before the next look, if that many were read: twice as many,
+/// but at first no more than to the offset after which the text before a separator is not wanted.
+fn next_length(wanted: Wanted, length: usize) -> usize {
+    let doubled = length.saturating_mul(2);
+    match wanted {
+        Wanted::FrontBefore(end) if length < end => doubled.min(end),
+        _ => doubled,
+    }
 }
 
 /// Returns whether these bytes contain what is wanted.
@@ -259,9 +271,17 @@ fn is_there(wanted: Wanted, bytes: &[u8]) -> bool
     match wanted {
         Wanted::FirstLine => has_line(bytes),
         Wanted::Front => has_front(bytes),
+        Wanted::FrontBefore(end) => has_front(bytes) || has_line_at(bytes, end),
         Wanted::FirstMail(format) => settled_entry(bytes, format).is_some(),
         Wanted::End => false,
     }
+}
+
+/// Returns whether the line that contains an offset was read with at least one more byte.
+fn has_line_at(bytes: &[u8], at: usize) -> bool
+    ensures { result ≡ has_line (drop at bytes.now) }
+{
+    at < bytes.len() && has_line(&bytes[at..])
 }
 
 /// Writes the lines of a mailbox of which these bytes were read, up to the first separator or

@@ -46,7 +46,7 @@ below_among known zero path at mail = refl
 below_among known (suc most) path at mail = refl
 
 -- the same of a mail that is read
-read_is : (known : Charsets) (most : ℕ) (start at : Option ℕ) (place : Place) (bytes : List ℕ) (mail : Tree)
+pub read_is : (known : Charsets) (most : ℕ) (start at : Option ℕ) (place : Place) (bytes : List ℕ) (mail : Tree)
     → ◌≡◌ {A = Option Forwarded} (Some (forwarded_with bytes at)) (forwarded start place) → read_mail_in known 100 bytes ≡ Ok mail
     → mails_in_place known most start place
     ≡ inner_with place.path bytes at None ∷ mails_among known most at (places_under place.path mail (placements 0 mail))

@@ -67,7 +67,7 @@ outside_step true false m f h = refl
 outside_step true true m f h = absurd (false≢true (sym h))
 
 -- no mail begins in a range that ends before the first one
-none_begins : (from to start : ℕ) (mails : List Entry) → to ≤ start → in_range from to (placed_from start mails) ≡ []
+pub none_begins : (from to start : ℕ) (mails : List Entry) → to ≤ start → in_range from to (placed_from start mails) ≡ []
 none_begins from to start [] past = refl
 none_begins from to start (e ∷ mails) past =
     outside_step (not (nat_lt start from)) (nat_lt start to) (record { start = start; entry = e }) (in_range from to (placed_from (start + length (entry_bytes e)) mails)) (le-ltb start to past)
