@@ -1,6 +1,6 @@
 //! Laws: each line is JSON, a line without texts is the whole line without them, and the lines of
 //! all parts of an input are those of the whole.
-ghost use Rattle.std.specs.Prelude.{◌++◌, ◌<◌, ◌≡◌, ◌≤◌, Bool, List, Option, codes, drop};
+ghost use Rattle.std.specs.Prelude.{◌++◌, ◌<◌, ◌^◌, ◌≡◌, ◌≤◌, Bool, List, Option, codes, drop};
 ghost use Rattle.std.specs.Prelude.{encode_utf8_all, false, length, true, ℕ};
 ghost use Rattle.std.specs.List.{flat_map, list_all};
 ghost use Rattle.json.specs.Json.{Json};
@@ -10,9 +10,11 @@ ghost use Rattle.mailparse.specs.Mail.{Tree};
 ghost use Rattle.mailparse.specs.Refusal.{Reads};
 ghost use Rattle.mail_json.specs.FileLine.{FileLine, file_line_value};
 ghost use Rattle.mail_json.specs.JsonText.{character_text, json_text};
-ghost use Rattle.mail_json.specs.JsonLines.{AreMailboxLines, IsLineOf, format_of};
+ghost use Rattle.mail_data.specs.MailboxOffsets.{IsThere};
+ghost use Rattle.mail_data.specs.MailboxParts.{Placed};
+ghost use Rattle.mail_json.specs.JsonLines.{AreMailboxLines, IsLineOf, format_of, origin_at};
 ghost use Rattle.mail_json.specs.Options.{Options, decoding};
-ghost use Rattle.mail_json.specs.Origin.{Origin};
+ghost use Rattle.mail_json.specs.Origin.{HasMailAt, Origin};
 ghost use Rattle.mail_json.specs.Printed.{line_of};
 ghost use Rattle.mail_json.specs.Range.{ArePartLines, AreRangeLines, AreRangeLinesAt};
 ghost use Rattle.mail_json.specs.Range.{AreUnnumberedLines, has_parts, reading_start};
@@ -81,4 +83,13 @@ pub fn range_is_found()
         AreRangeLinesAt options format file from to (reading_start from)
         (drop (reading_start from) bytes) is_clean text →
         AreRangeLines options format file from to bytes is_clean text }
+{}
+
+/// The offsets in the line of a mail of a mailbox are those of the mail in the input: its bytes from
+/// `start` to `end` are the mail. `mails_are_at_their_offsets` of `mail_data` says that each mail of
+/// a mailbox, and of each range of one, is there.
+pub fn offsets_are_those_of_the_input()
+    ensures { (file : Option (List ℕ)) (number : Option ℕ) (bytes : List ℕ) (mail : Placed) →
+        length bytes < 2 ^ 64 → IsThere bytes mail →
+        HasMailAt bytes (origin_at file number mail.start mail.entry) mail.entry.mail }
 {}
