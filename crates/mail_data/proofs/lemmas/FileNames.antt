@@ -1,16 +1,18 @@
 -- Lemmas on safe names of files.
-use Rattle.std.proofs.Common.{◌≡◌, ◌≢◌, ℕ, zero, suc, ◌+◌, ◌-◌, ◌<◌, ◌≤◌, Bool, true, false, not, List, [], ◌∷◌, ◌++◌, ◌||◌, length, take, get_or, map, if◌then◌else◌, refl, sym, ap, ◌∙◌, arith, append_assoc, length-append, inl, inr}
-use Rattle.std.specs.Prelude.{nat_le, nat_lt, codes}
-use Rattle.std.specs.Char.{encode_utf8, len_utf8}
+use Rattle.std.proofs.Common.{◌≡◌, ◌≢◌, ℕ, zero, suc, ◌+◌, ◌-◌, ◌*◌, ◌<◌, ◌≤◌, Bool, true, false, not, eqb, List, [], ◌∷◌, ◌++◌, ◌||◌, ◌&&◌, length, take, drop, get_or, map, if◌then◌else◌, refl, sym, ap, ◌∙◌, arith, append_assoc, length-append, length-drop, inl, inr}
+use Rattle.std.specs.Prelude.{nat_eq, nat_le, nat_lt, codes}
+use Rattle.std.specs.Char.{encode_utf8, is_ascii_alphabetic, len_utf8}
 use Rattle.std.specs.List.{list_all}
 use Rattle.std.specs.Str.{chars, encode_utf8_all, IsUtf8, bytes_eq}
-use Rattle.std.proofs.lemmas.Bool.{cond-true, cond-false, cond_both, cases_Bool, le-leb, lt-leb, leb-true, leb-false, le-ltb, lt-ltb, ltb-true, ltb-false, and_parts, and_from, or_parts, or_cases, not-true, false≢true}
-use Rattle.std.proofs.lemmas.List.{append-nil}
+use Rattle.std.proofs.lemmas.Bool.{cond-true, cond-false, cond_both, cases_Bool, le-leb, lt-leb, leb-true, leb-false, le-ltb, lt-ltb, ltb-true, ltb-false, and_parts, and_from, or_parts, or_cases, not-true, eq-eqb, eqb-true, false≢true, false_from_ne_true}
+use Rattle.std.proofs.lemmas.List.{append-nil, take_all}
+use Rattle.std.proofs.lemmas.List.Folds.{list_all-append}
+use Rattle.std.proofs.lemmas.List.Sums.{suffix_len-take_no, suffix_len-take_yes}
 use Rattle.std.proofs.lemmas.Slice.Eq.{bytes_eq-Decides}
-use Rattle.std.proofs.lemmas.Str.{chars-nil, chars-encodes, chars_past_char, encodes-chars, scalars-chars, length-encode}
+use Rattle.std.proofs.lemmas.Str.{chars-nil, chars-encodes, chars_past_char, encodes-append, encodes-chars, scalars-chars, length-encode, len_utf8_bounds}
 use lib.Utf8.{scalar, scalars}
-use Rattle.mail_codec.specs.Places.{is_empty, least}
-use Rattle.mail_data.specs.FileNames.{front_name, is_reserved, is_unsafe, made_safe, safe_name, IsSafeName}
+use Rattle.mail_codec.specs.Places.{begins, is_empty, least}
+use Rattle.mail_data.specs.FileNames.{component, ending, front_length, front_name, is_reserved, is_unsafe, is_windows_path, kept_ending, made_safe, most, safe_name, shortened, size, trailing, IsSafeName}
 
 -- ---- as many characters as fit, one after another
 
@@ -19,16 +21,16 @@ abbrev front_within : ℕ → List ℕ → List ℕ
 front_within capacity [] = []
 front_within capacity (c ∷ cs) = if nat_le (len_utf8 c) capacity then c ∷ front_within (capacity - len_utf8 c) cs else []
 
--- their number: the least for which one more does not fit, or all of them
-abbrev fitting : ℕ → List ℕ → ℕ
-fitting capacity cs = least (λ n. nat_lt capacity (length (encode_utf8_all (take (suc n) cs)))) (length cs)
-
 -- tests that agree pass first at the same number
 least-agrees : (f g : ℕ → Bool) → ((n : ℕ) → f n ≡ g n) → (bound : ℕ) → least f bound ≡ least g bound
 least-agrees f g same zero = refl
 least-agrees f g same (suc bound) =
     ap (λ (b : Bool). if b then 0 else suc (least (λ n. f (suc n)) bound)) (same 0)
     ∙ ap (λ (n : ℕ). if g 0 then 0 else suc n) (least-agrees (λ n. f (suc n)) (λ n. g (suc n)) (λ n. same (suc n)) bound)
+
+least-within : (f : ℕ → Bool) (bound : ℕ) → least f bound ≤ bound
+least-within f zero = omega arith
+least-within f (suc bound) = let later = least-within (λ n. f (suc n)) bound in cond_both (f 0) 0 _ (λ n. n ≤ suc bound) (λ e. omega arith) (λ e. omega (arith, later))
 
 -- bytes that do not fit beside a character do not fit in the capacity left after it
 more_than_left : (capacity width all rest : ℕ) → width ≤ capacity → all ≡ width + rest → nat_lt capacity all ≡ nat_lt (capacity - width) rest
@@ -37,68 +39,84 @@ more_than_left capacity width all rest fits sum = elim (cases_Bool (nat_lt (capa
   | inr none ↦ let small = ltb-false (capacity - width) rest none in le-ltb capacity all (omega (arith, small, fits, sum)) ∙ sym none
 ]
 
-front_within-takes : (capacity : ℕ) (cs : List ℕ) → front_within capacity cs ≡ take (fitting capacity cs) cs
-front_within-takes capacity [] = refl
-front_within-takes capacity (c ∷ cs) =
+size-more : (c n : ℕ) (cs : List ℕ) → size (c ∷ take n cs) ≡ len_utf8 c + size (take n cs)
+size-more c n cs = length-append (encode_utf8 c) (encode_utf8_all (take n cs)) ∙ ap (λ k. k + size (take n cs)) (length-encode c)
+
+-- one more character, if it fits
+pub front_length-more : (capacity c : ℕ) (cs : List ℕ) → len_utf8 c ≤ capacity → front_length capacity (c ∷ cs) ≡ suc (front_length (capacity - len_utf8 c) cs)
+front_length-more capacity c cs fits =
     let width = len_utf8 c in
-    let len : (n : ℕ) → length (encode_utf8_all (c ∷ take n cs)) ≡ width + length (encode_utf8_all (take n cs)) =
-    λ n. length-append (encode_utf8 c) (encode_utf8_all (take n cs)) ∙ ap (λ k. k + length (encode_utf8_all (take n cs))) (length-encode c) in
-    elim (cases_Bool (nat_le width capacity)) [
-      | inl f ↦
-          let fits = leb-true width capacity f in
-          let first = le-ltb capacity (length (encode_utf8_all (c ∷ take 0 cs))) (omega (arith, fits, len 0)) in
-          let step : fitting capacity (c ∷ cs) ≡ suc (fitting (capacity - width) cs) =
-          cond-false (nat_lt capacity (length (encode_utf8_all (c ∷ take 0 cs)))) 0 _ first
-          ∙ ap suc (least-agrees (λ n. nat_lt capacity (length (encode_utf8_all (c ∷ take (suc n) cs)))) (λ n. nat_lt (capacity - width) (length (encode_utf8_all (take (suc n) cs))))
-          (λ n. more_than_left capacity width _ _ fits (len (suc n))) (length cs)) in
-          cond-true (nat_le width capacity) _ _ f ∙ ap (λ (ds : List ℕ). c ∷ ds) (front_within-takes (capacity - width) cs)
-          ∙ ap (λ (n : ℕ). take n (c ∷ cs)) (sym step)
-      | inr n ↦
-          let big = leb-false width capacity n in
-          let first = lt-ltb capacity (length (encode_utf8_all (c ∷ take 0 cs))) (omega (arith, big, len 0)) in
-          cond-false (nat_le width capacity) _ _ n
-          ∙ ap (λ (k : ℕ). take k (c ∷ cs)) (sym (cond-true (nat_lt capacity (length (encode_utf8_all (c ∷ take 0 cs)))) 0 _ first))
-    ]
+    let first = le-ltb capacity (size (c ∷ take 0 cs)) (omega (arith, fits, size-more c 0 cs)) in
+    cond-false (nat_lt capacity (size (c ∷ take 0 cs))) 0 _ first
+    ∙ ap suc (least-agrees (λ n. nat_lt capacity (size (c ∷ take (suc n) cs))) (λ n. nat_lt (capacity - width) (size (take (suc n) cs)))
+    (λ n. more_than_left capacity width _ _ fits (size-more c (suc n) cs)) (length cs))
 
-front_name-within : (name : List ℕ) → front_name name ≡ encode_utf8_all (front_within 255 (map made_safe (chars name)))
-unfolding front_name
-front_name-within name = ap encode_utf8_all (sym (front_within-takes 255 (map made_safe (chars name))))
+pub front_length-stop : (capacity c : ℕ) (cs : List ℕ) → capacity < len_utf8 c → front_length capacity (c ∷ cs) ≡ 0
+front_length-stop capacity c cs big =
+    cond-true (nat_lt capacity (size (c ∷ take 0 cs))) 0 _ (lt-ltb capacity (size (c ∷ take 0 cs)) (omega (arith, big, size-more c 0 cs)))
 
--- the characters written, and then those of the rest that still fit
-abbrev pub filled : List ℕ → List ℕ → List ℕ
-filled out rest = out ++ encode_utf8_all (front_within (255 - length out) (map made_safe (chars rest)))
+pub front_length-within : (capacity : ℕ) (cs : List ℕ) → front_length capacity cs ≤ length cs
+front_length-within capacity cs = least-within (λ n. nat_lt capacity (size (take (suc n) cs))) (length cs)
 
-pub filled-start : (name out rest : List ℕ) → out ≡ [] → rest ≡ name → filled out rest ≡ front_name name
-filled-start name out rest none all = ap (λ (o : List ℕ). filled o rest) none ∙ ap (filled []) all ∙ sym (front_name-within name)
+front_within-takes : (capacity : ℕ) (cs : List ℕ) → front_within capacity cs ≡ take (front_length capacity cs) cs
+front_within-takes capacity [] = refl
+front_within-takes capacity (c ∷ cs) = elim (cases_Bool (nat_le (len_utf8 c) capacity)) [
+  | inl f ↦
+      cond-true (nat_le (len_utf8 c) capacity) _ _ f ∙ ap (λ (ds : List ℕ). c ∷ ds) (front_within-takes (capacity - len_utf8 c) cs)
+      ∙ ap (λ (n : ℕ). take n (c ∷ cs)) (sym (front_length-more capacity c cs (leb-true (len_utf8 c) capacity f)))
+  | inr n ↦
+      cond-false (nat_le (len_utf8 c) capacity) _ _ n
+      ∙ ap (λ (k : ℕ). take k (c ∷ cs)) (sym (front_length-stop capacity c cs (leb-false (len_utf8 c) capacity n)))
+]
 
-pub filled-end : (out rest : List ℕ) → rest ≡ [] → filled out rest ≡ out
-filled-end out rest none = ap (filled out) none ∙ ap (λ (cs : List ℕ). out ++ encode_utf8_all (front_within (255 - length out) (map made_safe cs))) chars-nil ∙ append-nil out
+-- the number that a loop has counted, when these characters are left and so many bytes
+pub record CountsTo (capacity : ℕ) (cs : List ℕ) (left : ℕ) (rest : List ℕ) : Type 0 where
+  pub within : length rest ≤ length cs
+  pub same : length cs - length rest + front_length left rest ≡ front_length capacity cs
 
--- a character that no longer fits ends the name
-pub filled-full : (out rest next : List ℕ) (c : ℕ) → IsUtf8 rest → rest ≡ encode_utf8 c ++ next → length out ≤ 255
-    → 255 < length out + len_utf8 (made_safe c) → filled out rest ≡ out
-filled-full out rest next c utf8 e small big =
-    let d = made_safe c in
-    let n = len_utf8 d in
-    ap (λ (cs : List ℕ). out ++ encode_utf8_all (front_within (255 - length out) (map made_safe cs))) (chars_past_char rest next c utf8 e)
-    ∙ ap (λ (cs : List ℕ). out ++ encode_utf8_all cs) (cond-false (nat_le n (255 - length out)) _ _ (lt-leb n (255 - length out) (omega arith)))
-    ∙ append-nil out
+pub CountsTo-more : {capacity : ℕ} {cs : List ℕ} {left : ℕ} {rest : List ℕ} (c : ℕ) (after : List ℕ) (less : ℕ) → CountsTo capacity cs left rest → rest ≡ c ∷ after
+    → len_utf8 c ≤ left → less ≡ left - len_utf8 c → CountsTo capacity cs less after
+CountsTo-more {left = left} c after less counts cut fits is =
+    let within = counts.within in
+    let same = counts.same in
+    let one = ap (front_length left) cut ∙ front_length-more left c after fits in
+    let next = ap (λ n. front_length n after) is in
+    let len = ap length cut in
+    record { within = omega (arith, within, len); same = omega (arith, within, same, one, next, len) }
 
--- a character that fits
-pub filled-more : (out rest next new : List ℕ) (c : ℕ) → IsUtf8 rest → rest ≡ encode_utf8 c ++ next → new ≡ out ++ encode_utf8 (made_safe c)
-    → length out + len_utf8 (made_safe c) ≤ 255 → filled new next ≡ filled out rest
-filled-more out rest next new c utf8 e push fits =
-    let d = made_safe c in
-    let n = len_utf8 d in
-    let more = map made_safe (chars next) in
-    let len : length new ≡ length out + n = ap length push ∙ length-append out (encode_utf8 d) ∙ ap (λ k. length out + k) (length-encode d) in
-    let capacity : 255 - length new ≡ 255 - length out - n = omega arith in
-    ap (λ k. new ++ encode_utf8_all (front_within k more)) capacity
-    ∙ ap (λ (o : List ℕ). o ++ encode_utf8_all (front_within (255 - length out - n) more)) push
-    ∙ append_assoc out (encode_utf8 d) (encode_utf8_all (front_within (255 - length out - n) more))
-    ∙ ap (λ (cs : List ℕ). out ++ encode_utf8_all cs)
-    (sym (ap (λ (cs : List ℕ). front_within (255 - length out) (map made_safe cs)) (chars_past_char rest next c utf8 e)
-    ∙ cond-true (nat_le n (255 - length out)) _ _ (le-leb n (255 - length out) (omega arith))))
+pub CountsTo-stop : {capacity : ℕ} {cs : List ℕ} {left : ℕ} {rest : List ℕ} (c : ℕ) (after : List ℕ) → CountsTo capacity cs left rest → rest ≡ c ∷ after → left < len_utf8 c
+    → length cs - length rest ≡ front_length capacity cs
+CountsTo-stop {left = left} c after counts cut big =
+    let same = counts.same in
+    let none = ap (front_length left) cut ∙ front_length-stop left c after big in
+    omega (arith, same, none)
+
+pub CountsTo-start : (capacity : ℕ) (cs : List ℕ) (left : ℕ) (rest : List ℕ) → left ≡ capacity → rest ≡ cs → CountsTo capacity cs left rest
+CountsTo-start capacity cs left rest same all =
+    let len = ap length all in
+    let front = ap (λ n. front_length n rest) same ∙ ap (front_length capacity) all in
+    record { within = omega (arith, len); same = omega (arith, len, front) }
+
+pub CountsTo-end : {capacity : ℕ} {cs : List ℕ} {left : ℕ} {rest : List ℕ} → CountsTo capacity cs left rest → length rest ≡ 0 → length cs ≡ front_length capacity cs
+CountsTo-end {left = left} {rest = []} counts none =
+    let same = counts.same in
+    omega (arith, same)
+CountsTo-end {rest = c ∷ rest} counts none = absurd (omega (arith, none))
+
+-- ---- the characters of a name
+
+pub characters-start : (name made rest : List ℕ) → made ≡ [] → rest ≡ name → made ++ chars rest ≡ chars name
+characters-start name made rest none all = ap (λ (cs : List ℕ). cs ++ chars rest) none ∙ ap chars all
+
+-- ---- the leading characters and the ending, one after another
+
+pub shortened-made : (cs none one both front ending : List ℕ) (n bytes : ℕ) → none ≡ [] → one ≡ none ++ encode_utf8_all front → both ≡ one ++ encode_utf8_all ending → ending ≡ kept_ending cs
+    → bytes ≡ size ending → n ≡ front_length (255 - bytes) cs → front ≡ take n cs → both ≡ encode_utf8_all (shortened cs)
+shortened-made cs none one both front ending n bytes start first second kept sized counted cut =
+    second ∙ ap (λ (t : List ℕ). t ++ encode_utf8_all ending) (first ∙ ap (λ (t : List ℕ). t ++ encode_utf8_all front) start)
+    ∙ sym (encodes-append front ending)
+    ∙ ap (λ (t : List ℕ). encode_utf8_all (t ++ ending)) (cut ∙ ap (λ k. take k cs) (counted ∙ ap (λ k. front_length (255 - k) cs) (sized ∙ ap size kept)))
+    ∙ ap (λ (t : List ℕ). encode_utf8_all (take (front_length (255 - size (kept_ending cs)) cs) cs ++ t)) kept
 
 -- ---- a name that was made safe is safe
 
@@ -108,35 +126,135 @@ all_safe cs = list_all (λ c. not (is_unsafe c)) cs
 made_safe-safe : (c : ℕ) → not (is_unsafe (made_safe c)) ≡ true
 made_safe-safe c = cond_both (is_unsafe c) 95 c (λ d. not (is_unsafe d) ≡ true) (λ unsafe. refl) (λ safe. ap not safe)
 
-front_within-safe : (capacity : ℕ) (cs : List ℕ) → all_safe (front_within capacity (map made_safe cs)) ≡ true
+all-made : (cs : List ℕ) → all_safe (map made_safe cs) ≡ true
 unfolding all_safe
-front_within-safe capacity [] = refl
-front_within-safe capacity (c ∷ cs) =
-    let width = len_utf8 (made_safe c) in
-    cond_both (nat_le width capacity) (made_safe c ∷ front_within (capacity - width) (map made_safe cs)) [] (λ (ds : List ℕ). all_safe ds ≡ true)
-    (λ fits. and_from _ _ (made_safe-safe c) (front_within-safe (capacity - width) cs)) (λ full. refl)
+all-made [] = refl
+all-made (c ∷ cs) = and_from _ _ (made_safe-safe c) (all-made cs)
 
 made_safe-scalar : (c : ℕ) → scalar c ≡ true → scalar (made_safe c) ≡ true
 made_safe-scalar c h = cond_both (is_unsafe c) 95 c (λ d. scalar d ≡ true) (λ unsafe. refl) (λ safe. h)
 
-front_within-scalars : (capacity : ℕ) (cs : List ℕ) → scalars cs ≡ true → scalars (front_within capacity (map made_safe cs)) ≡ true
-front_within-scalars capacity [] h = refl
-front_within-scalars capacity (c ∷ cs) h =
-    let parts = and_parts (scalar c) (scalars cs) h in
-    let d = made_safe c in
-    let more = front_within (capacity - len_utf8 d) (map made_safe cs) in
-    cond_both (nat_le (len_utf8 d) capacity) (d ∷ more) [] (λ (ds : List ℕ). scalars ds ≡ true)
-    (λ fits. and_from (scalar d) (scalars more) (made_safe-scalar c parts.0) (front_within-scalars (capacity - len_utf8 d) cs parts.1)) (λ full. refl)
+made-scalars : (cs : List ℕ) → scalars cs ≡ true → scalars (map made_safe cs) ≡ true
+made-scalars [] h = refl
+made-scalars (c ∷ cs) h = let parts = and_parts (scalar c) (scalars cs) h in and_from _ _ (made_safe-scalar c parts.0) (made-scalars cs parts.1)
 
-front_within-short : (capacity : ℕ) (cs : List ℕ) → length (encode_utf8_all (front_within capacity cs)) ≤ capacity
+scalars-are : (cs : List ℕ) → scalars cs ≡ list_all scalar cs
+scalars-are [] = refl
+scalars-are (c ∷ cs) = ap (λ t. scalar c && t) (scalars-are cs)
+
+-- a test that all characters pass
+module _ (test : ℕ → Bool) where
+  all-take : (n : ℕ) (cs : List ℕ) → list_all test cs ≡ true → list_all test (take n cs) ≡ true
+  all-take zero cs h = refl
+  all-take (suc n) [] h = refl
+  all-take (suc n) (c ∷ cs) h = let both = and_parts (test c) (list_all test cs) h in and_from _ _ both.0 (all-take n cs both.1)
+
+  all-drop : (n : ℕ) (cs : List ℕ) → list_all test cs ≡ true → list_all test (drop n cs) ≡ true
+  all-drop zero cs h = h
+  all-drop (suc n) [] h = refl
+  all-drop (suc n) (c ∷ cs) h = all-drop n cs (and_parts (test c) (list_all test cs) h).1
+
+  all-ending : (cs : List ℕ) → list_all test cs ≡ true → list_all test (ending cs) ≡ true
+  all-ending cs h =
+      let n = trailing 46 cs in
+      cond_both (nat_lt (suc n) (length cs) && nat_le n 16) (drop (length cs - suc n) cs) [] (λ (ds : List ℕ). list_all test ds ≡ true) (λ e. all-drop (length cs - suc n) cs h) (λ e. refl)
+
+  all-kept : (cs : List ℕ) → list_all test cs ≡ true → list_all test (kept_ending cs) ≡ true
+  all-kept cs h = cond_both (nat_eq (front_length most cs) (length cs)) [] (ending cs) (λ (ds : List ℕ). list_all test ds ≡ true) (λ e. refl) (λ e. all-ending cs h)
+
+  all-shortened : (cs : List ℕ) → list_all test cs ≡ true → list_all test (shortened cs) ≡ true
+  all-shortened cs h =
+      let n = front_length (most - size (kept_ending cs)) cs in
+      list_all-append test (take n cs) (kept_ending cs) ∙ and_from _ _ (all-take n cs h) (all-kept cs h)
+
+  all-component : (cs : List ℕ) → list_all test cs ≡ true → list_all test (component cs) ≡ true
+  all-component cs h = cond_both (is_windows_path cs) (drop (length cs - trailing 92 cs) cs) cs (λ (ds : List ℕ). list_all test ds ≡ true) (λ e. all-drop (length cs - trailing 92 cs) cs h) (λ e. h)
+
+-- ---- a name that was cut is short
+
+front_within-short : (capacity : ℕ) (cs : List ℕ) → size (front_within capacity cs) ≤ capacity
 front_within-short capacity [] = omega arith
 front_within-short capacity (c ∷ cs) =
     let more = front_within (capacity - len_utf8 c) cs in
     let later = front_within-short (capacity - len_utf8 c) cs in
     let all = length-append (encode_utf8 c) (encode_utf8_all more) in
     let one = length-encode c in
-    cond_both (nat_le (len_utf8 c) capacity) (c ∷ more) [] (λ (ds : List ℕ). length (encode_utf8_all ds) ≤ capacity)
-    (λ fits. let low = leb-true (len_utf8 c) capacity fits in omega arith) (λ full. omega arith)
+    cond_both (nat_le (len_utf8 c) capacity) (c ∷ more) [] (λ (ds : List ℕ). size ds ≤ capacity)
+    (λ fits. let low = leb-true (len_utf8 c) capacity fits in omega (arith, low, later, all, one)) (λ full. omega arith)
+
+-- a character has at most four bytes
+pub size-at_most : (cs : List ℕ) → size cs ≤ 4 * length cs
+size-at_most [] = omega arith
+size-at_most (c ∷ cs) =
+    let later = size-at_most cs in
+    let all = length-append (encode_utf8 c) (encode_utf8_all cs) in
+    let one = length-encode c in
+    let low = (len_utf8_bounds c).1 in
+    omega (arith, later, all, one, low)
+
+-- the sum that a loop has made, when these characters are left
+pub record SizedTo (cs : List ℕ) (sum : ℕ) (rest : List ℕ) : Type 0 where
+  pub all : sum + size rest ≡ size cs
+  pub few : sum + 4 * length rest ≤ 4 * length cs
+
+pub SizedTo-start : (cs : List ℕ) (sum : ℕ) (rest : List ℕ) → sum ≡ 0 → rest ≡ cs → SizedTo cs sum rest
+SizedTo-start cs sum rest none all =
+    let same = ap size all in
+    let len = ap length all in
+    record { all = omega (arith, none, same); few = omega (arith, none, len) }
+
+pub SizedTo-more : {cs : List ℕ} {sum : ℕ} {rest : List ℕ} (c : ℕ) (after : List ℕ) (next : ℕ) → SizedTo cs sum rest → rest ≡ c ∷ after → next ≡ sum + len_utf8 c → SizedTo cs next after
+SizedTo-more c after next sized cut is =
+    let all = sized.all in
+    let few = sized.few in
+    let low = (len_utf8_bounds c).1 in
+    let one = ap size cut ∙ length-append (encode_utf8 c) (encode_utf8_all after) ∙ ap (λ k. k + size after) (length-encode c) in
+    let len = ap length cut in
+    record { all = omega (arith, all, is, one); few = omega (arith, few, is, low, len) }
+
+pub SizedTo-end : {cs : List ℕ} {sum : ℕ} {rest : List ℕ} → SizedTo cs sum rest → length rest ≡ 0 → sum ≡ size cs
+SizedTo-end {rest = []} sized none =
+    let all = sized.all in
+    omega (arith, all)
+SizedTo-end {rest = c ∷ rest} sized none = absurd (omega (arith, none))
+
+-- one more character before the end
+pub trailing-none : (c : ℕ) (cs : List ℕ) (i d : ℕ) → i < length cs → eqb (get_or cs i d) c ≡ true → trailing c (take (i + 1) cs) ≡ 0
+trailing-none c cs i d low h =
+    let one : i + 1 - 1 ≡ i = omega arith in
+    suffix_len-take_no (λ e. not (eqb e c)) cs (i + 1) d (omega arith) (omega (arith, low)) (ap (λ k. not (eqb (get_or cs k d) c)) one ∙ ap not h)
+
+pub trailing-more : (c : ℕ) (cs : List ℕ) (i d : ℕ) → i < length cs → eqb (get_or cs i d) c ≡ false → trailing c (take (i + 1) cs) ≡ 1 + trailing c (take i cs)
+trailing-more c cs i d low h =
+    let one : i + 1 - 1 ≡ i = omega arith in
+    suffix_len-take_yes (λ e. not (eqb e c)) cs (i + 1) d (omega arith) (omega (arith, low)) (ap (λ k. not (eqb (get_or cs k d) c)) one ∙ ap not h)
+    ∙ ap (λ k. 1 + trailing c (take k cs)) one
+
+pub ending-short : (cs : List ℕ) → length (ending cs) ≤ 17
+ending-short cs =
+    let n = trailing 46 cs in
+    cond_both (nat_lt (suc n) (length cs) && nat_le n 16) (drop (length cs - suc n) cs) [] (λ (ds : List ℕ). length ds ≤ 17)
+    (λ e. let both = and_parts (nat_lt (suc n) (length cs)) (nat_le n 16) e in
+    let within = ltb-true (suc n) (length cs) both.0 in
+    let few = leb-true n 16 both.1 in
+    let cut = length-drop (length cs - suc n) cs in
+    omega (arith, within, few, cut))
+    (λ e. omega arith)
+
+pub kept-short : (cs : List ℕ) → length (kept_ending cs) ≤ 17
+kept-short cs = cond_both (nat_eq (front_length most cs) (length cs)) [] (ending cs) (λ (ds : List ℕ). length ds ≤ 17) (λ e. omega arith) (λ e. ending-short cs)
+
+shortened-short : (cs : List ℕ) → size (shortened cs) ≤ 255
+shortened-short cs =
+    let ending = kept_ending cs in
+    let capacity = 255 - size ending in
+    let front = take (front_length capacity cs) cs in
+    let all = ap length (encodes-append front ending) ∙ length-append (encode_utf8_all front) (encode_utf8_all ending) in
+    let fits = front_within-short capacity cs in
+    let same = ap size (front_within-takes capacity cs) in
+    let low = size-at_most ending in
+    let few = kept-short cs in
+    omega (arith, all, fits, same, low, few)
 
 -- ---- a name that is safe stays
 
@@ -147,13 +265,46 @@ made_safe-same (c ∷ cs) h =
     let parts = and_parts (not (is_unsafe c)) (all_safe cs) h in
     ap (λ (d : ℕ). d ∷ map made_safe cs) (cond-false (is_unsafe c) 95 c (not-true (is_unsafe c) parts.0)) ∙ ap (λ (ds : List ℕ). c ∷ ds) (made_safe-same cs parts.1)
 
-front_within-all : (capacity : ℕ) (cs : List ℕ) → length (encode_utf8_all cs) ≤ capacity → front_within capacity cs ≡ cs
-front_within-all capacity [] h = refl
-front_within-all capacity (c ∷ cs) h =
+-- characters that fit are all taken
+front_length-all : (capacity : ℕ) (cs : List ℕ) → size cs ≤ capacity → front_length capacity cs ≡ length cs
+front_length-all capacity [] h = refl
+front_length-all capacity (c ∷ cs) h =
     let len = length-append (encode_utf8 c) (encode_utf8_all cs) in
     let one = length-encode c in
-    cond-true (nat_le (len_utf8 c) capacity) (c ∷ front_within (capacity - len_utf8 c) cs) [] (le-leb (len_utf8 c) capacity (omega arith))
-    ∙ ap (λ (ds : List ℕ). c ∷ ds) (front_within-all (capacity - len_utf8 c) cs (omega arith))
+    front_length-more capacity c cs (omega (arith, h, len, one)) ∙ ap suc (front_length-all (capacity - len_utf8 c) cs (omega (arith, h, len, one)))
+
+shortened-same : (cs : List ℕ) → size cs ≤ 255 → shortened cs ≡ cs
+shortened-same cs h =
+    let whole = front_length-all 255 cs h in
+    ap (λ (ds : List ℕ). take (front_length (255 - size ds) cs) cs ++ ds) (cond-true (nat_eq (front_length 255 cs) (length cs)) [] (ending cs) (eq-eqb (front_length 255 cs) (length cs) whole))
+    ∙ append-nil (take (front_length 255 cs) cs) ∙ take_all (front_length 255 cs) cs (omega (arith, whole))
+
+-- a safe name is no path
+no_backslash : (c : ℕ) → not (is_unsafe c) ≡ true → eqb c 92 ≡ false
+no_backslash c h =
+    let safe = not-true (is_unsafe c) h in
+    false_from_ne_true (eqb c 92) (λ e. false≢true (sym safe ∙ ap is_unsafe (eqb-true c 92 e)))
+
+begins-none : (cs : List ℕ) → all_safe cs ≡ true → begins (λ c. eqb c 92) cs ≡ false
+unfolding all_safe
+begins-none [] h = refl
+begins-none (c ∷ cs) h = no_backslash c (and_parts (not (is_unsafe c)) (all_safe cs) h).0
+
+no_path : (cs : List ℕ) → all_safe cs ≡ true → is_windows_path cs ≡ false
+unfolding all_safe
+no_path [] h = refl
+no_path (a ∷ []) h = refl
+no_path (a ∷ b ∷ cs) h =
+    let first = and_parts (not (is_unsafe a)) (all_safe (b ∷ cs)) h in
+    let second = and_parts (not (is_unsafe b)) (all_safe cs) first.1 in
+    let one = no_backslash a first.0 in
+    let two = begins-none cs second.1 in
+    let drive : Bool = eqb b 58 && begins (λ c. eqb c 92) cs in
+    false_from_ne_true (is_windows_path (a ∷ b ∷ cs))
+    (λ e. elim (or_cases (eqb a 92 && eqb b 92) (is_ascii_alphabetic a && drive) e) [
+      | inl l ↦ false≢true (sym one ∙ (and_parts (eqb a 92) (eqb b 92) l).0)
+      | inr r ↦ false≢true (sym two ∙ (and_parts (eqb b 58) (begins (λ c. eqb c 92) cs) (and_parts (is_ascii_alphabetic a) drive r).1).1)
+    ])
 
 -- ---- the whole name
 
@@ -167,18 +318,27 @@ single = record {
   characters = refl;
 }
 
+-- the characters of the name made safe
+characters_of : List ℕ → List ℕ
+characters_of name = map made_safe (component (chars name))
+
+scalars_of : (name : List ℕ) → IsUtf8 name → scalars (shortened (characters_of name)) ≡ true
+unfolding characters_of
+scalars_of name utf8 =
+    let all = sym (scalars-are (chars name)) ∙ scalars-chars name utf8 in
+    let part = scalars-are (component (chars name)) ∙ all-component scalar (chars name) all in
+    scalars-are (shortened (map made_safe (component (chars name))))
+    ∙ all-shortened scalar (map made_safe (component (chars name))) (sym (scalars-are (map made_safe (component (chars name)))) ∙ made-scalars (component (chars name)) part)
+
 front_name-safe : (name : List ℕ) → IsUtf8 name → list_all (λ c. not (is_unsafe c)) (chars (front_name name)) ≡ true
-unfolding all_safe
+unfolding all_safe front_name characters_of
 front_name-safe name utf8 =
-    ap (λ (safe : List ℕ). all_safe (chars safe)) (front_name-within name)
-    ∙ ap all_safe (chars-encodes (front_within 255 (map made_safe (chars name))) (front_within-scalars 255 (chars name) (scalars-chars name utf8)))
-    ∙ front_within-safe 255 (chars name)
+    ap all_safe (chars-encodes (shortened (characters_of name)) (scalars_of name utf8))
+    ∙ all-shortened (λ c. not (is_unsafe c)) (characters_of name) (all-made (component (chars name)))
 
 front_name-short : (name : List ℕ) → length (front_name name) ≤ 255
-front_name-short name =
-    let same = ap length (front_name-within name) in
-    let short = front_within-short 255 (map made_safe (chars name)) in
-    omega (arith, same, short)
+unfolding front_name
+front_name-short name = shortened-short (map made_safe (component (chars name)))
 
 not_reserved : (name : List ℕ) → is_reserved name ≡ false → (name ≢ []) × (name ≢ codes ".") × (name ≢ codes "..")
 not_reserved name h =
@@ -202,13 +362,14 @@ safe_name-safe name utf8 =
     })
 
 front_name-same : (name : List ℕ) → IsUtf8 name → IsSafeName name → front_name name ≡ name
-unfolding all_safe
+unfolding all_safe front_name
 front_name-same name utf8 h =
     let short = h.short in
-    let len = ap length (encodes-chars name utf8) in
-    front_name-within name
-    ∙ ap (λ (cs : List ℕ). encode_utf8_all (front_within 255 cs)) (made_safe-same (chars name) h.characters)
-    ∙ ap encode_utf8_all (front_within-all 255 (chars name) (omega arith)) ∙ encodes-chars name utf8
+    let back = encodes-chars name utf8 in
+    let len = ap length back in
+    ap (λ (cs : List ℕ). encode_utf8_all (shortened (map made_safe cs))) (cond-false (is_windows_path (chars name)) _ _ (no_path (chars name) h.characters))
+    ∙ ap (λ (cs : List ℕ). encode_utf8_all (shortened cs)) (made_safe-same (chars name) h.characters)
+    ∙ ap encode_utf8_all (shortened-same (chars name) (omega (arith, short, len))) ∙ back
 
 bytes_eq-true : (a b : List ℕ) → bytes_eq a b ≡ true → a ≡ b
 bytes_eq-true a b h = (bytes_eq-Decides a b).0 h

@@ -1,19 +1,25 @@
 //! Names of files that are safe in any directory of a POSIX system.
-ghost use Rattle.std.specs.Prelude.{◌≡◌, IfOk, string_bytes};
-ghost use Rattle.mail_data.specs.FileNames.{IsSafeName, front_name, is_reserved, made_safe, safe_name};
+ghost use Rattle.std.specs.Prelude.{◌≡◌, ◌++◌, ◌≤◌, IfOk, IsTrue, OnOk, chars, encode_utf8_all, length, map, string_bytes};
+ghost use Rattle.mail_data.specs.FileNames.{IsSafeName, component, ending, front_length};
+ghost use Rattle.mail_data.specs.FileNames.{front_name, is_reserved, is_windows_path, kept_ending};
+ghost use Rattle.mail_data.specs.FileNames.{made_safe, safe_name, shortened, size, trailing};
 
 use std::alloc::{AllocError, Global};
 
 /// The greatest length of a safe name in bytes.
 const MOST_BYTES: usize = 255;
 
+/// The most characters of an ending, after its dot.
+const MOST_OF_ENDING: usize = 16;
+
 /// Returns the name of a file made safe: on a POSIX system it names a file in the directory where
 /// it is used, and no other. Names that Windows reserves, such as `NUL` and `C:x`, stay.
 ///
-/// Each `/`, `\` and control character, including NUL, becomes `_`. The name is cut between
-/// characters to at most 255 bytes. If the result is empty, `.` or `..`, it becomes `_`. A name
-/// that is already safe stays as it is. Characters that change the text direction stay. Allocates
-/// the name.
+/// Of an absolute path of Windows, such as `C:\\a\\b.txt`, the last component is taken. Then each
+/// `/`, `\` and control character, including NUL, becomes `_`. A name of more than 255 bytes is
+/// cut between characters, before its ending: the last dot and at most 16 characters after it. If
+/// the result is empty, `.` or `..`, it becomes `_`. A name that is already safe stays as it is.
+/// Characters that change the text direction stay. Allocates the name and its characters.
 ///
 /// # Errors
 ///
@@ -27,6 +33,7 @@ const MOST_BYTES: usize = 255;
 /// assert_eq!(rt; safe_file_name(alloc, "../../etc/passwd")?.as_str(), ".._.._etc_passwd");
 /// assert_eq!(rt; safe_file_name(alloc, "..")?.as_str(), "_");
 /// assert_eq!(rt; safe_file_name(alloc, "résumé.pdf")?.as_str(), "résumé.pdf");
+/// assert_eq!(rt; safe_file_name(alloc, "C:\\Users\\ann\\a.txt")?.as_str(), "a.txt");
 /// ```
 #[tactic(auto, unfolding(crate::specs::FileNames::safe_name))]
 pub fn safe_file_name(alloc: Global, name: &str) -> Result<String, AllocError>
@@ -41,19 +48,156 @@ pub fn safe_file_name(alloc: Global, name: &str) -> Result<String, AllocError>
     Ok(safe)
 }
 
-/// Returns the leading characters made safe, as many as have at most 255 bytes.
+/// Returns the characters of a name made safe, as many as fit.
+#[tactic(auto, unfolding(crate::specs::FileNames::front_name))]
 fn front_name(alloc: Global, name: &str) -> Result<String, AllocError>
     ensures { IfOk result (λ safe. string_bytes safe ≡ front_name name.now) }
 {
-    let mut safe = String::new(alloc);
+    let characters = characters(alloc, name)?;
+    let safe = safe_characters(alloc, component(characters.as_slice()))?;
+    shortened(alloc, safe.as_slice())
+}
+
+/// Returns the characters of a name.
+fn characters(alloc: Global, name: &str) -> Result<Vec<char>, AllocError>
+    ensures { IfOk result (λ characters. characters.items ≡ chars name.now) }
+{
+    let mut characters = Vec::new(alloc);
     for c in name.chars() {
-        let c = made_safe(c);
-        if safe.len() + c.len_utf8() > MOST_BYTES {
-            return Ok(safe);
-        }
-        safe.push(c)?;
+        characters.push(c)?;
+    }
+    Ok(characters)
+}
+
+/// Returns the characters made safe.
+fn safe_characters(alloc: Global, characters: &[char]) -> Result<Vec<char>, AllocError>
+    ensures { IfOk result (λ safe. safe.items ≡ map made_safe characters.now) }
+{
+    let mut safe = Vec::with_capacity(alloc, characters.len())?;
+    for c in characters {
+        safe.push(made_safe(*c))?;
     }
     Ok(safe)
+}
+
+/// Returns the number of characters after the last that is `c`, or of all characters if none is.
+fn trailing(c: char, characters: &[char]) -> usize
+    ensures value { result ≡ trailing c characters.now }
+    ensures bounds { result ≤ length characters.now }
+{
+    let mut count = 0;
+    for character in characters {
+        if *character == c {
+            count = 0;
+        } else {
+            count += 1;
+        }
+    }
+    count
+}
+
+/// Returns whether a name is an absolute path of Windows.
+fn is_windows_path(characters: &[char]) -> bool
+    ensures { result ≡ is_windows_path characters.now }
+{
+    match characters {
+        ['\\', '\\', ..] => true,
+        [first, ':', '\\', ..] => first.is_ascii_alphabetic(),
+        _ => false,
+    }
+}
+
+/// Returns the name without the directories of such a path.
+fn component(characters: &[char]) -> &[char]
+    ensures { result.now ≡ component characters.now }
+{
+    if is_windows_path(characters) {
+        &characters[characters.len() - trailing('\\', characters)..]
+    } else {
+        characters
+    }
+}
+
+/// Returns the number of leading characters that fit into that many bytes.
+fn front_len(capacity: usize, characters: &[char]) -> usize
+    ensures value { result ≡ front_length capacity characters.now }
+    ensures bounds { result ≤ length characters.now }
+{
+    let mut left = capacity;
+    let mut rest = characters;
+    'characters: while let Some((first, after)) = rest.split_first() {
+        let width = first.len_utf8();
+        if width > left {
+            return characters.len() - rest.len();
+        }
+        left -= width;
+        rest = after;
+    }
+    characters.len()
+}
+
+/// Returns the ending of a name.
+fn ending(characters: &[char]) -> &[char]
+    ensures value { result.now ≡ ending characters.now }
+    ensures short { length result.now ≤ 17 }
+{
+    let after = trailing('.', characters);
+    if after + 1 < characters.len() && after <= MOST_OF_ENDING {
+        &characters[characters.len() - (after + 1)..]
+    } else {
+        &characters[..0]
+    }
+}
+
+/// Returns the ending that is kept.
+fn kept_ending(characters: &[char]) -> &[char]
+    ensures value { result.now ≡ kept_ending characters.now }
+    ensures short { length result.now ≤ 17 }
+{
+    if front_len(MOST_BYTES, characters) == characters.len() {
+        &characters[..0]
+    } else {
+        ending(characters)
+    }
+}
+
+/// Returns the bytes that a few characters have.
+fn size(characters: &[char]) -> usize
+    requires { length characters.now ≤ 17 }
+    ensures value { result ≡ size characters.now }
+    ensures bounds { result ≤ 68 }
+{
+    let mut size = 0;
+    let mut rest = characters;
+    'characters: while let Some((first, after)) = rest.split_first() {
+        size += first.len_utf8();
+        rest = after;
+    }
+    size
+}
+
+/// Appends characters.
+fn push_characters(text: &mut String, characters: &[char]) -> Result<(), AllocError>
+    ensures { OnOk result (string_bytes text.new
+        ≡ string_bytes text.old ++ encode_utf8_all characters.now) }
+{
+    for c in characters {
+        text.push(*c)?;
+    }
+    Ok(())
+}
+
+/// Returns the leading characters and the ending, as many as fit.
+fn shortened(alloc: Global, characters: &[char]) -> Result<String, AllocError>
+    ensures { IfOk result (λ text.
+        string_bytes text ≡ encode_utf8_all (shortened characters.now)) }
+{
+    let ending = kept_ending(characters);
+    let front = front_len(MOST_BYTES - size(ending), characters);
+    let mut text = String::new(alloc);
+    push_characters(&mut text, &characters[..front])?;
+    push_characters(&mut text, ending)?;
+    Ok(text)
 }
 
 /// Returns the character, or `_` in the place of an unsafe one.
