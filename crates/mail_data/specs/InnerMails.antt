@@ -6,8 +6,9 @@ use Rattle.std.specs.Result.{result_err, result_ok}
 use Rattle.std.specs.Str.{bytes_eq}
 use Rattle.mail_codec.specs.Charset.{Charsets}
 use Rattle.mailparse.specs.Body.{BodyKind, in_base64, in_quoted_printable, in_7bit, in_8bit, in_binary}
-use Rattle.mailparse.specs.Mail.{Node, Tree, read_mail_in, root}
-use Rattle.mailparse.specs.Placement.{Placement, placements}
+use Rattle.mailparse.specs.Mail.{Node, Tree, read_mail_as, read_mail_in, root}
+use Rattle.mailparse.specs.Manner.{Manner}
+use Rattle.mailparse.specs.Placement.{Placement, placements, placements_as}
 use Rattle.mailparse.specs.Refusal.{Reads, Refusal}
 use Rattle.mail_data.specs.Files.{is_leaf, path_under, with_paths}
 use Rattle.mail_data.specs.PartPlaces.{Place, placed}
@@ -81,41 +82,69 @@ pub record InnerMail : Type 0 where
   pub start : Option ℕ
   pub refusal : Option Refusal
 
--- Under the charsets that are known.
-module _ (known : Charsets) where
+-- Mails inside that are read in this way, and whose parts have these placements.
+module _ (reads : List ℕ → Reads Tree) (placed_in : Tree → List Placement) where
   -- the reading of the mail in a part
-  abbrev pub mail_read : Place → Reads Tree
-  mail_read place = read_mail_in known 100 (mail_bytes place)
+  abbrev pub mail_read_by : Place → Reads Tree
+  mail_read_by place = reads (mail_bytes place)
 
   -- the mail in a part, given the offset of the mail that contains the part
-  abbrev pub held_mail : Option ℕ → Place → InnerMail
-  held_mail start place = record {
+  abbrev pub held_mail_by : Option ℕ → Place → InnerMail
+  held_mail_by start place = record {
     path = place.path;
     bytes = mail_bytes place;
     start = mail_start start place;
-    refusal = result_err (mail_read place);
+    refusal = result_err (mail_read_by place);
   }
 
   -- the mails inside a mail, at most `most` mails deep, given the path of the part that contains
   -- that mail and its offset: those in its parts, in order, and after each of them those inside it
-  abbrev pub inner_mails : ℕ → List ℕ → Option ℕ → Tree → List Placement → List InnerMail
-  inner_mails zero path start mail found = []
-  inner_mails (suc most) path start mail found = flat_map (λ place.
+  abbrev pub inner_mails_by : ℕ → List ℕ → Option ℕ → Tree → List Placement → List InnerMail
+  inner_mails_by zero path start mail found = []
+  inner_mails_by (suc most) path start mail found = flat_map (λ place.
       if holds_mail place
-      then held_mail start place ∷ option_map_or
-      (λ inside. inner_mails most place.path (mail_start start place) inside (placements 0 inside))
-      (result_ok (mail_read place)) []
+      then held_mail_by start place ∷ option_map_or
+      (λ inside. inner_mails_by most place.path (mail_start start place) inside (placed_in inside))
+      (result_ok (mail_read_by place)) []
       else []) (places_under path mail found)
 
   -- the mails inside a mail that was read so, given its path and its offset
-  abbrev pub mails_below : ℕ → List ℕ → Option ℕ → Reads Tree → List InnerMail
-  mails_below most path start read = option_map_or
-      (λ inside. inner_mails most path start inside (placements 0 inside)) (result_ok read) []
+  abbrev pub mails_below_by : ℕ → List ℕ → Option ℕ → Reads Tree → List InnerMail
+  mails_below_by most path start read = option_map_or
+      (λ inside. inner_mails_by most path start inside (placed_in inside)) (result_ok read) []
 
   -- the mail in a part, if it forwards one, and those inside it
-  abbrev pub mails_in_place : ℕ → Option ℕ → Place → List InnerMail
-  mails_in_place most start place =
+  abbrev pub mails_in_place_by : ℕ → Option ℕ → Place → List InnerMail
+  mails_in_place_by most start place =
       if holds_mail place
-      then held_mail start place
-      ∷ mails_below most place.path (mail_start start place) (mail_read place)
+      then held_mail_by start place
+      ∷ mails_below_by most place.path (mail_start start place) (mail_read_by place)
       else []
+
+-- In this manner, with parts down to level 100.
+module _ (manner : Manner) where
+  -- the mails inside a mail
+  abbrev pub inner_mails_as : ℕ → List ℕ → Option ℕ → Tree → List Placement → List InnerMail
+  inner_mails_as = inner_mails_by (read_mail_as manner 100) (placements_as manner.whole_lines 0)
+
+  -- the mail in a part, if it forwards one, and those inside it
+  abbrev pub mails_in_place_as : ℕ → Option ℕ → Place → List InnerMail
+  mails_in_place_as =
+      mails_in_place_by (read_mail_as manner 100) (placements_as manner.whole_lines 0)
+
+-- The same in the manner of the port, under the charsets that are known.
+module _ (known : Charsets) where
+  abbrev pub mail_read : Place → Reads Tree
+  mail_read = mail_read_by (read_mail_in known 100) (placements 0)
+
+  abbrev pub held_mail : Option ℕ → Place → InnerMail
+  held_mail = held_mail_by (read_mail_in known 100) (placements 0)
+
+  abbrev pub inner_mails : ℕ → List ℕ → Option ℕ → Tree → List Placement → List InnerMail
+  inner_mails = inner_mails_by (read_mail_in known 100) (placements 0)
+
+  abbrev pub mails_below : ℕ → List ℕ → Option ℕ → Reads Tree → List InnerMail
+  mails_below = mails_below_by (read_mail_in known 100) (placements 0)
+
+  abbrev pub mails_in_place : ℕ → Option ℕ → Place → List InnerMail
+  mails_in_place = mails_in_place_by (read_mail_in known 100) (placements 0)

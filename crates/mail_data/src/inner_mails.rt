@@ -6,7 +6,7 @@ ghost use Rattle.mailparse.specs.BodyViews.{Content, IsBody, content_of};
 ghost use Rattle.mailparse.specs.Mail.{root};
 ghost use Rattle.mailparse.specs.Outcome.{AnswersOrMemory, IsMemory, refusal_of};
 ghost use Rattle.mailparse.specs.Views.{placements_of, tree_of};
-ghost use Rattle.mail_data.specs.InnerMails.{forwarded, forwards, holds_mail, inner_mails};
+ghost use Rattle.mail_data.specs.InnerMails.{forwarded, forwards, holds_mail, inner_mails, inner_mails_as};
 ghost use Rattle.mail_data.specs.InnerMails.{dot_count, is_plain, mail_start, path_within};
 ghost use Rattle.mail_data.specs.InnerMails.{places_under};
 ghost use Rattle.mail_data.specs.InnerMailViews.{forwarded_view, inner_view};
@@ -19,7 +19,7 @@ use crate::lenient::{lenient_body, lenient_content};
 use crate::places::{Place, push_places};
 use mail_codec::charset::KnownCharsets;
 use mailparse::body::Body;
-use mailparse::{MAX_LEVELS, MailParseError, ParsedMail, parse_mail_in};
+use mailparse::{MAX_LEVELS, MailParseError, ParsedMail, ReadingManner, Strict, parse_mail_as};
 use std::alloc::{AllocError, Global};
 use std::borrow::CowSlice;
 
@@ -81,6 +81,7 @@ pub struct ForwardedMail<'m> {
 /// let places = places_under(alloc, &inside, found[0].path.as_str())?;
 /// assert_eq!(rt; places[0].path.as_str(), "2.1");
 /// ```
+#[tactic(auto, unfolding(mailparse::specs::Mail::read_mail_in))]
 pub fn inner_mails<K: KnownCharsets>(
     alloc: Global,
     mail: &ParsedMail<'_>,
@@ -90,24 +91,59 @@ pub fn inner_mails<K: KnownCharsets>(
         (Ok (inner_mails (K.known known.now) 100 [] (Some 0) (tree_of mail.now)
         (placements_of mail.now))) }
 {
+    inner_mails_as(alloc, mail, &Strict(known))
+}
+
+/// Returns the mails inside a mail as `inner_mails` does, but reads each of them as `parse_mail_as`
+/// does in this manner, with parts at most `MAX_LEVELS` levels below it (RFC 2046, section 5.2.1).
+///
+/// In a manner that keeps refused messages, such as `lenient::Lenient`, no mail has an error.
+/// Allocates the list, the paths and a copy of each mail.
+///
+/// # Errors
+///
+/// `MailParseError::Memory` if it runs out of memory.
+///
+/// # Examples
+///
+/// ```rust
+/// use mail_data::inner_mails::inner_mails_as;
+/// use mail_data::lenient::Lenient;
+/// use mailparse::parse_mail;
+///
+/// let raw = b"Content-Type: message/rfc822\n\nContent-Type: message/rfc822 (x)\n\nSubject: Hi\n";
+/// let mail = parse_mail(alloc, raw)?;
+/// let found = inner_mails_as(alloc, &mail, &Lenient(&()))?;
+/// assert_eq!(rt; found.len(), 2);
+/// assert_eq!(rt; found[1].bytes.as_slice(), b"Subject: Hi\n".as_slice());
+/// ```
+pub fn inner_mails_as<M: ReadingManner>(
+    alloc: Global,
+    mail: &ParsedMail<'_>,
+    manner: &M,
+) -> Result<Vec<InnerMail>, MailParseError>
+    ensures { AnswersOrMemory (λ mails. map inner_view mails.items) result
+        (Ok (inner_mails_as (M.manner manner.now) 100 [] (Some 0) (tree_of mail.now)
+        (placements_of mail.now))) }
+{
     let mut mails = Vec::new(alloc);
-    push_inner(alloc, mail, "", Some(0), MAX_LEVELS, known, &mut mails)?;
+    push_inner(alloc, mail, "", Some(0), MAX_LEVELS, manner, &mut mails)?;
     Ok(mails)
 }
 
 /// Appends the mails inside a mail, at most `most` mails deep, given the path of the part that
 /// contains that mail and its offset.
-fn push_inner<K: KnownCharsets>(
+fn push_inner<M: ReadingManner>(
     alloc: Global,
     mail: &ParsedMail<'_>,
     path: &str,
     start: Option<usize>,
     most: u8,
-    known: &K,
+    manner: &M,
     mails: &mut Vec<InnerMail>,
 ) -> Result<(), MailParseError>
     ensures written { OnOk result (map inner_view mails.new.items ≡ map inner_view mails.old.items
-        ++ inner_mails (K.known known.now) most path.now start (tree_of mail.now)
+        ++ inner_mails_as (M.manner manner.now) most path.now start (tree_of mail.now)
         (placements_of mail.now)) }
     ensures only_memory { IfErr result IsMemory }
 {
@@ -120,7 +156,7 @@ fn push_inner<K: KnownCharsets>(
             let body = lenient_body(alloc, place.part)?;
             let bytes = held_bytes(alloc, &body)?;
             let at = mail_start(start, place, &body);
-            match parse_mail_in(alloc, bytes.as_slice(), known) {
+            match parse_mail_as(alloc, bytes.as_slice(), MAX_LEVELS, manner) {
                 Ok(inside) => {
                     push_mail(alloc, place, bytes.as_slice(), at, None, mails)?;
                     push_inner(
@@ -129,7 +165,7 @@ fn push_inner<K: KnownCharsets>(
                         place.path.as_str(),
                         at,
                         most - 1,
-                        known,
+                        manner,
                         mails,
                     )?;
                 }

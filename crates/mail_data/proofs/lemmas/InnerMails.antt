@@ -12,7 +12,7 @@ use Rattle.mailparse.specs.Placement.{Placement, placements}
 use Rattle.mailparse.specs.Refusal.{Reads, Refusal, generic, encoding, base64_fault}
 use Rattle.mailparse.specs.declared.error.MailParseError.{MailParseError}
 use Rattle.mailparse.specs.declared.error.MailParseError.TheVariants.{QuotedPrintableDecodeError, Base64DecodeError, EncodingError, Generic, Memory}
-use Rattle.mail_data.specs.InnerMails.{Forwarded, InnerMail, forwarded, holds_mail, inner_mails, is_plain, mail_bytes, mail_read, mail_start, mails_below, mails_in_place, places_under}
+use Rattle.mail_data.specs.InnerMails.{Forwarded, InnerMail, forwarded, holds_mail, inner_mails_by, is_plain, mail_bytes, mail_read_by, mail_start, mails_below, mails_below_by, mails_in_place, mails_in_place_by, places_under}
 use Rattle.mail_data.specs.PartPlaces.{Place}
 use Rattle.mail_data.specs.lenient.Encoding.{lenient_body_kind}
 
@@ -20,24 +20,24 @@ use Rattle.mail_data.specs.lenient.Encoding.{lenient_body_kind}
 abbrev pub inner_with : List ℕ → List ℕ → Option ℕ → Option Refusal → InnerMail
 inner_with path bytes start refusal = record { path = path; bytes = bytes; start = start; refusal = refusal }
 
-pub inner_mails-some : (known : Charsets) (most : ℕ) (path : List ℕ) (start : Option ℕ) (t : Tree) (found : List Placement) → most ≢ 0
-    → inner_mails known most path start t found ≡ flat_map (mails_in_place known (most - 1) start) (places_under path t found)
-inner_mails-some known zero path start t found h = absurd (h refl)
-inner_mails-some known (suc most) path start t found h = let e : suc most - 1 ≡ most = omega arith in rw e refl
+pub inner_mails-some : (reads : List ℕ → Reads Tree) (placed : Tree → List Placement) (most : ℕ) (path : List ℕ) (start : Option ℕ) (t : Tree) (found : List Placement) → most ≢ 0
+    → inner_mails_by reads placed most path start t found ≡ flat_map (mails_in_place_by reads placed (most - 1) start) (places_under path t found)
+inner_mails-some reads placed zero path start t found h = absurd (h refl)
+inner_mails-some reads placed (suc most) path start t found h = let e : suc most - 1 ≡ most = omega arith in rw e refl
 
-pub held-none : (known : Charsets) (most : ℕ) (start : Option ℕ) (place : Place) → holds_mail place ≡ false → mails_in_place known most start place ≡ []
-held-none known most start place h = cond-false (holds_mail place) _ _ h
+pub held-none : (reads : List ℕ → Reads Tree) (placed : Tree → List Placement) (most : ℕ) (start : Option ℕ) (place : Place) → holds_mail place ≡ false → mails_in_place_by reads placed most start place ≡ []
+held-none reads placed most start place h = cond-false (holds_mail place) _ _ h
 
 -- a mail that is held and was read so
-held-read : (known : Charsets) (most : ℕ) (start at : Option ℕ) (place : Place) (bytes : List ℕ) (read : Reads Tree) → holds_mail place ≡ true
-    → bytes ≡ mail_bytes place → at ≡ mail_start start place → read_mail_in known 100 bytes ≡ read
-    → mails_in_place known most start place ≡ inner_with place.path bytes at (result_err read) ∷ mails_below known most place.path at read
-held-read known most start at place bytes read h same there e =
-    let is : mail_read known place ≡ read = ap (read_mail_in known 100) (sym same) ∙ e in
+held-read : (reads : List ℕ → Reads Tree) (placed : Tree → List Placement) (most : ℕ) (start at : Option ℕ) (place : Place) (bytes : List ℕ) (read : Reads Tree) → holds_mail place ≡ true
+    → bytes ≡ mail_bytes place → at ≡ mail_start start place → reads bytes ≡ read
+    → mails_in_place_by reads placed most start place ≡ inner_with place.path bytes at (result_err read) ∷ mails_below_by reads placed most place.path at read
+held-read reads placed most start at place bytes read h same there e =
+    let is : mail_read_by reads placed place ≡ read = ap reads (sym same) ∙ e in
     cond-true (holds_mail place) _ _ h
-    ∙ ap (λ (r : Reads Tree). inner_with place.path (mail_bytes place) (mail_start start place) (result_err r) ∷ mails_below known most place.path (mail_start start place) r) is
-    ∙ ap (λ (b : List ℕ). inner_with place.path b (mail_start start place) (result_err read) ∷ mails_below known most place.path (mail_start start place) read) (sym same)
-    ∙ ap (λ (s : Option ℕ). inner_with place.path bytes s (result_err read) ∷ mails_below known most place.path s read) (sym there)
+    ∙ ap (λ (r : Reads Tree). inner_with place.path (mail_bytes place) (mail_start start place) (result_err r) ∷ mails_below_by reads placed most place.path (mail_start start place) r) is
+    ∙ ap (λ (b : List ℕ). inner_with place.path b (mail_start start place) (result_err read) ∷ mails_below_by reads placed most place.path (mail_start start place) read) (sym same)
+    ∙ ap (λ (s : Option ℕ). inner_with place.path bytes s (result_err read) ∷ mails_below_by reads placed most place.path s read) (sym there)
 
 some-is : {A : Type 0} (x y : A) → ◌≡◌ {A = Option A} (Some x) (Some y) → x ≡ y
 some-is x y e = cc
@@ -59,22 +59,32 @@ forwarded-is start at place bytes h same there =
     ∙ sym (cond-true (holds_mail place) _ _ h)
 
 -- a part that forwards none, and one whose mail was read so
+pub not_forwarded_by : (reads : List ℕ → Reads Tree) (placed : Tree → List Placement) (most : ℕ) (start : Option ℕ) (place : Place) → ◌≡◌ {A = Option Forwarded} None (forwarded start place)
+    → mails_in_place_by reads placed most start place ≡ []
+not_forwarded_by reads placed most start place h = elim (cases_Bool (holds_mail place)) [
+  | inl holds ↦ absurd (none≢some (h ∙ cond-true (holds_mail place) _ _ holds))
+  | inr holds ↦ held-none reads placed most start place holds
+]
+
+pub forwarded_read_by : (reads : List ℕ → Reads Tree) (placed : Tree → List Placement) (most : ℕ) (start at : Option ℕ) (place : Place) (bytes : List ℕ) (read : Reads Tree)
+    → ◌≡◌ {A = Option Forwarded} (Some (forwarded_with bytes at)) (forwarded start place) → reads bytes ≡ read
+    → mails_in_place_by reads placed most start place ≡ inner_with place.path bytes at (result_err read) ∷ mails_below_by reads placed most place.path at read
+forwarded_read_by reads placed most start at place bytes read h e = elim (cases_Bool (holds_mail place)) [
+  | inl holds ↦
+      let same = some-is _ _ (h ∙ cond-true (holds_mail place) _ _ holds) in
+      held-read reads placed most start at place bytes read holds (ap (λ (f : Forwarded). f.bytes) same) (ap (λ (f : Forwarded). f.start) same) e
+  | inr holds ↦ absurd (some≢none (h ∙ cond-false (holds_mail place) _ _ holds))
+]
+
+-- the same in the manner of the port
 pub not_forwarded : (known : Charsets) (most : ℕ) (start : Option ℕ) (place : Place) → ◌≡◌ {A = Option Forwarded} None (forwarded start place)
     → mails_in_place known most start place ≡ []
-not_forwarded known most start place h = elim (cases_Bool (holds_mail place)) [
-  | inl holds ↦ absurd (none≢some (h ∙ cond-true (holds_mail place) _ _ holds))
-  | inr holds ↦ held-none known most start place holds
-]
+not_forwarded known = not_forwarded_by (read_mail_in known 100) (placements 0)
 
 pub forwarded_read : (known : Charsets) (most : ℕ) (start at : Option ℕ) (place : Place) (bytes : List ℕ) (read : Reads Tree)
     → ◌≡◌ {A = Option Forwarded} (Some (forwarded_with bytes at)) (forwarded start place) → read_mail_in known 100 bytes ≡ read
     → mails_in_place known most start place ≡ inner_with place.path bytes at (result_err read) ∷ mails_below known most place.path at read
-forwarded_read known most start at place bytes read h e = elim (cases_Bool (holds_mail place)) [
-  | inl holds ↦
-      let same = some-is _ _ (h ∙ cond-true (holds_mail place) _ _ holds) in
-      held-read known most start at place bytes read holds (ap (λ (f : Forwarded). f.bytes) same) (ap (λ (f : Forwarded). f.start) same) e
-  | inr holds ↦ absurd (some≢none (h ∙ cond-false (holds_mail place) _ _ holds))
-]
+forwarded_read known = forwarded_read_by (read_mail_in known 100) (placements 0)
 
 -- the refusal in an error that is not out of memory
 refused-is : (e : MailParseError) (given : Reads Tree) → (IsMemory e → ⊥) → IsRefusalOrMemory e given
@@ -93,32 +103,32 @@ next {A = A} {B = B} f done new all x left rest xs is one made here =
     ∙ append_assoc done (f x) (flat_map f rest) ∙ ap (λ (l : List A). done ++ flat_map f l) (sym is) ∙ here
 
 -- a part without a mail
-pub next-none : (known : Charsets) (most : ℕ) (start : Option ℕ) (place : Place) (left rest : List Place) (done all : List InnerMail) → left ≡ place ∷ rest
-    → holds_mail place ≡ false → done ++ flat_map (mails_in_place known most start) left ≡ all
-    → done ++ flat_map (mails_in_place known most start) rest ≡ all
-next-none known most start place left rest done all is h here =
-    next (mails_in_place known most start) done done all place left rest [] is (held-none known most start place h) (sym (append-nil done)) here
+pub next-none : (reads : List ℕ → Reads Tree) (placed : Tree → List Placement) (most : ℕ) (start : Option ℕ) (place : Place) (left rest : List Place) (done all : List InnerMail) → left ≡ place ∷ rest
+    → holds_mail place ≡ false → done ++ flat_map (mails_in_place_by reads placed most start) left ≡ all
+    → done ++ flat_map (mails_in_place_by reads placed most start) rest ≡ all
+next-none reads placed most start place left rest done all is h here =
+    next (mails_in_place_by reads placed most start) done done all place left rest [] is (held-none reads placed most start place h) (sym (append-nil done)) here
 
 -- a part with a mail that is read
-pub next-read : (known : Charsets) (most : ℕ) (start at : Option ℕ) (place : Place) (left rest : List Place) (bytes : List ℕ) (t : Tree) (found : List Placement)
+pub next-read : (reads : List ℕ → Reads Tree) (placed : Tree → List Placement) (most : ℕ) (start at : Option ℕ) (place : Place) (left rest : List Place) (bytes : List ℕ) (t : Tree) (found : List Placement)
     (done mid new all : List InnerMail) → left ≡ place ∷ rest → holds_mail place ≡ true → bytes ≡ mail_bytes place → at ≡ mail_start start place
-    → read_mail_in known 100 bytes ≡ Ok t → found ≡ placements 0 t → mid ≡ done ++ inner_with place.path bytes at None ∷ []
-    → new ≡ mid ++ inner_mails known most place.path at t found → done ++ flat_map (mails_in_place known most start) left ≡ all
-    → new ++ flat_map (mails_in_place known most start) rest ≡ all
-next-read known most start at place left rest bytes t found done mid new all is h same there e where_is one two here =
-    next (mails_in_place known most start) done new all place left rest _ is (held-read known most start at place bytes (Ok t) h same there e)
-    (two ∙ ap (λ (ps : List Placement). mid ++ inner_mails known most place.path at t ps) where_is
-    ∙ ap (λ (l : List InnerMail). l ++ inner_mails known most place.path at t (placements 0 t)) one
-    ∙ append_assoc done (inner_with place.path bytes at None ∷ []) (inner_mails known most place.path at t (placements 0 t))) here
+    → reads bytes ≡ Ok t → found ≡ placed t → mid ≡ done ++ inner_with place.path bytes at None ∷ []
+    → new ≡ mid ++ inner_mails_by reads placed most place.path at t found → done ++ flat_map (mails_in_place_by reads placed most start) left ≡ all
+    → new ++ flat_map (mails_in_place_by reads placed most start) rest ≡ all
+next-read reads placed most start at place left rest bytes t found done mid new all is h same there e where_is one two here =
+    next (mails_in_place_by reads placed most start) done new all place left rest _ is (held-read reads placed most start at place bytes (Ok t) h same there e)
+    (two ∙ ap (λ (ps : List Placement). mid ++ inner_mails_by reads placed most place.path at t ps) where_is
+    ∙ ap (λ (l : List InnerMail). l ++ inner_mails_by reads placed most place.path at t (placed t)) one
+    ∙ append_assoc done (inner_with place.path bytes at None ∷ []) (inner_mails_by reads placed most place.path at t (placed t))) here
 
 -- a part with a mail that is refused
-pub next-refused : (known : Charsets) (most : ℕ) (start at : Option ℕ) (place : Place) (left rest : List Place) (bytes : List ℕ) (e : MailParseError)
+pub next-refused : (reads : List ℕ → Reads Tree) (placed : Tree → List Placement) (most : ℕ) (start at : Option ℕ) (place : Place) (left rest : List Place) (bytes : List ℕ) (e : MailParseError)
     (done new all : List InnerMail) → left ≡ place ∷ rest → holds_mail place ≡ true → bytes ≡ mail_bytes place → at ≡ mail_start start place
-    → IsRefusalOrMemory e (read_mail_in known 100 bytes) → (IsMemory e → ⊥) → new ≡ done ++ inner_with place.path bytes at (refusal_of e) ∷ []
-    → done ++ flat_map (mails_in_place known most start) left ≡ all → new ++ flat_map (mails_in_place known most start) rest ≡ all
-next-refused known most start at place left rest bytes e done new all is h same there refused passed made here =
-    let r = refused-is e (read_mail_in known 100 bytes) passed refused in
-    next (mails_in_place known most start) done new all place left rest _ is (held-read known most start at place bytes (Err r.0) h same there r.2)
+    → IsRefusalOrMemory e (reads bytes) → (IsMemory e → ⊥) → new ≡ done ++ inner_with place.path bytes at (refusal_of e) ∷ []
+    → done ++ flat_map (mails_in_place_by reads placed most start) left ≡ all → new ++ flat_map (mails_in_place_by reads placed most start) rest ≡ all
+next-refused reads placed most start at place left rest bytes e done new all is h same there refused passed made here =
+    let r = refused-is e (reads bytes) passed refused in
+    next (mails_in_place_by reads placed most start) done new all place left rest _ is (held-read reads placed most start at place bytes (Err r.0) h same there r.2)
     (made ∙ ap (λ (o : Option Refusal). done ++ inner_with place.path bytes at o ∷ []) r.1) here
 
 -- ---- the offset of a mail

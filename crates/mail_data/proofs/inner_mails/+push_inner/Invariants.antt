@@ -2,7 +2,7 @@
 use Rattle.std.proofs.Common.{◌≡◌, ◌++◌, ◌-◌, drop, map}
 use Rattle.std.specs.Prelude.{flat_map}
 use Rattle.mailparse.specs.Views.{placements_of, tree_of}
-use Rattle.mail_data.specs.InnerMails.{inner_mails, mails_in_place}
+use Rattle.mail_data.specs.InnerMails.{inner_mails_as, mails_in_place_as}
 use Rattle.mail_data.specs.InnerMailViews.{inner_view}
 use Rattle.mail_data.specs.PlaceViews.{place_view}
 use Rattle.mail_data.proofs.inner_mails.«+push_inner».Given as goal
@@ -13,5 +13,5 @@ decreases-push_inner g l = l.most
 abbrev pub invariant-loop-place : goal.invariant-loop-place
 invariant-loop-place g l =
     map inner_view l.mails.items
-    ++ flat_map (mails_in_place (g.K.KnownCharsets.known l.known) (l.most - 1) l.start) (map place_view (drop l.place-index l.place-items))
-    ≡ map inner_view l.fn.mails.items ++ inner_mails (g.K.KnownCharsets.known l.known) l.most l.path l.start (tree_of l.mail) (placements_of l.mail)
+    ++ flat_map (mails_in_place_as (g.M.ReadingManner.manner l.manner) (l.most - 1) l.start) (map place_view (drop l.place-index l.place-items))
+    ≡ map inner_view l.fn.mails.items ++ inner_mails_as (g.M.ReadingManner.manner l.manner) l.most l.path l.start (tree_of l.mail) (placements_of l.mail)
