@@ -9,6 +9,11 @@ pub mod Date
 pub mod DateViews
 pub mod Content
 pub mod ContentViews
-pub mod Manner
+pub mod Repairs
 pub mod Texts
 pub mod TextViews
+pub mod Guess
+pub mod Manner
+pub mod Refused
+pub mod FileNames
+pub mod Agreement

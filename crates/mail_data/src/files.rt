@@ -25,7 +25,7 @@ use mailparse::{
     ParsedMail, parse_content_disposition_in, parse_content_type_in, value_text_in,
 };
 pub use names::safe_file_name;
-use no_charsets::NoCharsets;
+pub(crate) use no_charsets::NoCharsets;
 use std::alloc::{AllocError, Global};
 use std::collections::BTreeMap;
 
@@ -210,7 +210,7 @@ fn name_among(
 }
 
 /// Returns the text, or `None` if it consists of whitespace.
-fn filled(text: String) -> Option<String>
+pub(crate) fn filled(text: String) -> Option<String>
     ensures { text_found result ≡ filled (Some (string_bytes text)) }
 {
     if text.as_str().trim().is_empty() {

@@ -5,4 +5,6 @@ pub mod Content
 pub mod Date
 pub mod Ids
 pub mod Manner
+pub mod Repairs
 pub mod Texts
+pub mod Agreement

@@ -1,20 +1,23 @@
--- The manner in which mail is read leniently: types with comments and without a readable name, whole
--- delimiter lines, and refused messages that are kept (RFC 2045, sections 5.1 and 5.2; RFC 2046,
--- section 5.1.1).
-use Rattle.std.specs.Prelude.{ℕ, Bool, true, ◌||◌, ◌==◌, List, ◌∷◌, ◌++◌, codes, if◌then◌else◌}
+-- The manner in which mail is read leniently: types with comments, without a readable name or with
+-- parameters that lack something, whole delimiter lines, and refused messages that are kept (RFC
+-- 2045, sections 5.1 and 5.2; RFC 2046, section 5.1.1; RFC 2231, section 4).
+use Rattle.std.specs.Prelude.{ℕ, Bool, true, ◌||◌, ◌==◌, List, ◌∷◌, ◌++◌, None, false, is_some, codes, if◌then◌else◌}
 use Rattle.std.specs.List.{list_any, before_first, after_first}
 use Rattle.std.specs.Option.{option_map_or}
-use Rattle.std.specs.Str.{trim}
-use Rattle.mail_codec.specs.Ascii.{slash}
+use Rattle.std.specs.Str.{bytes_eq, trim}
+use Rattle.mail_codec.specs.Ascii.{carriage_return, line_feed, slash}
 use Rattle.mail_codec.specs.Charset.{Charsets}
-use Rattle.mail_codec.specs.Places.{has_prefix, is_empty}
+use Rattle.mail_codec.specs.Places.{either_place, has_prefix, is_empty}
 use Rattle.mailparse.specs.ContentType.{ContentType, content_type_in}
 use Rattle.mailparse.specs.Header.{Header}
 use Rattle.mailparse.specs.Mail.{part_type}
 use Rattle.mailparse.specs.Manner.{Manner}
 use Rattle.mailparse.specs.Map.{first_with_key}
+use Rattle.mailparse.specs.Pairs.{Texts}
 use Rattle.mailparse.specs.Value.{lenient_value_in}
 use Rattle.mail_data.specs.lenient.Comments.{without_comments}
+use Rattle.mail_data.specs.lenient.Guess.{or_guessed}
+use Rattle.mail_data.specs.lenient.Repairs.{repaired}
 
 -- the name of plain text
 abbrev pub plain_name : List ℕ
@@ -38,13 +41,36 @@ lenient_name name =
     if list_any is_slash name then name_of_two (trim (before_first is_slash name)) (trim (after_first is_slash name))
     else name_of_one name
 
+-- there is a boundary that contains a line end, so that no line begins with it (RFC 2046, section
+-- 5.1.1)
+abbrev pub has_broken_boundary : Texts → Bool
+has_broken_boundary params =
+    option_map_or (λ boundary. is_some (either_place boundary carriage_return line_feed))
+    (params (codes "boundary")) false
+
+-- the parameters without the boundary
+abbrev pub without_boundary : Texts → Texts
+without_boundary params name = if bytes_eq (codes "boundary") name then None else params name
+
+-- the parameters without a boundary that contains a line end
+unfoldable pub with_whole_boundary : Texts → Texts
+with_whole_boundary params = if has_broken_boundary params then without_boundary params else params
+
+-- a type, read leniently: its name, and no boundary that contains a line end
+unfoldable pub made_lenient : ContentType → ContentType
+made_lenient found = record {
+  mimetype = lenient_name found.mimetype;
+  charset = found.charset;
+  params = with_whole_boundary found.params;
+}
+
 -- Under the charsets that are known.
 module _ (known : Charsets) where
-  -- the type in a text: that of the text without its comments, with its name read leniently
+  -- the type in a text: that of the text without its comments and with what its parameters lack,
+  -- read leniently
   unfoldable pub lenient_type_in : List ℕ → ContentType
   lenient_type_in text =
-      let found = content_type_in known (without_comments text) in
-      record found { mimetype = lenient_name found.mimetype }
+      made_lenient (content_type_in (or_guessed known) (repaired (without_comments text)))
 
   -- the type of a message with these headers: that in its first `Content-Type`, otherwise the
   -- default type of a part

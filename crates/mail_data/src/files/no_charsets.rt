@@ -4,7 +4,7 @@ ghost use Rattle.mail_data.specs.Files.{no_charsets};
 use mail_codec::charset::{Charset, KnownCharsets};
 
 /// Knows no charset, so that no encoded word is decoded.
-pub(super) struct NoCharsets;
+pub(crate) struct NoCharsets;
 
 impl KnownCharsets for NoCharsets {
     type Decoder = Charset;

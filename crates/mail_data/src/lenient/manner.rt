@@ -1,14 +1,20 @@
 //! The manner in which mail is read leniently.
 ghost use Rattle.std.specs.Prelude.{◌≡◌, IfOk, string_bytes};
+ghost use Rattle.mailparse.specs.Pairs.{HasTexts, text_at};
 ghost use Rattle.mailparse.specs.Views.{content_type, in_digest};
-ghost use Rattle.mail_data.specs.lenient.Manner.{lenient, lenient_name, lenient_type_in, lenient_type_of, name_of_one, name_of_two};
+ghost use Rattle.mail_data.specs.lenient.Manner.{has_broken_boundary, lenient, lenient_name, lenient_type_in, lenient_type_of};
+ghost use Rattle.mail_data.specs.lenient.Manner.{made_lenient, name_of_one, name_of_two, with_whole_boundary, without_boundary};
 
 use super::comments::without_comments;
+use super::guess::OrGuess;
+use super::repairs::repaired;
+use mail_codec::bytescan::find_either;
 use mail_codec::charset::KnownCharsets;
 use mailparse::{
     DefaultType, MailHeader, MailHeaderMap, ParsedContentType, ReadingManner, parse_content_type_in,
 };
 use std::alloc::{AllocError, Global};
+use std::collections::BTreeMap;
 
 /// The name of plain text.
 const PLAIN_NAME: &str = "text/plain";
@@ -16,8 +22,11 @@ const PLAIN_NAME: &str = "text/plain";
 /// The manner of a lenient reader, under these charsets, for `mailparse::parse_mail_as`.
 ///
 /// Comments in a `Content-Type` are left out, and a type without a readable name is plain text (RFC
-/// 2045, sections 5.1 and 5.2). A delimiter is a whole line (RFC 2046, section 5.1.1). No mail is
-/// refused: a message that `parse_mail` would refuse is kept as plain text without headers.
+/// 2045, sections 5.1 and 5.2). Missing semicolons, closing quotes and apostrophes of extended
+/// values are put in, whose charset may be missing or unknown (RFC 2231, section 4). A boundary that
+/// contains a line end does not count, and a delimiter is a whole line (RFC 2046, section 5.1.1).
+/// No mail is refused: a message that `parse_mail` would refuse is kept as plain text without
+/// headers, and `refusal` returns why.
 ///
 /// # Examples
 ///
@@ -88,13 +97,58 @@ fn lenient_type<K: KnownCharsets>(
         ≡ lenient_type_in (K.known known.now) text.now) }
 {
     let plain = without_comments(alloc, text)?;
-    match parse_content_type_in(alloc, plain.as_str(), known) {
-        Ok(mut ctype) => {
-            let name = lenient_name(alloc, ctype.mimetype.as_str())?;
-            ctype.mimetype = name;
-            Ok(ctype)
-        }
+    let whole = repaired(alloc, plain.as_str())?;
+    match parse_content_type_in(alloc, whole.as_str(), &OrGuess(known)) {
+        Ok(ctype) => made_lenient(alloc, ctype),
         Err(_) => Err(AllocError),
+    }
+}
+
+/// Reads a type leniently: its name, and a boundary that contains a line end.
+#[tactic(auto, unfolding(crate::specs::lenient::Manner::made_lenient))]
+fn made_lenient(alloc: Global, ctype: ParsedContentType) -> Result<ParsedContentType, AllocError>
+    ensures { IfOk result (λ made. content_type made ≡ made_lenient (content_type ctype)) }
+{
+    let mimetype = lenient_name(alloc, ctype.mimetype.as_str())?;
+    let ParsedContentType {
+        charset,
+        params,
+        ..
+    } = ctype;
+    Ok(ParsedContentType {
+        mimetype,
+        charset,
+        params: with_whole_boundary(params),
+    })
+}
+
+/// Returns parameters without a boundary that contains a line end.
+#[tactic(auto, unfolding(crate::specs::lenient::Manner::with_whole_boundary))]
+fn with_whole_boundary(params: BTreeMap<String, String>) -> BTreeMap<String, String>
+    ensures { HasTexts result (with_whole_boundary (text_at params)) }
+{
+    if !has_broken_boundary(&params) {
+        return params;
+    }
+    without_boundary(params)
+}
+
+/// Returns parameters without the boundary.
+fn without_boundary(params: BTreeMap<String, String>) -> BTreeMap<String, String>
+    ensures { HasTexts result (without_boundary (text_at params)) }
+{
+    let mut params = params;
+    params.remove("boundary");
+    params
+}
+
+/// Returns whether there is a boundary that contains a line end.
+fn has_broken_boundary(params: &BTreeMap<String, String>) -> bool
+    ensures { result ≡ has_broken_boundary (text_at params.now) }
+{
+    match params.get("boundary") {
+        Some(boundary) => find_either(boundary.as_bytes(), b'\r', b'\n').is_some(),
+        None => false,
     }
 }
 

@@ -147,7 +147,7 @@ pub fn charset_used<'c, K: KnownCharsets>(
 
 /// Returns the charset of bytes under a label that names none.
 #[tactic(auto, unfolding(crate::specs::lenient::Texts::charset_by_bytes))]
-fn charset_by_bytes(bytes: &[u8]) -> Charset
+pub(super) fn charset_by_bytes(bytes: &[u8]) -> Charset
     ensures { result ≡ charset_by_bytes bytes.now }
 {
     if is_utf8(bytes) {

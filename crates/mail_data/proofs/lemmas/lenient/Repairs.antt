@@ -1,0 +1,176 @@
+-- Lemmas on what is missing in values with parameters.
+use Rattle.std.proofs.Common.{◌≡◌, ◌≢◌, ℕ, zero, suc, ◌-◌, Bool, true, false, eqb, cond, ◌&&◌, ◌||◌, List, [], ◌∷◌, ◌++◌, refl, sym, ap, ◌∙◌, append_assoc}
+use Rattle.std.proofs.lemmas.Bool.{cond-true, cond-false, eq-eqb, ne_eqb}
+use Rattle.std.proofs.lemmas.List.{append-nil}
+use Rattle.std.proofs.lemmas.Str.{chars-nil, chars_past_char}
+use Rattle.std.specs.Char.{encode_utf8, is_ascii_alphabetic}
+use Rattle.std.specs.Str.{chars, encode_utf8_all, IsUtf8}
+use Rattle.mail_codec.specs.Ascii.{apostrophe, equals_sign, semicolon}
+use Rattle.mail_data.specs.lenient.Repairs.{after, apostrophes, begins_parameter, ends_name, extended_are_alone, for_extended, is_name, missing, missing_apostrophes, missing_at_end, repaired, repaired_from, semicolon_unless, settled}
+use Rattle.mail_data.specs.declared.lenient.repairs.Position.{Position}
+use Rattle.mail_data.specs.declared.lenient.repairs.Position.TheVariants.{BeforeWord, InWord, AfterWord, InName, AfterStar, BeforeText, InText, AfterBlank, InQuotes, AfterBackslash, AfterText, BeforeExtended, InExtended, InRun, RunBackslash}
+
+encode-append : (xs ys : List ℕ) → encode_utf8_all (xs ++ ys) ≡ encode_utf8_all xs ++ encode_utf8_all ys
+encode-append [] ys = refl
+encode-append (x ∷ xs) ys = ap (λ (t : List ℕ). encode_utf8 x ++ t) (encode-append xs ys) ∙ sym (append_assoc (encode_utf8 x) (encode_utf8_all xs) (encode_utf8_all ys))
+
+-- what is missing is ASCII
+
+semicolon-ascii : (follows : Bool) → encode_utf8_all (semicolon_unless follows) ≡ semicolon_unless follows
+unfolding encode_utf8
+semicolon-ascii true = refl
+semicolon-ascii false = refl
+
+apostrophes-ascii : (n : ℕ) → encode_utf8_all (apostrophes n) ≡ apostrophes n
+unfolding encode_utf8
+apostrophes-ascii zero = refl
+apostrophes-ascii (suc zero) = refl
+apostrophes-ascii (suc (suc n)) = refl
+
+extended-ascii : (is_alone : Bool) (cs : List ℕ) → encode_utf8_all (for_extended is_alone cs) ≡ for_extended is_alone cs
+extended-ascii true cs = apostrophes-ascii (missing_apostrophes 2 cs)
+extended-ascii false cs = refl
+
+if-ascii : (t : Bool) (xs : List ℕ) → encode_utf8_all xs ≡ xs → encode_utf8_all (cond t [] xs) ≡ cond t [] xs
+if-ascii true xs e = refl
+if-ascii false xs e = e
+
+missing-ascii : (is_alone : Bool) (position : Position) (cs : List ℕ) → encode_utf8_all (missing is_alone position cs) ≡ missing is_alone position cs
+missing-ascii is_alone position [] = refl
+missing-ascii is_alone BeforeWord (c ∷ cs) = refl
+missing-ascii is_alone InWord (c ∷ cs) = refl
+missing-ascii is_alone AfterWord (c ∷ cs) = semicolon-ascii _
+missing-ascii is_alone InName (c ∷ cs) = refl
+missing-ascii is_alone AfterStar (c ∷ cs) = refl
+missing-ascii is_alone BeforeText (c ∷ cs) = refl
+missing-ascii is_alone InText (c ∷ cs) = refl
+missing-ascii is_alone AfterBlank (c ∷ cs) = refl
+missing-ascii is_alone InQuotes (c ∷ cs) = refl
+missing-ascii is_alone AfterBackslash (c ∷ cs) = refl
+missing-ascii is_alone AfterText (c ∷ cs) = semicolon-ascii _
+missing-ascii is_alone BeforeExtended (c ∷ cs) = if-ascii _ _ (extended-ascii is_alone (c ∷ cs))
+missing-ascii is_alone InExtended (c ∷ cs) = extended-ascii is_alone (c ∷ cs)
+missing-ascii is_alone InRun (c ∷ cs) = refl
+missing-ascii is_alone RunBackslash (c ∷ cs) = refl
+
+end-ascii : (position : Position) → encode_utf8_all (missing_at_end position) ≡ missing_at_end position
+unfolding encode_utf8
+end-ascii BeforeWord = refl
+end-ascii InWord = refl
+end-ascii AfterWord = refl
+end-ascii InName = refl
+end-ascii AfterStar = refl
+end-ascii BeforeText = refl
+end-ascii InText = refl
+end-ascii AfterBlank = refl
+end-ascii InQuotes = refl
+end-ascii AfterBackslash = refl
+end-ascii AfterText = refl
+end-ascii BeforeExtended = refl
+end-ascii InExtended = refl
+end-ascii InRun = refl
+end-ascii RunBackslash = refl
+
+-- ---- the loop
+
+-- what was made so far, and then what is made of the rest
+abbrev pub repaired_with : List ℕ → Bool → Position → List ℕ → List ℕ
+repaired_with made is_alone position rest = made ++ encode_utf8_all (repaired_from is_alone position (chars rest))
+
+pub repaired-start : (text made rest : List ℕ) (is_alone : Bool) → made ≡ [] → rest ≡ text → is_alone ≡ extended_are_alone text
+    → repaired_with made is_alone BeforeWord rest ≡ repaired text
+unfolding repaired
+repaired-start text made rest is_alone none all alone =
+    ap (λ (m : List ℕ). repaired_with m is_alone BeforeWord rest) none
+    ∙ ap (λ (r : List ℕ). encode_utf8_all (repaired_from is_alone BeforeWord (chars r))) all
+    ∙ ap (λ (a : Bool). encode_utf8_all (repaired_from a BeforeWord (chars text))) alone
+
+pub repaired-end : (made new rest : List ℕ) (is_alone : Bool) (position : Position) → rest ≡ [] → new ≡ made ++ missing_at_end position
+    → repaired_with made is_alone position rest ≡ new
+repaired-end made new rest is_alone position none written =
+    ap (λ (r : List ℕ). made ++ encode_utf8_all (repaired_from is_alone position r)) (ap chars none ∙ chars-nil)
+    ∙ ap (λ (m : List ℕ). made ++ m) (end-ascii position) ∙ sym written
+
+step : (made new : List ℕ) (is_alone : Bool) (position next_position : Position) (c : ℕ) (cs all : List ℕ) → all ≡ c ∷ cs
+    → next_position ≡ after (settled position all) c → new ≡ made ++ (missing is_alone (settled position all) all ++ encode_utf8 c)
+    → new ++ encode_utf8_all (repaired_from is_alone next_position cs) ≡ made ++ encode_utf8_all (repaired_from is_alone position all)
+step made new is_alone position next_position c cs all is moved written =
+    let here = settled position (c ∷ cs) in
+    let m = missing is_alone here (c ∷ cs) in
+    let more = repaired_from is_alone (after here c) cs in
+    let where_is : next_position ≡ after here c = moved ∙ ap (λ (a : List ℕ). after (settled position a) c) is in
+    let what : new ≡ made ++ (m ++ encode_utf8 c) =
+    written ∙ ap (λ (a : List ℕ). made ++ (missing is_alone (settled position a) a ++ encode_utf8 c)) is in
+    ap (λ (k : List ℕ). k ++ encode_utf8_all (repaired_from is_alone next_position cs)) what
+    ∙ ap (λ (p : Position). (made ++ (m ++ encode_utf8 c)) ++ encode_utf8_all (repaired_from is_alone p cs)) where_is
+    ∙ append_assoc made (m ++ encode_utf8 c) (encode_utf8_all more)
+    ∙ ap (λ (t : List ℕ). made ++ t)
+    (append_assoc m (encode_utf8 c) (encode_utf8_all more)
+    ∙ ap (λ (t : List ℕ). t ++ (encode_utf8 c ++ encode_utf8_all more)) (sym (missing-ascii is_alone here (c ∷ cs)))
+    ∙ sym (encode-append m (c ∷ more)))
+    ∙ ap (λ (a : List ℕ). made ++ encode_utf8_all (repaired_from is_alone position a)) (sym is)
+
+pub repaired-next : (made new rest next : List ℕ) (is_alone : Bool) (position next_position : Position) (c : ℕ) → IsUtf8 rest → rest ≡ encode_utf8 c ++ next
+    → next_position ≡ after (settled position (chars rest)) c
+    → new ≡ made ++ (missing is_alone (settled position (chars rest)) (chars rest) ++ encode_utf8 c)
+    → repaired_with new is_alone next_position next ≡ repaired_with made is_alone position rest
+repaired-next made new rest next is_alone position next_position c utf8 e moved written =
+    step made new is_alone position next_position c (chars next) (chars rest) (chars_past_char rest next c utf8 e) moved written
+
+-- ---- names
+
+pub ends_name-end : (rest : List ℕ) → rest ≡ [] → ends_name (chars rest) ≡ false
+ends_name-end rest none = ap ends_name (ap chars none ∙ chars-nil)
+
+pub ends_name-other : (rest next : List ℕ) (c : ℕ) → IsUtf8 rest → rest ≡ encode_utf8 c ++ next → is_name c ≡ false → ends_name (chars rest) ≡ eqb c equals_sign
+ends_name-other rest next c utf8 e other = ap ends_name (chars_past_char rest next c utf8 e) ∙ cond-false (is_name c) _ _ other
+
+pub ends_name-next : (rest next : List ℕ) (c : ℕ) → IsUtf8 rest → rest ≡ encode_utf8 c ++ next → is_name c ≡ true
+    → ends_name (chars next) ≡ ends_name (chars rest)
+ends_name-next rest next c utf8 e is = sym (ap ends_name (chars_past_char rest next c utf8 e) ∙ cond-true (is_name c) _ _ is)
+
+pub begins-letter : (text rest next : List ℕ) (c : ℕ) → IsUtf8 text → rest ≡ text → rest ≡ encode_utf8 c ++ next → is_ascii_alphabetic c ≡ true
+    → ends_name (chars next) ≡ begins_parameter (chars text)
+begins-letter text rest next c utf8 all e letter =
+    sym (ap begins_parameter (chars_past_char text next c utf8 (sym all ∙ e)) ∙ ap (λ (t : Bool). t && ends_name (chars next)) letter)
+
+-- ---- apostrophes
+
+-- the search for apostrophes ends at a character
+abbrev pub stops : ℕ → ℕ → Bool
+stops left c = (eqb left 0 || eqb c semicolon) || eqb c equals_sign
+
+pub stops-left : (left c : ℕ) → left ≡ 0 → stops left c ≡ true
+stops-left left c e = ap (λ (t : Bool). (t || eqb c semicolon) || eqb c equals_sign) (eq-eqb left 0 e)
+
+-- not at the first apostrophes, and so by the character
+on_left : (left c : ℕ) → left ≢ 0 → stops left c ≡ (eqb c semicolon || eqb c equals_sign)
+on_left left c e = ap (λ (t : Bool). (t || eqb c semicolon) || eqb c equals_sign) (ne_eqb left 0 e)
+
+pub stops-semicolon : (left c : ℕ) → left ≢ 0 → c ≡ semicolon → stops left c ≡ true
+stops-semicolon left c e f = on_left left c e ∙ ap (λ (t : Bool). t || eqb c equals_sign) (eq-eqb c semicolon f)
+
+pub stops-equals : (left c : ℕ) → left ≢ 0 → c ≢ semicolon → c ≡ equals_sign → stops left c ≡ true
+stops-equals left c e f h = on_left left c e ∙ ap (λ (t : Bool). t || eqb c equals_sign) (ne_eqb c semicolon f) ∙ eq-eqb c equals_sign h
+
+pub goes_on : (left c : ℕ) → left ≢ 0 → c ≢ semicolon → c ≢ equals_sign → stops left c ≡ false
+goes_on left c e f h = on_left left c e ∙ ap (λ (t : Bool). t || eqb c equals_sign) (ne_eqb c semicolon f) ∙ ne_eqb c equals_sign h
+
+pub missing-end : (rest : List ℕ) (left : ℕ) → rest ≡ [] → missing_apostrophes left (chars rest) ≡ left
+missing-end rest left none = ap (missing_apostrophes left) (ap chars none ∙ chars-nil)
+
+pub missing-stop : (rest next : List ℕ) (left c : ℕ) → IsUtf8 rest → rest ≡ encode_utf8 c ++ next → stops left c ≡ true
+    → missing_apostrophes left (chars rest) ≡ left
+missing-stop rest next left c utf8 e stop = ap (missing_apostrophes left) (chars_past_char rest next c utf8 e) ∙ cond-true (stops left c) _ _ stop
+
+pub missing-one : (rest next : List ℕ) (left c : ℕ) → IsUtf8 rest → rest ≡ encode_utf8 c ++ next → stops left c ≡ false → c ≡ apostrophe
+    → missing_apostrophes (left - 1) (chars next) ≡ missing_apostrophes left (chars rest)
+missing-one rest next left c utf8 e stop one =
+    sym (ap (missing_apostrophes left) (chars_past_char rest next c utf8 e) ∙ cond-false (stops left c) _ _ stop
+    ∙ ap (λ (n : ℕ). missing_apostrophes n (chars next)) (cond-true (eqb c apostrophe) _ _ (eq-eqb c apostrophe one)))
+
+pub missing-next : (rest next : List ℕ) (left c : ℕ) → IsUtf8 rest → rest ≡ encode_utf8 c ++ next → stops left c ≡ false → c ≢ apostrophe
+    → missing_apostrophes left (chars next) ≡ missing_apostrophes left (chars rest)
+missing-next rest next left c utf8 e stop other =
+    sym (ap (missing_apostrophes left) (chars_past_char rest next c utf8 e) ∙ cond-false (stops left c) _ _ stop
+    ∙ ap (λ (n : ℕ). missing_apostrophes n (chars next)) (cond-false (eqb c apostrophe) _ _ (ne_eqb c apostrophe other)))

@@ -1,0 +1,55 @@
+-- File names, read leniently (RFC 2183, section 2.3; RFC 2231, section 4; RFC 6266, section 4.3): an
+-- extended name counts before one that is not, whatever its charset is.
+use Rattle.std.specs.Prelude.{ℕ, List, Option, Some, option_and_then, option_map, unwrap_or, codes}
+use Rattle.mail_codec.specs.Charset.{Charsets}
+use Rattle.mailparse.specs.ContentType.{content_type_in}
+use Rattle.mailparse.specs.Disposition.{disposition_in}
+use Rattle.mailparse.specs.ExtendedValues.{label_in, text_in}
+use Rattle.mailparse.specs.Mail.{Node}
+use Rattle.mailparse.specs.Map.{first_value_in}
+use Rattle.mailparse.specs.Pairs.{Texts}
+use Rattle.mailparse.specs.Value.{lenient_value_in}
+use Rattle.mail_data.specs.Files.{filled, first_text, no_charsets}
+use Rattle.mail_data.specs.lenient.Guess.{guessed, or_guessed}
+use Rattle.mail_data.specs.lenient.Repairs.{repaired}
+use Rattle.percent_encoding.specs.Percent.{percent_decode}
+
+-- Under the charsets that are known.
+module _ (known : Charsets) where
+  -- the text of an extended value, in the charset of its label or in a guessed one
+  unfoldable pub extended_text : List ℕ → List ℕ
+  extended_text value = unwrap_or (known (label_in value)) guessed (percent_decode (text_in value))
+
+  -- the name among parameters: the text of the extended key, otherwise that of the other key;
+  -- whitespace counts as missing
+  abbrev pub name_among : Texts → List ℕ → List ℕ → Option (List ℕ)
+  name_among params key extended =
+      first_text (filled (option_map extended_text (params extended))) (filled (params key))
+
+  -- the name in a disposition, with what its parameters lack, and that in a type
+  unfoldable pub shown_name : List ℕ → Option (List ℕ)
+  shown_name text =
+      let params = (disposition_in (or_guessed known) (repaired text)).params in
+      name_among params (codes "filename") (codes "filename*")
+
+  unfoldable pub typed_name : List ℕ → Option (List ℕ)
+  typed_name text =
+      let params = (content_type_in (or_guessed known) (repaired text)).params in
+      name_among params (codes "name") (codes "name*")
+
+  -- the name in the disposition of a message, whose encoded words stay as they are, and that in its
+  -- type
+  abbrev pub shown_name_of : Node → Option (List ℕ)
+  shown_name_of node =
+      option_and_then shown_name
+      (first_value_in no_charsets (codes "Content-Disposition") node.headers)
+
+  abbrev pub typed_name_of : Node → Option (List ℕ)
+  typed_name_of node =
+      option_and_then typed_name (first_value_in no_charsets (codes "Content-Type") node.headers)
+
+  -- the file name of a message: one of these, and then its encoded words are decoded
+  unfoldable pub lenient_file_name : Node → Option (List ℕ)
+  lenient_file_name node =
+      option_and_then (λ name. filled (Some (lenient_value_in known name)))
+      (first_text (shown_name_of node) (typed_name_of node))

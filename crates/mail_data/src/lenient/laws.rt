@@ -1,0 +1,30 @@
+//! Laws on lenient readings. Each function does nothing; its contract is the law.
+ghost use Rattle.std.specs.Prelude.{◌≡◌, ◌≢◌, ℕ, true, [], List, Some, Ok, Err};
+ghost use Rattle.mail_codec.specs.Charset.{Charsets};
+ghost use Rattle.mailparse.specs.Block.{HeaderList, read_headers};
+ghost use Rattle.mailparse.specs.ContentType.{content_type_in};
+ghost use Rattle.mailparse.specs.Mail.{kept_message, root};
+ghost use Rattle.mailparse.specs.Refusal.{Refusal, recursion_limit};
+ghost use Rattle.mail_data.specs.lenient.Agreement.{is_strict};
+ghost use Rattle.mail_data.specs.lenient.Manner.{lenient_type_in};
+ghost use Rattle.mail_data.specs.lenient.Refused.{kept_for};
+
+/// Says that a type is read leniently as the port reads it, if it has no comment, lacks nothing,
+/// has no extended value, has a name of two words and no boundary that contains a line end.
+pub fn types_agree()
+    ensures { (known : Charsets) (text : List ℕ) → is_strict known text ≡ true →
+        lenient_type_in known text ≡ content_type_in known text }
+{}
+
+/// Says that a message that was kept, which has no block and all its bytes as its body, is reported
+/// with the refusal of its block, or as too deep if the block is not refused.
+pub fn refusals_are_reported()
+    ensures whole { (bytes : List ℕ) → ((root (kept_message bytes)).block ≡ [])
+        × ((root (kept_message bytes)).body ≡ bytes) }
+    ensures refused { (bytes : List ℕ) (refusal : Refusal) → bytes ≢ [] →
+        read_headers bytes ≡ Err refusal →
+        kept_for (root (kept_message bytes)) ≡ Some refusal }
+    ensures deep { (bytes : List ℕ) (block : HeaderList) → bytes ≢ [] →
+        read_headers bytes ≡ Ok block →
+        kept_for (root (kept_message bytes)) ≡ Some recursion_limit }
+{}

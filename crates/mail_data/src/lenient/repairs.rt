@@ -1,0 +1,351 @@
+//! What is missing in a value with parameters (RFC 2045, section 5.1; RFC 2231, section 4).
+ghost use Rattle.std.specs.Prelude.{◌≡◌, ◌++◌, ◌∷◌, [], chars, encode_utf8, is_some, IfOk, string_bytes};
+ghost use Rattle.mail_data.specs.lenient.Repairs.{after, after_end, after_name, after_quoted, after_run, after_star};
+ghost use Rattle.mail_data.specs.lenient.Repairs.{after_text, after_word, before_text, in_value};
+ghost use Rattle.mail_data.specs.lenient.Repairs.{apostrophes, begins_parameter, ends_name, extended_are_alone};
+ghost use Rattle.mail_data.specs.lenient.Repairs.{for_extended, is_name, missing, missing_apostrophes};
+ghost use Rattle.mail_data.specs.lenient.Repairs.{missing_at_end, repaired, semicolon_unless, settled};
+
+use mail_codec::bytescan::find;
+use std::alloc::{AllocError, Global};
+
+/// The position of a character in a value with parameters.
+#[derive(Clone, Copy, Debug)]
+pub(crate) enum Position {
+    /// Before the first word of the value, or after a slash in it.
+    BeforeWord,
+    /// In a word of the value.
+    InWord,
+    /// After a word of the value and whitespace.
+    AfterWord,
+    /// In the name of a parameter.
+    InName,
+    /// After a star in a name.
+    AfterStar,
+    /// After the `=`.
+    BeforeText,
+    /// In a text without quotes.
+    InText,
+    /// In such a text, after whitespace.
+    AfterBlank,
+    /// In a quoted text.
+    InQuotes,
+    /// In a quoted text, after a backslash that quotes the character.
+    AfterBackslash,
+    /// After a text.
+    AfterText,
+    /// After the `=` of an extended value.
+    BeforeExtended,
+    /// At the first character of a quoted extended value.
+    InExtended,
+    /// In quotes elsewhere.
+    InRun,
+    /// In quotes elsewhere, after a backslash that quotes the character.
+    RunBackslash,
+}
+
+/// Returns a value with parameters with the semicolons, closing quotes and apostrophes that are
+/// missing.
+pub(crate) fn repaired(alloc: Global, text: &str) -> Result<String, AllocError>
+    ensures { IfOk result (λ made. string_bytes made ≡ repaired text.now) }
+{
+    let is_alone = extended_are_alone(text);
+    let mut made = String::new(alloc);
+    let mut position = Position::BeforeWord;
+    let mut chars = text.chars();
+    let mut left = chars.as_str();
+    while let Some(c) = chars.next() {
+        position = push_repaired(&mut made, is_alone, position, left, c)?;
+        left = chars.as_str();
+    }
+    made.push_str(missing_at_end(position))?;
+    Ok(made)
+}
+
+/// Returns whether no value begins with an extended section.
+fn extended_are_alone(text: &str) -> bool
+    ensures { result ≡ extended_are_alone text.now }
+{
+    find(text.as_bytes(), b"*0*").is_none()
+}
+
+/// Appends the first character of `left`, after what is missing before it, and returns the position
+/// of the next one.
+fn push_repaired(
+    made: &mut String,
+    is_alone: bool,
+    position: Position,
+    left: &str,
+    c: char,
+) -> Result<Position, AllocError>
+    ensures position { IfOk result (λ next. next ≡ after (settled position (chars left.now)) c) }
+    ensures written { IfOk result (λ next. string_bytes made.new ≡ string_bytes made.old
+        ++ (missing is_alone (settled position (chars left.now)) (chars left.now)
+        ++ encode_utf8 c)) }
+{
+    let position = settled(position, left);
+    made.push_str(missing(is_alone, position, left))?;
+    made.push(c)?;
+    Ok(after(position, c))
+}
+
+/// Returns the position of the first character of a text.
+fn settled(position: Position, left: &str) -> Position
+    ensures { result ≡ settled position (chars left.now) }
+{
+    match position {
+        Position::AfterBlank => {
+            if begins_parameter(left) {
+                Position::AfterText
+            } else {
+                Position::InText
+            }
+        }
+        _ => position,
+    }
+}
+
+/// Returns whether a text begins with a name and a `=`.
+fn begins_parameter(text: &str) -> bool
+    ensures { result ≡ begins_parameter (chars text.now) }
+{
+    let mut chars = text.chars();
+    match chars.next() {
+        Some(c) => c.is_ascii_alphabetic() && ends_name(chars.as_str()),
+        None => false,
+    }
+}
+
+/// Returns whether a text begins with the rest of a name and a `=`.
+fn ends_name(text: &str) -> bool
+    ensures { result ≡ ends_name (chars text.now) }
+{
+    for c in text.chars() {
+        if !is_name(c) {
+            return c == '=';
+        }
+    }
+    false
+}
+
+/// Returns whether a character is one of a name.
+fn is_name(c: char) -> bool
+    ensures { result ≡ is_name c }
+{
+    c.is_ascii_alphanumeric() || c == '-' || c == '*'
+}
+
+/// Returns what is missing before the first character of a text.
+fn missing(is_alone: bool, position: Position, left: &str) -> &'static str
+    ensures { result.now ≡ missing is_alone position (chars left.now) }
+{
+    let Some(c) = left.chars().next() else {
+        return "";
+    };
+    match position {
+        Position::AfterWord => { semicolon_unless(c.is_ascii_whitespace() || c == ';' || c == '/') }
+        Position::AfterText => semicolon_unless(c.is_ascii_whitespace() || c == ';'),
+        Position::BeforeExtended => {
+            if c.is_ascii_whitespace() || c == '"' {
+                ""
+            } else {
+                for_extended(is_alone, left)
+            }
+        }
+        Position::InExtended => for_extended(is_alone, left),
+        _ => "",
+    }
+}
+
+/// Returns a semicolon unless a character follows that ends a value.
+fn semicolon_unless(follows: bool) -> &'static str
+    ensures { result.now ≡ semicolon_unless follows }
+{
+    if follows { "" } else { ";" }
+}
+
+/// Returns the apostrophes that an extended value lacks.
+fn for_extended(is_alone: bool, text: &str) -> &'static str
+    ensures { result.now ≡ for_extended is_alone (chars text.now) }
+{
+    if is_alone {
+        apostrophes(missing_apostrophes(text))
+    } else {
+        ""
+    }
+}
+
+/// Returns that many apostrophes, at most two.
+fn apostrophes(count: usize) -> &'static str
+    ensures { result.now ≡ apostrophes count }
+{
+    match count {
+        0 => "",
+        1 => "'",
+        _ => "''",
+    }
+}
+
+/// Returns the number of apostrophes, of two, that are missing before the first `;` or `=`.
+fn missing_apostrophes(text: &str) -> usize
+    ensures { result ≡ missing_apostrophes 2 (chars text.now) }
+{
+    let mut left = 2;
+    for c in text.chars() {
+        if left == 0 || c == ';' || c == '=' {
+            return left;
+        }
+        if c == '\'' {
+            left -= 1;
+        }
+    }
+    left
+}
+
+/// Returns what is missing at the end of a text.
+fn missing_at_end(position: Position) -> &'static str
+    ensures { result.now ≡ missing_at_end position }
+{
+    match position {
+        Position::InQuotes | Position::InExtended | Position::AfterBackslash => "\"",
+        _ => "",
+    }
+}
+
+/// Returns the position after a character with this position.
+fn after(position: Position, c: char) -> Position
+    ensures { result ≡ after position c }
+{
+    match position {
+        Position::BeforeWord => in_value(Position::BeforeWord, c),
+        Position::InWord => in_value(Position::AfterWord, c),
+        Position::AfterWord => after_word(c),
+        Position::InName => after_name(c),
+        Position::AfterStar => after_star(c),
+        Position::BeforeText => before_text(Position::BeforeText, Position::InQuotes, c),
+        Position::BeforeExtended => {
+            before_text(Position::BeforeExtended, Position::InExtended, c)
+        }
+        Position::InText | Position::AfterBlank => after_text(c),
+        Position::InQuotes | Position::InExtended => after_quoted(c),
+        Position::AfterBackslash => Position::InQuotes,
+        Position::AfterText => after_end(c),
+        Position::InRun => after_run(c),
+        Position::RunBackslash => Position::InRun,
+    }
+}
+
+/// Returns the position after a character of the value; after whitespace it is `blank`.
+fn in_value(blank: Position, c: char) -> Position
+    ensures { result ≡ in_value blank c }
+{
+    if c.is_ascii_whitespace() {
+        return blank;
+    }
+    match c {
+        ';' => Position::InName,
+        '/' => Position::BeforeWord,
+        '"' => Position::InRun,
+        _ => Position::InWord,
+    }
+}
+
+/// Returns the position after a character that follows a word of the value and whitespace.
+fn after_word(c: char) -> Position
+    ensures { result ≡ after_word c }
+{
+    if c.is_ascii_whitespace() {
+        return Position::AfterWord;
+    }
+    if c == '/' {
+        return Position::BeforeWord;
+    }
+    after_name(c)
+}
+
+/// Returns the position after a character of a name.
+fn after_name(c: char) -> Position
+    ensures { result ≡ after_name c }
+{
+    match c {
+        '=' => Position::BeforeText,
+        '*' => Position::AfterStar,
+        '"' => Position::InRun,
+        _ => Position::InName,
+    }
+}
+
+/// Returns the position after a character that follows a star in a name.
+fn after_star(c: char) -> Position
+    ensures { result ≡ after_star c }
+{
+    if c.is_ascii_whitespace() {
+        return Position::AfterStar;
+    }
+    if c == '=' {
+        return Position::BeforeExtended;
+    }
+    after_name(c)
+}
+
+/// Returns the position after a character that follows a `=`: after whitespace it is `blank`, and
+/// after a quote `quoted`.
+fn before_text(blank: Position, quoted: Position, c: char) -> Position
+    ensures { result ≡ before_text blank quoted c }
+{
+    if c.is_ascii_whitespace() {
+        return blank;
+    }
+    if c == '"' {
+        return quoted;
+    }
+    after_text(c)
+}
+
+/// Returns the position after a character of a text without quotes.
+fn after_text(c: char) -> Position
+    ensures { result ≡ after_text c }
+{
+    if c == ';' {
+        return Position::InName;
+    }
+    if c == '"' {
+        return Position::InRun;
+    }
+    if c.is_ascii_whitespace() {
+        return Position::AfterBlank;
+    }
+    Position::InText
+}
+
+/// Returns the position after a character of a quoted text.
+fn after_quoted(c: char) -> Position
+    ensures { result ≡ after_quoted c }
+{
+    match c {
+        '"' => Position::AfterText,
+        '\\' => Position::AfterBackslash,
+        _ => Position::InQuotes,
+    }
+}
+
+/// Returns the position after a character that follows a text.
+fn after_end(c: char) -> Position
+    ensures { result ≡ after_end c }
+{
+    if c.is_ascii_whitespace() {
+        return Position::AfterText;
+    }
+    after_name(c)
+}
+
+/// Returns the position after a character in quotes elsewhere.
+fn after_run(c: char) -> Position
+    ensures { result ≡ after_run c }
+{
+    match c {
+        '"' => Position::InText,
+        '\\' => Position::RunBackslash,
+        _ => Position::InRun,
+    }
+}
