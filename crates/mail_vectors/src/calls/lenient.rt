@@ -1,16 +1,18 @@
 //! The calls that read leniently. `find_ids TEXT => ID..` returns the ids with an `@`, and
-//! `find_any_ids TEXT => ID..` all.
+//! `find_any_ids TEXT => ID..` all. `lenient_nodes MAIL LEVELS => NODE..` and `lenient_file_names MAIL
+//! LEVELS => NAME..` read the mail in the manner of `Lenient` under all tables, and answer for the
+//! mail and then for each of its parts.
 
 use crate::calls::bodies::push_raw;
 use crate::calls::files::part_at;
 use crate::calls::tables::all_tables;
-use crate::notation::{Answer, Decision, Outcome, Row, Show};
+use crate::notation::{Answer, Decision, FORM, Outcome, Row, Show};
 use mail_data::lenient::{
-    ContentFault, DateError, IdRule, base64_front, body_text, date_of, find_ids, lenient_body,
-    lenient_content, zoned_date_of,
+    ContentFault, DateError, IdRule, Lenient, base64_front, body_text, date_of, find_ids,
+    lenient_body, lenient_content, lenient_file_name, refusal, zoned_date_of,
 };
 use mailparse::body::Body;
-use mailparse::parse_mail;
+use mailparse::{MAX_LEVELS, ParsedMail, parse_mail, parse_mail_as};
 
 /// Makes the call of a row, if it is one of these.
 pub fn make(row: &Row, answer: &mut Answer) -> Decision {
@@ -21,6 +23,7 @@ pub fn make(row: &Row, answer: &mut Answer) -> Decision {
         "lenient_content" => read_content(row, answer)?,
         "find_ids" => answer.put(find_ids(row.alloc, row.text(0), IdRule::WithAt)),
         "find_any_ids" => answer.put(find_ids(row.alloc, row.text(0), IdRule::Any)),
+        "lenient_nodes" | "lenient_file_names" => read_parts(row, answer)?,
         "date_of" => write_date(answer, date_of(row.text(0))),
         "zoned_date_of" => write_date(answer, zoned_date_of(row.text(0))),
         _ => return Ok(false),
@@ -77,6 +80,39 @@ fn read_content(row: &Row, answer: &mut Answer) -> Outcome {
     }
     answer.put(content.ignored);
     Ok(())
+}
+
+/// Writes the result of a call on each part of a mail.
+fn read_parts(row: &Row, answer: &mut Answer) -> Outcome {
+    let levels = row.levels(1);
+    if levels > MAX_LEVELS {
+        return Err(FORM);
+    }
+    let known = all_tables();
+    let mail = parse_mail_as(row.alloc, row.bytes(0), levels, &Lenient(&known))?;
+    for part in mail.parts(row.alloc)? {
+        match row.call.as_str() {
+            "lenient_nodes" => push_node(answer, part),
+            _ => answer.put(lenient_file_name(answer.alloc, part, &known)),
+        }
+    }
+    Ok(())
+}
+
+/// NODE: `part`, the number of its parts and of its headers, its type, its body, and why it is
+/// refused or `none`.
+fn push_node(answer: &mut Answer, part: &ParsedMail<'_>) {
+    let alloc = answer.alloc;
+    answer.word("part");
+    answer.put(part.subparts.len());
+    answer.put(part.headers.len());
+    answer.put(part.ctype.mimetype.as_str());
+    answer.put(part.get_body(alloc));
+    match refusal(alloc, part) {
+        Ok(Some(error)) => answer.display(&error),
+        Ok(None) => answer.word("none"),
+        Err(_) => answer.word("memory"),
+    }
 }
 
 /// `date_of TEXT => SECONDS`, and `zoned_date_of TEXT => SECONDS KNOWN`, KNOWN whether the zone is
