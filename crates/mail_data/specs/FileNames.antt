@@ -1,11 +1,11 @@
 -- Names of files that are safe in any directory; the crate's own rule. A text is the list of its
 -- bytes in UTF-8.
-use Rattle.std.specs.Prelude.{◌≡◌, ◌≢◌, ℕ, suc, ◌-◌, ◌≤◌, Bool, true, false, not, ◌&&◌, ◌||◌, ◌==◌, nat_le, nat_lt, List, [], ◌∷◌, ◌++◌, length, take, drop, map, chars, encode_utf8_all, codes, if◌then◌else◌}
-use Rattle.std.specs.Char.{is_ascii_alphabetic, is_control}
+use Rattle.std.specs.Prelude.{◌≡◌, ◌≢◌, ℕ, suc, ◌-◌, ◌≤◌, Bool, true, not, ◌&&◌, ◌||◌, ◌==◌, nat_lt, List, [], ◌++◌, length, take, drop, map, chars, encode_utf8_all, codes, if◌then◌else◌}
+use Rattle.std.specs.Char.{is_control}
 use Rattle.std.specs.List.{list_all, suffix_len}
 use Rattle.std.specs.Str.{bytes_eq}
-use Rattle.mail_codec.specs.Ascii.{backslash, colon, slash, underscore}
-use Rattle.mail_codec.specs.Places.{begins, is_empty, least}
+use Rattle.mail_codec.specs.Ascii.{backslash, slash, underscore}
+use Rattle.mail_codec.specs.Places.{is_empty, least}
 
 -- a character that no safe name contains: `/`, `\` or a control character, including NUL
 abbrev pub is_unsafe : ℕ → Bool
@@ -34,17 +34,6 @@ made_safe c = if is_unsafe c then underscore else c
 abbrev pub trailing : ℕ → List ℕ → ℕ
 trailing c cs = suffix_len (λ d. not (d == c)) cs
 
--- an absolute path of Windows: two backslashes, or a letter, a colon and a backslash
-abbrev pub is_windows_path : List ℕ → Bool
-is_windows_path [] = false
-is_windows_path (a ∷ []) = false
-is_windows_path (a ∷ b ∷ cs) =
-    (a == backslash && b == backslash) || (is_ascii_alphabetic a && (b == colon && begins (λ c. c == backslash) cs))
-
--- the name without the directories of such a path
-abbrev pub component : List ℕ → List ℕ
-component cs = if is_windows_path cs then drop (length cs - trailing backslash cs) cs else cs
-
 -- the bytes of characters
 abbrev pub size : List ℕ → ℕ
 size cs = length (encode_utf8_all cs)
@@ -60,15 +49,21 @@ most = 255
 abbrev pub dot : ℕ
 dot = 46
 
--- the ending: the last dot and at most 16 characters after it, if there is something before it
+-- characters fit into that many bytes
+abbrev pub fits : ℕ → List ℕ → Bool
+fits capacity cs = front_length capacity cs == length cs
+
+-- the last dot and what follows it, or all characters after one if there is no dot
+abbrev pub after_dot : List ℕ → List ℕ
+after_dot cs = drop (length cs - suc (trailing dot cs)) cs
+
+-- the ending: the last dot and what follows it, if that fits into 17 bytes and there is something before it
 abbrev pub ending : List ℕ → List ℕ
-ending cs =
-    let n = trailing dot cs in
-    if nat_lt (suc n) (length cs) && nat_le n 16 then drop (length cs - suc n) cs else []
+ending cs = if nat_lt (suc (trailing dot cs)) (length cs) && fits 17 (after_dot cs) then after_dot cs else []
 
 -- the ending that is kept: that of a name that is too long
 abbrev pub kept_ending : List ℕ → List ℕ
-kept_ending cs = if front_length most cs == length cs then [] else ending cs
+kept_ending cs = if fits most cs then [] else ending cs
 
 -- the leading characters and the ending, as many as fit
 abbrev pub shortened : List ℕ → List ℕ
@@ -76,7 +71,7 @@ shortened cs = take (front_length (most - size (kept_ending cs)) cs) cs ++ kept_
 
 -- the characters of a name made safe, as many as fit
 unfoldable pub front_name : List ℕ → List ℕ
-front_name name = encode_utf8_all (shortened (map made_safe (component (chars name))))
+front_name name = encode_utf8_all (shortened (map made_safe (chars name)))
 
 -- the name made safe: these, or `_` if they are no name of a file
 unfoldable pub safe_name : List ℕ → List ℕ

@@ -1,18 +1,18 @@
 -- Lemmas on safe names of files.
-use Rattle.std.proofs.Common.{◌≡◌, ◌≢◌, ℕ, zero, suc, ◌+◌, ◌-◌, ◌*◌, ◌<◌, ◌≤◌, Bool, true, false, not, eqb, List, [], ◌∷◌, ◌++◌, ◌||◌, ◌&&◌, length, take, drop, get_or, map, if◌then◌else◌, refl, sym, ap, ◌∙◌, arith, append_assoc, length-append, length-drop, inl, inr}
-use Rattle.std.specs.Prelude.{nat_eq, nat_le, nat_lt, codes}
-use Rattle.std.specs.Char.{encode_utf8, is_ascii_alphabetic, len_utf8}
+use Rattle.std.proofs.Common.{◌≡◌, ◌≢◌, ℕ, zero, suc, ◌+◌, ◌-◌, ◌*◌, ◌<◌, ◌≤◌, Bool, true, false, not, eqb, List, [], ◌∷◌, ◌++◌, ◌||◌, ◌&&◌, length, take, drop, get_or, map, if◌then◌else◌, refl, sym, ap, ◌∙◌, arith, append_assoc, length-append, inl, inr}
+use Rattle.std.specs.Prelude.{nat_le, nat_lt, codes}
+use Rattle.std.specs.Char.{encode_utf8, len_utf8}
 use Rattle.std.specs.List.{list_all}
 use Rattle.std.specs.Str.{chars, encode_utf8_all, IsUtf8, bytes_eq}
-use Rattle.std.proofs.lemmas.Bool.{cond-true, cond-false, cond_both, cases_Bool, le-leb, lt-leb, leb-true, leb-false, le-ltb, lt-ltb, ltb-true, ltb-false, and_parts, and_from, or_parts, or_cases, not-true, eq-eqb, eqb-true, false≢true, false_from_ne_true}
+use Rattle.std.proofs.lemmas.Bool.{cond-true, cond-false, cond_both, cases_Bool, leb-true, leb-false, le-ltb, lt-ltb, ltb-true, ltb-false, and_parts, and_from, or_parts, or_cases, not-true, eq-eqb, eqb-true, false≢true}
 use Rattle.std.proofs.lemmas.List.{append-nil, take_all}
 use Rattle.std.proofs.lemmas.List.Folds.{list_all-append}
 use Rattle.std.proofs.lemmas.List.Sums.{suffix_len-take_no, suffix_len-take_yes}
 use Rattle.std.proofs.lemmas.Slice.Eq.{bytes_eq-Decides}
 use Rattle.std.proofs.lemmas.Str.{chars-nil, chars-encodes, chars_past_char, encodes-append, encodes-chars, scalars-chars, length-encode, len_utf8_bounds}
 use lib.Utf8.{scalar, scalars}
-use Rattle.mail_codec.specs.Places.{begins, is_empty, least}
-use Rattle.mail_data.specs.FileNames.{component, ending, front_length, front_name, is_reserved, is_unsafe, is_windows_path, kept_ending, made_safe, most, safe_name, shortened, size, trailing, IsSafeName}
+use Rattle.mail_codec.specs.Places.{is_empty, least}
+use Rattle.mail_data.specs.FileNames.{after_dot, ending, fits, front_length, front_name, is_reserved, is_unsafe, kept_ending, made_safe, most, safe_name, shortened, size, trailing, IsSafeName}
 
 -- ---- as many characters as fit, one after another
 
@@ -105,8 +105,17 @@ CountsTo-end {rest = c ∷ rest} counts none = absurd (omega (arith, none))
 
 -- ---- the characters of a name
 
-pub characters-start : (name made rest : List ℕ) → made ≡ [] → rest ≡ name → made ++ chars rest ≡ chars name
-characters-start name made rest none all = ap (λ (cs : List ℕ). cs ++ chars rest) none ∙ ap chars all
+pub characters-start : (name made rest : List ℕ) → made ≡ [] → rest ≡ name → made ++ map made_safe (chars rest) ≡ map made_safe (chars name)
+characters-start name made rest none all = ap (λ (cs : List ℕ). cs ++ map made_safe (chars rest)) none ∙ ap (λ n. map made_safe (chars n)) all
+
+pub characters-more : (made new rest next : List ℕ) (c d : ℕ) → IsUtf8 rest → rest ≡ encode_utf8 c ++ next → new ≡ made ++ d ∷ [] → d ≡ made_safe c
+    → new ++ map made_safe (chars next) ≡ made ++ map made_safe (chars rest)
+characters-more made new rest next c d utf8 e push is =
+    ap (λ (cs : List ℕ). cs ++ map made_safe (chars next)) push ∙ append_assoc made (d ∷ []) (map made_safe (chars next))
+    ∙ ap (λ (f : ℕ). made ++ f ∷ map made_safe (chars next)) is ∙ ap (λ (cs : List ℕ). made ++ map made_safe cs) (sym (chars_past_char rest next c utf8 e))
+
+pub characters-end : (made rest : List ℕ) → rest ≡ [] → made ≡ made ++ map made_safe (chars rest)
+characters-end made rest none = sym (append-nil made) ∙ ap (λ (cs : List ℕ). made ++ map made_safe cs) (sym (ap chars none ∙ chars-nil))
 
 -- ---- the leading characters and the ending, one after another
 
@@ -156,19 +165,16 @@ module _ (test : ℕ → Bool) where
 
   all-ending : (cs : List ℕ) → list_all test cs ≡ true → list_all test (ending cs) ≡ true
   all-ending cs h =
-      let n = trailing 46 cs in
-      cond_both (nat_lt (suc n) (length cs) && nat_le n 16) (drop (length cs - suc n) cs) [] (λ (ds : List ℕ). list_all test ds ≡ true) (λ e. all-drop (length cs - suc n) cs h) (λ e. refl)
+      cond_both (nat_lt (suc (trailing 46 cs)) (length cs) && fits 17 (after_dot cs)) (after_dot cs) [] (λ (ds : List ℕ). list_all test ds ≡ true)
+      (λ e. all-drop (length cs - suc (trailing 46 cs)) cs h) (λ e. refl)
 
   all-kept : (cs : List ℕ) → list_all test cs ≡ true → list_all test (kept_ending cs) ≡ true
-  all-kept cs h = cond_both (nat_eq (front_length most cs) (length cs)) [] (ending cs) (λ (ds : List ℕ). list_all test ds ≡ true) (λ e. refl) (λ e. all-ending cs h)
+  all-kept cs h = cond_both (fits most cs) [] (ending cs) (λ (ds : List ℕ). list_all test ds ≡ true) (λ e. refl) (λ e. all-ending cs h)
 
   all-shortened : (cs : List ℕ) → list_all test cs ≡ true → list_all test (shortened cs) ≡ true
   all-shortened cs h =
       let n = front_length (most - size (kept_ending cs)) cs in
       list_all-append test (take n cs) (kept_ending cs) ∙ and_from _ _ (all-take n cs h) (all-kept cs h)
-
-  all-component : (cs : List ℕ) → list_all test cs ≡ true → list_all test (component cs) ≡ true
-  all-component cs h = cond_both (is_windows_path cs) (drop (length cs - trailing 92 cs) cs) cs (λ (ds : List ℕ). list_all test ds ≡ true) (λ e. all-drop (length cs - trailing 92 cs) cs h) (λ e. h)
 
 -- ---- a name that was cut is short
 
@@ -181,16 +187,6 @@ front_within-short capacity (c ∷ cs) =
     let one = length-encode c in
     cond_both (nat_le (len_utf8 c) capacity) (c ∷ more) [] (λ (ds : List ℕ). size ds ≤ capacity)
     (λ fits. let low = leb-true (len_utf8 c) capacity fits in omega (arith, low, later, all, one)) (λ full. omega arith)
-
--- a character has at most four bytes
-pub size-at_most : (cs : List ℕ) → size cs ≤ 4 * length cs
-size-at_most [] = omega arith
-size-at_most (c ∷ cs) =
-    let later = size-at_most cs in
-    let all = length-append (encode_utf8 c) (encode_utf8_all cs) in
-    let one = length-encode c in
-    let low = (len_utf8_bounds c).1 in
-    omega (arith, later, all, one, low)
 
 -- the sum that a loop has made, when these characters are left
 pub record SizedTo (cs : List ℕ) (sum : ℕ) (rest : List ℕ) : Type 0 where
@@ -230,19 +226,36 @@ trailing-more c cs i d low h =
     suffix_len-take_yes (λ e. not (eqb e c)) cs (i + 1) d (omega arith) (omega (arith, low)) (ap (λ k. not (eqb (get_or cs k d) c)) one ∙ ap not h)
     ∙ ap (λ k. 1 + trailing c (take k cs)) one
 
-pub ending-short : (cs : List ℕ) → length (ending cs) ≤ 17
-ending-short cs =
-    let n = trailing 46 cs in
-    cond_both (nat_lt (suc n) (length cs) && nat_le n 16) (drop (length cs - suc n) cs) [] (λ (ds : List ℕ). length ds ≤ 17)
-    (λ e. let both = and_parts (nat_lt (suc n) (length cs)) (nat_le n 16) e in
-    let within = ltb-true (suc n) (length cs) both.0 in
-    let few = leb-true n 16 both.1 in
-    let cut = length-drop (length cs - suc n) cs in
-    omega (arith, within, few, cut))
-    (λ e. omega arith)
+size-at_least : (cs : List ℕ) → length cs ≤ size cs
+size-at_least [] = omega arith
+size-at_least (c ∷ cs) =
+    let later = size-at_least cs in
+    let all = length-append (encode_utf8 c) (encode_utf8_all cs) in
+    let one = length-encode c in
+    let some = (len_utf8_bounds c).0 in
+    omega (arith, later, all, one, some)
 
-pub kept-short : (cs : List ℕ) → length (kept_ending cs) ≤ 17
-kept-short cs = cond_both (nat_eq (front_length most cs) (length cs)) [] (ending cs) (λ (ds : List ℕ). length ds ≤ 17) (λ e. omega arith) (λ e. ending-short cs)
+-- characters that fit have at most so many bytes
+fits-short : (capacity : ℕ) (cs : List ℕ) → fits capacity cs ≡ true → size cs ≤ capacity
+fits-short capacity cs h =
+    let whole = eqb-true (front_length capacity cs) (length cs) h in
+    let same = ap size (front_within-takes capacity cs ∙ take_all (front_length capacity cs) cs (omega (arith, whole))) in
+    let short = front_within-short capacity cs in
+    omega (arith, same, short)
+
+ending-size : (cs : List ℕ) → size (ending cs) ≤ 17
+ending-size cs =
+    cond_both (nat_lt (suc (trailing 46 cs)) (length cs) && fits 17 (after_dot cs)) (after_dot cs) [] (λ (ds : List ℕ). size ds ≤ 17)
+    (λ e. fits-short 17 (after_dot cs) (and_parts (nat_lt (suc (trailing 46 cs)) (length cs)) (fits 17 (after_dot cs)) e).1) (λ e. omega arith)
+
+pub fits_few : (cs : List ℕ) → fits 17 cs ≡ true → length cs ≤ 17
+fits_few cs h =
+    let short = fits-short 17 cs h in
+    let low = size-at_least cs in
+    omega (arith, short, low)
+
+kept-size : (cs : List ℕ) → size (kept_ending cs) ≤ 17
+kept-size cs = cond_both (fits most cs) [] (ending cs) (λ (ds : List ℕ). size ds ≤ 17) (λ e. omega arith) (λ e. ending-size cs)
 
 shortened-short : (cs : List ℕ) → size (shortened cs) ≤ 255
 shortened-short cs =
@@ -250,11 +263,10 @@ shortened-short cs =
     let capacity = 255 - size ending in
     let front = take (front_length capacity cs) cs in
     let all = ap length (encodes-append front ending) ∙ length-append (encode_utf8_all front) (encode_utf8_all ending) in
-    let fits = front_within-short capacity cs in
+    let low = front_within-short capacity cs in
     let same = ap size (front_within-takes capacity cs) in
-    let low = size-at_most ending in
-    let few = kept-short cs in
-    omega (arith, all, fits, same, low, few)
+    let few = kept-size cs in
+    omega (arith, all, low, same, few)
 
 -- ---- a name that is safe stays
 
@@ -276,35 +288,8 @@ front_length-all capacity (c ∷ cs) h =
 shortened-same : (cs : List ℕ) → size cs ≤ 255 → shortened cs ≡ cs
 shortened-same cs h =
     let whole = front_length-all 255 cs h in
-    ap (λ (ds : List ℕ). take (front_length (255 - size ds) cs) cs ++ ds) (cond-true (nat_eq (front_length 255 cs) (length cs)) [] (ending cs) (eq-eqb (front_length 255 cs) (length cs) whole))
+    ap (λ (ds : List ℕ). take (front_length (255 - size ds) cs) cs ++ ds) (cond-true (fits 255 cs) [] (ending cs) (eq-eqb (front_length 255 cs) (length cs) whole))
     ∙ append-nil (take (front_length 255 cs) cs) ∙ take_all (front_length 255 cs) cs (omega (arith, whole))
-
--- a safe name is no path
-no_backslash : (c : ℕ) → not (is_unsafe c) ≡ true → eqb c 92 ≡ false
-no_backslash c h =
-    let safe = not-true (is_unsafe c) h in
-    false_from_ne_true (eqb c 92) (λ e. false≢true (sym safe ∙ ap is_unsafe (eqb-true c 92 e)))
-
-begins-none : (cs : List ℕ) → all_safe cs ≡ true → begins (λ c. eqb c 92) cs ≡ false
-unfolding all_safe
-begins-none [] h = refl
-begins-none (c ∷ cs) h = no_backslash c (and_parts (not (is_unsafe c)) (all_safe cs) h).0
-
-no_path : (cs : List ℕ) → all_safe cs ≡ true → is_windows_path cs ≡ false
-unfolding all_safe
-no_path [] h = refl
-no_path (a ∷ []) h = refl
-no_path (a ∷ b ∷ cs) h =
-    let first = and_parts (not (is_unsafe a)) (all_safe (b ∷ cs)) h in
-    let second = and_parts (not (is_unsafe b)) (all_safe cs) first.1 in
-    let one = no_backslash a first.0 in
-    let two = begins-none cs second.1 in
-    let drive : Bool = eqb b 58 && begins (λ c. eqb c 92) cs in
-    false_from_ne_true (is_windows_path (a ∷ b ∷ cs))
-    (λ e. elim (or_cases (eqb a 92 && eqb b 92) (is_ascii_alphabetic a && drive) e) [
-      | inl l ↦ false≢true (sym one ∙ (and_parts (eqb a 92) (eqb b 92) l).0)
-      | inr r ↦ false≢true (sym two ∙ (and_parts (eqb b 58) (begins (λ c. eqb c 92) cs) (and_parts (is_ascii_alphabetic a) drive r).1).1)
-    ])
 
 -- ---- the whole name
 
@@ -320,25 +305,23 @@ single = record {
 
 -- the characters of the name made safe
 characters_of : List ℕ → List ℕ
-characters_of name = map made_safe (component (chars name))
+characters_of name = map made_safe (chars name)
 
 scalars_of : (name : List ℕ) → IsUtf8 name → scalars (shortened (characters_of name)) ≡ true
 unfolding characters_of
 scalars_of name utf8 =
-    let all = sym (scalars-are (chars name)) ∙ scalars-chars name utf8 in
-    let part = scalars-are (component (chars name)) ∙ all-component scalar (chars name) all in
-    scalars-are (shortened (map made_safe (component (chars name))))
-    ∙ all-shortened scalar (map made_safe (component (chars name))) (sym (scalars-are (map made_safe (component (chars name)))) ∙ made-scalars (component (chars name)) part)
+    scalars-are (shortened (map made_safe (chars name)))
+    ∙ all-shortened scalar (map made_safe (chars name)) (sym (scalars-are (map made_safe (chars name))) ∙ made-scalars (chars name) (scalars-chars name utf8))
 
 front_name-safe : (name : List ℕ) → IsUtf8 name → list_all (λ c. not (is_unsafe c)) (chars (front_name name)) ≡ true
 unfolding all_safe front_name characters_of
 front_name-safe name utf8 =
     ap all_safe (chars-encodes (shortened (characters_of name)) (scalars_of name utf8))
-    ∙ all-shortened (λ c. not (is_unsafe c)) (characters_of name) (all-made (component (chars name)))
+    ∙ all-shortened (λ c. not (is_unsafe c)) (characters_of name) (all-made (chars name))
 
 front_name-short : (name : List ℕ) → length (front_name name) ≤ 255
 unfolding front_name
-front_name-short name = shortened-short (map made_safe (component (chars name)))
+front_name-short name = shortened-short (map made_safe (chars name))
 
 not_reserved : (name : List ℕ) → is_reserved name ≡ false → (name ≢ []) × (name ≢ codes ".") × (name ≢ codes "..")
 not_reserved name h =
@@ -367,8 +350,7 @@ front_name-same name utf8 h =
     let short = h.short in
     let back = encodes-chars name utf8 in
     let len = ap length back in
-    ap (λ (cs : List ℕ). encode_utf8_all (shortened (map made_safe cs))) (cond-false (is_windows_path (chars name)) _ _ (no_path (chars name) h.characters))
-    ∙ ap (λ (cs : List ℕ). encode_utf8_all (shortened cs)) (made_safe-same (chars name) h.characters)
+    ap (λ (cs : List ℕ). encode_utf8_all (shortened cs)) (made_safe-same (chars name) h.characters)
     ∙ ap encode_utf8_all (shortened-same (chars name) (omega (arith, short, len))) ∙ back
 
 bytes_eq-true : (a b : List ℕ) → bytes_eq a b ≡ true → a ≡ b

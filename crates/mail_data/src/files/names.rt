@@ -1,7 +1,7 @@
 //! Names of files that are safe in any directory of a POSIX system.
 ghost use Rattle.std.specs.Prelude.{◌≡◌, ◌++◌, ◌≤◌, IfOk, IsTrue, OnOk, chars, encode_utf8_all, length, map, string_bytes};
-ghost use Rattle.mail_data.specs.FileNames.{IsSafeName, component, ending, front_length};
-ghost use Rattle.mail_data.specs.FileNames.{front_name, is_reserved, is_windows_path, kept_ending};
+ghost use Rattle.mail_data.specs.FileNames.{IsSafeName, ending, fits, front_length};
+ghost use Rattle.mail_data.specs.FileNames.{front_name, is_reserved, kept_ending};
 ghost use Rattle.mail_data.specs.FileNames.{made_safe, safe_name, shortened, size, trailing};
 
 use std::alloc::{AllocError, Global};
@@ -9,16 +9,15 @@ use std::alloc::{AllocError, Global};
 /// The greatest length of a safe name in bytes.
 const MOST_BYTES: usize = 255;
 
-/// The most characters of an ending, after its dot.
-const MOST_OF_ENDING: usize = 16;
+/// The greatest length of an ending in bytes, with its dot.
+const MOST_OF_ENDING: usize = 17;
 
 /// Returns the name of a file made safe: on a POSIX system it names a file in the directory where
 /// it is used, and no other. Names that Windows reserves, such as `NUL` and `C:x`, stay.
 ///
-/// Of an absolute path of Windows, such as `C:\\a\\b.txt`, the last component is taken. Then each
-/// `/`, `\` and control character, including NUL, becomes `_`. A name of more than 255 bytes is
-/// cut between characters, before its ending: the last dot and at most 16 characters after it. If
-/// the result is empty, `.` or `..`, it becomes `_`. A name that is already safe stays as it is.
+/// Each `/`, `\` and control character, including NUL, becomes `_`. A name of more than 255 bytes is
+/// cut between characters, before its ending: the last dot and at most 16 bytes after it. If the
+/// result is empty, `.` or `..`, it becomes `_`. A name that is already safe stays as it is.
 /// Characters that change the text direction stay. Allocates the name and its characters.
 ///
 /// # Errors
@@ -33,7 +32,6 @@ const MOST_OF_ENDING: usize = 16;
 /// assert_eq!(rt; safe_file_name(alloc, "../../etc/passwd")?.as_str(), ".._.._etc_passwd");
 /// assert_eq!(rt; safe_file_name(alloc, "..")?.as_str(), "_");
 /// assert_eq!(rt; safe_file_name(alloc, "résumé.pdf")?.as_str(), "résumé.pdf");
-/// assert_eq!(rt; safe_file_name(alloc, "C:\\Users\\ann\\a.txt")?.as_str(), "a.txt");
 /// ```
 #[tactic(auto, unfolding(crate::specs::FileNames::safe_name))]
 pub fn safe_file_name(alloc: Global, name: &str) -> Result<String, AllocError>
@@ -53,29 +51,17 @@ pub fn safe_file_name(alloc: Global, name: &str) -> Result<String, AllocError>
 fn front_name(alloc: Global, name: &str) -> Result<String, AllocError>
     ensures { IfOk result (λ safe. string_bytes safe ≡ front_name name.now) }
 {
-    let characters = characters(alloc, name)?;
-    let safe = safe_characters(alloc, component(characters.as_slice()))?;
+    let safe = safe_characters(alloc, name)?;
     shortened(alloc, safe.as_slice())
 }
 
-/// Returns the characters of a name.
-fn characters(alloc: Global, name: &str) -> Result<Vec<char>, AllocError>
-    ensures { IfOk result (λ characters. characters.items ≡ chars name.now) }
+/// Returns the characters of a name made safe.
+fn safe_characters(alloc: Global, name: &str) -> Result<Vec<char>, AllocError>
+    ensures { IfOk result (λ safe. safe.items ≡ map made_safe (chars name.now)) }
 {
-    let mut characters = Vec::new(alloc);
+    let mut safe = Vec::new(alloc);
     for c in name.chars() {
-        characters.push(c)?;
-    }
-    Ok(characters)
-}
-
-/// Returns the characters made safe.
-fn safe_characters(alloc: Global, characters: &[char]) -> Result<Vec<char>, AllocError>
-    ensures { IfOk result (λ safe. safe.items ≡ map made_safe characters.now) }
-{
-    let mut safe = Vec::with_capacity(alloc, characters.len())?;
-    for c in characters {
-        safe.push(made_safe(*c))?;
+        safe.push(made_safe(c))?;
     }
     Ok(safe)
 }
@@ -96,28 +82,6 @@ fn trailing(c: char, characters: &[char]) -> usize
     count
 }
 
-/// Returns whether a name is an absolute path of Windows.
-fn is_windows_path(characters: &[char]) -> bool
-    ensures { result ≡ is_windows_path characters.now }
-{
-    match characters {
-        ['\\', '\\', ..] => true,
-        [first, ':', '\\', ..] => first.is_ascii_alphabetic(),
-        _ => false,
-    }
-}
-
-/// Returns the name without the directories of such a path.
-fn component(characters: &[char]) -> &[char]
-    ensures { result.now ≡ component characters.now }
-{
-    if is_windows_path(characters) {
-        &characters[characters.len() - trailing('\\', characters)..]
-    } else {
-        characters
-    }
-}
-
 /// Returns the number of leading characters that fit into that many bytes.
 fn front_len(capacity: usize, characters: &[char]) -> usize
     ensures value { result ≡ front_length capacity characters.now }
@@ -136,14 +100,26 @@ fn front_len(capacity: usize, characters: &[char]) -> usize
     characters.len()
 }
 
+/// Returns whether characters fit into that many bytes.
+fn fits(capacity: usize, characters: &[char]) -> bool
+    ensures { result ≡ fits capacity characters.now }
+{
+    front_len(capacity, characters) == characters.len()
+}
+
 /// Returns the ending of a name.
+#[tactic(auto, using(crate::proofs::lemmas::FileNames::fits_few))]
 fn ending(characters: &[char]) -> &[char]
     ensures value { result.now ≡ ending characters.now }
     ensures short { length result.now ≤ 17 }
 {
-    let after = trailing('.', characters);
-    if after + 1 < characters.len() && after <= MOST_OF_ENDING {
-        &characters[characters.len() - (after + 1)..]
+    let len = trailing('.', characters) + 1;
+    if len >= characters.len() {
+        return &characters[..0];
+    }
+    let ending = &characters[characters.len() - len..];
+    if fits(MOST_OF_ENDING, ending) {
+        ending
     } else {
         &characters[..0]
     }
@@ -154,7 +130,7 @@ fn kept_ending(characters: &[char]) -> &[char]
     ensures value { result.now ≡ kept_ending characters.now }
     ensures short { length result.now ≤ 17 }
 {
-    if front_len(MOST_BYTES, characters) == characters.len() {
+    if fits(MOST_BYTES, characters) {
         &characters[..0]
     } else {
         ending(characters)
