@@ -53,7 +53,7 @@ dot = 46
 abbrev pub fits : ℕ → List ℕ → Bool
 fits capacity cs = front_length capacity cs == length cs
 
--- the last dot and what follows it, or all characters after one if there is no dot
+-- the last dot and what follows it, or all characters if there is no dot
 abbrev pub after_dot : List ℕ → List ℕ
 after_dot cs = drop (length cs - suc (trailing dot cs)) cs
 
