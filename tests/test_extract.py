@@ -11,6 +11,9 @@ import json
 import mimetypes
 import quopri
 import re
+import resource
+import signal
+import subprocess
 
 import pytest
 
@@ -254,6 +257,36 @@ def test_nested_bytes(tmp_path):
     ended = run([*command("extract"), "--into", tmp_path], data)
     assert ended.returncode == 0 and len(ended.stdout.splitlines()) == 100
     assert sum(path.stat().st_size for path in tmp_path.iterdir()) <= 2 * len(data)
+
+
+def test_refused_mails_inside(tmp_path):
+    """The line of a mail inside that is refused comes where the lines of its files would."""
+    forwarded = b"Content-Type: message/rfc822\n\n"
+    image = multipart(b"c", b"Content-Type: image/png\n\nimage")
+    (tmp_path / "mail").write_bytes(multipart(b"b", forwarded + b" x\n", forwarded + image, b"Content-Type: image/gif\n\nlast"))
+    ended = run([*command("extract"), "--into", tmp_path, tmp_path / "mail"])
+    lines = [json.loads(line) for line in ended.stdout.splitlines()]
+    paths = [(line["path"], line["saved"] is None) for line in lines]
+    assert (ended.returncode, paths) == (3, [("1", False), ("2", False), ("3", False), ("1", True), ("2.1", False)])
+
+
+def test_lines_follow_their_files(tmp_path):
+    """The line of each file is written before the next one is saved, even if the run then ends by a limit on files."""
+    def set_limit():
+        resource.setrlimit(resource.RLIMIT_FSIZE, (4000, 4000))
+
+    into, lines = tmp_path / "into", tmp_path / "lines"
+    into.mkdir()
+    sizes = (10, 3000, 20, 5000, 30)
+    mail = multipart(b"b", *(b"Content-Type: image/png; name=%d\n\n" % size + b"x" * size for size in sizes))
+    with open(lines, "wb") as file:
+        ended = subprocess.run([*command("extract"), "--into", into], input=mail, stdout=file, stderr=subprocess.PIPE,
+                               check=False, preexec_fn=set_limit, timeout=60)
+    found = [json.loads(line) for line in lines.read_bytes().splitlines()]
+    named = sorted(path.name for path in into.iterdir() if not path.name.startswith(".rocktray-"))
+    assert ended.returncode == -signal.SIGXFSZ
+    assert named == sorted(line["saved"] for line in found) == ["10", "20", "3000"]
+    assert all((into / name).stat().st_size == int(name) for name in named)
 
 
 @pytest.mark.parametrize("name, why", [

@@ -222,3 +222,49 @@ def test_limits(name, tmp_path):
             assert wanted.startswith(ended.stdout) if may_begin else not ended.stdout, f"{limit} KB"
             short += 1
     assert right > 0 and short > 0
+
+
+ATTACHED = b"Content-Type: application/zip; name=a.zip\nContent-Transfer-Encoding: base64\n\n" + base64.encodebytes(bytes(700_000))
+
+
+def mailbox_file(path, mails):
+    """Writes a mailbox, and returns its path."""
+    with open(path, "wb") as file:
+        for mail in mails:
+            file.write(FROM + mail + b"\n")
+    return path
+
+
+@pytest.mark.parametrize("words, count", [
+    (["json", "--mbox"], 820), (["json", "--mbox", "--no-text"], 820), (["extract", "--by-hash", "--into", "."], 210),
+])
+def test_long_mailbox(words, count, tmp_path):
+    """A mailbox of 200 MB in 100 MB of memory."""
+    small = [multipart(b"s", b"\nText %d\n" % number) for number in range(610)]
+    mails = small + [multipart(b"b", b"\nText\n", ATTACHED)] * 210
+    path = mailbox_file(tmp_path / "mailbox", mails)
+    assert path.stat().st_size > 195_000_000
+    ended = run_limited([*command(words[0]), *words[1:], path], b"", tmp_path, 100_000)
+    assert (ended.returncode, ended.stderr, ended.stdout.count(b"\n")) == (0, b"", count)
+
+
+def test_part_without_a_mail(tmp_path):
+    """A part in which no mail begins is read to its end and no further: one of 4 MB of a mail of 64 MB in 20 MB."""
+    path = mailbox_file(tmp_path / "mailbox", [b"Subject: long\n\n" + b"a line of the text\n" * 3_368_000, b"Subject: last\n\n"])
+    assert path.stat().st_size > 63_900_000
+    for number in (2, 8, 15):
+        ended = run_limited([*command("json"), "--part", f"{number}/16", path], b"", tmp_path, 20_000)
+        assert (ended.returncode, ended.stderr, ended.stdout) == (0, b"", b""), number
+    ended = run_limited([*command("json"), "--no-text", "--part", "16/16", path], b"", tmp_path, 20_000)
+    assert (ended.returncode, [json.loads(line)["subject"] for line in ended.stdout.splitlines()]) == (0, ["last"])
+
+
+def test_mails_inside_one_another(tmp_path):
+    """The bytes of mails that are forwarded in one another are in memory once: 12 MB in 98 levels, in 40 MB."""
+    mail = multipart(b"last", b"Content-Type: application/zip; name=last.zip\n\n" + b"x" * 12_000_000)
+    for level in range(98):
+        mail = multipart(b"level%d" % level, b"Content-Type: message/rfc822\n\n" + mail)
+    (tmp_path / "mail").write_bytes(mail)
+    for words, count in ((["json"], 1), (["extract", "--into", "."], 2)):
+        ended = run_limited([*command(words[0]), *words[1:], tmp_path / "mail"], b"", tmp_path, 40_000)
+        assert (ended.returncode, ended.stderr, ended.stdout.count(b"\n")) == (0, b"", count), words

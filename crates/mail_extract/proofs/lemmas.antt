@@ -1,6 +1,9 @@
 pub mod Endings
 pub mod Fits
 pub mod Input
+pub mod Inside
 pub mod Only
+pub mod Parts
 pub mod Names
 pub mod Save
+pub mod Saves

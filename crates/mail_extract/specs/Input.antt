@@ -1,16 +1,18 @@
 -- What saving the files of an input does: the lines that are written, the directory, and the next number; the program's own form.
-use Rattle.std.specs.Prelude.{◌≡◌, ℕ, Bool, true, false, List, [], ◌∷◌, ◌++◌, take, map, flat_map, Option, Some, None, Result, Ok, Err, codes, if◌then◌else◌}
+use Rattle.std.specs.Prelude.{◌≡◌, ℕ, Bool, true, false, List, [], ◌∷◌, ◌++◌, take, Option, Some, None, Result, Ok, Err, IfSome, codes, if◌then◌else◌}
 use Rattle.std.specs.Char.{is_ascii_whitespace}
 use Rattle.std.specs.Io.KnownBytes.{Appends, Consumes, IsAtEnd}
-use Rattle.std.specs.List.{list_all}
+use Rattle.std.specs.List.{All, list_all}
 use Rattle.std.specs.Option.{option_map_or}
 use Rattle.mail_codec.specs.Charset.{Charsets}
 use Rattle.mailparse.specs.Mail.{Tree, read_mail_in}
 use Rattle.mailparse.specs.Placement.{placements}
 use Rattle.mailparse.specs.Refusal.{Reads}
+use Rattle.mail_data.specs.FileNames.{IsSafeName}
 use Rattle.mail_data.specs.InnerMails.{InnerMail, inner_mails}
 use Rattle.mail_data.specs.Mailbox.{Entry, front_length}
 use Rattle.mail_data.specs.MailboxFormats.{entries_in, mail_in}
+use Rattle.mail_data.specs.PartPlaces.{places}
 use Rattle.mail_data.specs.declared.mailbox.formats.Format.{Format}
 use Rattle.mail_json.specs.FileLine.{FileLine}
 use Rattle.mail_json.specs.JsonLines.{format_of, is_mailbox}
@@ -23,7 +25,8 @@ use Rattle.mail_program.specs.declared.outcome.Outcome as program
 use Rattle.mail_extract.specs.Directory.{File}
 use Rattle.mail_extract.specs.Naming.{Options}
 use Rattle.mail_extract.specs.Report.{lines_text, worst}
-use Rattle.mail_extract.specs.Save.{AreSaved, Outcome, chosen, wanted_files}
+use Rattle.mail_extract.specs.Save.{IsSaved, Outcome, Wanted, chosen, wanted_among, wanted_inside}
+use Rattle.mail_extract.specs.declared.level.Level.TheVariants.{Own}
 
 -- the files of a directory and the next number before, the lines that are written, and the next number and the files after
 abbrev pub Saves : Type 1
@@ -38,6 +41,15 @@ abbrev pub Then : Saves → Saves → Saves
 Then First Second files from lines next now =
     (mid : List File) × (number : ℕ) × (first : List FileLine) × (others : List FileLine) × First files from first number mid
     × Second mid number others next now × (lines ≡ first ++ others)
+
+-- each of these, one after another
+abbrev pub Each : {X : Type 0} → (X → Saves) → List X → Saves
+Each Is [] = Only []
+Each Is (x ∷ others) = Then (Is x) (Each Is others)
+
+-- the names under which files were saved are safe
+abbrev pub AreSafe : List FileLine → Type 0
+AreSafe lines = All (λ line. IfSome line.saved IsSafeName) lines
 
 -- Of an input with this name, or standard input.
 module _ (file : Option (List ℕ)) where
@@ -67,43 +79,62 @@ module _ (file : Option (List ℕ)) where
   front_lines front =
       if list_all is_ascii_whitespace front then [] else refused_line None None (codes "The mailbox does not begin with a separator") ∷ []
 
-  -- For a directory that may fail if it has certain files, under these options and the known charsets.
-  module _ (can_fail : List File → Bool) (options : Options) (known : Charsets) where
-    -- the chosen files of a mail are saved and have lines, and then each refused mail inside it has one; or the mail has one, if it is refused
-    abbrev pub IsMailOf : Option ℕ → Reads Tree → Saves
-    IsMailOf number (Ok t) files from lines next now =
-        (outcomes : List Outcome) × AreSaved can_fail options files (chosen options.choice (wanted_files known t (placements 0 t))) from outcomes next now
-        × (lines ≡ map (file_line number) outcomes ++ flat_map (inner_lines number) (inner_mails known 100 [] (Some 0) t (placements 0 t)))
-    IsMailOf number (Err refusal) files from lines next now = Only (refused_line number None (refusal_text refusal) ∷ []) files from lines next now
+  -- For a directory that may fail if it has certain files, and under these options.
+  module _ (can_fail : List File → Bool) (options : Options) where
+    -- a file of a mail is saved, and has this line
+    abbrev pub IsFile : Option ℕ → Wanted → Saves
+    IsFile number wanted files from lines next now =
+        (outcome : Outcome) × IsSaved can_fail options files wanted from outcome next now × (lines ≡ file_line number outcome ∷ [])
 
-    -- the same of the bytes of a mail
-    abbrev pub IsMail : Option ℕ → List ℕ → Saves
-    IsMail number bytes = IsMailOf number (read_mail_in known 100 bytes)
+    -- files are saved, and the line of each follows it
+    abbrev pub AreFiles : Option ℕ → List Wanted → Saves
+    AreFiles number files = Each (IsFile number) files
 
-    -- mails of a mailbox in a format, one after another; the first has this number
-    abbrev pub AreMails : Format → ℕ → List Entry → Saves
-    AreMails format number [] = Only []
-    AreMails format number (entry ∷ rest) = Then (IsMail (Some number) (mail_in format entry.mail)) (AreMails format (saturating_add number 1) rest)
+    -- under the known charsets
+    module _ (known : Charsets) where
+      -- the chosen files of a mail inside a mail are saved and have lines, or it has a line, if it is refused
+      abbrev pub IsInside : Option ℕ → InnerMail → Saves
+      IsInside number inner = Then (AreFiles number (chosen options.choice (wanted_inside known inner))) (Only (inner_lines number inner))
 
-    -- a mailbox in a format
-    abbrev pub IsMailbox : Format → List ℕ → Saves
-    IsMailbox format bytes = Then (Only (front_lines (take (front_length bytes) bytes))) (AreMails format 1 (entries_in format bytes))
+      -- mails inside a mail, one after another
+      abbrev pub AreInside : Option ℕ → List InnerMail → Saves
+      AreInside number mails = Each (IsInside number) mails
 
-    -- an input that is a mailbox in a format, or one mail
-    abbrev pub IsInputOf : Format → Bool → List ℕ → Saves
-    IsInputOf format true bytes = IsMailbox format bytes
-    IsInputOf format false bytes = IsMail None bytes
+      -- the chosen files of a mail are saved and have lines, and then those of each mail inside it; or the mail has a line, if it is refused
+      abbrev pub IsMailOf : Option ℕ → Reads Tree → Saves
+      IsMailOf number (Ok t) =
+          Then (AreFiles number (chosen options.choice (wanted_among known Own (places t (placements 0 t)))))
+          (AreInside number (inner_mails known 100 [] (Some 0) t (placements 0 t)))
+      IsMailOf number (Err refusal) = Only (refused_line number None (refusal_text refusal) ∷ [])
 
-    -- an input of this kind
-    abbrev pub IsInput : InputKind → List ℕ → Saves
-    IsInput kind bytes = IsInputOf (format_of kind) (is_mailbox kind bytes) bytes
+      -- the same of the bytes of a mail
+      abbrev pub IsMail : Option ℕ → List ℕ → Saves
+      IsMail number bytes = IsMailOf number (read_mail_in known 100 bytes)
+
+      -- mails of a mailbox in a format, one after another; the first has this number
+      abbrev pub AreMails : Format → ℕ → List Entry → Saves
+      AreMails format number [] = Only []
+      AreMails format number (entry ∷ rest) = Then (IsMail (Some number) (mail_in format entry.mail)) (AreMails format (saturating_add number 1) rest)
+
+      -- a mailbox in a format
+      abbrev pub IsMailbox : Format → List ℕ → Saves
+      IsMailbox format bytes = Then (Only (front_lines (take (front_length bytes) bytes))) (AreMails format 1 (entries_in format bytes))
+
+      -- an input that is a mailbox in a format, or one mail
+      abbrev pub IsInputOf : Format → Bool → List ℕ → Saves
+      IsInputOf format true bytes = IsMailbox format bytes
+      IsInputOf format false bytes = IsMail None bytes
+
+      -- an input of this kind
+      abbrev pub IsInput : InputKind → List ℕ → Saves
+      IsInput kind bytes = IsInputOf (format_of kind) (is_mailbox kind bytes) bytes
 
 -- A directory that had some files and now has others, and a writer that had some bytes and now has others.
 module _ (held_old held_new : Option (List File)) (old new : Option (List ℕ)) (from next : ℕ) where
-  -- the lines were written and nothing else, the outcome is the worst of theirs, and the files were saved
+  -- the lines were written and nothing else, the names in them are safe, the outcome is the worst of theirs, and the files were saved
   abbrev pub Saved : program.Outcome → Saves → Type 0
   Saved outcome Are =
-      (lines : List FileLine) × Appends old new (lines_text lines) × (outcome ≡ worst lines)
+      (lines : List FileLine) × Appends old new (lines_text lines) × (outcome ≡ worst lines) × AreSafe lines
       × ((files : List File) → held_old ≡ Some files → (now : List File) × (held_new ≡ Some now) × Are files from lines next now)
 
   -- so it was, or memory ran out, or a write failed

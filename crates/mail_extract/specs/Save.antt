@@ -78,19 +78,6 @@ module _ (can_fail : List File → Bool) (options : Options) where
     pub hash : outcome.sha256 ≡ option_and_then (λ name. wanted_hash options.hashing wanted.content.bytes) outcome.saved
     pub error : is_some outcome.error ≡ (is_some wanted.content.fault || not (is_some outcome.saved))
 
-  -- files were saved one after another
-  abbrev pub AreSaved : List File → List Wanted → ℕ → List Outcome → ℕ → List File → Type 0
-  AreSaved files [] from [] next now = (next ≡ from) × (now ≡ files)
-  AreSaved files (wanted ∷ others) from (outcome ∷ outcomes) next now =
-      (mid : List File) × (number : ℕ) × IsSaved files wanted from outcome number mid × AreSaved mid others number outcomes next now
-  AreSaved files _ from _ next now = ⊥
-
-  -- files were saved one after another in a directory that had some files and now has others, and their outcomes follow those of earlier ones
-  abbrev pub AreAdded : (held_old held_new : Option (List File)) → List Wanted → ℕ → (before after : List Outcome) → ℕ → Type 0
-  AreAdded held_old held_new wanted from before after next =
-      (files : List File) → held_old ≡ Some files → (now : List File) × (held_new ≡ Some now) × (outcomes : List Outcome)
-      × (after ≡ before ++ outcomes) × AreSaved files wanted from outcomes next now
-
 -- a forwarded mail in a forwarded mail, whose file contains it
 abbrev pub is_contained : Level → Node → Bool
 is_contained Own node = false

@@ -1,63 +1,35 @@
 //! Saving the files of an input that is read in blocks.
-ghost use Rattle.std.specs.Prelude.{◌≡◌, ◌∷◌, [], Some, flat_map, map, option_map, true};
-ghost use Rattle.std.specs.Prelude.{IfErr, IfOk};
-ghost use Rattle.mail_data.specs.InnerMailViews.{inner_view};
+ghost use Rattle.std.specs.Prelude.{◌≡◌, Some, option_map, true, IfErr, IfOk};
 ghost use Rattle.mail_data.specs.Mailbox.{has_front};
 ghost use Rattle.mail_data.specs.MailboxFormats.{entries_in, mail_in};
 ghost use Rattle.mail_data.specs.MailboxViews.{entries_left};
 ghost use Rattle.mail_json.specs.JsonLines.{format_of};
 ghost use Rattle.mail_json.specs.Part.{saturating_add};
 ghost use Rattle.mail_program.specs.Fault.{IsEnd};
-ghost use Rattle.mail_program.specs.Streams.{Writes};
 ghost use Rattle.mail_extract.specs.ChoiceViews.{options_view};
 ghost use Rattle.mail_extract.specs.Input.{AreMails, Ends, EndsInput, IsInput, IsMail, IsMailbox};
-ghost use Rattle.mail_extract.specs.Input.{file_line, front_lines, inner_lines, refused_line};
+ghost use Rattle.mail_extract.specs.Input.{front_lines};
 ghost use Rattle.mail_extract.specs.Report.{WritesAll};
-ghost use Rattle.mail_extract.specs.SaveViews.{outcome};
 ghost use Rattle.mail_extract.specs.private.Blocks.{EndsAfter, SavesFront};
 
 use crate::directory::Directory;
-use crate::options::SaveOptions;
-use crate::report::write_line;
-use crate::save::{Saved, save_files};
-use mail_data::inner_mails::InnerMail;
+use crate::inside::extract_mail;
+use crate::options::{Source, Target};
+use crate::report::{flush, report_refused};
 use mail_data::mailbox::quoted::unquoted;
 use mail_data::mailbox::{Format, Mailbox, MailboxEntry, read_mailbox, settled_entry};
-use mail_json::{FileLine, InputKind, Wanted, first_wanted, is_mailbox, read_until};
+use mail_json::{Wanted, first_wanted, is_mailbox, read_until};
 use mail_program::{Fault, Outcome, is_all_whitespace, refusal_of};
 use mailparse::{KnownCharsets, parse_mail_in};
 use std::alloc::Global;
 use std::io::{self, ErrorKind, Read, Write};
 
-/// A directory in which files are saved, and the next number for a taken name.
-#[derive(Debug, Drop)]
-pub struct Target<D> {
-    /// The directory.
-    pub directory: D,
-    /// The number that is tried next if a name is taken.
-    pub number: u64,
-}
-
-/// What is known of an input, and how its files are saved.
-#[derive_where(Clone, Copy, Debug)]
-pub struct Source<'s, K> {
-    /// What the input is.
-    pub kind: InputKind,
-    /// The name of the file, or `None` for standard input.
-    pub file: Option<&'s str>,
-    /// How its files are saved, and which.
-    pub options: SaveOptions<'s>,
-    /// The charsets in which file names are decoded.
-    #[derive_where(skip(Debug))]
-    pub known: &'s K,
-}
-
 /// Saves the chosen files of an input, and writes their lines: of one mail, or of each mail of a
 /// mailbox (RFC 4155), which is read in blocks.
 ///
 /// Each mail that is refused has a line with `error` and no `size`, and so does each refused mail
-/// inside a mail, and text before the first separator of a mailbox. Lines are flushed while the
-/// mailbox is read. Returns the worst outcome that the lines report. Allocates the bytes of a block
+/// inside a mail, and text before the first separator of a mailbox. The line of a file follows it at
+/// once and is flushed, and lines are flushed while the mailbox is read. Returns the worst outcome that the lines report. Allocates the bytes of a block
 /// and of the mail that is read, and its decoded files in turn.
 ///
 /// # Errors
@@ -346,122 +318,13 @@ fn extract_one<W: Write, D: Directory, K: KnownCharsets>(
         (IsMail (option_map (λ name. name.now) source.entry.file) D.can_fail
         (options_view source.entry.options) (K.known source.entry.known.now) number raw.now) }
 {
-    let (file, options, known) = (source.file, source.options, source.known);
-    match parse_mail_in(alloc, raw, known) {
-        Ok(mail) => {
-            let (directory, next) = (&mut target.directory, &mut target.number);
-            let extracted = save_files(alloc, directory, next, &mail, options, known)?;
-            let saved = report_saved(out, extracted.saved.as_slice(), file, number)?;
-            let inside = extracted.inside.as_slice();
-            Ok(saved.and(report_inside(alloc, out, inside, file, number)?))
-        }
+    match parse_mail_in(alloc, raw, source.known) {
+        Ok(mail) => extract_mail(alloc, out, target, &mail, number, source),
         Err(error) => {
             let Some(text) = refusal_of(alloc, &error)? else {
                 return Err(Fault::Mail(error));
             };
-            report_refused(out, file, number, None, text.as_str())
+            report_refused(out, source.file, number, None, text.as_str())
         }
-    }
-}
-
-/// Writes the lines of files.
-fn report_saved<W: Write>(
-    out: &mut W,
-    files: &[Saved],
-    file: Option<&str>,
-    number: Option<usize>,
-) -> Result<Outcome, Fault>
-    ensures { WritesAll (W.contents out.old) (W.contents out.new) result
-        (map (file_line (option_map (λ name. name.now) file.entry) number)
-        (map outcome files.now)) }
-{
-    let mut outcome = Outcome::Clean;
-    for saved in files {
-        let line = FileLine {
-            file,
-            number,
-            path: Some(saved.path.as_str()),
-            saved: saved.name.as_deref(),
-            size: Some(saved.size),
-            sha256: saved.sha256.as_deref(),
-            error: saved.error.as_deref(),
-        };
-        outcome = outcome.and(write_line(out, &line)?);
-    }
-    Ok(outcome)
-}
-
-/// Writes the lines of the refused mails among those inside a mail.
-fn report_inside<W: Write>(
-    alloc: Global,
-    out: &mut W,
-    inside: &[InnerMail],
-    file: Option<&str>,
-    number: Option<usize>,
-) -> Result<Outcome, Fault>
-    ensures { WritesAll (W.contents out.old) (W.contents out.new) result
-        (flat_map (inner_lines (option_map (λ name. name.now) file.entry) number)
-        (map inner_view inside.now)) }
-{
-    let mut outcome = Outcome::Clean;
-    for inner in inside {
-        outcome = outcome.and(report_inner(alloc, out, inner, file, number)?);
-    }
-    Ok(outcome)
-}
-
-/// Writes the line of a mail inside a mail, if it is refused.
-fn report_inner<W: Write>(
-    alloc: Global,
-    out: &mut W,
-    inner: &InnerMail,
-    file: Option<&str>,
-    number: Option<usize>,
-) -> Result<Outcome, Fault>
-    ensures { WritesAll (W.contents out.old) (W.contents out.new) result
-        (inner_lines (option_map (λ name. name.now) file.entry) number (inner_view inner.now)) }
-{
-    let Some(error) = &inner.error else {
-        return Ok(Outcome::Clean);
-    };
-    let Some(text) = refusal_of(alloc, error)? else {
-        return Ok(Outcome::Clean);
-    };
-    let path = Some(inner.path.as_str());
-    report_refused(out, file, number, path, text.as_str())
-}
-
-/// Writes the line of a refusal: of an input, of its mail with this number, or of the mail in the
-/// part with this path.
-fn report_refused<'l, W: Write>(
-    out: &mut W,
-    file: Option<&'l str>,
-    number: Option<usize>,
-    path: Option<&'l str>,
-    error: &'l str,
-) -> Result<Outcome, Fault>
-    ensures { WritesAll (W.contents out.old) (W.contents out.new) result
-        (refused_line (option_map (λ name. name.now) file.entry) number
-        (option_map (λ name. name.now) path.entry) error.now ∷ []) }
-{
-    let line = FileLine {
-        file,
-        number,
-        path,
-        saved: None,
-        size: None,
-        sha256: None,
-        error: Some(error),
-    };
-    write_line(out, &line)
-}
-
-/// Flushes the writer.
-fn flush<W: Write>(out: &mut W) -> Result<(), Fault>
-    ensures { Writes (W.contents out.old) (W.contents out.new) result [] }
-{
-    match out.flush() {
-        Ok(()) => Ok(()),
-        Err(error) => Err(Fault::Output(error)),
     }
 }

@@ -1,11 +1,10 @@
-//! Which parts the file of a forwarded mail contains.
+//! The mails whose parts are saved, and which parts the file of a forwarded mail contains.
 ghost use Rattle.std.specs.Prelude.{◌≡◌};
 ghost use Rattle.mailparse.specs.Mail.{root};
 ghost use Rattle.mailparse.specs.Views.{tree_of};
 ghost use Rattle.mail_data.specs.InnerMails.{forwards};
 ghost use Rattle.mail_extract.specs.Save.{is_contained};
 
-use crate::options::SaveOptions;
 use mailparse::ParsedMail;
 
 /// The mail that has a part.
@@ -37,11 +36,22 @@ fn forwards(part: &ParsedMail<'_>) -> bool
     )
 }
 
-/// How the files of a mail are saved, and which mail it is.
+/// The mail whose parts are saved.
 #[derive(Clone, Copy)]
-pub(crate) struct Saving<'c> {
-    /// How they are saved, and which.
-    pub options: SaveOptions<'c>,
-    /// The mail that has them.
+pub(crate) struct Saving {
+    /// The number of the whole mail in its mailbox, or `None` for a mail by itself.
+    pub number: Option<usize>,
+    /// Which mail it is.
     pub level: Level,
+}
+
+/// The mail whose parts are searched for mails inside.
+#[derive(Clone, Copy)]
+pub(crate) struct Within {
+    /// The number of the whole mail in its mailbox, or `None` for a mail by itself.
+    pub number: Option<usize>,
+    /// The offset of this mail in the whole mail, or `None` if it is encoded.
+    pub start: Option<usize>,
+    /// How deep mails are searched.
+    pub most: u8,
 }

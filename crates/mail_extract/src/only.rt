@@ -6,8 +6,8 @@ ghost use Rattle.mail_extract.specs.OnlyViews.{files_held};
 
 use crate::directory::{Created, Directory};
 use crate::hash::Hashing;
-use crate::input::{Source, Target, extract_input};
-use crate::options::{Naming, SaveOptions};
+use crate::input::extract_input;
+use crate::options::{Naming, SaveOptions, Source, Target};
 use mail_program::{Fault, Outcome};
 use mailparse::KnownCharsets;
 use std::alloc::{AllocError, Global};

@@ -1,4 +1,4 @@
-//! How files are saved.
+//! How files are saved, and where.
 ghost use Rattle.std.specs.Prelude.{◌≡◌, IfOk, string_bytes};
 ghost use Rattle.mail_data.specs.FileNames.{IsSafeName};
 ghost use Rattle.mail_extract.specs.Naming.{target};
@@ -6,6 +6,7 @@ ghost use Rattle.mail_extract.specs.Naming.{target};
 use crate::choice::Choice;
 use crate::hash::Hashing;
 use mail_data::files::safe_file_name;
+use mail_json::InputKind;
 use mail_program::sha256_text;
 use std::alloc::{AllocError, Global};
 
@@ -29,9 +30,32 @@ pub struct SaveOptions<'c> {
     pub choice: Choice<'c>,
 }
 
+/// A directory in which files are saved, and the next number for a taken name.
+#[derive(Debug, Drop)]
+pub struct Target<D> {
+    /// The directory.
+    pub directory: D,
+    /// The number that is tried next if a name is taken.
+    pub number: u64,
+}
+
+/// What is known of an input, and how its files are saved.
+#[derive_where(Clone, Copy, Debug)]
+pub struct Source<'s, K> {
+    /// What the input is.
+    pub kind: InputKind,
+    /// The name of the file, or `None` for standard input.
+    pub file: Option<&'s str>,
+    /// How its files are saved, and which.
+    pub options: SaveOptions<'s>,
+    /// The charsets in which file names are decoded.
+    #[derive_where(skip(Debug))]
+    pub known: &'s K,
+}
+
 /// Returns the name under which bytes are saved if it is free, given the sender's.
 #[tactic(auto, unfolding(crate::specs::Naming::target))]
-pub(crate) fn target(
+pub(crate) fn target_name(
     alloc: Global,
     name: String,
     bytes: &[u8],

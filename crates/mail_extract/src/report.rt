@@ -1,8 +1,12 @@
 //! The lines that report what was saved, and the outcomes that they report.
-ghost use Rattle.std.specs.Prelude.{◌≡◌, ◌∷◌, []};
+ghost use Rattle.std.specs.Prelude.{◌≡◌, ◌∷◌, [], option_map};
 ghost use Rattle.mail_json.specs.FileLineViews.{file_line_view};
+ghost use Rattle.mail_extract.specs.Input.{file_line, refused_line};
 ghost use Rattle.mail_extract.specs.Report.{WritesAll, judged};
+ghost use Rattle.mail_extract.specs.SaveViews.{outcome};
+ghost use Rattle.mail_program.specs.Streams.{Writes};
 
+use crate::save::Saved;
 use mail_json::{FileLine, write_file_line};
 use mail_program::{Fault, Outcome};
 use std::io::Write;
@@ -50,5 +54,64 @@ fn outcome_of(line: &FileLine<'_>) -> Outcome
         (None, _, _) => Outcome::Clean,
         (Some(_), Some(_), None) => Outcome::Failed,
         (Some(_), _, _) => Outcome::Refused,
+    }
+}
+
+/// Writes the line of a file of the mail with this number, and flushes.
+pub(crate) fn report_saved<W: Write>(
+    out: &mut W,
+    saved: &Saved,
+    file: Option<&str>,
+    number: Option<usize>,
+) -> Result<Outcome, Fault>
+    ensures { WritesAll (W.contents out.old) (W.contents out.new) result
+        (file_line (option_map (λ name. name.now) file.entry) number (outcome saved.now) ∷ []) }
+{
+    let line = FileLine {
+        file,
+        number,
+        path: Some(saved.path.as_str()),
+        saved: saved.name.as_deref(),
+        size: Some(saved.size),
+        sha256: saved.sha256.as_deref(),
+        error: saved.error.as_deref(),
+    };
+    let outcome = write_line(out, &line)?;
+    flush(out)?;
+    Ok(outcome)
+}
+
+/// Writes the line of a refusal: of an input, of its mail with this number, or of the mail in the
+/// part with this path.
+pub(crate) fn report_refused<'l, W: Write>(
+    out: &mut W,
+    file: Option<&'l str>,
+    number: Option<usize>,
+    path: Option<&'l str>,
+    error: &'l str,
+) -> Result<Outcome, Fault>
+    ensures { WritesAll (W.contents out.old) (W.contents out.new) result
+        (refused_line (option_map (λ name. name.now) file.entry) number
+        (option_map (λ name. name.now) path.entry) error.now ∷ []) }
+{
+    let line = FileLine {
+        file,
+        number,
+        path,
+        saved: None,
+        size: None,
+        sha256: None,
+        error: Some(error),
+    };
+    write_line(out, &line)
+}
+
+/// Flushes the writer.
+pub(crate) fn flush<W: Write>(out: &mut W) -> Result<(), Fault>
+    ensures { Writes (W.contents out.old) (W.contents out.new) result [] }
+{
+    match out.flush() {
+        Ok(()) => Ok(()),
+        Err(error) => Err(Fault::Output(error)),
     }
 }

@@ -1,5 +1,5 @@
 -- Lemmas on a directory for one file: the first file is in it, and the line of each further one reports a failure.
-use Rattle.std.proofs.Common.{◌≡◌, ℕ, ◌+◌, ◌*◌, ◌<◌, ◌≤◌, Bool, true, false, cond, ◌&&◌, ◌||◌, List, [], ◌∷◌, ◌++◌, length, map, take, Option, Some, None, is_some, Ok, Err, refl, sym, ap, subst, ◌∙◌, arith, inl, inr, ⊎_elim, ◌⊎◌}
+use Rattle.std.proofs.Common.{◌≡◌, ℕ, ◌+◌, ◌*◌, ◌<◌, ◌≤◌, Bool, true, false, cond, ◌&&◌, ◌||◌, List, [], ◌∷◌, ◌++◌, length, take, Option, Some, None, is_some, Ok, Err, refl, sym, ap, subst, ◌∙◌, arith, inl, inr, ⊎_elim, ◌⊎◌}
 use Rattle.std.specs.Prelude.{flat_map, not, string_bytes}
 use Rattle.std.specs.Io.KnownBytes.{Appends, Consumes, IsAtEnd}
 use Rattle.std.proofs.KnownBytes.{Appends-nil}
@@ -13,6 +13,7 @@ use Rattle.mailparse.specs.Mail.{Tree, read_mail_in}
 use Rattle.mailparse.specs.Placement.{placements}
 use Rattle.mailparse.specs.Refusal.{Reads, Refusal}
 use Rattle.mail_data.specs.InnerMails.{InnerMail, inner_mails}
+use Rattle.mail_data.specs.PartPlaces.{places}
 use Rattle.mail_data.specs.Mailbox.{Entry, front_length}
 use Rattle.mail_data.specs.MailboxFormats.{entries_in, mail_in}
 use Rattle.mail_data.specs.declared.mailbox.formats.Format.{Format}
@@ -25,7 +26,7 @@ use Rattle.mail_program.specs.Outcome.{worse}
 use Rattle.mail_program.specs.declared.outcome.Outcome as program
 use Rattle.mail_program.specs.declared.outcome.Outcome.TheVariants.{Clean, Refused, Failed}
 use Rattle.mail_extract.specs.Directory.{File, has_file}
-use Rattle.mail_extract.specs.Input.{AreMails, EndsInput, IsInput, IsInputOf, IsMail, IsMailOf, IsMailbox, file_line, front_lines, inner_lines, refused_line}
+use Rattle.mail_extract.specs.Input.{AreFiles, AreInside, AreMails, EndsInput, IsInput, IsInputOf, IsInside, IsMailOf, file_line, refused_line}
 use Rattle.mail_extract.specs.Naming.{Options, target}
 use Rattle.mail_extract.specs.Only.{WritesOnly, fails_if_full, input_files, input_files_of, mail_files, read_files}
 use Rattle.mail_extract.specs.OnlyViews.{files_held}
@@ -33,10 +34,12 @@ use Rattle.mail_extract.specs.declared.only.HeldFile.{HeldFile}
 use Rattle.mail_extract.specs.declared.only.OneFile.{OneFile}
 use Rattle.mail_extract.specs.declared.only.OnlyFile.TheVariants.{Missing, Several, Written}
 use Rattle.mail_extract.specs.Report.{judged, worst}
-use Rattle.mail_extract.specs.Save.{AreSaved, IsKept, IsKeptNumbered, IsPut, IsSaved, Outcome, Wanted, chosen, wanted_files}
+use Rattle.mail_extract.specs.Save.{IsKept, IsKeptNumbered, IsPut, IsSaved, Outcome, Wanted, chosen, wanted_among, wanted_files, wanted_inside}
+use Rattle.mail_extract.specs.declared.level.Level.TheVariants.{Own}
 use Rattle.mail_extract.specs.declared.options.Naming.{Naming}
 use Rattle.mail_extract.specs.declared.options.Naming.TheVariants.{BySender}
-use Rattle.mail_extract.proofs.lemmas.Input.{worst-append}
+use Rattle.mail_extract.proofs.lemmas.Save.{chosen_all, chosen_inside}
+use Rattle.mail_extract.proofs.lemmas.Saves.{worst-append}
 
 -- ---- outcomes
 
@@ -273,34 +276,43 @@ module _ (file : Option (List ℕ)) (number : Option ℕ) (options : Options) (f
 -- ---- the files of an input
 
 module _ (file : Option (List ℕ)) (options : Options) (by_sender : options.naming ≡ BySender) (known : Charsets) where
-  keeps_all : (number : Option ℕ) (files now : List File) (ws : List Wanted) (from : ℕ) (outcomes : List Outcome) (next : ℕ)
-      → AreSaved fails_if_full options files ws from outcomes next now → Keeps files ws (map (file_line file number) outcomes) now
-  keeps_all number files now [] from [] next h = subst (λ (fs : List File). Keeps files [] [] fs) (sym h.1) (keeps_only files [] refl)
-  keeps_all number files now [] from (o ∷ os) next h = absurd h
-  keeps_all number files now (w ∷ ws) from [] next h = absurd h
-  keeps_all number files now (w ∷ ws) from (o ∷ os) next h =
-      keeps_then files h.0 now (w ∷ []) ws (file_line file number o ∷ []) (map (file_line file number) os)
-      (keeps_one file number options files h.0 w from o h.1 h.2 by_sender) (keeps_all number h.0 now ws h.1 os next h.3)
+  keeps_files : (number : Option ℕ) (files now : List File) (ws : List Wanted) (from : ℕ) (lines : List FileLine) (next : ℕ)
+      → AreFiles file fails_if_full options number ws files from lines next now → Keeps files ws lines now
+  keeps_files number files now [] from lines next h = subst (λ (fs : List File). Keeps files [] lines fs) (sym h.2) (keeps_only files lines (ap failures h.0))
+  keeps_files number files now (w ∷ ws) from lines next h =
+      subst (λ (ls : List FileLine). Keeps files (w ∷ ws) ls now) (sym (h.6 ∙ ap (λ (ls : List FileLine). ls ++ h.3) h.4.2))
+      (keeps_then files h.0 now (w ∷ []) ws (file_line file number h.4.0 ∷ []) h.3 (keeps_one file number options files h.0 w from h.4.0 h.1 h.4.1 by_sender)
+      (keeps_files number h.0 now ws h.1 h.3 next h.5))
 
   inner_fine : (number : Option ℕ) (refusal : Option Refusal) (path : List ℕ)
       → failures (option_map_or (λ given. refused_line file number (Some path) (refusal_text given) ∷ []) refusal []) ≡ 0
   inner_fine number None path = refl
   inner_fine number (Some refusal) path = refl
 
-  inside_fine : (number : Option ℕ) (mails : List InnerMail) → failures (flat_map (inner_lines file number) mails) ≡ 0
-  inside_fine number [] = refl
-  inside_fine number (inner ∷ mails) =
-      let one : failures (inner_lines file number inner) ≡ 0 = inner_fine number inner.refusal inner.path in
-      let others = inside_fine number mails in
-      let none : failures (inner_lines file number inner) + failures (flat_map (inner_lines file number) mails) ≡ 0 = omega (arith, one, others) in
-      ap failures (flat_map-cons (inner_lines file number) inner mails) ∙ failures-append (inner_lines file number inner) (flat_map (inner_lines file number) mails) ∙ none
+  keeps_inner : (number : Option ℕ) (inner : InnerMail) (files now : List File) (from next : ℕ) (lines : List FileLine)
+      → IsInside file fails_if_full options known number inner files from lines next now → Keeps files (chosen options.choice (wanted_inside known inner)) lines now
+  keeps_inner number inner files now from next lines h =
+      subst (λ (ls : List FileLine). Keeps files (chosen options.choice (wanted_inside known inner)) ls now) (sym h.6)
+      (keeps_lines files now _ h.2 h.3 (ap failures h.5.0 ∙ inner_fine number inner.refusal inner.path)
+      (subst (λ (fs : List File). Keeps files (chosen options.choice (wanted_inside known inner)) h.2 fs) (sym h.5.2) (keeps_files number files h.0 _ from h.2 h.1 h.4)))
+
+  keeps_inside : (number : Option ℕ) (mails : List InnerMail) (files now : List File) (from next : ℕ) (lines : List FileLine)
+      → AreInside file fails_if_full options known number mails files from lines next now → Keeps files (chosen_inside known options.choice mails) lines now
+  keeps_inside number [] files now from next lines h = subst (λ (fs : List File). Keeps files [] lines fs) (sym h.2) (keeps_only files lines (ap failures h.0))
+  keeps_inside number (inner ∷ mails) files now from next lines h =
+      let files_of = λ (i : InnerMail). chosen options.choice (wanted_inside known i) in
+      subst (λ (ls : List FileLine). Keeps files (chosen_inside known options.choice (inner ∷ mails)) ls now) (sym h.6)
+      (subst (λ (ws : List Wanted). Keeps files ws (h.2 ++ h.3) now) (sym (flat_map-cons files_of inner mails))
+      (keeps_then files h.0 now (files_of inner) (chosen_inside known options.choice mails) h.2 h.3 (keeps_inner number inner files h.0 from h.1 h.2 h.4) (keeps_inside number mails h.0 now h.1 next h.3 h.5)))
 
   keeps_mail : (number : Option ℕ) (read : Reads Tree) (files now : List File) (from next : ℕ) (lines : List FileLine)
       → IsMailOf file fails_if_full options known number read files from lines next now → Keeps files (read_files known options.choice read) lines now
   keeps_mail number (Ok t) files now from next lines h =
-      subst (λ (ls : List FileLine). Keeps files (chosen options.choice (wanted_files known t (placements 0 t))) ls now) (sym h.2)
-      (keeps_lines files now _ (map (file_line file number) h.0) _ (inside_fine number (inner_mails known 100 [] (Some 0) t (placements 0 t)))
-      (keeps_all number files now _ from h.0 next h.1))
+      let own = wanted_among known Own (places t (placements 0 t)) in
+      let mails = inner_mails known 100 [] (Some 0) t (placements 0 t) in
+      subst (λ (ls : List FileLine). Keeps files (chosen options.choice (wanted_files known t (placements 0 t))) ls now) (sym h.6)
+      (subst (λ (ws : List Wanted). Keeps files ws (h.2 ++ h.3) now) (chosen_all known options.choice own mails)
+      (keeps_then files h.0 now (chosen options.choice own) (chosen_inside known options.choice mails) h.2 h.3 (keeps_files number files h.0 _ from h.2 h.1 h.4) (keeps_inside number mails h.0 now h.1 next h.3 h.5)))
   keeps_mail number (Err refusal) files now from next lines h =
       subst (λ (fs : List File). Keeps files [] lines fs) (sym h.2) (keeps_only files lines (ap failures h.0))
 
@@ -383,7 +395,7 @@ module _ (file : Option (List ℕ)) (options : Options) (known : Charsets) (kind
       × Keeps [] (input_files known options.choice kind all) lines (files_held directory)
   kept_all =
       let saved = h.3 in
-      let after = saved.3 [] refl in (
+      let after = saved.4 [] refl in (
         h.0,
         h.1,
         h.2,

@@ -1,17 +1,17 @@
--- Lemmas on files that are saved one after another.
-use Rattle.std.proofs.Common.{◌≡◌, ℕ, ◌+◌, Bool, true, false, cond, ◌||◌, List, [], ◌∷◌, ◌++◌, length, map, Option, Some, None, is_some, option_and_then, option_map, Ok, refl, sym, ap, subst, append_assoc, arith, ⊎_elim, IfSome, ◌∙◌}
+-- Lemmas on files that are saved, and on which files these are.
+use Rattle.std.proofs.Common.{◌≡◌, ℕ, ◌+◌, Bool, true, false, cond, ◌||◌, List, [], ◌∷◌, ◌++◌, length, map, Option, Some, None, is_some, option_and_then, option_map, Ok, Err, refl, sym, ap, subst, arith, ⊎_elim, ◌∙◌}
 use Rattle.std.specs.Prelude.{filter, flat_map, not}
 use Rattle.std.proofs.lemmas.Bool.{cases_lt, cond-true, cond-false}
-use Rattle.std.proofs.lemmas.List.{append-nil, map-append, map_push}
+use Rattle.std.proofs.lemmas.List.{map-append}
 use Rattle.std.proofs.lemmas.List.Concat.{flat_map-cons}
-use Rattle.std.proofs.lemmas.List.Elements.{All-push, filter-append}
-use Rattle.std.specs.List.{All, list_any}
+use Rattle.std.proofs.lemmas.List.Elements.{filter-append}
+use Rattle.std.specs.List.{list_any}
 use Rattle.std.specs.Option.{option_map_or}
 use Rattle.std.specs.Result.{result_ok}
 use Rattle.mail_codec.specs.Charset.{Charsets}
 use Rattle.mailparse.specs.Mail.{Tree, read_mail_in}
-use Rattle.mailparse.specs.Placement.{Placement, placements}
-use Rattle.mailparse.specs.Refusal.{Reads}
+use Rattle.mailparse.specs.Placement.{placements}
+use Rattle.mailparse.specs.Refusal.{Reads, Refusal}
 use Rattle.mail_data.specs.InnerMails.{InnerMail, places_under}
 use Rattle.mail_data.specs.PartPlaces.{Place}
 use Rattle.mail_data.specs.lenient.Content.{Content}
@@ -24,7 +24,7 @@ use Rattle.mail_extract.specs.declared.directory.Created.{Created}
 use Rattle.mail_extract.specs.declared.directory.Created.TheVariants.{Taken}
 use Rattle.mail_extract.specs.Names.{IsNumbered}
 use Rattle.mail_extract.specs.Naming.{Options, target}
-use Rattle.mail_extract.specs.Save.{AreSaved, AreTaken, IsPut, IsSaved, Outcome, Wanted, chosen, is_chosen, wanted, wanted_among, wanted_as, wanted_inside}
+use Rattle.mail_extract.specs.Save.{AreTaken, IsPut, IsSaved, Wanted, chosen, is_chosen, wanted, wanted_among, wanted_as, wanted_inside}
 use Rattle.mail_extract.specs.declared.level.Level.{Level}
 use Rattle.mail_extract.specs.declared.level.Level.TheVariants.{Inside}
 
@@ -72,10 +72,6 @@ saved_file can_fail options files now wanted from next size name bytes path kept
       hash = is_hash ∙ ap (λ (c : Content). hash_kept options.hashing saved c.bytes) is_content;
       error = is_error ∙ ap (λ (c : Content). is_some c.fault || not (is_some saved)) is_content;
     }
-
--- each element of a list with one more
-pub each_more : {X : Type 0} (P : X → Type 0) (xs ys : List X) (x : X) → ys ≡ xs ++ x ∷ [] → All P xs → P x → All P ys
-each_more P xs ys x made each one = rw made (All-push P xs x each one)
 
 module _ (known : Charsets) (choice : Choice) (level : Level) where
   -- the first part, and the rest
@@ -130,37 +126,16 @@ chosen_all known choice own mails =
     ap (λ (files : List Wanted). chosen choice own ++ files) (sym (chosen-inside known choice mails))
     ∙ sym (filter-append (is_chosen choice) own _)
 
--- the chosen files of the mails inside a mail, the first and the rest
-inside_one : (known : Charsets) (choice : Choice) (all rest : List InnerMail) (inner : InnerMail) → all ≡ inner ∷ rest
-    → chosen_inside known choice all ≡ chosen choice (wanted_inside known inner) ++ chosen_inside known choice rest
-inside_one known choice all rest inner e = ap (chosen_inside known choice) e ∙ flat_map-cons (λ i. chosen choice (wanted_inside known i)) inner rest
-
--- the files of a mail inside a mail, after it was read
-pub inside_read : (known : Charsets) (inner : InnerMail) (t : Tree) (found : List Placement) (parts : List Place) (path : List ℕ)
-    → ◌≡◌ {A = Option Tree} (Some t) (result_ok (read_mail_in known 100 inner.bytes)) → found ≡ placements 0 t → path ≡ inner.path
-    → parts ≡ places_under path t found → wanted_among known Inside parts ≡ wanted_inside known inner
-inside_read known inner t found parts path read where_is same e =
-    ap (wanted_among known Inside) e ∙ ap (λ (p : List ℕ). wanted_among known Inside (places_under p t found)) same
-    ∙ ap (λ (ps : List Placement). wanted_among known Inside (places_under inner.path t ps)) where_is
-    ∙ ap (λ (o : Option Tree). option_map_or (λ u. wanted_among known Inside (places_under inner.path u (placements 0 u))) o []) read
+-- the files of a mail inside a mail that was read so
+pub inside_read : (known : Charsets) (inner : InnerMail) (t : Tree) → read_mail_in known 100 inner.bytes ≡ Ok t
+    → wanted_inside known inner ≡ wanted_among known Inside (places_under inner.path t (placements 0 t))
+inside_read known inner t e =
+    ap (λ (r : Reads Tree). option_map_or (λ u. wanted_among known Inside (places_under inner.path u (placements 0 u))) (result_ok r) []) e
 
 -- a refused mail has none
-pub inside_refused : (known : Charsets) (inner : InnerMail) → ◌≡◌ {A = Option Tree} None (result_ok (read_mail_in known 100 inner.bytes))
-    → [] ≡ wanted_inside known inner
-inside_refused known inner e =
-    ap (λ (o : Option Tree). option_map_or (λ u. wanted_among known Inside (places_under inner.path u (placements 0 u))) o []) e
-
--- a property of the value in an option
-pub some_has : {X : Type 0} (P : X → Type 0) (o : Option X) (x : X) → o ≡ Some x → IfSome o P → P x
-some_has P o x e h = subst (λ (found : Option _). IfSome found P) e h
-
--- one more outcome
-pub made_more : {X : Type 0} (view : X → Outcome) (xs ys : List X) (x : X) → ys ≡ xs ++ x ∷ [] → map view ys ≡ map view xs ++ view x ∷ []
-made_more view xs ys x made = ap (map view) made ∙ map_push view xs x
-
--- several more outcomes
-pub made_all : (old done outcomes shown more : List Outcome) → shown ≡ old ++ done → more ≡ shown ++ outcomes → more ≡ old ++ (done ++ outcomes)
-made_all old done outcomes shown more here e = e ∙ ap (λ (os : List Outcome). os ++ outcomes) here ∙ append_assoc old done outcomes
+pub inside_refused : (known : Charsets) (inner : InnerMail) (refusal : Refusal) → read_mail_in known 100 inner.bytes ≡ Err refusal → wanted_inside known inner ≡ []
+inside_refused known inner refusal e =
+    ap (λ (r : Reads Tree). option_map_or (λ u. wanted_among known Inside (places_under inner.path u (placements 0 u))) (result_ok r) []) e
 
 -- no number is below the first
 pub taken_start : (can_fail : List File → Bool) (name : List ℕ) (files : List File) (from : ℕ) → AreTaken can_fail name files from from
@@ -175,68 +150,6 @@ taken_more can_fail name files from number text is taken before = λ n above bel
     let same : number ≡ n = omega arith in
     subst (λ (m : ℕ). (t : List ℕ) × IsNumbered name m t × (has_file t files ≡ true)) same (text, is, taken))
     (cases_lt n number)
-
--- For a directory that may fail or not, which had these files before those of a mail were saved.
-module _ (can_fail : List File → Bool) (options : Options) (files : List File) (all : List Wanted) (from : ℕ) where
-  -- the outcomes of the files so far, which those of the files that are left complete
-  abbrev pub Continues : List Outcome → List Wanted → ℕ → List File → Type 0
-  Continues done left number mid =
-      (outcomes : List Outcome) (next : ℕ) (now : List File) → AreSaved can_fail options mid left number outcomes next now
-      → AreSaved can_fail options files all from (done ++ outcomes) next now
-
-  -- one more file
-  pub saved_more : (done : List Outcome) (wanted : Wanted) (left : List Wanted) (number next : ℕ) (mid now : List File) (outcome : Outcome)
-      → IsSaved can_fail options mid wanted number outcome next now → Continues done (wanted ∷ left) number mid → Continues (done ++ outcome ∷ []) left next now
-  saved_more done wanted left number next mid now outcome one here = λ outcomes last after h.
-      subst (λ (os : List Outcome). AreSaved can_fail options files all from os last after) (sym (append_assoc done (outcome ∷ []) outcomes))
-      (here (outcome ∷ outcomes) last after (now, next, one, h))
-
-  -- no file is left
-  pub saved_end : (done : List Outcome) (left : List Wanted) (number : ℕ) (mid : List File) → left ≡ [] → Continues done left number mid
-      → AreSaved can_fail options files all from done number mid
-  saved_end done left number mid e here =
-      subst (λ (os : List Outcome). AreSaved can_fail options files all from os number mid) (append-nil done)
-      (here [] number mid (subst (λ (ws : List Wanted). AreSaved can_fail options mid ws number [] number mid) (sym e) (refl, refl)))
-
-  -- several more files
-  pub saved_all : (done : List Outcome) (these : List Wanted) (outcomes : List Outcome) (left : List Wanted) (number next : ℕ) (mid now : List File)
-      → AreSaved can_fail options mid these number outcomes next now → Continues done (these ++ left) number mid → Continues (done ++ outcomes) left next now
-  saved_all done [] [] left number next mid now h here =
-      subst (λ (os : List Outcome). Continues os left next now) (sym (append-nil done))
-      (subst (λ (n : ℕ). Continues done left n now) (sym h.0) (subst (λ (fs : List File). Continues done left number fs) (sym h.1) here))
-  saved_all done [] (outcome ∷ outcomes) left number next mid now h here = absurd h
-  saved_all done (wanted ∷ these) [] left number next mid now h here = absurd h
-  saved_all done (wanted ∷ these) (outcome ∷ outcomes) left number next mid now h here =
-      subst (λ (os : List Outcome). Continues os left next now) (append_assoc done (outcome ∷ []) outcomes)
-      (saved_all (done ++ outcome ∷ []) these outcomes left h.1 next h.0 now h.3
-      (saved_more done wanted (these ++ left) number h.1 mid h.0 outcome h.2 here))
-
-  -- the files of the mail itself
-  pub saved_first : (these left : List Wanted) (outcomes shown : List Outcome) (next : ℕ) (now : List File) → these ++ left ≡ all → shown ≡ outcomes
-      → AreSaved can_fail options files these from outcomes next now → Continues shown left next now
-  saved_first these left outcomes shown next now e made h =
-      subst (λ (os : List Outcome). Continues os left next now) (sym made)
-      (saved_all [] these outcomes left from next files now h
-      (λ os last after k. subst (λ (ws : List Wanted). AreSaved can_fail options files ws from os last after) e k))
-
-  -- a part
-  pub place_more : (known : Charsets) (level : Level) (parts rest : List Place) (place : Place) (done outcomes : List Outcome) (number next : ℕ) (mid now : List File)
-      → parts ≡ place ∷ rest → AreSaved can_fail options mid (chosen options.choice (wanted_among known level (place ∷ []))) number outcomes next now
-      → Continues done (chosen options.choice (wanted_among known level parts)) number mid
-      → Continues (done ++ outcomes) (chosen options.choice (wanted_among known level rest)) next now
-  place_more known level parts rest place done outcomes number next mid now e some here =
-      saved_all done _ outcomes _ number next mid now some
-      (subst (λ (ws : List Wanted). Continues done ws number mid) (chosen-cons known options.choice level parts rest place e) here)
-
-  -- a mail inside the mail
-  pub inner_more : (known : Charsets) (mails rest : List InnerMail) (inner : InnerMail) (done outcomes shown : List Outcome) (number next : ℕ)
-      (mid now : List File) → mails ≡ inner ∷ rest → shown ≡ done ++ outcomes
-      → AreSaved can_fail options mid (chosen options.choice (wanted_inside known inner)) number outcomes next now
-      → Continues done (chosen_inside known options.choice mails) number mid → Continues shown (chosen_inside known options.choice rest) next now
-  inner_more known mails rest inner done outcomes shown number next mid now e made h here =
-      subst (λ (os : List Outcome). Continues os (chosen_inside known options.choice rest) next now) (sym made)
-      (saved_all done _ outcomes _ number next mid now h
-      (subst (λ (ws : List Wanted). Continues done ws number mid) (inside_one known options.choice mails rest inner e) here))
 
 -- whether one element passes a test, seen by a view
 pub list_any_map : {A B : Type 0} (p : B → Bool) (f : A → B) (xs : List A) → list_any p (map f xs) ≡ list_any (λ x. p (f x)) xs

@@ -1,8 +1,7 @@
 -- What saving the files of the mails at the front of a mailbox does, whatever follows.
-use Rattle.std.specs.Prelude.{◌≡◌, ℕ, List, ◌++◌, Option, Some, Bool, Result, Ok, Err}
-use Rattle.std.specs.Io.KnownBytes.{Appends, Consumes, IsAtEnd}
+use Rattle.std.specs.Prelude.{ℕ, List, ◌++◌, Option, Bool, Result, Ok, Err}
+use Rattle.std.specs.Io.KnownBytes.{Consumes, IsAtEnd}
 use Rattle.mail_codec.specs.Charset.{Charsets}
-use Rattle.mail_data.specs.Mailbox.{Entry}
 use Rattle.mail_data.specs.MailboxFormats.{entries_in}
 use Rattle.mail_data.specs.declared.mailbox.formats.Format.{Format}
 use Rattle.mail_json.specs.FileLine.{FileLine}
@@ -12,15 +11,11 @@ use Rattle.mail_program.specs.declared.outcome.Outcome.{Outcome}
 use Rattle.mail_extract.specs.Directory.{File}
 use Rattle.mail_extract.specs.Input.{AreMails, Saved, Saves}
 use Rattle.mail_extract.specs.Naming.{Options}
-use Rattle.mail_extract.specs.Report.{lines_text, worst}
 
--- For an input with this name, a directory that may fail or not, options, the known charsets, and a mailbox in a format.
-module _ (file : Option (List ℕ)) (can_fail : List File → Bool) (options : Options) (known : Charsets) (format : Format) where
-  -- the mails so far, the first of which had this number, were saved and had these lines: the mails that are left complete them
-  abbrev pub Continues : (first : ℕ) → List Entry → List File → ℕ → List FileLine → (number : ℕ) → List Entry → ℕ → List File → Type 0
-  Continues first all files from done number left next mid =
-      (others : List FileLine) (last : ℕ) (now : List File) → AreMails file can_fail options known format number left mid next others last now
-      → AreMails file can_fail options known format first all files from (done ++ others) last now
+-- what was saved and written so far is completed by what is left, whatever bytes follow
+abbrev pub Before : (All Left : List ℕ → Saves) → Saves
+Before All Left files from done next mid =
+    (later : List ℕ) (others : List FileLine) (last : ℕ) (now : List File) → Left later mid next others last now → All later files from (done ++ others) last now
 
 -- A directory that had some files and now has others, and a writer that had some bytes and now has others.
 module _ (held_old held_new : Option (List File)) (old new : Option (List ℕ)) (from next : ℕ) where
@@ -32,9 +27,9 @@ module _ (held_old held_new : Option (List File)) (old new : Option (List ℕ)) 
 
   -- For an input with this name, a directory that may fail or not, options, the known charsets, and a mailbox in a format.
   module _ (file : Option (List ℕ)) (can_fail : List File → Bool) (options : Options) (known : Charsets) (format : Format) where
-    -- the mails at the front of the bytes were saved, up to the rest; with any further bytes, they are the first mails
+    -- the mails at the front of the bytes, the first of which has a number, were saved, up to the rest; with any further bytes, they are the first mails
     abbrev pub SavesFront : (first : ℕ) (bytes : List ℕ) (number : ℕ) (rest : List ℕ) → Outcome → Type 0
     SavesFront first bytes number rest outcome =
-        (lines : List FileLine) × Appends old new (lines_text lines) × (outcome ≡ worst lines)
-        × ((files : List File) → held_old ≡ Some files → (now : List File) × (held_new ≡ Some now)
-        × ((more : List ℕ) → Continues file can_fail options known format first (entries_in format (bytes ++ more)) files from lines number (entries_in format (rest ++ more)) next now))
+        Saved held_old held_new old new from next outcome
+        (Before (λ later. AreMails file can_fail options known format first (entries_in format (bytes ++ later)))
+        (λ later. AreMails file can_fail options known format number (entries_in format (rest ++ later))))

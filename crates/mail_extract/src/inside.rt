@@ -1,0 +1,131 @@
+//! Saving the files of a mail and of the mails inside it, each of which is read in its place.
+ghost use Rattle.std.specs.Prelude.{◌≡◌, Ok, map, option_map};
+ghost use Rattle.mailparse.specs.Placement.{placements};
+ghost use Rattle.mailparse.specs.Views.{placements_of, tree_of};
+ghost use Rattle.mail_data.specs.InnerMails.{mails_in_place};
+ghost use Rattle.mail_data.specs.PlaceViews.{place_view};
+ghost use Rattle.mail_extract.specs.ChoiceViews.{options_view};
+ghost use Rattle.mail_extract.specs.Input.{AreInside, Ends, IsMailOf};
+ghost use Rattle.mail_json.specs.Inside.{mails_among};
+
+use crate::directory::Directory;
+use crate::level::{Level, Saving, Within};
+use crate::options::{Source, Target};
+use crate::parts::extract_places;
+use crate::report::report_refused;
+use mail_data::inner_mails::{forwarded_mail, places_under};
+use mail_data::places::{Place, places};
+use mail_program::{Fault, Outcome, refusal_of};
+use mailparse::{KnownCharsets, MAX_LEVELS, ParsedMail, parse_mail_in};
+use std::alloc::Global;
+use std::io::Write;
+
+/// Saves the chosen files of a mail with this number in its mailbox and of the mails inside it, and
+/// writes the line of each after it. The mail is as it was parsed.
+pub(crate) fn extract_mail<W: Write, D: Directory, K: KnownCharsets>(
+    alloc: Global,
+    out: &mut W,
+    target: &mut Target<D>,
+    mail: &ParsedMail<'_>,
+    number: Option<usize>,
+    source: Source<'_, K>,
+) -> Result<Outcome, Fault>
+    requires placed { placements_of mail.now ≡ placements 0 (tree_of mail.now) }
+    ensures { Ends (D.held target.old.directory) (D.held target.new.directory)
+        (W.contents out.old) (W.contents out.new) target.old.number target.new.number result
+        (IsMailOf (option_map (λ name. name.now) source.entry.file) D.can_fail
+        (options_view source.entry.options) (K.known source.entry.known.now) number
+        (Ok (tree_of mail.now))) }
+{
+    let saving = Saving {
+        number,
+        level: Level::Own,
+    };
+    let found = places(alloc, mail)?;
+    let own = extract_places(alloc, out, target, found.as_slice(), saving, source)?;
+    let within = Within {
+        number,
+        start: Some(0),
+        most: MAX_LEVELS,
+    };
+    Ok(own.and(extract_inside(alloc, out, target, found.as_slice(), within, source)?))
+}
+
+/// Saves the chosen files of the mails that these parts of a mail contain, and of those inside
+/// them.
+#[cycle(inside)]
+fn extract_inside<W: Write, D: Directory, K: KnownCharsets>(
+    alloc: Global,
+    out: &mut W,
+    target: &mut Target<D>,
+    places: &[Place<'_, '_>],
+    within: Within,
+    source: Source<'_, K>,
+) -> Result<Outcome, Fault>
+    ensures { Ends (D.held target.old.directory) (D.held target.new.directory)
+        (W.contents out.old) (W.contents out.new) target.old.number target.new.number result
+        (AreInside (option_map (λ name. name.now) source.entry.file) D.can_fail
+        (options_view source.entry.options) (K.known source.entry.known.now) within.number
+        (mails_among (K.known source.entry.known.now) within.most within.start
+        (map place_view places.now))) }
+{
+    let mut outcome = Outcome::Clean;
+    if within.most == 0 {
+        return Ok(outcome);
+    }
+    for place in places {
+        let deeper = Within {
+            number: within.number,
+            start: within.start,
+            most: within.most - 1,
+        };
+        outcome = outcome.and(extract_forwarded(alloc, out, target, place, deeper, source)?);
+    }
+    Ok(outcome)
+}
+
+/// Saves the chosen files of the mail that a part of a mail contains, and of those inside it, or
+/// writes the line of its refusal.
+#[cycle(inside)]
+fn extract_forwarded<W: Write, D: Directory, K: KnownCharsets>(
+    alloc: Global,
+    out: &mut W,
+    target: &mut Target<D>,
+    place: &Place<'_, '_>,
+    within: Within,
+    source: Source<'_, K>,
+) -> Result<Outcome, Fault>
+    ensures { Ends (D.held target.old.directory) (D.held target.new.directory)
+        (W.contents out.old) (W.contents out.new) target.old.number target.new.number result
+        (AreInside (option_map (λ name. name.now) source.entry.file) D.can_fail
+        (options_view source.entry.options) (K.known source.entry.known.now) within.number
+        (mails_in_place (K.known source.entry.known.now) within.most within.start
+        (place_view place.now))) }
+{
+    let Some(found) = forwarded_mail(alloc, place, within.start)? else {
+        return Ok(Outcome::Clean);
+    };
+    let path = place.path.as_str();
+    match parse_mail_in(alloc, found.bytes.as_slice(), source.known) {
+        Ok(mail) => {
+            let saving = Saving {
+                number: within.number,
+                level: Level::Inside,
+            };
+            let parts = places_under(alloc, &mail, path)?;
+            let own = extract_places(alloc, out, target, parts.as_slice(), saving, source)?;
+            let inside = Within {
+                number: within.number,
+                start: found.start,
+                most: within.most,
+            };
+            Ok(own.and(extract_inside(alloc, out, target, parts.as_slice(), inside, source)?))
+        }
+        Err(error) => {
+            let Some(text) = refusal_of(alloc, &error)? else {
+                return Err(Fault::Mail(error));
+            };
+            report_refused(out, source.file, within.number, Some(path), text.as_str())
+        }
+    }
+}

@@ -1,0 +1,124 @@
+//! Saving the files among the parts of a mail.
+ghost use Rattle.std.specs.Prelude.{◌≡◌, ◌∷◌, [], map, option_map, string_bytes};
+ghost use Rattle.std.specs.Prelude.{IfErr, IfOk};
+ghost use Rattle.mailparse.specs.Mail.{root};
+ghost use Rattle.mailparse.specs.Outcome.{IsMemory};
+ghost use Rattle.mailparse.specs.Views.{tree_of};
+ghost use Rattle.mail_data.specs.FileNames.{IsSafeName};
+ghost use Rattle.mail_data.specs.Files.{file_name};
+ghost use Rattle.mail_data.specs.PlaceViews.{place_view};
+ghost use Rattle.mail_extract.specs.ChoiceViews.{choice_view, options_view};
+ghost use Rattle.mail_extract.specs.Endings.{ending_of};
+ghost use Rattle.mail_extract.specs.Input.{AreFiles, Ends};
+ghost use Rattle.mail_extract.specs.Names.{wanted_name};
+ghost use Rattle.mail_extract.specs.Save.{chosen, is_chosen, wanted_among, wanted_as};
+
+use crate::choice::Choice;
+use crate::directory::Directory;
+use crate::endings::ending_of;
+use crate::level::{Level, Saving, is_contained};
+use crate::names::wanted_name;
+use crate::options::{Source, Target};
+use crate::report::report_saved;
+use crate::save::save_file;
+use mail_data::files::{file_name, is_extracted};
+use mail_data::places::Place;
+use mail_program::{Fault, Outcome};
+use mailparse::{KnownCharsets, MailParseError, ParsedMail};
+use std::alloc::{AllocError, Global};
+use std::io::Write;
+
+/// Saves the chosen files among some parts, and writes the line of each after it.
+pub(crate) fn extract_places<W: Write, D: Directory, K: KnownCharsets>(
+    alloc: Global,
+    out: &mut W,
+    target: &mut Target<D>,
+    places: &[Place<'_, '_>],
+    saving: Saving,
+    source: Source<'_, K>,
+) -> Result<Outcome, Fault>
+    ensures { Ends (D.held target.old.directory) (D.held target.new.directory)
+        (W.contents out.old) (W.contents out.new) target.old.number target.new.number result
+        (AreFiles (option_map (λ name. name.now) source.entry.file) D.can_fail
+        (options_view source.entry.options) saving.number
+        (chosen (options_view source.entry.options).choice
+        (wanted_among (K.known source.entry.known.now) saving.level (map place_view places.now)))) }
+{
+    let mut outcome = Outcome::Clean;
+    for place in places {
+        outcome = outcome.and(extract_place(alloc, out, target, place, saving, source)?);
+    }
+    Ok(outcome)
+}
+
+/// Saves a part if it is a chosen file, and writes its line.
+fn extract_place<W: Write, D: Directory, K: KnownCharsets>(
+    alloc: Global,
+    out: &mut W,
+    target: &mut Target<D>,
+    place: &Place<'_, '_>,
+    saving: Saving,
+    source: Source<'_, K>,
+) -> Result<Outcome, Fault>
+    ensures { Ends (D.held target.old.directory) (D.held target.new.directory)
+        (W.contents out.old) (W.contents out.new) target.old.number target.new.number result
+        (AreFiles (option_map (λ name. name.now) source.entry.file) D.can_fail
+        (options_view source.entry.options) saving.number
+        (chosen (options_view source.entry.options).choice
+        (wanted_among (K.known source.entry.known.now) saving.level
+        (place_view place.now ∷ [])))) }
+{
+    if !is_extracted(alloc, place.part, source.known)? {
+        return Ok(Outcome::Clean);
+    }
+    let name = name_of(alloc, place.part, source.known)?;
+    if !is_kept(
+        alloc,
+        place,
+        name.as_str(),
+        saving.level,
+        source.options.choice,
+    )? {
+        return Ok(Outcome::Clean);
+    }
+    let saved = save_file(alloc, target, place, name, source.options)?;
+    report_saved(out, &saved, source.file, saving.number)
+}
+
+/// Returns whether the choice keeps a part as a file with this wanted name.
+fn is_kept(
+    alloc: Global,
+    place: &Place<'_, '_>,
+    name: &str,
+    level: Level,
+    choice: Choice<'_>,
+) -> Result<bool, AllocError>
+    ensures { IfOk result (λ is. is ≡ is_chosen (choice_view choice.entry)
+        (wanted_as level (place_view place.now) name.now)) }
+{
+    let is = choice.keeps(alloc, place.path.as_str(), type_of(place.part), name)?;
+    Ok(is && (!is_contained(level, place.part) || choice.path.is_some()))
+}
+
+/// Returns the type of a part.
+fn type_of<'p>(part: &'p ParsedMail<'_>) -> &'p str
+    ensures { result.now ≡ (root (tree_of part.now)).ctype.mimetype }
+{
+    part.ctype.mimetype.as_str()
+}
+
+/// Returns the wanted name of the file that a part is.
+fn name_of<K: KnownCharsets>(
+    alloc: Global,
+    part: &ParsedMail<'_>,
+    known: &K,
+) -> Result<String, MailParseError>
+    ensures read { IfOk result (λ text. string_bytes text
+        ≡ wanted_name (file_name (K.known known.now) (root (tree_of part.now)))
+        (ending_of (root (tree_of part.now)))) }
+    ensures safe { IfOk result (λ text. IsSafeName (string_bytes text)) }
+    ensures only_memory { IfErr result IsMemory }
+{
+    let name = file_name(alloc, part, known)?;
+    Ok(wanted_name(alloc, name, ending_of(part))?)
+}
