@@ -9,7 +9,7 @@ Everything is safe to use from several threads at once, and Python's lock is not
 """
 
 from . import _library
-from ._library import Refused
+from ._library import Refused, TooMany
 from ._mail import Mail, parse
 from ._mailbox import Mailbox, open_mailbox
 from ._maildir import Maildir, open_maildir
@@ -25,6 +25,7 @@ __all__ = [
     "Part",
     "Recipient",
     "Refused",
+    "TooMany",
     "open_mailbox",
     "open_maildir",
     "parse",

@@ -17,6 +17,8 @@ if TYPE_CHECKING:
 NOT_BASE64 = 19
 TOO_MANY = 22
 DATE_YEAR = 34
+# the most parts and headers of a mail, unless the caller gives a limit
+MOST_ITEMS = 1_000_000
 # a limit that no mail reaches
 UNLIMITED = 2**63 - 1
 # the most mails of a mailbox that are found by one call
@@ -38,9 +40,13 @@ class Refused(ValueError):
         return self.text if self.place is None else f"{self.text} (the mail at {self.place[0]} of its mailbox)"
 
 
+class TooMany(Refused):
+    """The mail has more parts and headers than the limit."""
+
+
 def refusal(code: int) -> Refused:
     """The exception for a code. The extension raises it."""
-    return Refused(_engine.reason(code), code)
+    return (TooMany if code == TOO_MANY else Refused)(_engine.reason(code), code)
 
 
 def version() -> str:

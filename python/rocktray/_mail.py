@@ -10,7 +10,7 @@ from typing import TYPE_CHECKING, Any, Callable, Dict, Iterator, List, NamedTupl
 from typing import cast, overload
 
 from . import _engine, _library
-from ._library import UNLIMITED, Refused
+from ._library import MOST_ITEMS, UNLIMITED, Refused
 from ._node import IS_ATTACHMENT, IS_EXTRACTED, IS_MAIL, IS_TEXT, Node, add_inside, nodes_of
 from ._part import Header, Part
 from ._values import Address, Recipient, time_of
@@ -49,7 +49,7 @@ class Mail:
     asked for, and most of it remembered.
 
     It takes any bytes-like object, such as an `mmap`, and copies none of it: bytes that change give results of no use.
-    With more parts and headers than `limit` it is refused. Raises `TypeError` for anything but bytes.
+    With more parts and headers than `limit` it is refused; `None` is no limit. Raises `TypeError` for anything but bytes.
 
     >>> mail = parse(b"Subject: Hi\\nDate: Fri, 21 Nov 1997 09:55:06 -0600\\n\\nHello\\n")
     >>> mail.subject, mail.date.isoformat(), mail.text
@@ -64,7 +64,7 @@ class Mail:
     _own: Optional[List[Node]]
     _all: Optional[List[Node]]
 
-    def __init__(self, raw: "Bytes", place: Optional[Tuple[int, int]] = None, limit: Optional[int] = None) -> None:
+    def __init__(self, raw: "Bytes", place: Optional[Tuple[int, int]] = None, limit: Optional[int] = MOST_ITEMS) -> None:
         self._raw = raw if isinstance(raw, bytes) else None
         self._data = _checked(raw) if self._raw is None else raw
         self.place = place
@@ -92,7 +92,7 @@ class Mail:
                 read = error
             self._read = read
         if isinstance(read, Refused):
-            raise Refused(read.text, read.number, self.place)
+            raise type(read)(read.text, read.number, self.place)
         return read
 
     def _remember(self, key: Any, find: Callable[[], Value]) -> Value:
@@ -410,9 +410,9 @@ def _text_type(content_type: str) -> str:
     return "text/plain" if content_type == "text" else content_type
 
 
-def parse(raw: "Bytes", limit: Optional[int] = None) -> Mail:
-    """Reads a mail. Raises `Refused` if it is refused, also for more than `limit` parts and headers, and `TypeError` if it
-    is not bytes; else only `MemoryError`.
+def parse(raw: "Bytes", limit: Optional[int] = MOST_ITEMS) -> Mail:
+    """Reads a mail. Raises `Refused` if it is refused, `TooMany`, which is a `Refused`, if it has more than `limit` parts
+    and headers, and `TypeError` if it is not bytes; else only `MemoryError`. The limit `None` is none.
 
     >>> parse(b"Subject: Hi\\n\\nHello").subject
     'Hi'

@@ -13,6 +13,7 @@ from types import TracebackType
 from typing import Any, Deque, Iterator, List, NamedTuple, Optional, Protocol, Tuple, Type, Union
 
 from . import _engine, _library
+from ._library import MOST_ITEMS
 from ._mail import Mail
 
 FORMATS = ("mbox", "mboxrd", "mboxcl")
@@ -118,7 +119,7 @@ class Mailbox:
     """
 
     def __init__(
-        self, path: Union[str, "os.PathLike[str]", Readable], format: str = "mbox", limit: Optional[int] = None
+        self, path: Union[str, "os.PathLike[str]", Readable], format: str = "mbox", limit: Optional[int] = MOST_ITEMS
     ) -> None:
         if format not in FORMATS:
             raise ValueError(f"{format!r} is none of {', '.join(FORMATS)}")
@@ -352,7 +353,7 @@ def _is_count_known(data: bytes, start: int, after: int) -> bool:
 
 
 def open_mailbox(
-    path: Union[str, "os.PathLike[str]", Readable], format: str = "mbox", limit: Optional[int] = None
+    path: Union[str, "os.PathLike[str]", Readable], format: str = "mbox", limit: Optional[int] = MOST_ITEMS
 ) -> Mailbox:
     """The mails of a mailbox, one after another, each read when it is first used.
 

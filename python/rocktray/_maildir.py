@@ -5,6 +5,7 @@ from __future__ import annotations
 import os
 from typing import Iterator, List, Optional, Tuple, Union
 
+from ._library import MOST_ITEMS
 from ._mail import Mail
 
 _DIRECTORIES = ("new", "cur")
@@ -15,7 +16,7 @@ class Maildir:
     `len` counts them.
     """
 
-    def __init__(self, path: Union[str, "os.PathLike[str]"], limit: Optional[int] = None) -> None:
+    def __init__(self, path: Union[str, "os.PathLike[str]"], limit: Optional[int] = MOST_ITEMS) -> None:
         self._path = os.path.abspath(path)
         self._limit = limit
         if not set(_DIRECTORIES).intersection(os.listdir(self._path)):
@@ -62,7 +63,7 @@ class Maildir:
         return f"<rocktray.Maildir {self._path!r}>"
 
 
-def open_maildir(path: Union[str, "os.PathLike[str]"], limit: Optional[int] = None) -> Maildir:
+def open_maildir(path: Union[str, "os.PathLike[str]"], limit: Optional[int] = MOST_ITEMS) -> Maildir:
     """The mails of a Maildir: the files in its directories `cur` and `new`. Directories inside it, such as `.Sent`, are
     Maildirs of their own. A mail with more than `limit` parts and headers is refused.
 

@@ -141,10 +141,13 @@ def path_under(path: str, number: int) -> str:
 
 
 def add_inside(nodes: List[Node], own: List[Node], limit: int, levels: int = LEVELS) -> None:
-    """Adds the parts of the mails inside a mail, whose own parts are among the nodes (docs/RULES.md, "Forwarded mails")."""
+    """Adds the parts of the mails inside a mail, whose own parts are among the nodes (docs/RULES.md, "Forwarded mails").
+
+    All parts together are at most `limit`.
+    """
     for node in own if levels > 0 else ():
         if node.flags & IS_MAIL and node.path.count(".") < LEVELS - 1:
-            inside = _inside(node, len(nodes), limit)
+            inside = _inside(node, len(nodes), max(limit - len(nodes), 0))
             if inside:
                 inside[0].parent = node.index
                 node.children = [inside[0].index]  # not appended, since another thread may do the same

@@ -92,12 +92,18 @@ def test_limit(tmp_path):
     assert len(list(rocktray.parse(raw).walk())) == 1001
     assert len(list(rocktray.parse(raw, limit=1002).walk())) == 1001
     for call in (lambda: rocktray.parse(raw, limit=1001), lambda: rocktray.Mail(raw, limit=5).subject):
-        with pytest.raises(rocktray.Refused) as caught:
+        with pytest.raises(rocktray.TooMany) as caught:
             call()
         assert caught.value.number == 22
     inside = rocktray.parse(b"Content-Type: message/rfc822\n\n" + raw, limit=100)
-    with pytest.raises(rocktray.Refused):
+    with pytest.raises(rocktray.TooMany):
         inside.files()
+    twice = rocktray.parse(
+        b"Content-Type: multipart/mixed; boundary=m\n\n" + (b"--m\nContent-Type: message/rfc822\n\n" + raw) * 2 + b"--m--\n",
+        limit=2000,
+    )
+    with pytest.raises(rocktray.TooMany):
+        twice.files()
     box = io.BytesIO(b"From a Fri Jul  8 12:08:34 2011\n" + raw + b"\nFrom a Fri Jul  8 12:08:34 2011\nSubject: 2\n\n")
     assert [mail.error or mail.subject for mail in rocktray.open_mailbox(box, limit=10)] == [caught.value.text, "2"]
     (tmp_path / "cur").mkdir()
