@@ -5,7 +5,7 @@ use Rattle.mailparse.specs.Refusal.{Reads, Refusal}
 use Rattle.mailparse.specs.RefusalKinds.{error_kind, kind_of}
 use Rattle.mailparse.specs.declared.error.MailParseError.{MailParseError}
 use Rattle.mailparse.specs.declared.error.RefusalKind.{RefusalKind}
-use Rattle.mailparse.specs.declared.error.RefusalKind.TheVariants.{LeadingSpace, LoneCarriageReturn, TooDeep, NotBase64, NotText, Other}
+use Rattle.mailparse.specs.declared.error.RefusalKind.TheVariants.{LeadingSpace, LoneCarriageReturn, TooDeep, TooMany, NotBase64, NotText, Other}
 use Rattle.mail_data.specs.declared.lenient.date.error.DateError.{DateError}
 use Rattle.mail_data.specs.declared.lenient.date.error.DateError.TheVariants.{Day, Month, Year, Time, Zone, TrailingText}
 
@@ -38,6 +38,7 @@ abbrev pub kind_code : RefusalKind → ℕ
 kind_code LeadingSpace = 16
 kind_code LoneCarriageReturn = 17
 kind_code TooDeep = 18
+kind_code TooMany = too_many
 kind_code NotBase64 = 19
 kind_code NotText = not_utf8
 kind_code Other = 21

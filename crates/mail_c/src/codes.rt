@@ -47,6 +47,7 @@ fn code_of_kind(kind: RefusalKind) -> u32
         RefusalKind::LeadingSpace => LEADING_SPACE,
         RefusalKind::LoneCarriageReturn => LONE_CARRIAGE_RETURN,
         RefusalKind::TooDeep => TOO_DEEP,
+        RefusalKind::TooMany => TOO_MANY,
         RefusalKind::NotBase64 => NOT_BASE64,
         RefusalKind::NotText => NOT_UTF8,
         RefusalKind::Other => REFUSED,

@@ -15,6 +15,7 @@ pub mod ValueJoined
 pub mod ValueLines
 pub mod Delimiters
 pub mod Mail
+pub mod Limit
 pub mod Placement
 pub mod Segments
 pub mod SegmentsQuoted
@@ -22,6 +23,7 @@ pub mod Pairs
 pub mod ContentType
 pub mod Ranges
 pub mod Bound
+pub mod LimitItems
 pub mod Date
 pub mod MessageIds
 pub mod SectionsNumbers

@@ -15,6 +15,10 @@ body_bytes_within t = sum_by (λ node. length node.body) (nodes t)
 abbrev pub nodes_within : Tree → ℕ
 nodes_within t = length (nodes t)
 
+-- the number of messages and headers
+abbrev pub items_within : Tree → ℕ
+items_within t = nodes_within t + header_count_within t
+
 -- one byte for each header, the bytes of the bodies, and three bytes for each part add up to at most `bytes`
 abbrev pub IsBounded : Tree → ℕ → Type 0
 IsBounded t bytes = header_count_within t + body_bytes_within t + 3 * (nodes_within t - 1) ≤ bytes

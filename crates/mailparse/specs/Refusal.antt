@@ -27,6 +27,10 @@ value_not_utf8 = encoding (codes "Invalid UTF-8 in header value")
 abbrev pub recursion_limit : Refusal
 recursion_limit = generic (codes "Recursion limit reached")
 
+-- more messages and headers than the limit of the caller; not a refusal of the port
+abbrev pub too_many_items : Refusal
+too_many_items = generic (codes "Too many parts and headers")
+
 -- the result of a reading, or the first refusal
 abbrev pub Reads : Type 0 → Type 0
 Reads A = Result A Refusal

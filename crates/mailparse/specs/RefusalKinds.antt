@@ -2,11 +2,11 @@
 use Rattle.std.specs.Prelude.{ℕ, List, [], Option, Some, option_map, if◌then◌else◌}
 use Rattle.std.specs.Str.{bytes_eq}
 use Rattle.mailparse.specs.Outcome.{refusal_of}
-use Rattle.mailparse.specs.Refusal.{Refusal, generic, encoding, base64_fault, leading_space, lone_carriage_return, recursion_limit}
+use Rattle.mailparse.specs.Refusal.{Refusal, generic, encoding, base64_fault, leading_space, lone_carriage_return, recursion_limit, too_many_items}
 use Rattle.mailparse.specs.declared.error.MailParseError.{MailParseError}
 use Rattle.mailparse.specs.declared.error.MailParseError.TheVariants.{QuotedPrintableDecodeError}
 use Rattle.mailparse.specs.declared.error.RefusalKind.{RefusalKind}
-use Rattle.mailparse.specs.declared.error.RefusalKind.TheVariants.{LeadingSpace, LoneCarriageReturn, TooDeep, NotBase64, NotText, Other}
+use Rattle.mailparse.specs.declared.error.RefusalKind.TheVariants.{LeadingSpace, LoneCarriageReturn, TooDeep, TooMany, NotBase64, NotText, Other}
 
 -- the text of a refusal that is a plain text
 abbrev pub plain_text : Refusal → List ℕ
@@ -20,7 +20,8 @@ text_kind text =
     if bytes_eq text (plain_text leading_space) then LeadingSpace
     else (if bytes_eq text (plain_text lone_carriage_return) then LoneCarriageReturn
     else (if bytes_eq text (plain_text recursion_limit) then TooDeep
-    else Other))
+    else (if bytes_eq text (plain_text too_many_items) then TooMany
+    else Other)))
 
 -- the kind of a refusal
 abbrev pub kind_of : Refusal → RefusalKind

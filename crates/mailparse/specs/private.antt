@@ -13,3 +13,4 @@ pub mod CharsetSources
 pub mod Continuations
 pub mod Filled
 pub mod Plain
+pub mod Limit

@@ -58,6 +58,8 @@ pub enum RefusalKind {
     LoneCarriageReturn,
     /// A part is nested deeper than the limit.
     TooDeep,
+    /// The message has more parts and headers than the limit.
+    TooMany,
     /// A body is not Base64.
     NotBase64,
     /// Bytes are not text in the encoding that was asked for.
@@ -131,6 +133,7 @@ fn text_kind(text: &str) -> RefusalKind
             RefusalKind::LoneCarriageReturn
         }
         "Recursion limit reached" => RefusalKind::TooDeep,
+        "Too many parts and headers" => RefusalKind::TooMany,
         _ => RefusalKind::Other,
     }
 }

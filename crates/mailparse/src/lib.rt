@@ -36,12 +36,12 @@ pub use disposition::{
 pub use error::{Base64Fault, MailParseError, QuotedPrintableFault, RefusalKind, Wrapped};
 pub use header::parse::{HeaderPlaces, header_places, parse_header};
 pub use header::{MailHeader, value_text, value_text_in};
-pub use headers::block::parse_headers;
+pub use headers::block::{count_headers, parse_headers};
 pub use headers::map::MailHeaderMap;
 pub use mail::types::DefaultType;
 pub use mail::{
     MAX_LEVELS, ParsedMail, PartsIterator, parse_mail, parse_mail_as, parse_mail_in,
-    parse_mail_limited, parse_mail_limited_in,
+    parse_mail_limited, parse_mail_limited_in, parse_mail_within,
 };
 pub use mail_codec::charset::{Decode, KnownCharsets, SingleByteTable, table_for_label};
 pub use manner::{ReadingManner, Strict};

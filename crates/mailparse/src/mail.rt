@@ -3,7 +3,9 @@ ghost use Rattle.std.specs.Prelude.{◌≡◌, Bool, false, ◌<◌, ◌≤◌, 
 ghost use Rattle.std.specs.List.{flat_map};
 ghost use Rattle.mail_codec.specs.Charset.{four_charsets};
 ghost use Rattle.mailparse.specs.Block.{header_count, read_headers};
-ghost use Rattle.mailparse.specs.Bound.{IsBounded};
+ghost use Rattle.mailparse.specs.Bound.{IsBounded, items_within};
+ghost use Rattle.mailparse.specs.Limit.{items_met, limited, read_mail_within};
+ghost use Rattle.mailparse.specs.private.Limit.{less};
 ghost use Rattle.mailparse.specs.Mail.{forest, or_kept, read_levels, read_mail, read_mail_as, read_mail_in, tree, Tree, whole_lines_for};
 ghost use Rattle.mailparse.specs.Outcome.{Answers, AnswersOrMemory, IsRefusal, IsRefusalOrMemory};
 ghost use Rattle.mailparse.specs.Placement.{placements, placements_as};
@@ -12,6 +14,7 @@ ghost use Rattle.mailparse.specs.Views.{content_type, in_digest, placements_of, 
 ghost use Rattle.mailparse.specs.private.Delimiters.{IsLineDelimiter};
 
 mod delimiters;
+mod limit;
 mod message;
 pub(crate) mod types;
 
@@ -21,6 +24,7 @@ use crate::header::MailHeader;
 use crate::headers::block::parse_headers;
 use crate::manner::{ReadingManner, Strict};
 use delimiters::{cut_part, cut_preamble};
+use limit::{check_headers, less};
 use mail_codec::bytescan::find_byte;
 use mail_codec::charset::KnownCharsets;
 pub use message::{ParsedMail, PartsIterator};
@@ -224,11 +228,63 @@ pub fn parse_mail_as<'a, M: ReadingManner>(
         IsErr (read_headers raw.now) →
         Answers tree_of result (read_mail_as (M.manner manner.now) levels raw.now) }
 {
-    parse_mail_recursive(alloc, raw, 0, DefaultType::Text, levels + 1, manner)
+    let default = DefaultType::Text;
+    parse_mail_recursive(alloc, raw, 0, default, levels + 1, manner, &mut None)
+}
+
+/// Reads a message as `parse_mail_as` does, but refuses one with more than `most` items, which are
+/// its messages (itself and all its parts) and their headers.
+///
+/// A message that has a tree with at most `most` items is read as `parse_mail_as` reads it, and
+/// every other one is refused. Of two refusals the first in reading order is returned, where the
+/// message or part comes first and then its headers, which are counted if their block is not
+/// refused. A manner that keeps refused messages does not keep one for this limit. The caller
+/// proves that `levels` is at most `MAX_LEVELS`.
+///
+/// Allocates as `parse_mail` does, and for at most `most` items.
+///
+/// # Errors
+///
+/// Those of `parse_mail_as`; and `MailParseError::Generic` with the text `Too many parts and
+/// headers`, whose kind is `RefusalKind::TooMany`, if there are more than `most` items.
+///
+/// # Examples
+///
+/// ```rust
+/// use mailparse::{RefusalKind, Strict, parse_mail_within};
+///
+/// let raw = b"Content-Type: multipart/mixed; boundary=b\n\n--b\nSubject: One\n\none\n--b--\n";
+/// let mail = parse_mail_within(alloc, raw, 1, 4, &Strict(&()))?;
+/// assert_eq!(rt; mail.subparts.len(), 1);
+/// let error = parse_mail_within(alloc, raw, 1, 3, &Strict(&())).err().ok_or("no error")?;
+/// assert!(rt; error.refusal() == Some(RefusalKind::TooMany));
+/// ```
+#[tactic(auto, using(crate::proofs::lemmas::LimitItems::within_bounds), unfolding(crate::specs::Limit::read_mail_within))]
+pub fn parse_mail_within<'a, M: ReadingManner>(
+    alloc: Global,
+    raw: &'a [u8],
+    levels: u8,
+    most: usize,
+    manner: &M,
+) -> Result<ParsedMail<'a>, MailParseError>
+    requires { levels ≤ MAX_LEVELS }
+    ensures read { AnswersOrMemory tree_of result
+        (read_mail_within (M.manner manner.now) levels most raw.now) }
+    ensures items { IfOk result (λ mail. items_within (tree_of mail) ≤ most) }
+    ensures bounded { IfOk result (λ mail. IsBounded (tree_of mail) (length raw.now)) }
+    ensures places { IfOk result (λ mail. placements_of mail
+        ≡ placements_as (M.manner manner.now).whole_lines 0 (tree_of mail)) }
+    ensures no_alloc { (M.manner manner.now).keeps_refused ≡ false → header_count raw.now ≡ 0 →
+        IsErr (read_headers raw.now) →
+        Answers tree_of result (read_mail_within (M.manner manner.now) levels most raw.now) }
+{
+    let default = DefaultType::Text;
+    let mut left = Some(most);
+    parse_mail_recursive(alloc, raw, 0, default, levels + 1, manner, &mut left)
 }
 
 /// Reads a message that starts at `offset` of the mail and has at most `levels` levels, counting
-/// its own.
+/// its own. Takes its items off those that are left.
 fn parse_mail_recursive<'a, M: ReadingManner>(
     alloc: Global,
     raw: &'a [u8],
@@ -236,24 +292,33 @@ fn parse_mail_recursive<'a, M: ReadingManner>(
     default: DefaultType,
     levels: u8,
     manner: &M,
+    left: &mut Option<usize>,
 ) -> Result<ParsedMail<'a>, MailParseError>
     requires within { offset + length raw.now < 2 ^ 64 }
     ensures read { AnswersOrMemory tree_of result
-        (read_levels (M.manner manner.now) levels (in_digest default) raw.now) }
+        (limited left.old (items_met (M.manner manner.now) levels (in_digest default) raw.now)
+        (read_levels (M.manner manner.now) levels (in_digest default) raw.now)) }
+    ensures left { IfOk result (λ mail. left.new
+        ≡ less left.old (items_met (M.manner manner.now) levels (in_digest default) raw.now)) }
     ensures places { IfOk result (λ mail. placements_of mail
         ≡ placements_as (M.manner manner.now).whole_lines offset (tree_of mail)) }
     ensures no_alloc { (M.manner manner.now).keeps_refused ≡ false → 0 < levels →
         header_count raw.now ≡ 0 → IsErr (read_headers raw.now) →
-        Answers tree_of result (read_levels (M.manner manner.now) levels (in_digest default) raw.now) }
+        Answers tree_of result
+        (limited left.old (items_met (M.manner manner.now) levels (in_digest default) raw.now)
+        (read_levels (M.manner manner.now) levels (in_digest default) raw.now)) }
 {
+    *left = less(*left, 1)?;
     if levels == 0 {
         let refusal = MailParseError::Generic("Recursion limit reached");
         return refused_or_kept(alloc, raw, offset, refusal, manner);
     }
+    check_headers(*left, raw)?;
     let (headers, body_offset) = match parse_headers(alloc, raw) {
         Ok(block) => block,
         Err(refusal) => return refused_or_kept(alloc, raw, offset, refusal, manner),
     };
+    *left = less(*left, headers.len())?;
     let ctype = manner.content_type(alloc, &headers, default)?;
     let Some(line_delimiter) = line_delimiter_of(alloc, &ctype)? else {
         let parts = Vec::new(alloc);
@@ -268,7 +333,8 @@ fn parse_mail_recursive<'a, M: ReadingManner>(
         let (part_end, after) = cut_part(raw, start, line_delimiter.as_slice(), whole);
         let part = &raw[start..part_end];
         let begin = offset + start;
-        subparts.push(parse_mail_recursive(alloc, part, begin, inner, levels - 1, manner)?)?;
+        let read = parse_mail_recursive(alloc, part, begin, inner, levels - 1, manner, left)?;
+        subparts.push(read)?;
         next = after;
     }
     Ok(message_of(raw, offset, headers, ctype, body_offset, end, subparts))

@@ -72,6 +72,10 @@ forest_and-none (u ∷ front) = ap (part_and u) (forest_and-none front)
 abbrev pub with_trees : List Tree → Reads Forest → Reads Forest
 with_trees front rest = read_map (forest_and front) rest
 
+pub with_trees-none : (rest : Reads Forest) → with_trees [] rest ≡ rest
+with_trees-none (Ok rest) = refl
+with_trees-none (Err e) = refl
+
 with_trees-push : (front : List Tree) (t : Tree) (rest : Reads Forest) → with_trees front (read_map (part_and t) rest) ≡ with_trees (front ++ t ∷ []) rest
 with_trees-push front t (Ok rest) = ap Ok (forest_and-push front t rest)
 with_trees-push front t (Err e) = refl
@@ -146,7 +150,7 @@ module _ (manner : Manner) where
       ap (λ (n : ℕ). or_kept manner raw (read_message manner (read_levels manner n) in_digest raw)) less
 
   -- a message that was read
-  or_kept-read : (raw : List ℕ) (r : Reads Tree) (t : Tree) → r ≡ Ok t → or_kept manner raw r ≡ Ok t
+  pub or_kept-read : (raw : List ℕ) (r : Reads Tree) (t : Tree) → r ≡ Ok t → or_kept manner raw r ≡ Ok t
   or_kept-read raw r t e = by_manner manner.keeps_refused
     where
       by_manner : (k : Bool) → if k then kept_if_refused raw r else r ≡ Ok t
@@ -165,7 +169,7 @@ module _ (manner : Manner) where
       by_manner true (Ok t) h = absurd (cc)
       by_manner true (Err refusal) h = absurd (cc)
 
-  refuses : (levels : ℕ) (in_digest : Bool) (raw : List ℕ) (e : Refusal) → read_levels manner levels in_digest raw ≡ Err e → manner.keeps_refused ≡ false
+  pub refuses : (levels : ℕ) (in_digest : Bool) (raw : List ℕ) (e : Refusal) → read_levels manner levels in_digest raw ≡ Err e → manner.keeps_refused ≡ false
   unfolding read_levels
   refuses zero in_digest raw e h = or_kept-refused raw (Err recursion_limit) e h
   refuses (suc levels) in_digest raw e h = or_kept-refused raw (read_message manner (read_levels manner levels) in_digest raw) e h

@@ -1,6 +1,7 @@
 //! The block of headers at the front of a message.
 ghost use Rattle.std.specs.Prelude.{◌≡◌, ◌≤◌, [], ◌∷◌, ◌++◌, length, vec_len, IfOk, OnOk};
 ghost use Rattle.mailparse.specs.Block.{block_end, header_count, read_headers};
+ghost use Rattle.mailparse.specs.Limit.{headers_met};
 ghost use Rattle.mailparse.specs.Outcome.{Answers, AnswersOrMemory};
 ghost use Rattle.mailparse.specs.Views.{header_list};
 
@@ -66,6 +67,39 @@ pub fn parse_headers(
         }
         let (header, length) = parse_header(rest)?;
         push_header(&mut headers, header, raw.len())?;
+        place += length;
+    }
+}
+
+/// Returns the number of headers that `parse_headers` reads at the front of `raw` (RFC 5322, section
+/// 2.1), or 0 if it refuses them.
+///
+/// Does not allocate.
+///
+/// # Examples
+///
+/// ```rust
+/// use mailparse::count_headers;
+///
+/// assert_eq!(rt; count_headers(b"Subject: Hi\nTo: you\n\nbody"), 2);
+/// assert_eq!(rt; count_headers(b"Subject: Hi\n\rTo: you"), 0);
+/// ```
+pub fn count_headers(raw: &[u8]) -> usize
+    ensures { result ≡ headers_met (read_headers raw.now) }
+{
+    let mut place = 0;
+    let mut count = 0;
+    loop {
+        let rest = &raw[place..];
+        match end_of_block(rest) {
+            Ok(Some(_)) => return count,
+            Ok(None) => {}
+            Err(_) => return 0,
+        }
+        let Ok((_, length)) = parse_header(rest) else {
+            return 0;
+        };
+        count += 1;
         place += length;
     }
 }

@@ -4,6 +4,8 @@ use Rattle.mailparse.specs.Delimiters.{first_part_as}
 use Rattle.mailparse.specs.Mail.{whole_lines_for}
 use Rattle.mailparse.specs.Views.{in_digest, tree_of}
 use Rattle.mailparse.proofs.lemmas.Mail.{with_trees, parts_from}
+use Rattle.mailparse.specs.Limit.{items_met}
+use Rattle.mailparse.proofs.lemmas.Limit.{Leaves, met_from}
 use Rattle.mailparse.proofs.lemmas.Placement.{ArePlaced}
 use Rattle.mailparse.proofs.mail.«+parse_mail_recursive».Given as goal
 
@@ -20,6 +22,8 @@ invariant-loop-next g l = record {
   within : IfSome l.next (λ s. s ≤ length l.raw);
   all : with_trees (map tree_of l.subparts.items) (parts_from (g.M.ReadingManner.manner l.manner) (l.levels - 1) (in_digest l.inner) (drop 1 l.line_delimiter.items) l.raw l.next)
       ≡ parts_from (g.M.ReadingManner.manner l.manner) (l.levels - 1) (in_digest l.inner) (drop 1 l.line_delimiter.items) l.raw (first_part_as (whole_lines_for (g.M.ReadingManner.manner l.manner).whole_lines (drop 1 l.line_delimiter.items)) (drop 1 l.line_delimiter.items) l.raw l.body_offset);
+  counted : Leaves l.fn.left (items_met (g.M.ReadingManner.manner l.manner) l.levels (in_digest l.fn.default) l.raw) l.left
+      (met_from (g.M.ReadingManner.manner l.manner) (l.levels - 1) (in_digest l.inner) (drop 1 l.line_delimiter.items) l.raw l.next);
   placed : ArePlaced (g.M.ReadingManner.manner l.manner).whole_lines l.offset (drop 1 l.line_delimiter.items) l.raw (first_part_as (whole_lines_for (g.M.ReadingManner.manner l.manner).whole_lines (drop 1 l.line_delimiter.items)) (drop 1 l.line_delimiter.items) l.raw l.body_offset) l.next l.subparts.items;
 }
 

@@ -1,0 +1,13 @@
+use Rattle.std.proofs.Common.{ℕ, Option, Ok, ap, ◌∙◌, arith}
+use Rattle.mailparse.specs.Block.{read_headers}
+use Rattle.mailparse.specs.Limit.{headers_met, limited}
+use Rattle.mailparse.proofs.lemmas.Limit.{headers_met-≤, limited-enough}
+use Rattle.mailparse.proofs.mail.limit.check_headers.Goals as goal
+
+pub returns-then-raw-most : goal.returns-then-raw-most
+returns-then-raw-most c =
+    let met = headers_met (read_headers c.args.raw.now) in
+    let few = headers_met-≤ c.args.raw.now in
+    let enough = c.if-raw-most.true in
+    ap (λ (left : Option ℕ). limited {A = Unit {0}} left met (Ok (tt {0}))) c.in-Some.is
+    ∙ limited-enough {A = Unit {0}} c.in-Some.most met (Ok (tt {0})) (omega (arith, few, enough))
