@@ -67,8 +67,9 @@ CHANGED = b"Subject: Changed\nMessage-ID: <4@small>\n\nAn okapi.\n"
 
 # after this number of further deaths a part is given up; dask's own number is 3
 DASK = {"DASK_DISTRIBUTED__SCHEDULER__ALLOWED_FAILURES": "1"}
-# on a machine with other work dask speaks of heartbeats that came late, which is not what is compared
+# on a machine with other work dask speaks of heartbeats that came late, which is not what is compared, and connects slowly
 QUIET = {"DASK_LOGGING__DISTRIBUTED": "critical"}
+QUIET |= {f"DASK_DISTRIBUTED__COMM__TIMEOUTS__{name}": "120s" for name in ("CONNECT", "TCP")}
 
 
 def write(path, data=b""):
@@ -99,7 +100,7 @@ def dask(stack, directory, name, *words):
     """Starts a program of dask, which ends with the stack; what it says goes to a file of this name."""
     log = stack.enter_context(open(os.path.join(directory, name), "wb"))
     process = subprocess.Popen(
-        [sys.executable, "-m", "dask", *words], cwd=directory, stdout=log, stderr=log, env={**os.environ, **DASK}
+        [sys.executable, "-m", "dask", *words], cwd=directory, stdout=log, stderr=log, env={**os.environ, **QUIET, **DASK}
     )
     stack.callback(process.wait)
     stack.callback(process.terminate)
@@ -327,6 +328,19 @@ def test_interrupted(tmp_path):
     assert (process.returncode, told) == (130, b"index_archive.py: interrupted; the next run goes on from here\n")
 
 
+def test_interrupted_load(runs):
+    """Ctrl-C while the shards are loaded is one line too, and leaves nothing that the next run cannot use."""
+    words = [sys.executable, os.path.join(EXAMPLES, "load_sqlite.py"), runs.path("killed"), runs.path("interrupted")]
+    with subprocess.Popen(words, stderr=subprocess.PIPE, start_new_session=True) as process:
+        wait_for(lambda: glob.glob(runs.path("interrupted/.load-*/*")), "the first shard")
+        os.killpg(process.pid, signal.SIGINT)
+        told = process.communicate()[1]
+    assert (process.returncode, told) == (130, b"load_sqlite.py: interrupted; the next run goes on from here\n")
+    assert not glob.glob(runs.path("interrupted/.load-*")), "what was made on the way is removed"
+    assert b" mails loaded" in runs.call("load_sqlite.py", "killed", "interrupted").stderr
+    assert runs.call("search.py", "interrupted", "zebra", "--limit", "1").returncode == 0
+
+
 def check_loaded(runs, mails):
     """Loads the shards: every mail has to be there once, and what was refused."""
     ended = runs.call("load_sqlite.py", "killed", "db")
@@ -370,6 +384,7 @@ def test_searched(runs):
         (["zebra", "--has", "attachment"], [first]),
         (["--thread", "3@small"], [first, f"  {answer}", f"    {forged}"]),
         (["zebra", "--limit", "1"], [answer]),
+        (["zebra", "quagga", "--threads"], [first, f"  {answer}", f"    {forged}"]),
     ):
         assert runs.search(*words) == wanted, f"search.py {words}"
     assert len(runs.search("--attachment", "i.png", "--limit", "99999")) == MAILS, "search.py --attachment i.png"
@@ -417,10 +432,47 @@ def test_copies(runs):
 
 
 def test_older_database(runs):
-    """A database of another version is made anew."""
-    with contextlib.closing(sqlite3.connect(runs.path("db/000.sqlite"))) as db:
-        db.execute("pragma user_version = 1")
+    """A database of version 1 is not searched, and is loaded anew beside itself: until all is read, it stays."""
+    path = runs.path("db/000.sqlite")
+    with contextlib.closing(sqlite3.connect(path)) as db:
+        db.executescript("drop table copies; pragma user_version = 1")
+    ended = runs.call("search.py", "db", "zebra")
+    wanted = b"search.py: db is of another version than 3: run load_sqlite.py again\n"
+    assert (ended.returncode, ended.stdout, ended.stderr) == (2, b"", wanted), "an older database is searched"
+    shard = next(iter(shards(runs.path("killed"))))
+    with open(shard, "rb") as file:
+        whole = file.read()
+    write(shard, whole + b"{")
+    assert runs.call("load_sqlite.py", "killed", "db").returncode == 1, "a damaged shard"
+    assert search.version_of(path) == 1, "a damaged shard: the older database stays"
+    write(shard, whole)
     check_loaded(runs, MAILS + 9)
+    assert search.version_of(path) == search.VERSION and not glob.glob(runs.path("db/*.new*")), "the older database is replaced"
+    assert runs.search("okapi") == ["Changed"], "a database that is loaded anew"
+
+
+def test_bad_file_of_a_batch(tmp_path):
+    """Of files that are read together, only those that cannot be read are refused; the next run reads these alone."""
+    for number in range(40):
+        write(f"{tmp_path}/mails/cur/{number:02}", b"Subject: %d\n\n" % number)
+    bad = [f"{tmp_path}/mails/cur/{number:02}" for number in (17, 18, 31)]
+    script = f"#!/bin/sh\nfor bad in {' '.join(bad)}; do\n"
+    script += f"    case $* in *$bad*) [ -e {tmp_path}/mended ] || {{ echo \"$bad: gone\" >&2; exit 1; }} ;; esac\ndone\n"
+    write(f"{tmp_path}/rocktray", f"{script}exec {program('rocktray')} \"$@\"\n".encode())
+    os.chmod(f"{tmp_path}/rocktray", 0o755)
+    words = [sys.executable, os.path.join(EXAMPLES, "index_archive.py"), "out", "mails", "--program", "./rocktray"]
+    ended = subprocess.run(words, cwd=tmp_path, capture_output=True, text=True, env={**os.environ, **QUIET}, check=False)
+    wanted = "".join(f"index_archive.py: {path} (--mail): exit status 1: {path}: gone\n" for path in bad)
+    assert (ended.returncode, ended.stderr) == (1, wanted)
+    assert manifest(f"{tmp_path}/out", "refused") == [f"{path} (--mail)" for path in bad]
+    subjects = [json.loads(line)["subject"] for line in lines(f"{tmp_path}/out").splitlines()]
+    assert subjects == [str(number) for number in range(40) if number not in (17, 18, 31)]
+    before = shards(f"{tmp_path}/out")
+    assert subprocess.run(words, cwd=tmp_path, stderr=subprocess.DEVNULL, check=False).returncode == 1
+    assert shards(f"{tmp_path}/out") == before, "no file that was read is read again"
+    write(f"{tmp_path}/mended")
+    assert subprocess.run(words, cwd=tmp_path, check=False).returncode == 0
+    assert lines(f"{tmp_path}/out").count(b"\n") == 40 and len(shards(f"{tmp_path}/out")) == 1
 
 
 def test_lists(runs):

@@ -12,6 +12,7 @@ Files that begin as those of other formats do, such as images, are counted and s
 import argparse
 import collections
 import concurrent.futures
+import functools
 import hashlib
 import json
 import os
@@ -186,8 +187,14 @@ def read_files(command, stdin, shard):
     return f"exit status {ended.returncode}: {ended.stderr.decode(errors='replace').strip()}"
 
 
-def read(name, options, files, out, program):
-    """Reads a part into its shard, which gets its name when it is complete. Returns the name, and the error or None."""
+def shard_of(version, part):
+    """Returns the name of the shard of a part, given a hash of the program."""
+    return f"{hashlib.sha256(repr((version, part)).encode('utf-8', 'surrogateescape')).hexdigest()[:32]}.jsonl"
+
+
+def write_shard(name, part, out, program):
+    """Reads a part into its shard, which gets its name when it is complete. Returns the error or None."""
+    options, files = part
     unfinished = os.path.join(out, f".part-{uuid.uuid4().hex}")
     try:
         with open(unfinished, "xb") as shard:
@@ -196,69 +203,73 @@ def read(name, options, files, out, program):
             else:
                 fault = read_files([program, "json", *options, *(path for path, _, _ in files)], subprocess.DEVNULL, shard)
             os.fsync(shard.fileno())
-        if fault:
-            return name, fault
-        if [state(path) for path, _, _ in files] != files:
-            return name, "changed while it was read"
-        os.replace(unfinished, os.path.join(out, name))
-        return name, None
+        if not fault and [state(path) for path, _, _ in files] != files:
+            fault = "changed while it was read"
+        if not fault:
+            os.replace(unfinished, os.path.join(out, name))
+        return fault
+    except OSError as fault:
+        return str(fault)
     finally:
         if os.path.exists(unfinished):
             os.remove(unfinished)
 
 
+def read(part, out, program, version):
+    """Reads a part. If that fails, the files of a batch are read by halves, so that only those that fail are refused.
+    Returns the parts that this makes of it, each with its error or None. A part whose shard is there is not read again."""
+    name = shard_of(version, part)
+    fault = None if os.path.exists(os.path.join(out, name)) else write_shard(name, part, out, program)
+    options, files = part
+    if not fault or len(files) == 1:
+        return [(part, fault)]
+    half = len(files) // 2
+    return [one for some in (files[:half], files[half:]) for one in read((options, some), out, program, version)]
+
+
 def run_here(wanted, places):
-    """Reads these parts in threads. Yields the name of each part that is not read, with the error."""
-
-    def result(item):
-        try:
-            return read(item[0], *item[1], **places)
-        except OSError as fault:
-            return item[0], str(fault)
-
+    """Reads these parts in threads. Yields for each what `read` returns."""
     with concurrent.futures.ThreadPoolExecutor(os.cpu_count()) as pool:
-        yield from ((name, fault) for name, fault in pool.map(result, wanted.items()) if fault)
+        yield from pool.map(lambda part: read(part, **places), wanted)
 
 
-def run_there(wanted, scheduler, places):
-    """Reads these parts on the workers. Yields the name of each part that is not read, with the error."""
+def run_there(scheduler, wanted, places):
+    """Reads these parts on the workers. Yields for each what `read` returns, or why it did not return."""
     from dask.distributed import Client, progress, wait  # here, so that --help needs no dask
 
     with Client(address=scheduler) as client:
-        futures = client.map(read, *zip(*((name, *part) for name, part in wanted.items())), pure=False, **places)
+        futures = client.map(read, wanted, pure=False, **places)
         if sys.stdout.isatty():
             progress(futures)
         wait(futures)
-        results = dict(client.gather(futures, errors="skip"))
-        for name, future in zip(wanted, futures):
-            if name not in results or results[name]:
-                yield name, results[name] if name in results else repr(future.exception())
+        finished = [future for future in futures if future.status == "finished"]
+        results = dict(zip((future.key for future in finished), client.gather(finished)))
+        for part, future in zip(wanted, futures):
+            yield results[future.key] if future.key in results else [(part, repr(future.exception()))]
 
 
-def parts_of(found, paths, most, options, program):
-    """Returns the parts of the archive, by the names of their shards."""
-    wanted = {}
+def parts_of(found, paths, most, options):
+    """Returns the parts of the archive."""
+    wanted = []
     for top in paths:
         for reading, files in found.visit(top) if os.path.isdir(top) else [([], found.mails([top], []))]:
-            for words, batch in parts(reading, files, most):
-                part = [*options, *words], batch
-                key = hashlib.sha256(repr((program, part)).encode("utf-8", "surrogateescape")).hexdigest()
-                wanted[f"{key[:32]}.jsonl"] = part
+            wanted += [([*options, *words], batch) for words, batch in parts(reading, files, most)]
     return wanted
 
 
-def write_manifest(out, wanted, refused, found):
+def write_manifest(out, done, version, found):
     """Writes MANIFEST: the shards, the parts and files that could not be read, and those that are no mail. Removes all
-    other shards."""
-    lines = [{"shard": name, "read": title(*part)} for name, part in wanted.items() if name not in refused]
-    lines += [{"refused": title(*wanted[name]), "why": why} for name, why in refused.items()]
+    other shards. Returns a line for each part and file that could not be read."""
+    shards = {shard_of(version, part): title(*part) for part, fault in done if not fault}
+    lines = [{"shard": name, "read": read} for name, read in shards.items()]
+    lines += [{"refused": title(*part), "why": fault} for part, fault in done if fault]
     lines += [{"refused": label(path), "why": why} for path, why in found.faults]
     lines += [{"skipped": label(path), "is": kind} for path, kind in found.skipped]
     manifest = os.path.join(out, "MANIFEST")
     with open(f"{manifest}.new", "w", encoding="utf-8") as file:
         file.writelines(json.dumps(line) + "\n" for line in lines)
     os.replace(f"{manifest}.new", manifest)
-    for name in set(filter(OURS.fullmatch, os.listdir(out))) - set(wanted):
+    for name in set(filter(OURS.fullmatch, os.listdir(out))) - set(shards):
         os.remove(os.path.join(out, name))
     return [f"{line['refused']}: {line['why']}" for line in lines if "refused" in line]
 
@@ -270,6 +281,7 @@ def arguments():
     parser.add_argument("paths", metavar="PATH", nargs="+", type=os.path.abspath, help="a directory or a mailbox")
     parser.add_argument("--scheduler", metavar="ADDRESS", help="by default, as many parts are read at once as there are processors here")
     parser.add_argument("--program", metavar="ROCKTRAY", help="by default the one that is built here, in a release that is unpacked here, or installed")
+    parser.add_argument("--load", metavar="DATABASE", help="load the index into this database, as load_sqlite.py does")
     parser.add_argument("--hash", action="store_true", help="write the SHA-256 of each attachment")
     parser.add_argument("--skip-bad", action="store_true", help="end with exit status 0 although files could not be read")
     parser.add_argument("--bytes", type=int, default=32 << 20, help="the greatest size of a part; 32 MiB by default")
@@ -283,22 +295,28 @@ def main():
     program = rocktray(given.program)
     os.makedirs(given.out, exist_ok=True)
     found = Found(given.out)
-    key = hashlib.sha256(pathlib.Path(program).read_bytes()).hexdigest()
-    wanted = parts_of(found, given.paths, given.bytes, ["--hash"] * given.hash, key)
+    version = hashlib.sha256(pathlib.Path(program).read_bytes()).hexdigest()
+    wanted = {shard_of(version, part): part for part in parts_of(found, given.paths, given.bytes, ["--hash"] * given.hash)}
     unread = {name: part for name, part in wanted.items() if not os.path.exists(os.path.join(given.out, name))}
     try:
-        places = {"out": given.out, "program": program}
-        is_far = given.scheduler and unread
-        refused = dict(run_there(unread, given.scheduler, places) if is_far else run_here(unread, places))
+        places = {"out": given.out, "program": program, "version": version}
+        run = functools.partial(run_there, given.scheduler) if given.scheduler and unread else run_here
+        results = dict(zip(unread, run(list(unread.values()), places)))
     except KeyboardInterrupt:
         print("index_archive.py: interrupted; the next run goes on from here", file=sys.stderr, flush=True)
         os._exit(130)  # without the messages of what dask still runs
-    said = write_manifest(given.out, wanted, refused, found)
+    done = [one for name, part in wanted.items() for one in results.get(name, [(part, None)])]
+    said = write_manifest(given.out, done, version, found)
+    is_bad = bool(said)
     if found.skipped:
         said.append(f"skipped, since they are no mail: {found.said_of_skipped()}")
     for line in said:
         print(f"index_archive.py: {line}", file=sys.stderr)
-    sys.exit(1 if (refused or found.faults) and not given.skip_bad else 0)
+    status = 1 if is_bad and not given.skip_bad else 0
+    if given.load:
+        loader = os.path.join(os.path.dirname(os.path.abspath(__file__)), "load_sqlite.py")
+        status = max(status, subprocess.run([sys.executable, loader, given.out, given.load], check=False).returncode)
+    sys.exit(status)
 
 
 if __name__ == "__main__":

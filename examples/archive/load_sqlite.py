@@ -17,17 +17,21 @@ tables of a slice:
   texts        the words of subject, sender, recipients and body
   shards       the loaded shards
 
-threads.sqlite has the table `threads`: each message id with its parent, if it has one, and the top of its thread.
+threads.sqlite has the table `threads`: each message id with its parent, if it has one, the top of its thread, and its
+date; and the tables `months` and `senders`: the numbers of mails of each month, and of the most frequent senders.
 """
 import argparse
+import collections
 import concurrent.futures
 import contextlib
 import glob
 import html
 import json
 import marshal
+import multiprocessing
 import os
 import re
+import signal
 import sqlite3
 import sys
 import tempfile
@@ -35,9 +39,8 @@ import time
 import zlib
 
 import threads
+from search import VERSION, version_of
 
-# the version of the tables; a database that has another one is made anew
-VERSION = 2
 SCHEMA = """
 pragma journal_mode = wal;
 pragma synchronous = normal;
@@ -63,11 +66,21 @@ create virtual table if not exists texts using fts5(subject, sender, recipients,
 """
 THREADS = """
 begin;
+drop table if exists months;
+create table months(month text primary key, mails integer) without rowid;
+drop table if exists senders;
+create table senders(sender text primary key, mails integer) without rowid;
 drop table if exists threads;
-create table threads(message_id text primary key, parent text, top text) without rowid;
+create table threads(message_id text primary key, parent text, top text, date integer) without rowid;
 create index threads_by_top on threads(top);
 create index threads_by_parent on threads(parent);
 """
+# the numbers of mails, by month and by sender
+COUNTS = {
+    "months": "select strftime('%Y-%m', date, 'unixepoch'), count(*) from mails where date is not null group by 1",
+    "senders": "select sender, count(*) from mails where sender != '' group by 1",
+}
+SENDERS = 1000
 # the number of bytes of words that are sorted in memory
 BUFFER = "insert into texts(texts, rank) values('hashsize', 100000000)"
 WORDS = "id, subject, sender, recipients, body from mails"
@@ -125,11 +138,19 @@ def mail_of(line):
     return row, list(dict(mailboxes(to)).items()), links, files
 
 
+def read_line(line):
+    """Returns the object of a line of a shard."""
+    try:
+        return json.loads(line)
+    except ValueError as fault:
+        raise ValueError(f"a shard is damaged ({fault}): remove it, and repeat index_archive.py") from None
+
+
 def deal(path, shard, count, scratch):
     """Reads a shard, and writes what each of `count` slices gets of it to a file. Returns the names of the files."""
     dealt = [([], []) for _ in range(count)]
     with open(path, "rb") as lines:
-        for line in map(json.loads, lines):
+        for line in map(read_line, lines):
             if line["schema"] != LINES:
                 raise ValueError(f"{path} has lines of schema {line['schema']}, not {LINES}: repeat index_archive.py")
             flags = FLAGS.search(line["file"] or "")
@@ -191,15 +212,9 @@ def insert(db, shard, mails, refused):
 
 
 def opened(path):
-    """Opens a slice, and creates its tables. A slice of another version is emptied."""
+    """Opens a slice, and creates its tables."""
     db = sqlite3.connect(path)
-    if db.execute("pragma user_version").fetchone()[0] != VERSION:
-        db.close()
-        for end in ("", "-wal", "-shm"):
-            with contextlib.suppress(FileNotFoundError):
-                os.remove(path + end)
-        db = sqlite3.connect(path)
-        db.execute(f"pragma user_version = {VERSION}")
+    db.execute(f"pragma user_version = {VERSION}")
     db.executescript(SCHEMA)
     with db:
         db.execute(BUFFER)
@@ -238,31 +253,93 @@ def sent(path):
         return [threads.Sent(one, date, subject or "", tuple(links.get(mail, ()))) for mail, one, date, subject in db.execute(columns)]
 
 
-def load_threads(path, slices):
-    """Makes the threads of all mails anew."""
-    parents = threads.trees([one for name in slices for one in sent(name)])
+def set_version(path, version):
+    """Sets the version of a database."""
+    with contextlib.closing(sqlite3.connect(path)) as db:
+        db.execute(f"pragma user_version = {version}")
+
+
+def counted(path):
+    """Returns the numbers of mails of a slice, by month and by sender."""
+    with contextlib.closing(sqlite3.connect(path)) as db:
+        return {table: collections.Counter(dict(db.execute(query))) for table, query in COUNTS.items()}
+
+
+def load_threads(path, slices, pool):
+    """Makes the threads and the numbers of all mails anew."""
+    counts = list(pool.map(counted, slices))
+    months, senders = (sum((one[table] for one in counts), collections.Counter()) for table in COUNTS)
+    mails = [one for some in pool.map(sent, slices) for one in some]
+    dates = {one.id: one.date for one in mails}
+    parents = threads.trees(mails)
     tops = threads.tops_of(parents)
     with contextlib.closing(sqlite3.connect(path, isolation_level=None)) as db:
         db.executescript(THREADS)
-        db.executemany("insert into threads values(?, ?, ?)", ((one, above, tops[one]) for one, above in parents.items()))
+        db.executemany("insert into months values(?, ?)", months.items())
+        db.executemany("insert into senders values(?, ?)", senders.most_common(SENDERS))
+        rows = ((one, above, tops[one], dates.get(one)) for one, above in parents.items())
+        db.executemany("insert into threads values(?, ?, ?, ?)", rows)
+        db.execute(f"pragma user_version = {VERSION}")
         db.execute("commit")
 
 
-def load_all(out, database, named, paths):
-    """Loads all slices in parallel. Returns the number of copies that were inserted, and whether anything changed."""
+def load_all(given, named, paths, trees, pool, scratch):
+    """Loads all slices in parallel. Returns the number of copies that were inserted."""
     there = list(map(loaded, paths))
     stale = [names - set(named) for names in there]
     fresh = [[name for name in named if name not in names] for names in there]
     wanted = sorted({name for names in fresh for name in names})
-    with tempfile.TemporaryDirectory(prefix=".load-", dir=database) as scratch, concurrent.futures.ProcessPoolExecutor() as pool:
-        files = [os.path.join(out, name) for name in wanted]
-        dealt = dict(zip(wanted, pool.map(deal, files, wanted, [len(paths)] * len(wanted), [scratch] * len(wanted))))
-        parts = [[(name, dealt[name][number]) for name in names] for number, names in enumerate(fresh)]
-        return sum(pool.map(load, paths, stale, parts)), any(stale) or any(fresh)
+    if any(stale) or any(fresh):
+        set_version(trees, 0)  # until they are made anew, also after an interrupted run
+    files = [os.path.join(given.out, name) for name in wanted]
+    dealt = dict(zip(wanted, pool.map(deal, files, wanted, [len(paths)] * len(wanted), [scratch] * len(wanted))))
+    parts = [[(name, dealt[name][number]) for name in names] for number, names in enumerate(fresh)]
+    return sum(pool.map(load, paths, stale, parts))
+
+
+def replace_slices(paths, fresh):
+    """Replaces the slices of an older version."""
+    for path, new in zip(paths, fresh):
+        for end in ("-wal", "-shm"):
+            with contextlib.suppress(FileNotFoundError):
+                os.remove(path + end)
+        os.replace(new, path)
+
+
+def load_index(given, named, paths, pool, scratch):
+    """Loads the shards, and makes the threads anew if something has changed. Returns the number of copies that were
+    inserted."""
+    trees = os.path.join(given.database, "threads.sqlite")
+    is_older = any(os.path.exists(path) and version_of(path) != VERSION for path in paths)
+    loaded_into = [f"{path}.new" for path in paths] if is_older else paths
+    total = load_all(given, named, loaded_into, trees, pool, scratch)
+    if is_older:
+        replace_slices(paths, loaded_into)
+    if version_of(trees) != VERSION:
+        load_threads(trees, paths, pool)
+    return total
+
+
+def ignore_interrupts():
+    """Leaves Ctrl-C to the process that waits for this one."""
+    signal.signal(signal.SIGINT, signal.SIG_IGN)
+
+
+def interruptible(given, named, paths):
+    """Loads the index by several processes, which end with this one."""
+    with tempfile.TemporaryDirectory(prefix=".load-", dir=given.database) as scratch:
+        with concurrent.futures.ProcessPoolExecutor(initializer=ignore_interrupts) as pool:
+            try:
+                return load_index(given, named, paths, pool, scratch)
+            except KeyboardInterrupt:
+                for child in multiprocessing.active_children():
+                    child.terminate()
+                    child.join()
+                raise
 
 
 def main():
-    """Loads the index, and makes the threads anew if it has changed."""
+    """Loads the index."""
     parser = argparse.ArgumentParser(description=__doc__, formatter_class=argparse.RawDescriptionHelpFormatter)
     parser.add_argument("out", metavar="OUT")
     parser.add_argument("database", metavar="DATABASE")
@@ -277,10 +354,13 @@ def main():
     os.makedirs(given.database, exist_ok=True)
     paths = sorted(glob.glob(os.path.join(glob.escape(given.database), "[0-9]*.sqlite")))
     paths = paths or [os.path.join(given.database, f"{number:03}.sqlite") for number in range(max(1, given.slices))]
-    total, has_changed = load_all(given.out, given.database, named, paths)
-    trees = os.path.join(given.database, "threads.sqlite")
-    if has_changed or not os.path.exists(trees):
-        load_threads(trees, paths)
+    try:
+        total = interruptible(given, named, paths)
+    except (ValueError, OSError) as fault:
+        sys.exit(f"load_sqlite.py: {fault}")
+    except KeyboardInterrupt:
+        print("load_sqlite.py: interrupted; the next run goes on from here", file=sys.stderr)
+        sys.exit(130)
     seconds = time.monotonic() - begun
     print(f"{total} mails loaded in {seconds:.1f} s, {total / seconds:.0f} a second", file=sys.stderr)
 

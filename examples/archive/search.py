@@ -20,6 +20,7 @@ of the first copy, `FILE:START-END`, separated by tabs. Control characters are r
 was found, 1 if none was, and 2 for wrong arguments and for a mail that cannot be read.
 """
 import argparse
+import concurrent.futures
 import contextlib
 import datetime
 import glob
@@ -29,20 +30,43 @@ import re
 import sqlite3
 import subprocess
 import sys
+import urllib.parse
 
 from program import rocktray
 
+# the version of the tables of load_sqlite.py
+VERSION = 3
 COLUMNS = ("message_id", "date", "time", "sender", "recipients", "subject", "list_id", "files", "copies", "file", "start", "end")
 FOUND = """
 select message_id, date, datetime(date, 'unixepoch'), sender, recipients, subject, list_id,
     (select json_group_array(name) from attachments where mail = mails.id),
     (select count(*) from copies where mail = mails.id), file, start, "end", mails.id
 from mails join copies on copies.rowid = (select min(rowid) from copies where mail = mails.id)
+where mails.id in (select value from json_each(?)) order by date desc
 """
+# the mails with words, and the number of them from which on it is faster to look through all mails in the order of time
+MATCH = "mails.id in (select rowid from texts where texts match ?)"
+COMMON = 5000
 HIDDEN = re.compile("[\x00-\x1f\x7f-\x9f\u2028\u2029\u202a-\u202e\u2066-\u2069]")
 SEPARATOR = re.compile(rb"^(>*From )", re.MULTILINE)
 PACKED = ((b"\x1f\x8b", "gzip"), (b"\xfd7zX", "xz"), (b"BZh", "bzip2"), (b"\x28\xb5\x2f\xfd", "zstd"))
 ESCAPE = re.compile(rb"\\x([89a-f][0-9a-f])")
+
+
+def version_of(path):
+    """Returns the version of the tables of a slice."""
+    with contextlib.closing(sqlite3.connect(path)) as db:
+        return db.execute("pragma user_version").fetchone()[0]
+
+
+def slices_of(database):
+    """Returns the paths of the slices of a database. Exits if there are none, or if they are of another version."""
+    paths = sorted(glob.glob(os.path.join(glob.escape(database), "[0-9]*.sqlite")))
+    if not paths or any(version_of(path) != VERSION for path in paths):
+        why = f"is of another version than {VERSION}: run load_sqlite.py again" if paths else "has no slices of load_sqlite.py"
+        print(f"{os.path.basename(sys.argv[0])}: {database} {why}", file=sys.stderr)
+        sys.exit(2)
+    return paths
 
 
 def quoted(text):
@@ -56,7 +80,7 @@ def conditions(given):
     words += [f"sender: {quoted(given.sender)}"] if given.sender else []
     words += [f"recipients: {quoted(given.to)}"] if given.to else []
     if words:
-        yield "mails.id in (select rowid from texts where texts match ?)", " AND ".join(words)
+        yield MATCH, " AND ".join(words)
     if given.after is not None:
         yield "date >= ?", given.after
     if given.before is not None:
@@ -72,14 +96,19 @@ def conditions(given):
     if given.id:
         yield "message_id = ?", given.id
     if given.thread:
-        yield "message_id in (select value from json_each(?))", json.dumps([one for one, _ in given.order])
+        yield in_order(given.order)
+
+
+def in_order(order):
+    """Returns the condition that a mail is among those of a thread."""
+    return "message_id in (select value from json_each(?))", json.dumps([one for one, _ in order])
 
 
 def tree_of(database, message_id):
     """Returns the ids of the thread of a mail, each with its level, from the top and in the order of a walk through the tree."""
     with contextlib.closing(sqlite3.connect(os.path.join(database, "threads.sqlite"))) as db:
         query = "select message_id, parent from threads where top = (select top from threads where message_id = ?)"
-        rows = db.execute(query, (message_id,)).fetchall()
+        rows = db.execute(f"{query} order by date is null desc, date desc, message_id desc", (message_id,)).fetchall()
     children = {}
     for one, parent in rows:
         children.setdefault(parent, []).append(one)
@@ -87,20 +116,81 @@ def tree_of(database, message_id):
     while waiting:
         one, level = waiting.pop()
         order.append((one, level))
-        waiting += [(it, level + 1) for it in sorted(children.get(one, ()), reverse=True)]
+        waiting += [(it, level + 1) for it in children.get(one, ())]
     return order
 
 
-def found_in(slices, wheres, limit):
-    """Returns the mails of all slices that meet the conditions, the latest first and those without a date last, and their
-    number without the limit. With each mail are its slice and its number there."""
-    where = " and ".join(["true", *(condition for condition, *_ in wheres)])
-    values = [value for _, *given in wheres for value in given]
-    total = sum(db.execute(f"select count(*) from mails where {where}", values).fetchone()[0] for db in slices)
-    query = f"{FOUND} where {where} order by date desc limit ?"
-    found = [(dict(zip(COLUMNS, row)), db, row[-1]) for db in slices for row in db.execute(query, (*values, -1 if limit is None else limit))]
+def with_threads(found, slices, given):
+    """Returns all mails of the threads of those that were found, each thread as a tree, and sets `given.order`. Mails without
+    an id, which are in no thread, come last."""
+    seen = {None}
+    for mail, _, _ in found:
+        if mail["message_id"] not in seen:
+            order = tree_of(given.database, mail["message_id"])
+            seen.update(one for one, _ in order)
+            given.order += order
+    alone = [it for it in found if it[0]["message_id"] is None]
+    return in_tree(found_in(slices, [in_order(given.order)], None)[0], given.order) + alone
+
+
+def in_tree(found, order):
+    """Returns mails in the order of the ids of threads."""
+    ranks = {one: rank for rank, (one, _) in enumerate(order)}
+    return sorted(found, key=lambda it: ranks[it[0]["message_id"]])
+
+
+def opened(path):
+    """Opens a slice for reading alone, in any thread."""
+    return sqlite3.connect(f"file:{urllib.parse.quote(path)}?mode=ro", uri=True, check_same_thread=False)
+
+
+def in_all(slices, ask):
+    """Returns what a call returns for each slice; they are asked at once."""
+    with concurrent.futures.ThreadPoolExecutor(len(slices)) as pool:
+        return list(pool.map(ask, slices))
+
+
+def condition_of(db, wheres):
+    """Returns conditions on the mails of a slice as one, with its values, and the number of the mails that meet it or None."""
+    total, parts = None, ["true"]
+    for condition, *given in wheres:
+        if condition == MATCH:
+            total = db.execute("select count(*) from texts where texts match ?", given).fetchone()[0]
+            condition = f"+{MATCH}" if total > COMMON else MATCH
+        parts.append(condition)
+    return total if len(wheres) == 1 else None, " and ".join(parts), [value for _, *given in wheres for value in given]
+
+
+def latest(slices, wheres, most):
+    """Returns of each slice the numbers of the mails that meet the conditions, the latest first and at most `most`, and how
+    many there are in all slices."""
+
+    def ask(db):
+        total, where, values = condition_of(db, wheres)
+        if total is None:
+            total = db.execute(f"select count(*) from mails where {where}", values).fetchone()[0]
+        rows = db.execute(f"select id from mails where {where} order by date desc limit ?", (*values, -1 if most is None else most))
+        return db, [number for number, *_ in rows], total
+
+    answers = in_all(slices, ask)
+    return [(db, numbers) for db, numbers, _ in answers], sum(total for _, _, total in answers)
+
+
+def mails_of(chosen, limit):
+    """Returns the latest of the mails with these numbers in their slices, those without a date last. With each mail are its
+    slice and its number there."""
+    found = []
+    for db, numbers in chosen:
+        rows = db.execute(FOUND, (json.dumps(numbers[:limit]),))
+        found += [(dict(zip(COLUMNS, row)), db, row[-1]) for row in rows]
     found.sort(key=lambda it: float("-inf") if it[0]["date"] is None else it[0]["date"], reverse=True)
-    return found[:limit], total
+    return found[:limit]
+
+
+def found_in(slices, wheres, limit):
+    """Returns the mails of all slices that meet the conditions, the latest first, and their number without the limit."""
+    chosen, total = latest(slices, wheres, limit)
+    return mails_of(chosen, limit), total
 
 
 def path_of(label):
@@ -197,6 +287,7 @@ def arguments():
     parser.add_argument("--hash", metavar="SHA256", help="the SHA-256 of a file")
     parser.add_argument("--id", metavar="ID", help="the message id")
     parser.add_argument("--thread", metavar="ID", help="all mails of the thread of a message id, as a tree")
+    parser.add_argument("--threads", action="store_true", help="write the whole threads of the mails that are found, as trees")
     parser.add_argument("--limit", metavar="COUNT", type=int, help="the maximum number of mails; 20 by default, but for a thread")
     parser.add_argument("--snippets", action="store_true", help="write some of the text around the words that match")
     parser.add_argument("--program", metavar="ROCKTRAY", help="the program of --show; by default that of index_archive.py")
@@ -213,26 +304,27 @@ def main():
     parser = arguments()
     given = parser.parse_args()
     given.query = " ".join(given.query)
-    paths = sorted(glob.glob(os.path.join(glob.escape(given.database), "[0-9]*.sqlite")))
-    if not paths:
-        parser.error(f"{given.database} has no slices of load_sqlite.py")
+    paths = slices_of(given.database)
     given.order = tree_of(given.database, given.thread) if given.thread else []
     limit = given.limit if given.limit is not None else None if given.thread else 20
     with contextlib.ExitStack() as stack:
-        slices = [stack.enter_context(contextlib.closing(sqlite3.connect(path))) for path in paths]
+        slices = [stack.enter_context(contextlib.closing(opened(path))) for path in paths]
         try:
             found, total = found_in(slices, list(conditions(given)), limit)
         except sqlite3.OperationalError as fault:
             parser.error(f"the query is wrong ({fault}): put words with other characters than letters and digits in double quotes")
-        if given.thread:
-            ranks = {one: rank for rank, (one, _) in enumerate(given.order)}
-            found.sort(key=lambda it: ranks[it[0]["message_id"]])
+        count = len(found)
+        found = with_threads(found, slices, given) if given.threads else in_tree(found, given.order) if given.thread else found
         try:
             WRITERS.get(given.output, write_lines)(found, given)
+            sys.stdout.flush()
+        except BrokenPipeError:  # the reader of the lines has seen enough
+            os.dup2(os.open(os.devnull, os.O_WRONLY), sys.stdout.fileno())
+            sys.exit(0)
         except (OSError, subprocess.CalledProcessError) as fault:
             parser.error(str(fault))
-    if len(found) < total:
-        print(f"search.py: {len(found)} of {total} mails; --limit COUNT changes that", file=sys.stderr)
+    if count < total:
+        print(f"search.py: {count} of {total} mails; --limit COUNT changes that", file=sys.stderr)
     sys.exit(0 if found else 1)
 
 

@@ -8,7 +8,6 @@ and files are downloads. It needs Flask and pygal (Debian: python3-flask, python
 import argparse
 import contextlib
 import datetime
-import glob
 import json
 import os
 import re
@@ -27,7 +26,7 @@ from program import rocktray
 
 PAGE = 25
 # the number of the latest mails that are counted beside a search
-COUNTED = 5000
+COUNTED = 2000
 POLICY = "default-src 'none'; style-src 'self'; img-src 'self'; form-action 'self'; base-uri 'none'; frame-ancestors 'none'"
 HEADERS = {
     "Content-Security-Policy": POLICY,
@@ -44,8 +43,6 @@ FACETS = {
     "type": "(select type from attachments where mail = id limit 1)",
 }
 MAIL = "select message_id, date, datetime(date, 'unixepoch') as time, sender, recipients, subject, list_id, body from mails where id = ?"
-SENT = "select strftime('%Y-%m', date, 'unixepoch'), count(*) from mails where date is not null group by 1"
-SENDERS = "select sender, count(*) from mails where sender != '' group by 1 order by 2 desc limit 1000"
 
 
 class Archive:
@@ -53,7 +50,7 @@ class Archive:
 
     def __init__(self, directory, program):
         self.directory, self.program = directory, program
-        self.paths = sorted(glob.glob(os.path.join(glob.escape(directory), "[0-9]*.sqlite")))
+        self.paths = search.slices_of(directory)
 
     @contextlib.contextmanager
     def slices(self):
@@ -64,7 +61,7 @@ class Archive:
     @staticmethod
     def opened(path):
         """Opens a database for reading alone."""
-        db = sqlite3.connect(f"file:{path}?mode=ro", uri=True)
+        db = search.opened(path)
         db.row_factory = sqlite3.Row
         return db
 
@@ -74,14 +71,10 @@ class Archive:
             flask.abort(404)
         return contextlib.closing(self.opened(self.paths[number]))
 
-    def sums(self, query):
-        """Returns the sums of a query that counts, over all slices."""
-        counts = {}
-        with self.slices() as slices:
-            for db in slices:
-                for key, count in db.execute(query):
-                    counts[key] = counts.get(key, 0) + count
-        return counts
+    def numbers(self, query):
+        """Returns the rows of a query over the numbers of mails."""
+        with contextlib.closing(self.opened(os.path.join(self.directory, "threads.sqlite"))) as db:
+            return [tuple(row) for row in db.execute(query)]
 
     def first_copy(self, number, mail):
         """Returns the bytes of the first copy of a mail."""
@@ -114,15 +107,14 @@ def wheres_of(given):
     return wheres
 
 
-def facets_of(slices, wheres):
-    """Returns the most frequent years, senders, lists and types of files among the latest mails that are found."""
-    where = " and ".join(["true", *(condition for condition, *_ in wheres)])
-    values = [value for _, *given in wheres for value in given]
+def facets_of(chosen):
+    """Returns the most frequent years, senders, lists and types of files among mails with these numbers in their slices."""
     counts = {name: {} for name in FACETS}
-    for db in slices:
-        columns = ", ".join(f"{what} as {name}" for name, what in FACETS.items())
-        query = f"select {columns} from mails where {where} order by date desc limit ?"
-        for row in db.execute(query, (*values, COUNTED // len(slices))):
+    columns = ", ".join(f"{what} as {name}" for name, what in FACETS.items())
+    query = f"select {columns} from mails where id in (select value from json_each(?))"
+    for db, numbers in chosen:
+        rows = db.execute(query, (json.dumps(numbers[: COUNTED // len(chosen)]),))
+        for row in rows:
             for name in FACETS:
                 if row[name]:
                     counts[name][row[name]] = counts[name].get(row[name], 0) + 1
@@ -214,8 +206,8 @@ def create_app(directory, program, hosts=None):
         wheres = wheres_of(given_of(words))
         with archive.slices() as slices:
             try:
-                found, total = search.found_in(slices, wheres, page * PAGE)
-                facets = facets_of(slices, wheres)
+                chosen, total = search.latest(slices, wheres, max(page * PAGE, COUNTED // len(slices)))
+                found, facets = search.mails_of(chosen, page * PAGE), facets_of(chosen)
             except sqlite3.OperationalError:
                 return flask.render_template("index.html", words=words, wrong=True, mails=[], total=0, facets={}, page=1, pages=1)
             mails = [{**mail, "files": json.loads(mail["files"]), "slice": slices.index(db), "id": number} for mail, db, number in found[(page - 1) * PAGE :]]
@@ -262,14 +254,13 @@ def create_app(directory, program, hosts=None):
 
     @app.get("/plots/months.svg")
     def months():
-        counts = archive.sums(SENT)
-        return bars("Mails per month", sorted(counts.items())[-240:])
+        counts = archive.numbers("select month, mails from months order by month desc limit 240")
+        return bars("Mails per month", counts[::-1])
 
     @app.get("/plots/senders.svg")
     def senders():
-        counts = archive.sums(SENDERS)
-        most = sorted(counts.items(), key=lambda it: it[1])[-15:]
-        return bars("Most frequent senders", [(HIDDEN.sub("\ufffd", sender)[:40], count) for sender, count in most], is_horizontal=True)
+        counts = archive.numbers("select sender, mails from senders order by mails desc, sender limit 15")
+        return bars("Most frequent senders", [(HIDDEN.sub("\ufffd", sender)[:40], count) for sender, count in counts[::-1]], is_horizontal=True)
 
     return app
 
@@ -282,8 +273,6 @@ def main():
     parser.add_argument("--port", type=int, default=8025)
     parser.add_argument("--program", metavar="ROCKTRAY", help="by default the one that is built here, in a release that is unpacked here, or installed")
     given = parser.parse_args()
-    if not glob.glob(os.path.join(glob.escape(given.database), "[0-9]*.sqlite")):
-        parser.error(f"{given.database} has no slices of load_sqlite.py")
     hosts = {f"{host}:{given.port}" for host in ("127.0.0.1", "localhost", "[::1]", given.host)}
     if given.host not in ("127.0.0.1", "localhost", "::1"):
         print("web.py: anyone who reaches this port can read the archive; there are no passwords", file=sys.stderr)
