@@ -1,0 +1,6 @@
+pub mod Scans
+pub mod Tags
+pub mod References
+pub mod Layout
+pub mod Html
+pub mod Laws

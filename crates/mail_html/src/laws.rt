@@ -1,0 +1,35 @@
+//! What the definitions mean, as laws over all texts.
+//!
+//! Each function does nothing; its contract is the law.
+ghost use Rattle.std.specs.Prelude.{◌≡◌, ◌+◌, ◌∷◌, true, ℕ, List, IsUtf8, take, drop};
+ghost use Rattle.std.specs.Char.{is_ascii_alphabetic};
+ghost use Rattle.mail_codec.specs.Places.{begins};
+ghost use Rattle.mail_html.specs.Elements.{kind_of};
+ghost use Rattle.mail_html.specs.Html.{front_step, html_text};
+ghost use Rattle.mail_html.specs.Layout.{State};
+ghost use Rattle.mail_html.specs.Plain.{is_plain};
+ghost use Rattle.mail_html.specs.Tags.{contents_length, name_length, tag_length};
+ghost use Rattle.mail_html.specs.declared.elements.Kind.TheVariants.{Hidden};
+ghost use Rattle.mail_html.specs.declared.references.References.{References};
+
+/// A text without `<` and `&` whose only whitespace is single spaces between other characters is
+/// its own text.
+#[tactic(auto, using(crate::proofs::lemmas::Laws::plain_is))]
+pub fn plain_text_stays()
+    ensures { (references : References) (text : List ℕ) → IsUtf8 text → is_plain text ≡ true
+        → html_text references text ≡ text }
+{}
+
+/// A start tag of a hidden element, such as `script`, takes its contents up to its end tag, or to
+/// the end of the text, and changes nothing of what is written.
+#[tactic(auto, using(crate::proofs::lemmas::Html::hidden_step))]
+pub fn hidden_contents_are_no_text()
+    ensures { (references : References) (state : State) (bytes : List ℕ)
+        → begins is_ascii_alphabetic bytes ≡ true
+        → kind_of (take (name_length bytes) bytes) ≡ Hidden
+        → front_step references state (60 ∷ bytes) ≡ (
+          state,
+          1 + (tag_length bytes
+              + contents_length (take (name_length bytes) bytes) (drop (tag_length bytes) bytes)),
+        ) }
+{}
