@@ -88,15 +88,19 @@ fn read_parts(row: &Row, answer: &mut Answer) -> Outcome {
     if levels > MAX_LEVELS {
         return Err(FORM);
     }
-    let known = all_tables();
-    let mail = parse_mail_as(row.alloc, row.bytes(0), levels, &Lenient(&known))?;
+    let mail = parse_mail_as(row.alloc, row.bytes(0), levels, &Lenient(&all_tables()))?;
     for part in mail.parts(row.alloc)? {
-        match row.call.as_str() {
-            "lenient_nodes" => push_node(answer, part),
-            _ => answer.put(lenient_file_name(answer.alloc, part, &known)),
-        }
+        push_part(answer, row.call.as_str(), part);
     }
     Ok(())
+}
+
+fn push_part(answer: &mut Answer, call: &str, part: &ParsedMail<'_>) {
+    let alloc = answer.alloc;
+    match call {
+        "lenient_nodes" => push_node(answer, part),
+        _ => answer.put(lenient_file_name(alloc, part, &all_tables())),
+    }
 }
 
 /// NODE: `part`, the number of its parts and of its headers, its type, its body, and why it is
