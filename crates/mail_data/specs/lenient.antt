@@ -17,3 +17,4 @@ pub mod Manner
 pub mod Refused
 pub mod FileNames
 pub mod Agreement
+pub mod Shown

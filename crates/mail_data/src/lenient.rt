@@ -11,6 +11,7 @@ pub mod laws;
 mod manner;
 mod refused;
 mod repairs;
+mod shown;
 mod texts;
 
 pub use base64::{Base64Front, base64_front};
@@ -23,4 +24,5 @@ pub use file_names::lenient_file_name;
 pub use ids::{IdRule, find_ids};
 pub use manner::Lenient;
 pub use refused::refusal;
+pub use shown::{after_block, is_undivided};
 pub use texts::{BodyText, body_text, charset_used, lenient_text};

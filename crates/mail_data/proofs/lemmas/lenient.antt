@@ -8,3 +8,4 @@ pub mod Manner
 pub mod Repairs
 pub mod Texts
 pub mod Agreement
+pub mod Shown
