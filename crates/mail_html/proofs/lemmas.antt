@@ -4,3 +4,4 @@ pub mod References
 pub mod Layout
 pub mod Html
 pub mod Laws
+pub mod Provenance

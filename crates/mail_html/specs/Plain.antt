@@ -1,4 +1,4 @@
--- Plain text: that of which HTML means the text itself.
+-- What the laws speak of: plain text, of which HTML means the text itself, and what is put between runs of text.
 use Rattle.std.specs.Prelude.{ℕ, Bool, true, false, not, ◌||◌, ◌&&◌, ◌==◌, List, [], ◌∷◌, if◌then◌else◌}
 use Rattle.std.specs.Char.{is_ascii_whitespace}
 use Rattle.mail_codec.specs.Ascii.{less_than, space}
@@ -18,3 +18,7 @@ is_plain_after is_spaced (b ∷ rest) =
 -- a text without `<` and `&` whose only whitespace is single spaces between other characters
 abbrev pub is_plain : List ℕ → Bool
 is_plain text = is_empty text || is_plain_after true text
+
+-- what is put between runs of text, and around alternative texts: space, tab, LF and brackets
+abbrev pub separators : List ℕ
+separators = 32 ∷ 9 ∷ 10 ∷ 91 ∷ 93 ∷ []

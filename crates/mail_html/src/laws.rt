@@ -1,15 +1,17 @@
 //! What the definitions mean, as laws over all texts.
 //!
 //! Each function does nothing; its contract is the law.
-ghost use Rattle.std.specs.Prelude.{◌≡◌, ◌+◌, ◌∷◌, true, ℕ, List, IsUtf8, take, drop};
+ghost use Rattle.std.specs.Prelude.{◌≡◌, ◌+◌, ◌∷◌, [], true, false, ℕ, Bool, List, All, IsUtf8, take, drop};
 ghost use Rattle.std.specs.Char.{is_ascii_alphabetic};
 ghost use Rattle.mail_codec.specs.Places.{begins};
 ghost use Rattle.mail_html.specs.Elements.{kind_of};
-ghost use Rattle.mail_html.specs.Html.{front_step, html_text};
+ghost use Rattle.mail_html.specs.Html.{front_step, html_text, state_after};
 ghost use Rattle.mail_html.specs.Layout.{State};
-ghost use Rattle.mail_html.specs.Plain.{is_plain};
+ghost use Rattle.mail_html.specs.Plain.{is_plain, separators};
+ghost use Rattle.mail_html.specs.References.{reference};
 ghost use Rattle.mail_html.specs.Tags.{contents_length, name_length, tag_length};
 ghost use Rattle.mail_html.specs.declared.elements.Kind.TheVariants.{Hidden};
+ghost use Rattle.mail_html.specs.declared.layout.Gap.TheVariants.{Nothing};
 ghost use Rattle.mail_html.specs.declared.references.References.{References};
 
 /// A text without `<` and `&` whose only whitespace is single spaces between other characters is
@@ -32,4 +34,15 @@ pub fn hidden_contents_are_no_text()
           1 + (tag_length bytes
               + contents_length (take (name_length bytes) bytes) (drop (tag_length bytes) bytes)),
         ) }
+{}
+
+/// Each byte that is written is in the text, in the text of a reference, or is a separator: a test
+/// that all of these pass, all that is written passes.
+pub fn nothing_is_made_up()
+    ensures { (references : References) (test : ℕ → Bool) (html : List ℕ)
+        → All (λ b. test b ≡ true) html
+        → ((in_value : Bool) (bytes : List ℕ)
+        → All (λ b. test b ≡ true) (reference references in_value bytes).0)
+        → All (λ b. test b ≡ true) separators
+        → All (λ b. test b ≡ true) (state_after 0 references ([], Nothing, false) html).0 }
 {}
