@@ -245,17 +245,18 @@ def test_long_mailbox(words, count, tmp_path):
     path = mailbox_file(tmp_path / "mailbox", mails)
     assert path.stat().st_size > 195_000_000
     ended = run_limited([*command(words[0]), *words[1:], path], b"", tmp_path, 100_000)
+    path.unlink()
     assert (ended.returncode, ended.stderr, ended.stdout.count(b"\n")) == (0, b"", count)
 
 
 def test_part_without_a_mail(tmp_path):
-    """A part in which no mail begins is read to its end and no further: one of 4 MB of a mail of 64 MB in 20 MB."""
+    """A part in which no mail begins is read to its end and no further: one of 4 MB of a mail of 64 MB in 24 MB."""
     path = mailbox_file(tmp_path / "mailbox", [b"Subject: long\n\n" + b"a line of the text\n" * 3_368_000, b"Subject: last\n\n"])
     assert path.stat().st_size > 63_900_000
     for number in (2, 8, 15):
-        ended = run_limited([*command("json"), "--part", f"{number}/16", path], b"", tmp_path, 20_000)
+        ended = run_limited([*command("json"), "--part", f"{number}/16", path], b"", tmp_path, 24_000)
         assert (ended.returncode, ended.stderr, ended.stdout) == (0, b"", b""), number
-    ended = run_limited([*command("json"), "--no-text", "--part", "16/16", path], b"", tmp_path, 20_000)
+    ended = run_limited([*command("json"), "--no-text", "--part", "16/16", path], b"", tmp_path, 24_000)
     assert (ended.returncode, [json.loads(line)["subject"] for line in ended.stdout.splitlines()]) == (0, ["last"])
 
 
