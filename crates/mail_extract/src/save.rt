@@ -68,7 +68,7 @@ pub(crate) fn save_file<D: Directory>(
     let bytes = content.bytes.as_slice();
     let name = target_name(alloc, name, bytes, options.naming)?;
     let sha256 = wanted_hash(alloc, bytes, options.hashing)?;
-    let damage = text_of(alloc, content.fault)?;
+    let damage = text_of(alloc, content.fault, content.ignored)?;
     let path = String::from_str(alloc, place.path.as_str())?;
     let size = bytes.len();
     let (directory, number) = (&mut target.directory, &mut target.number);
@@ -90,17 +90,22 @@ pub(crate) fn save_file<D: Directory>(
     }
 }
 
-/// The text of a fault.
-fn text_of(alloc: Global, fault: Option<ContentFault>) -> Result<Option<String>, AllocError>
+/// The text of a fault, with the number of bytes that were ignored, if there are any.
+fn text_of(
+    alloc: Global,
+    fault: Option<ContentFault>,
+    ignored: usize,
+) -> Result<Option<String>, AllocError>
     ensures { IfOk result (λ text. is_some text ≡ is_some fault) }
 {
-    match fault {
-        Some(fault) => {
-            let error = MailParseError::from(fault);
-            Ok(Some(format!(in alloc; "{error}")?))
-        }
-        None => Ok(None),
+    let Some(fault) = fault else {
+        return Ok(None);
+    };
+    let error = MailParseError::from(fault);
+    if ignored == 0 {
+        return Ok(Some(format!(in alloc; "{error}")?));
     }
+    Ok(Some(format!(in alloc; "{error}; bytes ignored: {ignored}")?))
 }
 
 /// Creates a file, unless the name is the hash of its bytes and a file with that name has them.
