@@ -143,6 +143,8 @@ def digest(path):
 def test_build(release):
     """BUILD.json names the commit, the kit and each file with its SHA-256; the archive has the contents that it names."""
     said = json.loads((release / "BUILD.json").read_text())
+    assert set(said) == {"version", "commit", "date", "kit", "logic", "processor", "system", "least_glibc", "linked_against",
+                         "proved_objects", "tools", "spdx", "files", "contents"}
     assert said["version"] == VERSION and said["logic"] == LOGIC and said["kit"].endswith(LOGIC)
     assert said["commit"] == run(["git", "rev-parse", "HEAD"], cwd=TOP).stdout.decode().strip()
     assert said["processor"] == "x86-64-v2" and re.fullmatch(r"2\.\d+(\.\d+)?", said["least_glibc"])
