@@ -67,7 +67,7 @@ void __wrap_free(void *block)
 
 enum kind {
     JSON, CONTENT, TEXT, HEADER, RAW_HEADER, IDS, OWN_IDS, RECIPIENTS, BOUNCED_ID, UNQUOTED, VALUE, FILE_NAME,
-    SAFE_NAME, BODY, DAMAGED_BODY, BODY_TEXT, REASON
+    SAFE_NAME, BODY, DAMAGED_BODY, BODY_TEXT, BODY_CHARSET, REASON
 };
 
 struct bytes {
@@ -188,6 +188,14 @@ static const struct test tests[] = {
       BYTES("\xd0\xbf\xd1\x80") },
     { BODY_TEXT, BYTES("\xe2\x82\xac"), NOTHING, ROCKTRAY_7BIT, ROCKTRAY_DONE, BYTES("\xe2\x82\xac") },
     { BODY_TEXT, NOTHING, NOTHING, ROCKTRAY_7BIT, ROCKTRAY_DONE, BYTES("") },
+    /* RFC 2045, section 5.2; RFC 2046, section 4.1.2 */
+    { BODY_CHARSET, BYTES("5 \x80"), BYTES("text/plain; charset=\" KOI8-R \""), ROCKTRAY_8BIT, ROCKTRAY_DONE,
+      BYTES("KOI8-R") },
+    { BODY_CHARSET, BYTES("77u/YQ=="), BYTES("text/plain; charset=koi8-r"), ROCKTRAY_BASE64, ROCKTRAY_DONE,
+      BYTES("utf-8") },
+    { BODY_CHARSET, BYTES("5 \x80"), BYTES("text/plain; charset=nonsense"), ROCKTRAY_8BIT, ROCKTRAY_DONE,
+      BYTES("windows-1252") },
+    { BODY_CHARSET, NOTHING, NOTHING, ROCKTRAY_7BIT, ROCKTRAY_DONE, BYTES("utf-8") },
     { REASON, NOTHING, NOTHING, ROCKTRAY_TOO_DEEP, ROCKTRAY_DONE, BYTES("Recursion limit reached") },
     { REASON, NOTHING, NOTHING, ROCKTRAY_DATE_MONTH, ROCKTRAY_DONE, BYTES("no month") },
     { REASON, NOTHING, NOTHING, 1000, ROCKTRAY_DONE, BYTES("unknown code") },
@@ -232,6 +240,9 @@ static uint32_t call(const struct test *test, uint8_t *buffer, size_t capacity, 
     case BODY_TEXT:
         code = rocktray_body_text(test->number, in.at, in.length, name.at, name.length, buffer, capacity, needed,
                                   &is_damaged);
+        break;
+    case BODY_CHARSET:
+        code = rocktray_body_charset(test->number, in.at, in.length, name.at, name.length, buffer, capacity, needed);
         break;
     case REASON: code = rocktray_reason((uint32_t)test->number, buffer, capacity, needed); break;
     }
@@ -335,31 +346,39 @@ static void check_memory(const struct test *test, size_t which)
     free(buffer);
 }
 
-static void check_date(const char *text, uint32_t code, int64_t seconds, bool is_known)
+static void check_date(const char *text, uint32_t code, int64_t seconds, int64_t offset, bool is_known)
 {
-    int64_t given = -77;
+    int64_t given = -77, given_offset = -78;
     bool is_zone_known;
     uint32_t returned;
     memset(&is_zone_known, 0xA5, sizeof is_zone_known); /* it need not be set */
     returned = rocktray_date((const uint8_t *)text, text ? strlen(text) : 0, &given, &is_zone_known);
     count(returned == code && given == (code == ROCKTRAY_DONE ? seconds : -77) && is_zone_known == is_known,
           text ? text : "no date", 0);
+    given = -77;
+    memset(&is_zone_known, 0xA5, sizeof is_zone_known);
+    returned = rocktray_date_and_offset((const uint8_t *)text, text ? strlen(text) : 0, &given, &given_offset,
+                                        &is_zone_known);
+    count(returned == code && given == (code == ROCKTRAY_DONE ? seconds : -77)
+              && given_offset == (code == ROCKTRAY_DONE ? offset : -78) && is_zone_known == is_known,
+          text ? text : "no date and offset", 0);
 }
 
 /* RFC 5322, section 3.3 and appendix A; the seconds are those of GNU date */
 static void check_dates(void)
 {
-    check_date("Fri, 21 Nov 1997 09:55:06 -0600", ROCKTRAY_DONE, 880127706, true);
-    check_date("1 Jan 1970 00:00 XYZ", ROCKTRAY_DONE, 0, false);
-    check_date("31 Dec 1969 23:59:59 +0000", ROCKTRAY_DONE, -1, true);
-    check_date(NULL, ROCKTRAY_DATE_DAY, 0, false);
-    check_date("30 Feb 2012 20:57 +0200", ROCKTRAY_DATE_DAY, 0, false);
-    check_date("1 Foo 2012 20:57 +0200", ROCKTRAY_DATE_MONTH, 0, false);
-    check_date("1 Jan 1", ROCKTRAY_DATE_YEAR, 0, false);
-    check_date("1 Jan 2012 x", ROCKTRAY_DATE_TIME, 0, false);
-    check_date("1 Jan 2012 20:57 +9", ROCKTRAY_DATE_ZONE, 0, false);
-    check_date("1 Jan 2012 20:57 +0200 2", ROCKTRAY_DATE_TRAILING_TEXT, 0, false);
-    check_date("\xff", ROCKTRAY_NOT_UTF8, 0, false);
+    check_date("Fri, 21 Nov 1997 09:55:06 -0600", ROCKTRAY_DONE, 880127706, -21600, true);
+    check_date("1 Jan 1970 05:45 +0545", ROCKTRAY_DONE, 0, 20700, true);
+    check_date("1 Jan 1970 00:00 XYZ", ROCKTRAY_DONE, 0, 0, false);
+    check_date("31 Dec 1969 23:59:59 +0000", ROCKTRAY_DONE, -1, 0, true);
+    check_date(NULL, ROCKTRAY_DATE_DAY, 0, 0, false);
+    check_date("30 Feb 2012 20:57 +0200", ROCKTRAY_DATE_DAY, 0, 0, false);
+    check_date("1 Foo 2012 20:57 +0200", ROCKTRAY_DATE_MONTH, 0, 0, false);
+    check_date("1 Jan 1", ROCKTRAY_DATE_YEAR, 0, 0, false);
+    check_date("1 Jan 2012 x", ROCKTRAY_DATE_TIME, 0, 0, false);
+    check_date("1 Jan 2012 20:57 +9", ROCKTRAY_DATE_ZONE, 0, 0, false);
+    check_date("1 Jan 2012 20:57 +0200 2", ROCKTRAY_DATE_TRAILING_TEXT, 0, 0, false);
+    check_date("\xff", ROCKTRAY_NOT_UTF8, 0, 0, false);
 }
 
 /* RFC 4155, appendix A */
@@ -383,7 +402,10 @@ static void check_mailboxes(void)
     count(left == 0 && rocktray_next_mail(at, left, false, &start, &end, &next) == ROCKTRAY_ABSENT && start == 77
               && end == 78 && next == 79,
           "the end of a mailbox", 0);
-    count(rocktray_next_mail(NULL, 0, true, &start, &end, &next) == ROCKTRAY_ABSENT && start == 77, "no mailbox", 0);
+    count(rocktray_next_mail(NULL, 0, true, &start, &end, &next) == ROCKTRAY_ABSENT && start == 77, "no bytes", 0);
+    count(rocktray_next_mail("Subject: 1\n\none\n", 16, false, &start, &end, &next) == ROCKTRAY_NO_MAILBOX && start == 77
+              && end == 78 && next == 79,
+          "a mail, which is no mailbox", 0);
 }
 
 /* A mail with that many levels of parts. */
@@ -596,6 +618,44 @@ static void check_addresses(void)
     count(code == ROCKTRAY_NO_MEMORY && records_needed == 77 && needed == 77, "addresses without memory", 0);
 }
 
+/* RFC 3464, section 2.1 */
+static void check_report(void)
+{
+    const struct bytes part = BYTES("Content-Type: message/delivery-status\n\nReporting-MTA: dns; a\n\n"
+                                    "Action:  failed \nStatus: 5.0.0\n");
+    const struct bytes text = BYTES("Content-Type: text/plain\n\nA: b\n"), space = BYTES(" x");
+    static const char wanted[] = "Reporting-MTAdns; aActionfailedStatus5.0.0";
+    static const uint64_t records_wanted[3][5] = {
+        { 0, 0, 13, 13, 19 }, { 1, 19, 25, 25, 31 }, { 1, 31, 37, 37, 42 },
+    };
+    struct rocktray_field found[3];
+    char strings[50];
+    size_t fields_needed = 77, needed = 77;
+    uint32_t code = rocktray_report(part.at, part.length, found, 3, &fields_needed, strings, sizeof strings, &needed);
+    count(code == ROCKTRAY_DONE && fields_needed == 3 && needed == 42 && memcmp(strings, wanted, 42) == 0
+              && memcmp(found, records_wanted, sizeof found) == 0,
+          "a report", 0);
+    code = rocktray_report(part.at, part.length, found, 2, &fields_needed, strings, sizeof strings, &needed);
+    count(code == ROCKTRAY_TOO_SHORT && fields_needed == 3 && needed == 42, "one field too many", 0);
+    fields_needed = needed = 77;
+    code = rocktray_report(text.at, text.length, found, 3, &fields_needed, strings, sizeof strings, &needed);
+    count(code == ROCKTRAY_ABSENT && fields_needed == 77 && needed == 77, "a part that is no report", 0);
+    code = rocktray_report(space.at, space.length, found, 3, &fields_needed, strings, sizeof strings, &needed);
+    count(code == ROCKTRAY_LEADING_SPACE && fields_needed == 77 && needed == 77, "a refused report", 0);
+    for (refuse_at = 1; refuse_at < 1000; refuse_at++) {
+        calls = 0;
+        is_library = 1;
+        code = rocktray_report(part.at, part.length, found, 3, &fields_needed, strings, sizeof strings, &needed);
+        is_library = 0;
+        if (calls < refuse_at)
+            break;
+        count(code == ROCKTRAY_NO_MEMORY && fields_needed == 77 && needed == 77 && blocks == 0,
+              "a report without memory", (size_t)refuse_at);
+    }
+    refuse_at = 0;
+    count(code == ROCKTRAY_DONE, "a report with memory", 0);
+}
+
 /* The version of the library as a text. */
 static const char *version_text(void)
 {
@@ -619,6 +679,7 @@ static int check_cases(void)
     check_records();
     check_type();
     check_addresses();
+    check_report();
     return 0;
 }
 
@@ -712,6 +773,37 @@ static struct bytes named(struct bytes mail, const struct records *records, cons
     return range(mail, 0, 0);
 }
 
+static void print_bytes(const char *at, uint64_t start, uint64_t end)
+{
+    printf(":");
+    for (uint64_t i = start; i < end; i++)
+        printf("%02x", (uint8_t)at[i]);
+}
+
+/* Writes the fields of a report: the index of the block of each, its name and its value. */
+static void print_report(struct bytes part)
+{
+    size_t fields_needed = 0, needed = 0;
+    struct rocktray_field *fields = NULL;
+    char *strings = NULL;
+    uint32_t code = rocktray_report(part.at, part.length, NULL, 0, &fields_needed, NULL, 0, &needed);
+    if (code == ROCKTRAY_TOO_SHORT) {
+        fields = malloc((fields_needed + 1) * sizeof *fields);
+        strings = malloc(needed + 1);
+        code = rocktray_report(part.at, part.length, fields, fields_needed, &fields_needed, strings, needed, &needed);
+    }
+    printf(" report=");
+    if (code != ROCKTRAY_DONE)
+        printf("!%u", code);
+    for (size_t i = 0; code == ROCKTRAY_DONE && i < fields_needed; i++) {
+        printf("%s%llu", i ? "," : "", (unsigned long long)fields[i].block);
+        print_bytes(strings, fields[i].name_start, fields[i].name_end);
+        print_bytes(strings, fields[i].value_start, fields[i].value_end);
+    }
+    free(fields);
+    free(strings);
+}
+
 static void print_part(struct bytes mail, const struct records *records, const struct rocktray_part *part)
 {
     const struct bytes body = range(mail, part->body_start, part->body_end);
@@ -722,6 +814,8 @@ static void print_part(struct bytes mail, const struct records *records, const s
            (unsigned long long)part->flags, body.length);
     print_result("file_name", FILE_NAME, named(mail, records, part, "Content-Disposition"), type, 0);
     print_result("text", BODY_TEXT, body, type, part->encoding);
+    print_result("charset", BODY_CHARSET, body, type, part->encoding);
+    print_report(range(mail, part->start, part->end));
     printf("\n");
     for (uint64_t i = part->first_header; i < part->first_header + part->header_count; i++) {
         const struct rocktray_header_record *header = &records->headers[i];
@@ -758,7 +852,7 @@ static uint64_t run_all(void)
 {
     uint64_t sum = 14695981039346656037u;
     for (size_t i = 0; i < count_of_files + TESTS; i++) {
-        for (int kind = JSON; kind <= BODY_TEXT; kind++) {
+        for (int kind = JSON; kind <= BODY_CHARSET; kind++) {
             struct test test = { (enum kind)kind, i < TESTS ? tests[i].input : files[i - TESTS], BYTES("subject"), 0,
                                  0, NOTHING };
             uint32_t code;
@@ -853,8 +947,11 @@ static void *run_mails(void *unused)
     run_kinds(CONTENT, BOUNCED_ID);
     for (size_t i = 0; i < count_of_files + TESTS; i++) {
         struct records records;
-        records_of(i < TESTS ? tests[i].input : files[i - TESTS], &records);
+        size_t fields_needed, needed;
+        const struct bytes in = i < TESTS ? tests[i].input : files[i - TESTS];
+        records_of(in, &records);
         free_records(&records);
+        rocktray_report(in.at, in.length, NULL, 0, &fields_needed, NULL, 0, &needed);
     }
     return unused;
 }
@@ -862,7 +959,7 @@ static void *run_mails(void *unused)
 static void *run_ranges(void *unused)
 {
     size_t ends_needed, needed;
-    run_kinds(UNQUOTED, BODY_TEXT);
+    run_kinds(UNQUOTED, BODY_CHARSET);
     for (size_t i = 0; i < count_of_files + TESTS; i++) {
         const struct bytes in = i < TESTS ? tests[i].input : files[i - TESTS];
         rocktray_headers(in.at, in.length, SIZE_MAX, NULL, 0, &needed);

@@ -7,7 +7,7 @@
  *   ROCKTRAY_DONE       the result is in the buffer, and *needed is its length
  *   ROCKTRAY_TOO_SHORT  a buffer is too short: *needed is the capacity that it must have
  *   ROCKTRAY_NO_MEMORY  out of memory
- *   ROCKTRAY_ABSENT     there is no such header, or no further mail
+ *   ROCKTRAY_ABSENT     there is no such header, name, id or report, or no further mail
  *   16 and greater      the input is refused, and the code is the reason: rocktray_reason has its text
  *
  * After every code but ROCKTRAY_DONE the buffer is unchanged, byte for byte. *needed is set after ROCKTRAY_DONE and
@@ -32,8 +32,8 @@
  *
  * Time. A call takes time linear in the length of its input, times the depth of nested parts.
  *
- * Stack. A call that reads a whole mail or part needs up to 128 KB of stack, if its parts are 100 levels deep;
- * rocktray_json up to 256 KB, if mails forward mails. All other calls need up to 16 KB.
+ * Stack. A call that reads a whole mail or part needs up to 128 KB of stack, if its parts are 100 levels deep or mails
+ * forward mails. All other calls need up to 16 KB.
  *
  * ABI. Later versions with the same major number keep the calls, the codes, and the layout of the records. They may add
  * calls, codes and flags.
@@ -71,6 +71,8 @@ enum rocktray_code {
     ROCKTRAY_REFUSED = 21,
     /* The mail has more parts and headers than the caller allows. */
     ROCKTRAY_TOO_MANY = 22,
+    /* There are bytes, but no line `From ` that begins a mail of a mailbox. */
+    ROCKTRAY_NO_MAILBOX = 23,
     /* What is missing or wrong in a date. */
     ROCKTRAY_DATE_DAY = 32,
     ROCKTRAY_DATE_MONTH = 33,
@@ -150,14 +152,23 @@ struct rocktray_address {
     uint64_t address_start, address_end; /* the address in canonical form; of unknown text its bytes; else empty */
 };
 
+/* A field of a report. The ranges are offsets in the buffer of strings. */
+struct rocktray_field {
+    uint64_t block;                  /* the index of its block */
+    uint64_t name_start, name_end;   /* its name in UTF-8, as it is written */
+    uint64_t value_start, value_end; /* its value in UTF-8, without whitespace around it */
+};
+
 #if defined(__cplusplus) && __cplusplus >= 201103L
 static_assert(sizeof(struct rocktray_part) == 88, "eleven numbers of 64 bits");
 static_assert(sizeof(struct rocktray_header_record) == 40, "five numbers of 64 bits");
 static_assert(sizeof(struct rocktray_address) == 48, "six numbers of 64 bits");
+static_assert(sizeof(struct rocktray_field) == 40, "five numbers of 64 bits");
 #elif defined(__STDC_VERSION__) && __STDC_VERSION__ >= 201112L
 _Static_assert(sizeof(struct rocktray_part) == 88, "eleven numbers of 64 bits");
 _Static_assert(sizeof(struct rocktray_header_record) == 40, "five numbers of 64 bits");
 _Static_assert(sizeof(struct rocktray_address) == 48, "six numbers of 64 bits");
+_Static_assert(sizeof(struct rocktray_field) == 40, "five numbers of 64 bits");
 #endif
 
 /* Reads a mail and fills a record for it and for each of its parts, each before its own parts and in their order, and a
@@ -202,6 +213,20 @@ uint32_t rocktray_body(uint64_t encoding, const void *body, size_t body_length, 
  * Content-Type; a length of 0 if it has none. Sets *is_damaged as rocktray_body does. */
 uint32_t rocktray_body_text(uint64_t encoding, const void *body, size_t body_length, const void *raw_type,
                             size_t raw_type_length, void *buffer, size_t capacity, size_t *needed, bool *is_damaged);
+
+/* Writes the name of the charset in which rocktray_body_text reads that text, as the member text_charset of the JSON:
+ * that of a byte order mark, `utf-8` or `windows-1252` if the type gives no charset that is known, or the label that it
+ * gives. Decodes the body once more. */
+uint32_t rocktray_body_charset(uint64_t encoding, const void *body, size_t body_length, const void *raw_type,
+                               size_t raw_type_length, void *buffer, size_t capacity, size_t *needed);
+
+/* Reads the fields of a report: of a part message/delivery-status, message/global-delivery-status,
+ * message/feedback-report or message/disposition-notification (RFC 3464, 6533, 5965, 8098). `part` is the part's own
+ * bytes. Fills a record for each field, in their order, and writes their strings to the buffer. The blocks of a report,
+ * which empty lines separate, are counted from 0; one whose fields cannot be read has none. Returns ROCKTRAY_ABSENT if
+ * the type of the part is another one. Refuses as rocktray_json does. */
+uint32_t rocktray_report(const void *part, size_t part_length, struct rocktray_field *fields, size_t fields_capacity,
+                         size_t *fields_needed, void *buffer, size_t capacity, size_t *needed);
 
 /* Reads the raw value of a header with addresses, as From or To. Fills a record for each element, and writes their
  * strings to the buffer. */
@@ -253,11 +278,17 @@ uint32_t rocktray_ids(const void *text, size_t text_length, bool needs_at, void 
  * false. Refuses with ROCKTRAY_NOT_UTF8, or one of the codes ROCKTRAY_DATE_... */
 uint32_t rocktray_date(const void *text, size_t text_length, int64_t *seconds, bool *is_zone_known);
 
+/* Reads the value of a Date header as rocktray_date does, and sets *offset to the seconds by which the clocks of its zone
+ * are ahead of UTC: below 0 in the west of Greenwich, and 0 if the zone is not known. Unchanged if it is refused. */
+uint32_t rocktray_date_and_offset(const void *text, size_t text_length, int64_t *seconds, int64_t *offset,
+                                  bool *is_zone_known);
+
 /* Finds the first mail of a mailbox (mbox, RFC 4155): the mail is mailbox[*start] to mailbox[*end - 1], without the
  * line `From ..` before it and the empty line after it. For the next mail, call it again with mailbox + *next and the
  * length minus *next: all calls together take time linear in the mailbox. Text before the first `From ` line is
  * skipped. With is_counted, the length of a mail is that in its Content-Length (mboxcl, mboxcl2). Returns
- * ROCKTRAY_ABSENT if there is no mail; then the three are unchanged. Does not allocate. */
+ * ROCKTRAY_ABSENT if there are no bytes, as after the last mail, and ROCKTRAY_NO_MAILBOX if there are bytes but no such
+ * line; then the three are unchanged. Does not allocate. */
 uint32_t rocktray_next_mail(const void *mailbox, size_t mailbox_length, bool is_counted, size_t *start, size_t *end,
                             size_t *next);
 

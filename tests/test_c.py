@@ -100,6 +100,20 @@ def text_in(word):
     return None if word == "!3" else bytes.fromhex(word).decode()
 
 
+def fields_in(word):
+    """The fields of a report, each with the index of its block, or None if the part is none."""
+    if word.startswith("!"):
+        assert word == "!3"
+        return None
+    fields = [field.split(":") for field in word.split(",") if field]
+    return [[int(block), bytes.fromhex(name).decode(), bytes.fromhex(value).decode()] for block, name, value in fields]
+
+
+def fields_of(report):
+    """The same of the JSON."""
+    return report and [[number, *field] for number, block in enumerate(report) for field in block]
+
+
 def member_of(part):
     """What a record says, as the JSON says it."""
     flags, disposition = int(part["flags"]), int(part["disposition"])
@@ -142,6 +156,9 @@ def test_records(check, hostile):
                 if json_part["disposition"] not in DISPOSITIONS:
                     json_part["disposition"] = "another"
                 assert member_of(part) == {name: json_part[name] for name in member_of(part)}, path
+                if int(part["flags"]) & 8:
+                    assert text_in(part["charset"]) == json_part["text_charset"], path
+                assert fields_in(part["report"]) == fields_of(json_part["report"]), path
                 is_mail = json_part["type"] in ("message/rfc822", "message/global")
                 assert bool(int(part["flags"]) & 16) == is_mail, path
 
@@ -165,8 +182,10 @@ def test_stack(c_library, hostile, tmp_path):
     words = run([tmp_path / "check", "stack", *SAMPLES, *hostile[:300]]).stdout.decode()
     used = [int(number) for number in re.findall(r"\d+", words)]
     header = (TOP / "c" / "rocktray.h").read_text()
-    mails, lines, ranges = (1024 * int(number) for number in re.findall(r"up to (\d+) KB", header))
-    assert len(used) == 3 and used[0] <= ranges and used[1] <= mails and used[2] <= lines, words
+    mails, ranges = (1024 * int(number) for number in re.findall(r"up to (\d+) KB", header))
+    assert len(used) == 3 and used[0] <= ranges and max(used[1:]) <= mails, words
+    page = (TOP / "docs" / "C.md").read_text()
+    assert [1024 * int(number) for number in re.findall(r"up to (\d+) KB", page)] == [ranges, mails]
 
 
 @pytest.mark.quick

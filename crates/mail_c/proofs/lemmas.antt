@@ -5,4 +5,7 @@ pub mod Texts
 pub mod Records
 pub mod Ranges
 pub mod Strings
+pub mod Rows
+pub mod Reports
+pub mod Laws
 pub mod AddressRecords

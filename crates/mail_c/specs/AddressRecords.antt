@@ -6,6 +6,7 @@ use Rattle.mail_address.specs.Mailbox.{Parts}
 use Rattle.mail_json.specs.Addresses.{canonical, name_of}
 use Rattle.mail_c.specs.Codes.{no_memory}
 use Rattle.mail_c.specs.Records.{none}
+use Rattle.mail_c.specs.Rows.{rows_from}
 use Rattle.mail_c.specs.declared.addresses.AddressRecord.{AddressRecord}
 use Rattle.mail_c.specs.declared.addresses.AddressRecords.{AddressRecords}
 
@@ -27,14 +28,17 @@ entry_record at entry = record {
   address_end = at + length entry.name + length entry.address;
 }
 
+-- its strings: its name and its address
+abbrev pub entry_text : Entry → List ℕ
+entry_text entry = entry.name ++ entry.address
+
 -- the records of entries whose strings begin at this offset
 abbrev pub records_from : ℕ → List Entry → List AddressRecord
-records_from at [] = []
-records_from at (entry ∷ entries) = entry_record at entry ∷ records_from (at + length entry.name + length entry.address) entries
+records_from at entries = rows_from entry_record entry_text at entries
 
--- their strings: the name and the address of each
+-- their strings
 abbrev pub strings_of : List Entry → List ℕ
-strings_of entries = flat_map (λ entry. entry.name ++ entry.address) entries
+strings_of entries = flat_map entry_text entries
 
 -- records are those of these entries
 abbrev pub AreRecords : List Entry → AddressRecords → Type 0

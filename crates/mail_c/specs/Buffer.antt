@@ -84,6 +84,11 @@ IsKept out = (out.new ≡ out.old) × (out.needed ≡ out.before)
 abbrev pub IsFilled : {A : Type 0} → Bool → Output A → List A → Type 0
 IsFilled fit out items = (out.new ≡ filled_if fit out.old items) × (out.needed ≡ length items)
 
+-- a result or its code, seen by the view
+abbrev pub seen : {X Y : Type 0} → (X → Y) → Result X ℕ → Result Y ℕ
+seen view (Ok x) = Ok (view x)
+seen view (Err code) = Err code
+
 -- what was found was written to a buffer, or the code is that of the refusal
 abbrev pub WritesItems : {A : Type 0} → Output A → ℕ → Result (List A) ℕ → Type 0
 WritesItems out code (Ok items) = (code ≡ written_code out.old items) × IsFilled (fits out.old items) out items

@@ -21,7 +21,7 @@ too_short = 1
 abbrev pub no_memory : ℕ
 no_memory = 2
 
--- the mail does not have the header, or there is no further mail
+-- there is no such header, name, id or report, or no further mail
 abbrev pub absent : ℕ
 absent = 3
 
@@ -32,6 +32,10 @@ not_utf8 = 20
 -- there are more records than the limit
 abbrev pub too_many : ℕ
 too_many = 22
+
+-- there are bytes, but no line that begins a mail of a mailbox
+abbrev pub no_mailbox : ℕ
+no_mailbox = 23
 
 -- the code of a kind of refusal
 abbrev pub kind_code : RefusalKind → ℕ
@@ -77,7 +81,7 @@ texts =
     ∷ (16, codes "Header cannot start with a space; it is likely an overhanging line from a previous header")
     ∷ (17, codes "Headers were followed by an unexpected lone CR character!") ∷ (18, codes "Recursion limit reached")
     ∷ (19, codes "Base64 decode error") ∷ (20, codes "The text is not UTF-8") ∷ (21, codes "The input is refused")
-    ∷ (22, codes "The mail has too many parts and headers")
+    ∷ (22, codes "The mail has too many parts and headers") ∷ (23, codes "The bytes are not a mailbox")
     ∷ (32, codes "no day of the month") ∷ (33, codes "no month") ∷ (34, codes "no year") ∷ (35, codes "no time of day") ∷ (36, codes "no zone")
     ∷ (37, codes "text after the zone") ∷ []
 

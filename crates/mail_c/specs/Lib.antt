@@ -6,4 +6,7 @@ pub mod Records
 pub mod RecordViews
 pub mod Ranges
 pub mod Strings
+pub mod Rows
+pub mod Laws
+pub mod Reports
 pub mod AddressRecords

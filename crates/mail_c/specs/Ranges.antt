@@ -1,5 +1,5 @@
 -- What is read of ranges of a mail: of raw values, of names and of bodies; the crate's own form.
-use Rattle.std.specs.Prelude.{◌≡◌, ◌⊎◌, ℕ, ◌+◌, Bool, ◌==◌, List, [], ◌∷◌, ◌++◌, length, flat_map, Option, Some, None, is_some, option_and_then, Result, Ok, Err, if◌then◌else◌}
+use Rattle.std.specs.Prelude.{◌≡◌, ◌⊎◌, ℕ, ◌+◌, Bool, ◌==◌, List, [], ◌∷◌, ◌++◌, length, flat_map, Option, Some, is_some, option_and_then, Result, Ok, Err, if◌then◌else◌}
 use Rattle.std.specs.Global.{Vec}
 use Rattle.mail_codec.specs.Charset.{Charsets}
 use Rattle.mailparse.specs.Body.{BodyKind, in_base64, in_quoted_printable, in_7bit}
@@ -10,7 +10,7 @@ use Rattle.mailparse.specs.Refusal.{◌>>=◌, Reads}
 use Rattle.mailparse.specs.Value.{lenient_value_in}
 use Rattle.mail_data.specs.Bounce.{original_message_id}
 use Rattle.mail_data.specs.FileNames as names
-use Rattle.mail_data.specs.Files.{filled, name_in}
+use Rattle.mail_data.specs.Files.{filled, name_in, no_charsets}
 use Rattle.mail_data.specs.QuotedLines as quoted
 use Rattle.mail_data.specs.lenient.Content.{Content, lenient_content}
 use Rattle.mail_data.specs.lenient.Texts.{BodyText, text_read}
@@ -47,10 +47,6 @@ body number raw =
     let content = lenient_content (kind_numbered number) raw in
     record { bytes = content.bytes; is_damaged = is_some content.fault }
 
--- no charset is known: encoded words stay as they are
-abbrev pub no_charsets : Charsets
-no_charsets label = None
-
 -- Under the charsets that are known.
 module _ (known : Charsets) where
   -- the value of a header with this raw value
@@ -77,6 +73,11 @@ module _ (known : Charsets) where
   body_text number raw ctype =
       let read = text_read known (type_of ctype).charset (lenient_content (kind_numbered number) raw) in
       record { bytes = read.text; is_damaged = read.is_damaged }
+
+  -- the name of the charset in which it is read
+  unfoldable pub body_charset : ℕ → List ℕ → List ℕ → Found
+  body_charset number raw ctype =
+      Ok (Some (text_read known (type_of ctype).charset (lenient_content (kind_numbered number) raw)).charset)
 
   -- the id of the mail that a delivery report is about
   unfoldable pub bounced_id : List ℕ → Found

@@ -1,7 +1,8 @@
 -- What a contract sees of records.
-use Rattle.std.specs.Prelude.{ℕ, List, Result, Ok, Err}
+use Rattle.std.specs.Prelude.{ℕ, List, Result}
 use Rattle.std.specs.Global.{Vec}
 use Rattle.mailparse.specs.Views.{placement_of, tree_of}
+use Rattle.mail_c.specs.Buffer.{seen}
 use Rattle.mail_c.specs.Records.{Family, Item}
 use Rattle.mail_c.specs.declared.records.HeaderRecord.{HeaderRecord}
 use Rattle.mail_c.specs.declared.records.Node.{Node}
@@ -21,10 +22,8 @@ abbrev pub lists : Records → List Part × List HeaderRecord
 lists records = (records.parts.items, records.headers.items)
 
 abbrev pub lists_found : Result Records ℕ → Result (List Part × List HeaderRecord) ℕ
-lists_found (Ok records) = Ok (lists records)
-lists_found (Err code) = Err code
+lists_found found = seen lists found
 
 -- the records of headers alone
 abbrev pub items_found : {A : Type 0} → Result (Vec A) ℕ → Result (List A) ℕ
-items_found (Ok found) = Ok found.items
-items_found (Err code) = Err code
+items_found found = seen (λ items. items.items) found

@@ -7,7 +7,8 @@ ghost use Rattle.mail_c.specs.AddressRecords.{element_entries, entries_from, gro
 ghost use Rattle.mail_c.specs.AddressRecords.{single_entry};
 ghost use Rattle.mail_c.specs.Buffer.{WritesBoth, output};
 
-use crate::codes::{DONE, NO_MEMORY, TOO_SHORT};
+use crate::buffer::write_both;
+use crate::codes::NO_MEMORY;
 use crate::records::NONE;
 use mail_address::{Address, Group, Mailbox, Member, Unknown, read_addresses};
 use mailparse::{KnownCharsets, MailParseError};
@@ -223,18 +224,11 @@ pub(crate) fn write_addresses(
         addresses_needed.new) (output buffer.old buffer.new needed.old needed.new) result
         (addresses_found found) }
 {
-    let Ok(found) = found else {
-        return NO_MEMORY;
-    };
-    *addresses_needed = found.records.len();
-    *needed = found.strings.len();
-    if addresses.len() < found.records.len() {
-        return TOO_SHORT;
+    match found {
+        Ok(found) => {
+            let (firsts, seconds) = (found.records.as_slice(), found.strings.as_slice());
+            write_both(addresses, addresses_needed, buffer, needed, firsts, seconds)
+        }
+        Err(_) => NO_MEMORY,
     }
-    if buffer.len() < found.strings.len() {
-        return TOO_SHORT;
-    }
-    addresses[..found.records.len()].copy_from_slice(found.records.as_slice());
-    buffer[..found.strings.len()].copy_from_slice(found.strings.as_slice());
-    DONE
 }

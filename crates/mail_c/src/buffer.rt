@@ -1,5 +1,5 @@
 //! Writing results to the output buffer.
-ghost use Rattle.std.specs.Prelude.{◌≡◌, length};
+ghost use Rattle.std.specs.Prelude.{◌≡◌, length, Ok};
 ghost use Rattle.mail_c.specs.Buffer.{WritesBoth, WritesItems, WritesResult, filled, output};
 ghost use Rattle.mail_c.specs.Buffer.{written_code};
 ghost use Rattle.mail_c.specs.RecordViews.{items_found, lists_found};
@@ -17,24 +17,24 @@ pub(crate) fn write_result(
     ensures { WritesResult buffer.old buffer.new needed.old needed.new result found }
 {
     match found {
-        Ok(Some(bytes)) => write_bytes(buffer, needed, bytes.as_slice()),
+        Ok(Some(bytes)) => write_items(buffer, needed, bytes.as_slice()),
         Ok(None) => ABSENT,
         Err(error) => code_of(&error),
     }
 }
 
-/// Writes bytes to the front of the buffer if they fit, and their length to `needed`. Returns the
+/// Writes items to the front of the buffer if they fit, and their number to `needed`. Returns the
 /// code.
-pub(crate) fn write_bytes(buffer: &mut [u8], needed: &mut usize, bytes: &[u8]) -> u32
-    ensures code { result ≡ written_code buffer.old bytes.now }
-    ensures written { buffer.new ≡ filled buffer.old bytes.now }
-    ensures len { needed.new ≡ length bytes.now }
+pub(crate) fn write_items<T: Copy>(buffer: &mut [T], needed: &mut usize, items: &[T]) -> u32
+    ensures code { result ≡ written_code buffer.old items.now }
+    ensures written { buffer.new ≡ filled buffer.old items.now }
+    ensures len { needed.new ≡ length items.now }
 {
-    *needed = bytes.len();
-    if buffer.len() < bytes.len() {
+    *needed = items.len();
+    if buffer.len() < items.len() {
         return TOO_SHORT;
     }
-    buffer[..bytes.len()].copy_from_slice(bytes);
+    buffer[..items.len()].copy_from_slice(items);
     DONE
 }
 
@@ -48,16 +48,10 @@ pub(crate) fn write_headers(
     ensures { WritesItems (output buffer.old buffer.new needed.old needed.new) result
         (items_found found) }
 {
-    let found = match found {
-        Ok(found) => found,
-        Err(code) => return code,
-    };
-    *needed = found.len();
-    if buffer.len() < found.len() {
-        return TOO_SHORT;
+    match found {
+        Ok(found) => write_items(buffer, needed, found.as_slice()),
+        Err(code) => code,
     }
-    buffer[..found.len()].copy_from_slice(found.as_slice());
-    DONE
 }
 
 /// Writes the records of a mail to the front of two buffers if both fit, and their numbers to
@@ -73,19 +67,45 @@ pub(crate) fn write_records(
         (output headers.old headers.new headers_needed.old headers_needed.new) result
         (lists_found found) }
 {
-    let found = match found {
-        Ok(found) => found,
-        Err(code) => return code,
-    };
-    *parts_needed = found.parts.len();
-    *headers_needed = found.headers.len();
-    if parts.len() < found.parts.len() {
+    match found {
+        Ok(found) => {
+            let (firsts, seconds) = (found.parts.as_slice(), found.headers.as_slice());
+            write_both(
+                parts,
+                parts_needed,
+                headers,
+                headers_needed,
+                firsts,
+                seconds,
+            )
+        }
+        Err(code) => code,
+    }
+}
+
+/// Writes two lists of items to the front of two buffers if both fit, and their numbers to
+/// `first_needed` and `second_needed`. Returns the code.
+pub(crate) fn write_both<A: Copy, B: Copy>(
+    first: &mut [A],
+    first_needed: &mut usize,
+    second: &mut [B],
+    second_needed: &mut usize,
+    firsts: &[A],
+    seconds: &[B],
+) -> u32
+    ensures { WritesBoth (output first.old first.new first_needed.old first_needed.new)
+        (output second.old second.new second_needed.old second_needed.new) result
+        (Ok (firsts.now, seconds.now)) }
+{
+    *first_needed = firsts.len();
+    *second_needed = seconds.len();
+    if first.len() < firsts.len() {
         return TOO_SHORT;
     }
-    if headers.len() < found.headers.len() {
+    if second.len() < seconds.len() {
         return TOO_SHORT;
     }
-    parts[..found.parts.len()].copy_from_slice(found.parts.as_slice());
-    headers[..found.headers.len()].copy_from_slice(found.headers.as_slice());
+    first[..firsts.len()].copy_from_slice(firsts);
+    second[..seconds.len()].copy_from_slice(seconds);
     DONE
 }

@@ -11,7 +11,7 @@ pub(crate) const DONE: u32 = 0;
 pub(crate) const TOO_SHORT: u32 = 1;
 /// Memory ran out.
 pub(crate) const NO_MEMORY: u32 = 2;
-/// The mail does not have the header, or there is no further mail.
+/// There is no such header, name, id or report, or no further mail.
 pub(crate) const ABSENT: u32 = 3;
 /// A space where a header should begin.
 pub(crate) const LEADING_SPACE: u32 = 16;
@@ -25,9 +25,10 @@ pub(crate) const NOT_BASE64: u32 = 19;
 pub(crate) const NOT_UTF8: u32 = 20;
 /// A refusal that has no code of its own.
 pub(crate) const REFUSED: u32 = 21;
-
 /// There are more records than the limit.
 pub(crate) const TOO_MANY: u32 = 22;
+/// There are bytes, but no line that begins a mail of a mailbox.
+pub(crate) const NO_MAILBOX: u32 = 23;
 
 /// Returns the code of an error: that of its kind of refusal, or `NO_MEMORY` if it is not a refusal.
 pub(crate) fn code_of(error: &MailParseError) -> u32
@@ -86,6 +87,7 @@ pub(crate) fn reason(code: u32) -> &'static str
         20 => "The text is not UTF-8",
         21 => "The input is refused",
         22 => "The mail has too many parts and headers",
+        23 => "The bytes are not a mailbox",
         32 => "no day of the month",
         33 => "no month",
         34 => "no year",

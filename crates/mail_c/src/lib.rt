@@ -15,30 +15,34 @@ ghost use Rattle.mail_data.specs.MailboxFormats.{entries_in};
 ghost use Rattle.mail_c.specs.AddressRecords.{addresses_read};
 ghost use Rattle.mail_c.specs.Buffer.{Ends, EndsBoth, EndsItems, filled, output, written_code};
 ghost use Rattle.mail_c.specs.Codes.{reason};
-ghost use Rattle.mail_c.specs.Numbers.{ReturnsDate, ReturnsOffsets, date, first_offsets};
-ghost use Rattle.mail_c.specs.Numbers.{format_named};
+ghost use Rattle.mail_c.specs.Numbers.{ReturnsDate, ReturnsOffset, ReturnsOffsets, date};
+ghost use Rattle.mail_c.specs.Numbers.{first_offsets, format_named, no_mail_code};
 ghost use Rattle.mail_c.specs.Ranges as read;
 ghost use Rattle.mail_c.specs.Ranges.{EndsDecoded};
 ghost use Rattle.mail_c.specs.Records.{header_block, records};
+ghost use Rattle.mail_c.specs.Reports.{report};
 ghost use Rattle.mail_c.specs.Strings.{AreTypeStrings, EndsStrings};
 ghost use Rattle.mail_c.specs.Results.{IsJson, content, ids, raw_value, recipients, text, value};
 
 mod addresses;
 mod buffer;
 mod codes;
+mod laws;
 mod numbers;
 mod ranges;
 mod records;
+mod reports;
 mod results;
 mod strings;
 
 use addresses::{AddressRecord, write_addresses};
-use buffer::{write_bytes, write_headers, write_records, write_result};
+use buffer::{write_headers, write_items, write_records, write_result};
 use codes::reason;
 use mail_charsets::AllCharsets;
 use mail_version::VERSION_NUMBER;
 use ranges::write_decoded;
 use records::{HeaderRecord, Part};
+use reports::{FieldRecord, write_report};
 use std::alloc::Global;
 use strings::write_strings;
 
@@ -200,6 +204,43 @@ pub extern "C" fn rocktray_body_text(
     write_decoded(buffer, needed, is_damaged, found)
 }
 
+/// Writes the name of the charset in which `rocktray_body_text` reads that text.
+#[unsafe(no_mangle)]
+pub extern "C" fn rocktray_body_charset(
+    alloc: Global,
+    encoding: u64,
+    body: &[u8],
+    ctype: &[u8],
+    buffer: &mut [u8],
+    needed: &mut usize,
+) -> u32
+    ensures { (all : all_charsets.AllCharsets) ×
+        Ends buffer.old buffer.new needed.old needed.new result
+        (λ found. read.body_charset (all_known all) encoding body.now ctype.now ≡ found) }
+{
+    let found = ranges::body_charset(alloc, encoding, body, ctype, &charsets());
+    write_result(buffer, needed, found)
+}
+
+/// Fills the records of the fields of a report, and writes their strings.
+#[unsafe(no_mangle)]
+pub extern "C" fn rocktray_report(
+    alloc: Global,
+    part: &[u8],
+    fields: &mut [FieldRecord],
+    fields_needed: &mut usize,
+    buffer: &mut [u8],
+    needed: &mut usize,
+) -> u32
+    ensures { (all : all_charsets.AllCharsets) ×
+        EndsBoth (output fields.old fields.new fields_needed.old fields_needed.new)
+        (output buffer.old buffer.new needed.old needed.new) result
+        (report (all_known all) part.now) }
+{
+    let found = reports::report(alloc, part, &charsets());
+    write_report(fields, fields_needed, buffer, needed, found)
+}
+
 /// Fills the records of the addresses in a raw value, and writes their strings.
 #[unsafe(no_mangle)]
 pub extern "C" fn rocktray_addresses(
@@ -359,7 +400,7 @@ pub extern "C" fn rocktray_reason(code: u32, buffer: &mut [u8], needed: &mut usi
     ensures written { buffer.new ≡ filled buffer.old (reason code) }
     ensures len { needed.new ≡ length (reason code) }
 {
-    write_bytes(buffer, needed, reason(code).as_bytes())
+    write_items(buffer, needed, reason(code).as_bytes())
 }
 
 /// Writes the message ids in a text, each between `<` and `>`.
@@ -386,6 +427,21 @@ pub extern "C" fn rocktray_date(text: &[u8], seconds: &mut i64, is_zone_known: &
     numbers::date(seconds, is_zone_known, text)
 }
 
+/// Reads the value of a Date header: the same, and the seconds by which the clocks of its zone are
+/// ahead of UTC.
+#[unsafe(no_mangle)]
+pub extern "C" fn rocktray_date_and_offset(
+    text: &[u8],
+    seconds: &mut i64,
+    offset: &mut i64,
+    is_zone_known: &mut u8,
+) -> u32
+    ensures date { ReturnsDate (date text.now) seconds.old seconds.new is_zone_known.new result }
+    ensures offset { ReturnsOffset (date text.now) offset.old offset.new }
+{
+    numbers::date_and_offset(seconds, offset, is_zone_known, text)
+}
+
 /// Finds the first mail of a mailbox: the offsets at which it begins and ends, and that of the next
 /// separator.
 #[unsafe(no_mangle)]
@@ -398,7 +454,8 @@ pub extern "C" fn rocktray_next_mail(
 ) -> u32
     ensures { ReturnsOffsets
         (first_offsets (entries_in (format_named is_counted) mailbox.now) (front_length mailbox.now))
-        (start.old, end.old, next.old) (start.new, end.new, next.new) result }
+        (no_mail_code mailbox.now) (start.old, end.old, next.old) (start.new, end.new, next.new)
+        result }
 {
     numbers::next_mail(start, end, next, mailbox, is_counted)
 }

@@ -1,23 +1,24 @@
 //! What is read of ranges of a mail: of raw values, of names and of bodies.
 ghost use Rattle.std.specs.Prelude.{◌≡◌, Ok, Some, IfOk, string_bytes};
-ghost use Rattle.mail_data.specs.Files.{filled};
+ghost use Rattle.mail_data.specs.Files.{filled, no_charsets};
 ghost use Rattle.mailparse.specs.Map.{text_found};
 ghost use Rattle.mailparse.specs.Body.{kind_named};
 ghost use Rattle.mailparse.specs.BodyViews.{name_of};
 ghost use Rattle.mailparse.specs.Outcome.{AnswersOrMemory};
 ghost use Rattle.mailparse.specs.Views.{content_type};
 ghost use Rattle.mail_c.specs.Buffer.{bytes_found, output};
-ghost use Rattle.mail_c.specs.Ranges.{WritesDecodedOr, body, body_text, bounced_id, decoded_view};
-ghost use Rattle.mail_c.specs.Ranges.{file_name, kind_numbered, no_charsets, safe_name, type_of};
+ghost use Rattle.mail_c.specs.Ranges.{WritesDecodedOr, body, body_charset, body_text, bounced_id};
+ghost use Rattle.mail_c.specs.Ranges.{decoded_view};
+ghost use Rattle.mail_c.specs.Ranges.{file_name, kind_numbered, safe_name, type_of};
 ghost use Rattle.mail_c.specs.Ranges.{undecoded_name, unquoted, value};
 
-use crate::buffer::write_bytes;
+use crate::buffer::write_items;
 use crate::codes::NO_MEMORY;
 use crate::results::text_in;
 use mail_codec::charset::Charset;
 use mail_data::bounce::original_message_id;
 use mail_data::files::{named_file, safe_file_name};
-use mail_data::lenient::{lenient_content, lenient_text};
+use mail_data::lenient::{charset_used, lenient_content, lenient_text};
 use mail_data::mailbox::quoted;
 use mailparse::body::Body;
 use mailparse::{
@@ -190,6 +191,25 @@ pub(crate) fn body_text<K: KnownCharsets>(
     Ok(Decoded { bytes, is_damaged })
 }
 
+/// Returns the name of the charset in which `body_text` reads such a body.
+pub(crate) fn body_charset<K: KnownCharsets>(
+    alloc: Global,
+    encoding: u64,
+    raw: &[u8],
+    raw_type: &[u8],
+    known: &K,
+) -> Result<Option<Vec<u8>>, MailParseError>
+    ensures { AnswersOrMemory bytes_found result
+        (body_charset (K.known known.now) encoding raw.now raw_type.now) }
+{
+    let ctype = type_of(alloc, raw_type, known)?;
+    let name = encoding_named(alloc, encoding)?;
+    let body = Body::new(raw, &ctype, &name);
+    let content = lenient_content(alloc, &body)?;
+    let charset = charset_used(content.bytes.as_slice(), &ctype, known);
+    Ok(Some(charset.as_bytes().to_vec(alloc)?))
+}
+
 /// Returns the name of the transfer encoding with a number, if bodies are encoded in it.
 #[tactic(auto, unfolding(mailparse::specs::Body::kind_named))]
 fn encoding_named(alloc: Global, number: u64) -> Result<Option<String>, AllocError>
@@ -218,7 +238,7 @@ pub(crate) fn write_decoded(
     match found {
         Ok(found) => {
             *is_damaged = if found.is_damaged { 1 } else { 0 };
-            write_bytes(buffer, needed, found.bytes.as_slice())
+            write_items(buffer, needed, found.bytes.as_slice())
         }
         Err(_) => NO_MEMORY,
     }

@@ -6,7 +6,8 @@ ghost use Rattle.mail_c.specs.Buffer.{WritesBoth, output};
 ghost use Rattle.mail_c.specs.Ranges.{type_of};
 ghost use Rattle.mail_c.specs.Strings.{AreStrings, AreTypeStrings, both, strings_found};
 
-use crate::codes::{DONE, NO_MEMORY, TOO_SHORT};
+use crate::buffer::write_both;
+use crate::codes::NO_MEMORY;
 use crate::ranges::type_of;
 use mailparse::{KnownCharsets, MailParseError};
 use std::alloc::{AllocError, Global};
@@ -77,18 +78,11 @@ pub(crate) fn write_strings(
     ensures { WritesBoth (output ends.old ends.new ends_needed.old ends_needed.new)
         (output buffer.old buffer.new needed.old needed.new) result (strings_found found) }
 {
-    let Ok(found) = found else {
-        return NO_MEMORY;
-    };
-    *ends_needed = found.ends.len();
-    *needed = found.bytes.len();
-    if ends.len() < found.ends.len() {
-        return TOO_SHORT;
+    match found {
+        Ok(found) => {
+            let (firsts, seconds) = (found.ends.as_slice(), found.bytes.as_slice());
+            write_both(ends, ends_needed, buffer, needed, firsts, seconds)
+        }
+        Err(_) => NO_MEMORY,
     }
-    if buffer.len() < found.bytes.len() {
-        return TOO_SHORT;
-    }
-    ends[..found.ends.len()].copy_from_slice(found.ends.as_slice());
-    buffer[..found.bytes.len()].copy_from_slice(found.bytes.as_slice());
-    DONE
 }

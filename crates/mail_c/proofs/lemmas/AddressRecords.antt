@@ -1,7 +1,5 @@
 -- Lemmas on the records of addresses.
-use Rattle.std.proofs.Common.{◌≡◌, ℕ, suc, ◌+◌, ◌<◌, List, [], ◌∷◌, ◌++◌, length, drop, get_or, map, Result, Ok, Err, inl, inr, refl, sym, ap, subst, ◌∙◌, arith, append_assoc, length-append, add-one}
-use Rattle.std.proofs.lemmas.List.{append-nil}
-use Rattle.std.proofs.lemmas.List.Concat.{flat_map-append}
+use Rattle.std.proofs.Common.{◌≡◌, ℕ, ◌+◌, ◌<◌, List, [], ◌∷◌, ◌++◌, length, drop, get_or, map, Result, Ok, Err, inl, inr, refl, sym, ap, subst, ◌∙◌, arith, append_assoc, length-append, add-one}
 use Rattle.std.specs.Prelude.{IfOk, OnOk}
 use Rattle.mail_codec.specs.Charset.{Charsets}
 use Rattle.std.proofs.Math.Seq.{drop-cons}
@@ -10,31 +8,15 @@ use Rattle.mail_address.specs.Addresses.{Single}
 use Rattle.mail_address.specs.declared.list.Member.{Member}
 use Rattle.mail_json.specs.Addresses.{name_of}
 use Rattle.mail_c.specs.Records.{none}
-use Rattle.mail_c.specs.AddressRecords.{AreRecords, Entry, addresses_found, entry_record, group_entry, records_from, single_entry, strings_of}
+use Rattle.mail_c.proofs.lemmas.Rows.{length-rows, rows-next, texts-next}
+use Rattle.mail_c.specs.AddressRecords.{AreRecords, Entry, addresses_found, entry_record, entry_text, group_entry, records_from, single_entry, strings_of}
 use Rattle.mail_c.specs.Buffer.{EndsBoth, Output, WritesBoth}
 use Rattle.mail_c.specs.declared.addresses.AddressRecord.{AddressRecord}
 use Rattle.mail_c.specs.declared.addresses.AddressRecords.{AddressRecords}
 
--- the record of one more entry
-pub records-next : (at : ℕ) (entries : List Entry) (entry : Entry) → records_from at (entries ++ entry ∷ []) ≡ records_from at entries ++ entry_record (at + length (strings_of entries)) entry ∷ []
-records-next at [] entry = ap (λ n. entry_record n entry ∷ []) {x = at} {y = at + 0} (omega arith)
-records-next at (first ∷ entries) entry =
-    let size = length-append (first.name ++ first.address) (strings_of entries) in
-    let inner = length-append first.name first.address in
-    ap (λ (rs : List AddressRecord). entry_record at first ∷ rs) (records-next (at + length first.name + length first.address) entries entry
-    ∙ ap (λ n. records_from (at + length first.name + length first.address) entries ++ entry_record n entry ∷ [])
-    {x = at + length first.name + length first.address + length (strings_of entries)} {y = at + length ((first.name ++ first.address) ++ strings_of entries)} (omega arith))
-
-pub strings-next : (entries : List Entry) (entry : Entry) → strings_of (entries ++ entry ∷ []) ≡ strings_of entries ++ (entry.name ++ entry.address)
-strings-next entries entry = flat_map-append (λ (e : Entry). e.name ++ e.address) entries (entry ∷ []) ∙ ap (λ (t : List ℕ). strings_of entries ++ t) (append-nil (entry.name ++ entry.address))
-
-pub length-records : (at : ℕ) (entries : List Entry) → length (records_from at entries) ≡ length entries
-length-records at [] = refl
-length-records at (first ∷ entries) = ap suc (length-records (at + length first.name + length first.address) entries)
-
 -- there is a record for each entry
 pub number-of : (entries : List Entry) (found : AddressRecords) → AreRecords entries found → length found.records.items ≡ length entries
-number-of entries found are = ap (λ (rs : List AddressRecord). length rs) are.0 ∙ length-records 0 entries
+number-of entries found are = ap (λ (rs : List AddressRecord). length rs) are.0 ∙ length-rows entry_record entry_text 0 entries
 
 -- a record was appended
 pub next_record : (old : AddressRecords) (entries : List Entry) (entry : Entry) (start middle end : ℕ) (mid strings : List ℕ) (records : List AddressRecord)
@@ -53,9 +35,9 @@ next_record old entries entry start middle end mid strings records s m e is_mid 
       is_records ∙ ap (λ (r : AddressRecord). old.records.items ++ r ∷ []) made
           ∙ ap (λ (rs : List AddressRecord). rs ++ entry_record (length (strings_of entries)) entry ∷ []) are.0
           ∙ ap (λ n. records_from 0 entries ++ entry_record n entry ∷ []) {x = length (strings_of entries)} {y = 0 + length (strings_of entries)} (omega arith)
-          ∙ sym (records-next 0 entries entry),
+          ∙ sym (rows-next entry_record entry_text 0 entries entry),
       is_strings ∙ ap (λ (t : List ℕ). t ++ entry.address) is_mid ∙ append_assoc old.strings.items entry.name entry.address
-          ∙ ap (λ (t : List ℕ). t ++ (entry.name ++ entry.address)) are.1 ∙ sym (strings-next entries entry),
+          ∙ ap (λ (t : List ℕ). t ++ (entry.name ++ entry.address)) are.1 ∙ sym (texts-next entry_record entry_text entries entry),
     )
 
 -- entries were appended, and then others

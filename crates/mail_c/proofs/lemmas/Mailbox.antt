@@ -14,13 +14,13 @@ offsets front separator mail ending =
     (front + length separator, front + length separator + length mail, front + length separator + length mail + length ending)
 
 -- they were returned
-pub offsets_returned : (format : Format) (bytes front : List ℕ) (left rest : List Entry) (entry : Entry) (old : ℕ × ℕ × ℕ) (s m e : List ℕ)
+pub offsets_returned : (format : Format) (bytes front : List ℕ) (left rest : List Entry) (entry : Entry) (missing : ℕ) (old : ℕ × ℕ × ℕ) (s m e : List ℕ)
     → front ≡ take (front_length bytes) bytes → left ≡ entries_in format bytes → left ≡ entry ∷ rest → s ≡ entry.separator → m ≡ entry.mail
-    → e ≡ entry.ending → ReturnsOffsets (first_offsets (entries_in format bytes) (front_length bytes)) old (offsets (length front) s m e) done
-offsets_returned format bytes front left rest entry old s m e is_front is_left first es em ee =
+    → e ≡ entry.ending → ReturnsOffsets (first_offsets (entries_in format bytes) (front_length bytes)) missing old (offsets (length front) s m e) done
+offsets_returned format bytes front left rest entry missing old s m e is_front is_left first es em ee =
     let n = front_length bytes in
     let size : length front ≡ n = ap length is_front ∙ length-take-le n bytes (front_length-≤ bytes) in
-    let Returned : List Entry → ℕ → List ℕ → List ℕ → List ℕ → Type 0 = λ entries front s m e. ReturnsOffsets (first_offsets entries n) old (offsets front s m e) done in
+    let Returned : List Entry → ℕ → List ℕ → List ℕ → List ℕ → Type 0 = λ entries front s m e. ReturnsOffsets (first_offsets entries n) missing old (offsets front s m e) done in
     let here : Returned (entry ∷ rest) n entry.separator entry.mail entry.ending = (refl, refl) in
     let one = subst (λ (x : ℕ). Returned (entry ∷ rest) x entry.separator entry.mail entry.ending) (sym size) here in
     let two = subst (λ (x : List ℕ). Returned (entry ∷ rest) (length front) x entry.mail entry.ending) (sym es) one in

@@ -1,12 +1,12 @@
 -- Lemmas on what is read of ranges.
-use Rattle.std.proofs.Common.{◌≡◌, ℕ, Bool, List, Result, Ok, Err, inl, inr, is_some, refl, sym, ap, subst, ◌∙◌}
+use Rattle.std.proofs.Common.{◌≡◌, ℕ, Bool, List, Some, Result, Ok, Err, inl, inr, is_some, refl, sym, ap, subst, ◌∙◌}
 use Rattle.mail_codec.specs.Charset.{Charsets}
 use Rattle.mailparse.specs.Outcome.{AnswersOrMemory}
 use Rattle.mailparse.specs.declared.error.MailParseError.{MailParseError}
 use Rattle.mail_data.specs.lenient.Content.{Content, lenient_content}
-use Rattle.mail_data.specs.lenient.Texts.{lenient_text}
-use Rattle.mail_c.specs.Buffer.{Output}
-use Rattle.mail_c.specs.Ranges.{Decoded, EndsDecoded, WritesDecoded, WritesDecodedOr, body, body_text, decoded_view, kind_numbered, type_of}
+use Rattle.mail_data.specs.lenient.Texts.{charset_used, lenient_text}
+use Rattle.mail_c.specs.Buffer.{Found, Output}
+use Rattle.mail_c.specs.Ranges.{Decoded, EndsDecoded, WritesDecoded, WritesDecodedOr, body, body_charset, body_text, decoded_view, kind_numbered, type_of}
 use Rattle.mail_c.specs.declared.ranges.Decoded as made
 
 ok_same : {T E : Type 0} (a b : T) → ◌≡◌ {A = Result T E} (Ok a) (Ok b) → a ≡ b
@@ -38,3 +38,15 @@ body_text-is known number raw raw_type content label text damaged is l t d =
     sym (ap (λ t. both t damaged) t ∙ ap (both (lenient_text known label content.bytes)) d
     ∙ ap (λ l. both (lenient_text known l content.bytes) (is_some content.fault)) l
     ∙ ap (λ (k : Content). both (lenient_text known (type_of known raw_type).charset k.bytes) (is_some k.fault)) is)
+
+abbrev some : List ℕ → Found
+some name = Ok (Some name)
+
+-- the name of the charset of a body, from its content and its label
+pub body_charset-is : (known : Charsets) (number : ℕ) (raw raw_type : List ℕ) (content : Content) (label name : List ℕ)
+    → content ≡ lenient_content (kind_numbered number) raw → label ≡ (type_of known raw_type).charset → name ≡ charset_used known label content.bytes
+    → body_charset known number raw raw_type ≡ Ok (Some name)
+unfolding body_charset
+body_charset-is known number raw raw_type content label name is l n =
+    sym (ap some n ∙ ap (λ l. some (charset_used known l content.bytes)) l
+    ∙ ap (λ (k : Content). some (charset_used known (type_of known raw_type).charset k.bytes)) is)

@@ -1,6 +1,5 @@
 -- Lemmas on records.
 use Rattle.std.proofs.Common.{◌≡◌, ℕ, zero, suc, ◌+◌, ◌≤◌, ◌⊎◌, List, [], ◌∷◌, ◌++◌, length, drop, map, Result, Ok, Err, inl, inr, ⊎_elim, refl, sym, ap, subst, ◌∙◌, append_assoc, add-one}
-use Rattle.std.specs.Global.{Vec}
 use Rattle.std.proofs.lemmas.List.{append-nil}
 use Rattle.std.specs.List.{flat_map}
 use Rattle.mailparse.specs.Mail.{Tree, read_mail_in, trees_within}
@@ -9,7 +8,7 @@ use Rattle.mailparse.specs.Ranges.{Range}
 use Rattle.mail_data.specs.lenient.Encoding.{lenient_body_kind}
 use Rattle.mailparse.specs.Views.{placement_of, tree_of}
 use Rattle.mail_codec.specs.Charset.{Charsets}
-use Rattle.mail_c.specs.Buffer.{EndsBoth, EndsItems, Output, WritesBoth, WritesItems}
+use Rattle.mail_c.specs.Buffer.{EndsBoth, EndsItems, Output, WritesBoth, WritesItems, seen}
 use Rattle.mailparse.specs.Block.{HeaderList, read_headers}
 use Rattle.mailparse.specs.Outcome.{IsRefusalOrMemory}
 use Rattle.mailparse.specs.Placement.{placements}
@@ -17,7 +16,7 @@ use Rattle.mailparse.specs.Refusal.{Reads}
 use Rattle.mailparse.specs.declared.error.MailParseError.{MailParseError}
 use Rattle.mailparse.specs.declared.error.MailParseError.TheVariants.{QuotedPrintableDecodeError, Base64DecodeError, EncodingError, Generic, Memory}
 use Rattle.mail_c.specs.Codes.{IsCoded, coded, error_code, no_memory}
-use Rattle.mail_c.specs.RecordViews.{family_view, item_view, items_found, lists, lists_found}
+use Rattle.mail_c.specs.RecordViews.{family_view, item_view, lists, lists_found}
 use Rattle.mail_codec.specs.Places.{values_below}
 use Rattle.mailparse.specs.Block.{header_place}
 use Rattle.mailparse.specs.Header.{header_length, key_end, value_end, value_start}
@@ -30,20 +29,21 @@ use Rattle.mail_c.specs.declared.records.Records.{Records}
 
 -- ---- what the calls end in
 
--- records were written as they were found
-pub ends_both : (first : Output Part) (second : Output HeaderRecord) (code : ℕ) (found : Result Records ℕ) (given : Result (List Part × List HeaderRecord) ℕ)
-    → IsCoded lists found given → WritesBoth first second code (lists_found found) → EndsBoth first second code given
-ends_both first second code (Ok found) given is wrote = inr (subst (λ (r : Result (List Part × List HeaderRecord) ℕ). WritesBoth first second code r) (sym is) wrote)
-ends_both first second code (Err why) given is wrote =
+-- two lists were written as they were found
+pub ends_both : {X A B : Type 0} (view : X → List A × List B) (first : Output A) (second : Output B) (code : ℕ) (found : Result X ℕ) (given : Result (List A × List B) ℕ)
+    → IsCoded view found given → WritesBoth first second code (seen view found) → EndsBoth first second code given
+ends_both {X} {A} {B} view first second code (Ok found) given is wrote = inr (subst (λ (r : Result (List A × List B) ℕ). WritesBoth first second code r) (sym is) wrote)
+ends_both {X} {A} {B} view first second code (Err why) given is wrote =
     ⊎_elim (λ memory. inl (wrote.0 ∙ memory, wrote.1, wrote.2))
-    (λ refused. inr (subst (λ (r : Result (List Part × List HeaderRecord) ℕ). WritesBoth first second code r) (sym refused) wrote)) is
+    (λ refused. inr (subst (λ (r : Result (List A × List B) ℕ). WritesBoth first second code r) (sym refused) wrote)) is
 
-pub ends_items : (out : Output HeaderRecord) (code : ℕ) (found : Result (Vec HeaderRecord) ℕ) (given : Result (List HeaderRecord) ℕ)
-    → IsCoded (λ (v : Vec HeaderRecord). v.items) found given → WritesItems out code (items_found found) → EndsItems out code given
-ends_items out code (Ok found) given is wrote = inr (subst (λ (r : Result (List HeaderRecord) ℕ). WritesItems out code r) (sym is) wrote)
-ends_items out code (Err why) given is wrote =
+-- a list was
+pub ends_items : {X A : Type 0} (view : X → List A) (out : Output A) (code : ℕ) (found : Result X ℕ) (given : Result (List A) ℕ)
+    → IsCoded view found given → WritesItems out code (seen view found) → EndsItems out code given
+ends_items {X} {A} view out code (Ok found) given is wrote = inr (subst (λ (r : Result (List A) ℕ). WritesItems out code r) (sym is) wrote)
+ends_items {X} {A} view out code (Err why) given is wrote =
     ⊎_elim (λ memory. inl (wrote.0 ∙ memory, wrote.1))
-    (λ refused. inr (subst (λ (r : Result (List HeaderRecord) ℕ). WritesItems out code r) (sym refused) wrote)) is
+    (λ refused. inr (subst (λ (r : Result (List A) ℕ). WritesItems out code r) (sym refused) wrote)) is
 
 -- ---- readings and their codes
 

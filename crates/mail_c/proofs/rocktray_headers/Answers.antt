@@ -5,4 +5,4 @@ use Rattle.mail_c.proofs.rocktray_headers.Goals as goal
 pub returns : goal.returns
 returns c =
     let given = header_block c.args.limit c.args.part.now in
-    ends_items _ _ c.headers.result given c.headers.ensures c.write_headers.ensures
+    ends_items (λ found. found.items) _ _ c.headers.result given c.headers.ensures c.write_headers.ensures
