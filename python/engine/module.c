@@ -274,16 +274,18 @@ static PyObject *ids(PyObject *module, PyObject *const *arguments, Py_ssize_t co
 static PyObject *date(PyObject *module, PyObject *text)
 {
     struct input input;
-    int64_t seconds = 0;
+    int64_t seconds = 0, offset = 0;
     bool is_zone_known = false;
     uint32_t code;
     (void)module;
     if (take_text(&input, text) < 0)
         return NULL;
-    code = rocktray_date(input.at, input.length, &seconds, &is_zone_known);
+    code = rocktray_date_and_offset(input.at, input.length, &seconds, &offset, &is_zone_known);
     if (code != ROCKTRAY_DONE)
         return no_result(code);
-    return Py_BuildValue("LO", (long long)seconds, is_zone_known ? Py_True : Py_False);
+    if (!is_zone_known)
+        return Py_BuildValue("LO", (long long)seconds, Py_None);
+    return Py_BuildValue("LL", (long long)seconds, (long long)offset);
 }
 
 /* a mailbox that is searched, and where its mails are */

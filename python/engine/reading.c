@@ -569,6 +569,11 @@ static uint32_t call_body_text(struct request *it, void *buffer, size_t capacity
     return rocktray_body_text(it->number, INPUT, OTHER, buffer, capacity, needed, &it->is_damaged);
 }
 
+static uint32_t call_body_charset(struct request *it, void *buffer, size_t capacity, size_t *needed)
+{
+    return rocktray_body_charset(it->number, INPUT, OTHER, buffer, capacity, needed);
+}
+
 /* Begins a request for the body of a part. Returns 0, or -1 for an error. */
 static int begin_body(struct request *it, PyObject *self, const struct rocktray_part *part)
 {
@@ -616,18 +621,32 @@ static PyObject *reading_body_size(PyObject *self, PyObject *index)
     return with_damage(PyLong_FromSize_t(needed), &it);
 }
 
+/* The same with the type of the part. */
+static int begin_text(struct request *it, PyObject *self, const struct rocktray_part *part)
+{
+    const struct rocktray_header_record *type;
+    if (begin_body(it, self, part) < 0)
+        return -1;
+    type = first_named(self, &it->input, part, "content-type");
+    it->other = type ? bytes_at(&it->input, type->value_start) : NULL;
+    it->other_length = type ? type->value_end - type->value_start : 0;
+    return 0;
+}
+
 /* text(part): the text of a body, and whether the body is damaged. */
 static PyObject *reading_text(PyObject *self, PyObject *index)
 {
     struct request it = { .call = call_body_text };
-    const struct rocktray_part *part = part_at(self, index);
-    const struct rocktray_header_record *type;
-    if (begin_body(&it, self, part) < 0)
+    if (begin_text(&it, self, part_at(self, index)) < 0)
         return NULL;
-    type = first_named(self, &it.input, part, "content-type");
-    it.other = type ? bytes_at(&it.input, type->value_start) : NULL;
-    it.other_length = type ? type->value_end - type->value_start : 0;
     return with_damage(text_and_back(&it, it.input.length + it.input.length / 8), &it);
+}
+
+/* charset(part): the charset in which that text is read. */
+static PyObject *reading_charset(PyObject *self, PyObject *index)
+{
+    struct request it = { .call = call_body_charset };
+    return begin_text(&it, self, part_at(self, index)) < 0 ? NULL : text_and_back(&it, 32);
 }
 
 static PyMethodDef methods[] = {
@@ -643,6 +662,7 @@ static PyMethodDef methods[] = {
     { "body", reading_body, METH_O, NULL },
     { "body_size", reading_body_size, METH_O, NULL },
     { "text", reading_text, METH_O, NULL },
+    { "charset", reading_charset, METH_O, NULL },
     { NULL, NULL, 0, NULL },
 };
 

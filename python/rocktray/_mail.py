@@ -26,7 +26,6 @@ class Rest(NamedTuple):
     """What only the JSON has of a part."""
 
     error: str
-    text_charset: Optional[str]
     report: Optional[List[List[Tuple[str, str]]]]
 
 
@@ -53,7 +52,7 @@ class Mail:
 
     >>> mail = parse(b"Subject: Hi\\nDate: Fri, 21 Nov 1997 09:55:06 -0600\\n\\nHello\\n")
     >>> mail.subject, mail.date.isoformat(), mail.text
-    ('Hi', '1997-11-21T15:55:06+00:00', 'Hello\\n')
+    ('Hi', '1997-11-21T09:55:06-06:00', 'Hello\\n')
     """
 
     __slots__ = ("place", "_data", "_raw", "_limit", "_read", "_own", "_all", "_known")
@@ -145,7 +144,7 @@ class Mail:
         """Of each part what only the JSON has."""
 
         def found() -> List[Rest]:
-            return [Rest(part.get("error"), part.get("text_charset"), part["report"]) for part in self.json["parts"]]
+            return [Rest(part.get("error"), part["report"]) for part in self.json["parts"]]
 
         return self._remember("rest", found)
 
@@ -196,8 +195,9 @@ class Mail:
             if value is None:
                 return None, None, True
             try:
-                seconds, is_zone_known = _engine.date(value)
-                return time_of(seconds), None, is_zone_known
+                seconds, offset = _engine.date(value)
+                is_zone_known = offset is not None
+                return time_of(seconds, offset), None, is_zone_known
             except Refused as error:
                 return None, error.text, is_zone_known
 
@@ -205,7 +205,8 @@ class Mail:
 
     @property
     def date(self) -> Optional[datetime]:
-        """The time in the first Date, in UTC, or `None` if it is missing or cannot be read: `date_error` says why."""
+        """The time in the first Date, in the zone of the sender, or in UTC if that is unknown; `None` if it is missing or
+        cannot be read: `date_error` says why."""
         return self._date()[0]
 
     @property

@@ -231,7 +231,7 @@ class Part:
     @property
     def text_charset(self) -> Optional[str]:
         """The charset in which the text was read, or `None` if there is no text."""
-        return self._mail._rest[self._node.index].text_charset if self._node.flags & IS_TEXT else None
+        return self._node.reading.charset(self._node.number) if self._node.flags & IS_TEXT else None
 
     @property
     def is_damaged(self) -> bool:

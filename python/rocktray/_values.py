@@ -45,27 +45,29 @@ class Recipient(NamedTuple):
     diagnostic_code: Optional[str]
 
 
-def time_of(seconds: int) -> datetime:
-    """The time of a date that is read. Raises `Refused` if it is after the last year of Python's `datetime`."""
+def time_of(seconds: int, offset: Optional[int]) -> datetime:
+    """The time of a date that is read, in its zone, or in UTC if that is unknown or a day or more away. Raises `Refused`
+    if it is after the last year of Python's `datetime`."""
+    zone = timezone(timedelta(seconds=offset)) if offset and abs(offset) < 86400 else timezone.utc
     try:
-        return _EPOCH + timedelta(seconds=seconds)
+        return (_EPOCH + timedelta(seconds=seconds)).astimezone(zone)
     except OverflowError:
         raise Refused("the date is after the year 9999", _library.DATE_YEAR) from None
 
 
 def read_date(text: str) -> datetime:
-    """The time in the value of a Date header, in UTC. Raises `Refused` if there is none, or none before the year 10000.
+    """The time in the value of a Date header, in its zone, or in UTC if that is unknown. Raises `Refused` if there is
+    none, or none before the year 10000.
 
     >>> read_date("Fri, 21 Nov 1997 09:55:06 -0600").isoformat()
-    '1997-11-21T15:55:06+00:00'
+    '1997-11-21T09:55:06-06:00'
     >>> read_date("21 Foo 1997 09:55:06")
     Traceback (most recent call last):
         ...
     rocktray.Refused: no month
     """
     _check_text(text, "a date")
-    seconds, _ = _engine.date(text)
-    return time_of(seconds)
+    return time_of(*_engine.date(text))
 
 
 def read_ids(text: str, needs_at: bool = True) -> List[str]:

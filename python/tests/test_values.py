@@ -55,6 +55,14 @@ def test_dates_after_the_last_year():
     assert (mail.date.year, mail.date_error) == (9999, None)
 
 
+def test_dates_in_the_zone_of_the_sender():
+    for zone, offset in (("+0545", "+05:45"), ("-0030", "-00:30"), ("EST", "-05:00"), ("GMT", "+00:00"), ("-0000", "+00:00"), ("+9900", "+00:00")):
+        read = rocktray.read_date(f"2 Jan 2000 00:00 {zone}")
+        assert read.isoformat().endswith(offset) and read.tzinfo is not None, zone
+    assert rocktray.read_date("2 Jan 2000 00:00 +0545").isoformat() == "2000-01-02T00:00:00+05:45"
+    assert rocktray.read_date("31 Dec 9999 23:59:59 +0100").year == 9999
+
+
 def test_what_a_user_changes():
     """Nothing that a mail returns is its own."""
     raw = b"Subject: Hi\nReferences: <a@b>\nIn-Reply-To: <a@b>\nContent-Type: text/plain; charset=utf-8\n\n"
