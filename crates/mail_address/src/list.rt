@@ -127,7 +127,7 @@ impl<'a> Mailbox<'a> {
     /// ```rust
     /// use mail_address::{Address, read_addresses};
     ///
-    /// for address in &read_addresses(alloc, b"Ann <"a b"@(home)example . org>")? {
+    /// for address in &read_addresses(alloc, b"Ann <\"a b\"@(home)example . org>")? {
     ///     if let Address::Mailbox(mailbox) = address {
     ///         assert_eq!(rt; mailbox.get_local_part(alloc)?.as_str(), "a b");
     ///     }
