@@ -335,6 +335,32 @@ def test_released_program(where, name, tmp_path):
 
 
 @pytest.mark.quick
+def test_released_library(tmp_path):
+    """Without the kit the C library, which pip builds the module over, is that of a release unpacked in the checkout."""
+    copy, prefix = tmp_path / "copy", tmp_path / "prefix"
+    shutil.copytree(TOP, copy, ignore=shutil.ignore_patterns("out", ".git", "data"), symlinks=True)
+    names = ("lib/librocktray.so", "lib/librocktray.a", "lib/pkgconfig/rocktray.pc", "include/rocktray.h")
+    for name in names:
+        (copy / TREE / name).parent.mkdir(parents=True, exist_ok=True)
+        (copy / TREE / name).write_text(name)
+    ended = run(["tools/make_c_library.sh", prefix], cwd=copy, env={"PATH": "/usr/bin:/bin"})
+    assert (ended.returncode, ended.stdout.decode(), ended.stderr) == (0, f"{prefix}/lib/librocktray.so\n", b"")
+    assert [(prefix / name).read_text() for name in names] == list(names)
+
+
+@pytest.mark.quick
+@pytest.mark.parametrize("command", [["tools/program.sh", "rocktray"], ["tools/make_c_library.sh", "/tmp/rocktray"]])
+def test_built_only(command, tmp_path):
+    """With BUILT=only nothing is proved: here rt is a script that would leave a file."""
+    copy, path = tmp_path / "copy", tmp_path / "path"
+    shutil.copytree(TOP, copy, ignore=shutil.ignore_patterns("out", ".git", "data"), symlinks=True)
+    path.mkdir()
+    script(path / "rt", f"touch {tmp_path}/called\nexit 1\n")
+    ended = run(command, cwd=copy, env={"PATH": f"{path}:/usr/bin:/bin", "BUILT": "only"})
+    assert ended.returncode == 1 and b" is not built\n" in ended.stderr and not (tmp_path / "called").exists()
+
+
+@pytest.mark.quick
 def test_script_on_the_path(tmp_path):
     """A script of the checkout that is itself on the PATH is no program of a release."""
     copy = tmp_path / "copy"
