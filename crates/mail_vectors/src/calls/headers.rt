@@ -1,25 +1,31 @@
 //! The calls on single headers and on the block of headers.
 //!
 //! - `parse_header RAW => KEY VALUE LENGTH`.
+//! - `header_places RAW => KEY_END VALUE_START VALUE_END LENGTH`.
 //! - `parse_headers RAW => END`, then KEY VALUE of each header.
 //! - `different_headers RAW => END COUNT`, then KEY VALUE of each header that differs from the one
 //!   before it.
-//! - `get_key RAW => TEXT`, `get_key_ref RAW => borrowed TEXT`, or `owned TEXT`.
+//! - `get_key RAW => TEXT`, `get_key_ref RAW => borrowed TEXT`, or `owned TEXT`; `get_value_ref`
+//!   likewise.
 //! - `header RAW => KEY TEXT STRICT`: `get_key`, `get_value` and `get_value_utf8`.
 //! - `strict_value RAW => TEXT`: `get_value_utf8`, where a refusal is the text in the error.
 //! - `debug_header RAW => TEXT`.
 
 use crate::notation::{Answer, Decision, Outcome, Row, Show};
-use mailparse::{MailHeader, MailParseError, parse_header, parse_headers};
+use mailparse::{
+    HeaderPlaces, MailHeader, MailParseError, header_places, parse_header, parse_headers,
+};
 
 /// Makes the call of a row, if it is one of these.
 pub fn make(row: &Row, answer: &mut Answer) -> Decision {
     match row.call.as_str() {
         "parse_header" => push_front(row, answer)?,
+        "header_places" => answer.put(&header_places(row.bytes(0))),
         "parse_headers" | "different_headers" => push_block(row, answer)?,
-        "get_key" | "get_key_ref" | "header" | "strict_value" | "debug_header" => {
-            push_text(answer, row.call.as_str(), &parse_header(row.bytes(0))?.0);
-        }
+        "get_key" | "get_key_ref" | "get_value_ref" | "header" | "strict_value" | "debug_header" =>
+            {
+                push_text(answer, row.call.as_str(), &parse_header(row.bytes(0))?.0);
+            }
         _ => return Ok(false),
     }
     Ok(true)
@@ -37,6 +43,16 @@ impl Show for &MailHeader<'_> {
     fn show(self, answer: &mut Answer) {
         answer.put(self.get_key_raw());
         answer.put(self.get_value_raw());
+    }
+}
+
+/// The places in a header are their offsets and its length.
+impl Show for &HeaderPlaces {
+    fn show(self, answer: &mut Answer) {
+        answer.put(self.key_end);
+        answer.put(self.value_start);
+        answer.put(self.value_end);
+        answer.put(self.length);
     }
 }
 
@@ -83,6 +99,7 @@ fn push_text(answer: &mut Answer, call: &str, header: &MailHeader<'_>) {
     match call {
         "get_key" => answer.put(header.get_key(alloc)),
         "get_key_ref" => answer.put(header.get_key_ref(alloc)),
+        "get_value_ref" => answer.put(header.get_value_ref(alloc)),
         "strict_value" => push_strict(answer, header.get_value_utf8(alloc)),
         "debug_header" => answer.debug(header),
         _ => {

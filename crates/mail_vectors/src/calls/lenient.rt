@@ -8,8 +8,8 @@ use crate::calls::files::part_at;
 use crate::calls::tables::all_tables;
 use crate::notation::{Answer, Decision, FORM, Outcome, Row, Show};
 use mail_data::lenient::{
-    ContentFault, DateError, IdRule, Lenient, base64_front, body_text, date_of, find_ids,
-    lenient_body, lenient_content, lenient_file_name, refusal, zoned_date_of,
+    ContentFault, DateError, IdRule, Lenient, base64_front, body_text, date_and_offset_of, date_of,
+    find_ids, lenient_body, lenient_content, lenient_file_name, refusal, zoned_date_of,
 };
 use mailparse::body::Body;
 use mailparse::{MAX_LEVELS, ParsedMail, parse_mail, parse_mail_as};
@@ -26,6 +26,7 @@ pub fn make(row: &Row, answer: &mut Answer) -> Decision {
         "lenient_nodes" | "lenient_file_names" => read_parts(row, answer)?,
         "date_of" => write_date(answer, date_of(row.text(0))),
         "zoned_date_of" => write_date(answer, zoned_date_of(row.text(0))),
+        "date_and_offset_of" => write_date(answer, date_and_offset_of(row.text(0))),
         _ => return Ok(false),
     }
     Ok(true)
@@ -119,8 +120,9 @@ fn push_node(answer: &mut Answer, part: &ParsedMail<'_>) {
     }
 }
 
-/// `date_of TEXT => SECONDS`, and `zoned_date_of TEXT => SECONDS KNOWN`, KNOWN whether the zone is
-/// known; or why the date is refused.
+/// `date_of TEXT => SECONDS`, `zoned_date_of TEXT => SECONDS KNOWN`, KNOWN whether the zone is known,
+/// and `date_and_offset_of TEXT => SECONDS OFFSET`, OFFSET `none` if it is not; or why the date is
+/// refused.
 fn write_date<T: Show>(answer: &mut Answer, date: Result<T, DateError>) {
     match date {
         Ok(date) => answer.put(date),
