@@ -5,8 +5,9 @@
     bench/bench.py small headers              these cases
     bench/bench.py --oracle PROGRAM --real DIRECTORY   beside the Rust crate, and on real mails
 
-Cases named `json-..` and `show-..` measure the programs: seconds and peak memory; those named `python-..` the Python
-module beside Python's email: microseconds for each mail, in at most five turns. Else a cell is nanoseconds for each
+Cases named `json-..` and `show-..` measure the programs: seconds and peak memory; those named `c-..` the C library beside
+GMime, and those named `python-..` the Python module beside Python's email, in at most five turns: microseconds for each
+mail. Else a cell is nanoseconds for each
 byte: the least of all rounds. All readers take turns, so that a machine that slows down for a while does so for each; a
 turn lasts a fifth of a second or one round, and a reader that takes more than a second for one round has three turns.
 With --instructions a cell is instructions for each byte, counted by valgrind's callgrind: the same in each run. A cell
@@ -35,6 +36,7 @@ HERE = os.path.dirname(os.path.abspath(__file__))
 TOP = os.path.dirname(HERE)
 sys.path[:0] = [HERE, os.path.join(TOP, "oracle")]
 
+import c_library
 import made_mails
 import python_module
 import real_mail
@@ -262,7 +264,7 @@ def input_of(name, asked, work, scale):
 
 def table(asked, work):
     """Prints the table, and yields the figures of each case."""
-    names = [name for name in asked.cases if name not in PROGRAMS and name not in python_module.CASES]
+    names = [name for name in asked.cases if name not in {*PROGRAMS, *python_module.CASES, *c_library.CASES}]
     if not names:
         return
     all_readers = readers(asked, work)
@@ -323,6 +325,18 @@ def program_table(asked, work):
         yield name, {"seconds": seconds, "megabytes": memory, "email": theirs}
 
 
+def c_library_table(asked, work):
+    """Prints the times of the C library, and yields the figures of each case."""
+    names = [name for name in asked.cases if name in c_library.CASES]
+    if not names:
+        return
+    flags = c_library.installed(work)
+    ours = compiled("here", "rocktray_reader.c", "cc", "the C library", flags, work)
+    gmime = compiled("gmime", "gmime_reader.c", "cc", "libgmime-3.0-dev", pkg_config("gmime-3.0"), work)
+    found = [reader for reader in (ours, gmime) if reader]
+    yield from c_library.table(names, asked.real, found, timed, asked.turns, work, program("mail_speed"))
+
+
 def processor():
     """The name of the processor."""
     with open("/proc/cpuinfo", encoding="utf-8") as file:
@@ -339,12 +353,12 @@ def arguments():
     parser.add_argument("--real", metavar="DIRECTORY", help="real mails, as fetch_real.sh makes the directory")
     parser.add_argument("--turns", metavar="N", type=int, default=16, help="the turns of each reader (16)")
     parser.add_argument("--json", metavar="FILE", help="write the figures to a file too")
-    parser.add_argument("cases", metavar="CASE", nargs="*", help=f"of {', '.join([*REAL, *CASES, *PROGRAMS, *python_module.CASES])}")
+    parser.add_argument("cases", metavar="CASE", nargs="*", help=f"of {', '.join([*REAL, *CASES, *PROGRAMS, *c_library.CASES, *python_module.CASES])}")
     asked = parser.parse_args()
     for name in asked.cases:
-        if name not in {**CASES, **REAL, **PROGRAMS, **python_module.CASES}:
+        if name not in {*CASES, *REAL, *PROGRAMS, *c_library.CASES, *python_module.CASES}:
             parser.error(f"{name} is no case")
-    if any(name in REAL or name == "python-real" for name in asked.cases) and not asked.real:
+    if any(name in REAL or name in ("c-real", "python-real") for name in asked.cases) and not asked.real:
         parser.error("real mails are given by --real")
     if asked.instructions and not shutil.which("valgrind"):
         parser.error("counting instructions needs valgrind")
@@ -356,7 +370,7 @@ def main():
     """Times all cases."""
     asked = arguments()
     with tempfile.TemporaryDirectory() as work:
-        figures = dict(table(asked, work)) | dict(program_table(asked, work))
+        figures = dict(table(asked, work)) | dict(program_table(asked, work)) | dict(c_library_table(asked, work))
     in_python = [name for name in asked.cases if name in python_module.CASES]
     figures |= python_module.table(in_python, asked.real, min(asked.turns, 5))
     if asked.json:

@@ -2,8 +2,8 @@
 
 The works: to parse a mail; five members with the names of the files; the names and values of all headers, for which
 email has BytesHeaderParser; everything, which is all headers decoded, and of each part its type, name, bytes and text;
-and subject, sender and date of each mail of a mailbox, for which email has mailbox.mbox. Threads read everything of
-mails that are shared out among 1, 2 and 4 of them. The module is the one that Python finds: install the wheel, or unpack
+and subject, sender and date of each mail of a mailbox, for which email has mailbox.mbox. Threads read a mailbox that they
+share, or everything of mails that are shared out among 1, 2 and 4 of them. The module is the one that Python finds: install the wheel, or unpack
 it into a directory and name that in PYTHONPATH.
 """
 import email
@@ -182,13 +182,26 @@ def read_all(read, mails):
         read(raw)
 
 
-def with_threads(count, mails):
-    """Reads everything of mails that are shared out among threads."""
-    threads = [threading.Thread(target=read_all, args=(Rocktray.everything, mails[k::count])) for k in range(count)]
+def run_threads(targets):
+    """Runs each call in a thread."""
+    threads = [threading.Thread(target=call, args=arguments) for call, *arguments in targets]
     for thread in threads:
         thread.start()
     for thread in threads:
         thread.join()
+
+
+def with_threads(count, mails):
+    """Reads everything of mails that are shared out among threads."""
+    run_threads([(read_all, Rocktray.everything, mails[k::count]) for k in range(count)])
+
+
+def mailbox_with_threads(count, path):
+    """Reads a mailbox that threads share."""
+    import rocktray
+
+    mails = rocktray.open_mailbox(path)
+    run_threads([(lambda: [Rocktray.envelope(mail) for mail in mails if not mail.error],)] * count)
 
 
 def measured(mails, path):
@@ -196,6 +209,7 @@ def measured(mails, path):
     for work in WORKS:
         yield work, mails, {name: (read_all, getattr(reader, work), mails) for name, reader in READERS.items()}
     yield "mailbox", mails, {name: (reader.mailbox, path) for name, reader in READERS.items()}
+    yield "threads, a mailbox", mails, {f"{count} threads": (mailbox_with_threads, count, path) for count in THREADS}
     large = [raw for raw in mails if len(raw) >= LARGE] * 4
     for work, some in (("threads", mails * 4), (f"threads, mails of {LARGE >> 10} kB and more", large)):
         if some:

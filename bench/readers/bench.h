@@ -1,5 +1,6 @@
 /* What the readers of this directory share: the command `bench ROUNDS WORK..`. A work is `parse`, `all` (also the value
-   of each header, and the decoded body of each part), `mailbox-parse` or `mailbox-all`. */
+   of each header, and the decoded body of each part), `values` (subject, From, To, Date, message id, and the names of all
+   files), or one of these for each mail of a mailbox, such as `mailbox-parse`. */
 #ifndef BENCH_H
 #define BENCH_H
 
@@ -65,16 +66,9 @@ static inline void bench_work(const struct work *work, const char *bytes, size_t
     free(times);
 }
 
-/* Runs the command over the works of a reader. Returns the status of the program. */
-static inline int bench(int count, char **words, reading parse, reading all, reading mailbox_parse, reading mailbox_all)
+/* Runs the command over the works of a reader; the last one has no name. Returns the status of the program. */
+static inline int bench(int count, char **words, const struct work *works)
 {
-    const struct work works[] = {
-        { "parse", parse },
-        { "all", all },
-        { "mailbox-parse", mailbox_parse },
-        { "mailbox-all", mailbox_all },
-        { NULL, NULL },
-    };
     size_t rounds = count > 2 && !strcmp(words[1], "bench") ? strtoul(words[2], NULL, 10) : 0;
     size_t length;
     char *bytes;

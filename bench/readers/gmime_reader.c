@@ -46,8 +46,52 @@ static size_t read_all(GMimeMessage *mail)
     return made;
 }
 
-/* Reads the mails of a stream, and all of them where that is asked for. */
-static size_t read_mails(const char *bytes, size_t length, GMimeFormat format, gboolean is_all)
+static size_t length_of(const char *text)
+{
+    return text ? strlen(text) : 0;
+}
+
+/* Reads the names and addresses of a list. Returns how many bytes they have. */
+static size_t read_addresses(InternetAddressList *list)
+{
+    size_t made = 0;
+    for (int at = 0; list && at < internet_address_list_length(list); at++) {
+        InternetAddress *one = internet_address_list_get_address(list, at);
+        made += length_of(internet_address_get_name(one));
+        if (INTERNET_ADDRESS_IS_MAILBOX(one))
+            made += length_of(internet_address_mailbox_get_addr(INTERNET_ADDRESS_MAILBOX(one)));
+        else
+            made += read_addresses(internet_address_group_get_members(INTERNET_ADDRESS_GROUP(one)));
+    }
+    return made;
+}
+
+/* Reads the name of the file of a part, and adds how many bytes it has. */
+static void read_name(GMimeObject *parent, GMimeObject *part, gpointer made)
+{
+    (void)parent;
+    if (GMIME_IS_PART(part))
+        *(size_t *)made += length_of(g_mime_part_get_filename(GMIME_PART(part)));
+}
+
+/* Reads five values of a mail and the names of its files. Returns how many bytes they have; the date counts as one. */
+static size_t read_values_of(GMimeMessage *mail)
+{
+    size_t made = length_of(g_mime_message_get_subject(mail)) + length_of(g_mime_message_get_message_id(mail));
+    made += read_addresses(g_mime_message_get_from(mail)) + read_addresses(g_mime_message_get_to(mail));
+    made += g_mime_message_get_date(mail) != NULL;
+    g_mime_message_foreach(mail, read_name, &made);
+    return made;
+}
+
+static size_t read_nothing(GMimeMessage *mail)
+{
+    (void)mail;
+    return 1;
+}
+
+/* Reads the mails of a stream, and of each what is asked for. */
+static size_t read_mails(const char *bytes, size_t length, GMimeFormat format, size_t (*read)(GMimeMessage *mail))
 {
     GMimeParser *parser = parser_of(bytes, length);
     size_t made = 0;
@@ -56,7 +100,7 @@ static size_t read_mails(const char *bytes, size_t length, GMimeFormat format, g
         GMimeMessage *mail = g_mime_parser_construct_message(parser, NULL);
         if (!mail)
             break;
-        made += is_all ? read_all(mail) : 1;
+        made += read(mail);
         g_object_unref(mail);
     } while (format == GMIME_FORMAT_MBOX && !g_mime_parser_eos(parser));
     g_object_unref(parser);
@@ -65,26 +109,40 @@ static size_t read_mails(const char *bytes, size_t length, GMimeFormat format, g
 
 static size_t parse(const char *bytes, size_t length)
 {
-    return read_mails(bytes, length, GMIME_FORMAT_MESSAGE, FALSE);
+    return read_mails(bytes, length, GMIME_FORMAT_MESSAGE, read_nothing);
 }
 
 static size_t all(const char *bytes, size_t length)
 {
-    return read_mails(bytes, length, GMIME_FORMAT_MESSAGE, TRUE);
+    return read_mails(bytes, length, GMIME_FORMAT_MESSAGE, read_all);
 }
 
 static size_t mailbox_parse(const char *bytes, size_t length)
 {
-    return read_mails(bytes, length, GMIME_FORMAT_MBOX, FALSE);
+    return read_mails(bytes, length, GMIME_FORMAT_MBOX, read_nothing);
 }
 
 static size_t mailbox_all(const char *bytes, size_t length)
 {
-    return read_mails(bytes, length, GMIME_FORMAT_MBOX, TRUE);
+    return read_mails(bytes, length, GMIME_FORMAT_MBOX, read_all);
 }
+
+static size_t mailbox_values(const char *bytes, size_t length)
+{
+    return read_mails(bytes, length, GMIME_FORMAT_MBOX, read_values_of);
+}
+
+static const struct work works[] = {
+    { "parse", parse },
+    { "all", all },
+    { "mailbox-parse", mailbox_parse },
+    { "mailbox-all", mailbox_all },
+    { "mailbox-values", mailbox_values },
+    { NULL, NULL },
+};
 
 int main(int count, char **words)
 {
     g_mime_init();
-    return bench(count, words, parse, all, mailbox_parse, mailbox_all);
+    return bench(count, words, works);
 }

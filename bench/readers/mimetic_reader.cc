@@ -65,7 +65,15 @@ size_t mailbox_all(const char *bytes, size_t length)
 
 }
 
+static const struct work works[] = {
+    { "parse", parse },
+    { "all", all },
+    { "mailbox-parse", mailbox_parse },
+    { "mailbox-all", mailbox_all },
+    { NULL, NULL },
+};
+
 int main(int count, char **words)
 {
-    return bench(count, words, parse, all, mailbox_parse, mailbox_all);
+    return bench(count, words, works);
 }
