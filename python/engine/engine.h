@@ -10,8 +10,9 @@
 
 #include "rocktray.h"
 
-/* the capacity of a buffer on the stack */
+/* the capacities of buffers on the stack: for most results, and for most texts */
 #define SHORT 4096
+#define LONG 65536
 
 #if Py_LIMITED_API < 0x030b0000
 /* Buffers are part of the stable ABI from 3.11 on, and were the same in 3.10. */
@@ -73,6 +74,9 @@ bool is_count(Py_ssize_t count, Py_ssize_t wanted);
 int take_size(size_t *size, PyObject *object);
 int take_name(const uint8_t **name, size_t *length, PyObject *object);
 
+/* Whether these bytes are read without Python's lock: they are many, and no thread can change them. */
+bool is_read_freely(const struct input *input);
+
 /* Makes a call, with Python's lock or without it, and returns its code. */
 uint32_t run(struct request *request, void *buffer, size_t capacity, size_t *needed);
 
@@ -84,11 +88,22 @@ PyObject *text_of(struct request *request, size_t guess);
 PyObject *text_and_back(struct request *request, size_t guess);
 PyObject *bytes_and_back(struct request *request, size_t guess);
 
+/* The same for bytes of this size, which are not copied. If it is wrong, nothing but time is lost. */
+PyObject *sized_bytes_and_back(struct request *request, size_t size);
+
 /* Appends an item, which it takes over, to a list. Returns 0, or -1 for an error, also if the item is NULL. */
 int append(PyObject *list, PyObject *item);
 
-/* read(data[, start, end], limit): reads a mail. The state of the module is the type of its result. */
+/* The state of the module: its types. */
+struct types {
+    PyObject *reading, *header;
+};
+extern PyType_Spec reading_spec, header_spec;
+
+/* read(data[, start, end], limit): reads a mail. */
 PyObject *read_mail(PyObject *module, PyObject *const *arguments, Py_ssize_t count);
-extern PyType_Spec reading_spec;
+/* read_mails(data, places, limit): copies and reads the mails at these places. Of each its bytes, with what was read of it
+ * or the code of its refusal. */
+PyObject *read_mails(PyObject *module, PyObject *const *arguments, Py_ssize_t count);
 
 #endif

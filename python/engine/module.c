@@ -74,11 +74,16 @@ static bool is_constant(const struct input *input)
 
 /* Answers. */
 
+bool is_read_freely(const struct input *input)
+{
+    return input->length >= FREE && is_constant(input);
+}
+
 /* Makes the call, with Python's lock or without it. */
 uint32_t run(struct request *request, void *buffer, size_t capacity, size_t *needed)
 {
     uint32_t code;
-    if (request->input.length < FREE || !is_constant(&request->input))
+    if (!is_read_freely(&request->input))
         return request->call(request, buffer, capacity, needed);
     Py_BEGIN_ALLOW_THREADS
     code = request->call(request, buffer, capacity, needed);
@@ -103,17 +108,23 @@ PyObject *no_result(uint32_t code)
     return NULL;
 }
 
+/* A buffer on the stack, which is as long as most results are. */
+struct few {
+    char *at;
+    size_t capacity;
+};
+
 /* The result of a call in a buffer, which is `few` or was allocated, given a guess of its length. Returns the code. */
-static uint32_t fill(struct request *request, size_t guess, char *few, char **buffer, size_t *length)
+static uint32_t fill(struct request *request, size_t guess, struct few few, char **buffer, size_t *length)
 {
     uint32_t code = ROCKTRAY_TOO_SHORT;
-    *buffer = few;
+    *buffer = few.at;
     *length = guess;
-    if (guess <= SHORT)
-        code = run(request, few, SHORT, length);
+    if (guess <= few.capacity)
+        code = run(request, few.at, few.capacity, length);
     while (code == ROCKTRAY_TOO_SHORT) {
         size_t capacity = *length;
-        if (*buffer != few)
+        if (*buffer != few.at)
             free(*buffer);
         *buffer = malloc(capacity);
         code = *buffer ? run(request, *buffer, capacity, length) : ROCKTRAY_NO_MEMORY;
@@ -121,16 +132,35 @@ static uint32_t fill(struct request *request, size_t guess, char *few, char **bu
     return code;
 }
 
-/* The result of a call as an object that `make` makes. */
-static PyObject *result_of(struct request *request, size_t guess, PyObject *(*make)(const char *, Py_ssize_t))
+typedef PyObject *(*maker)(const char *, Py_ssize_t);
+
+static PyObject *result_in(struct request *request, size_t guess, maker make, struct few few)
 {
-    char few[SHORT], *buffer;
+    char *buffer;
     size_t length;
     uint32_t code = fill(request, guess, few, &buffer, &length);
     PyObject *made = code == ROCKTRAY_DONE ? make(buffer, (Py_ssize_t)length) : no_result(code);
-    if (buffer != few)
+    if (buffer != few.at)
         free(buffer);
     return made;
+}
+
+static PyObject *long_result_of(struct request *request, size_t guess, maker make)
+{
+    char few[LONG];
+    return result_in(request, guess, make, (struct few){ few, LONG });
+}
+
+static PyObject *short_result_of(struct request *request, size_t guess, maker make)
+{
+    char few[SHORT];
+    return result_in(request, guess, make, (struct few){ few, SHORT });
+}
+
+/* The result of a call as an object that `make` makes. */
+static PyObject *result_of(struct request *request, size_t guess, maker make)
+{
+    return (guess <= SHORT ? short_result_of : long_result_of)(request, guess, make);
 }
 
 static PyObject *decoded(const char *buffer, Py_ssize_t length)
@@ -155,6 +185,18 @@ PyObject *bytes_and_back(struct request *request, size_t guess)
     PyObject *made = result_of(request, guess, PyBytes_FromStringAndSize);
     give_back(&request->input);
     return made;
+}
+
+PyObject *sized_bytes_and_back(struct request *request, size_t size)
+{
+    PyObject *bytes = PyBytes_FromStringAndSize(NULL, (Py_ssize_t)size);
+    size_t length = 0;
+    if (bytes && (run(request, PyBytes_AsString(bytes), size, &length) != ROCKTRAY_DONE || length != size)) {
+        Py_DECREF(bytes);
+        return bytes_and_back(request, size);
+    }
+    give_back(&request->input);
+    return bytes;
 }
 
 int append(PyObject *list, PyObject *item)
@@ -228,7 +270,7 @@ static PyObject *json(PyObject *module, PyObject *data)
 {
     struct request it = { .call = call_json };
     (void)module;
-    return take(&it.input, data) < 0 ? NULL : bytes_and_back(&it, 2 * it.input.length + SHORT);
+    return take(&it.input, data) < 0 ? NULL : bytes_and_back(&it, 2 * it.input.length + LONG);
 }
 
 static PyObject *recipients(PyObject *module, PyObject *data)
@@ -397,22 +439,28 @@ static PyMethodDef functions[] = {
     { "unquoted", unquoted, METH_O, NULL },
     { "safe_name", safe_name, METH_O, NULL },
     { "read", FAST(read_mail), METH_FASTCALL, NULL },
+    { "read_mails", FAST(read_mails), METH_FASTCALL, NULL },
     { NULL, NULL, 0, NULL },
 };
 
-/* The state of the module is the type of readings. */
 static int fill_module(PyObject *module)
 {
-    PyObject *type = PyType_FromSpec(&reading_spec);
-    *(PyObject **)PyModule_GetState(module) = type;
-    return type && PyModule_AddObjectRef(module, "Reading", type) == 0 ? 0 : -1;
+    struct types *types = PyModule_GetState(module);
+    types->reading = PyType_FromSpec(&reading_spec);
+    types->header = PyType_FromSpec(&header_spec);
+    return types->reading && types->header && PyModule_AddObjectRef(module, "Reading", types->reading) == 0 &&
+                   PyModule_AddObjectRef(module, "Header", types->header) == 0
+               ? 0
+               : -1;
 }
 
 static void free_module(void *module)
 {
-    PyObject **state = PyModule_GetState(module);
-    if (state)
-        Py_CLEAR(*state);
+    struct types *types = PyModule_GetState(module);
+    if (types) {
+        Py_CLEAR(types->reading);
+        Py_CLEAR(types->header);
+    }
 }
 
 static PyModuleDef_Slot module_slots[] = {
@@ -423,7 +471,7 @@ static PyModuleDef_Slot module_slots[] = {
 static PyModuleDef definition = {
     PyModuleDef_HEAD_INIT,
     .m_name = "rocktray._engine",
-    .m_size = sizeof(PyObject *),
+    .m_size = sizeof(struct types),
     .m_methods = functions,
     .m_slots = module_slots,
     .m_free = free_module,

@@ -1,17 +1,27 @@
 /* rocktray._engine.Reading: the records of a mail, and what is decoded of its bytes by them. */
 #include "engine.h"
 
+#include <stddef.h>
 #include <stdlib.h>
 #include <string.h>
+#include <structmember.h>
 
+/* the numbers of records for which there is space at first: these, and more for a long mail */
 #define FEW_PARTS 32
 #define FEW_HEADERS 200
+#define MOST_PARTS 2000
+#define MOST_HEADERS 10000
+/* the least numbers of bytes that a part and a header usually have */
+#define BYTES_OF_PART 500
+#define BYTES_OF_HEADER 100
 #define FEW 64
+/* the number of members of a record of a part, each of 64 bits */
+#define MEMBERS (Py_ssize_t)(sizeof(struct rocktray_part) / sizeof(uint64_t))
 
 /* a mail that was read; it never changes */
 struct reading {
     PyObject_HEAD
-    PyObject *data;
+    PyObject *data, *header_type;
     size_t part_count, header_count;
     struct rocktray_part *parts; /* in one block with the headers */
     struct rocktray_header_record *headers;
@@ -19,30 +29,66 @@ struct reading {
 
 /* Reading. */
 
-/* the records of a mail that is read, with space for as many as the capacities say */
+/* bytes that are read without Python's lock, and the records of the mail in them, in one block that is allocated */
 struct records {
-    size_t limit, part_capacity, part_count, header_capacity, header_count;
+    const uint8_t *at;
+    size_t length, limit, part_count, header_count;
     struct rocktray_part *parts;
     struct rocktray_header_record *headers;
 };
 
-/* Allocates space for these numbers of records, in one block. Returns 0, or -1 if there is no memory. */
-static int allocate(struct records *records, size_t part_count, size_t header_count)
+static size_t between(size_t least, size_t number, size_t most)
 {
-    records->part_capacity = part_count;
-    records->header_capacity = header_count;
-    records->parts = malloc(part_count * sizeof *records->parts + header_count * sizeof *records->headers);
-    records->headers = (struct rocktray_header_record *)(records->parts + part_count);
-    return records->parts ? 0 : -1;
+    return number < least ? least : number > most ? most : number;
 }
 
-static uint32_t call_parts(struct request *it, void *buffer, size_t capacity, size_t *needed)
+/* Reads a mail into a block with space for these numbers of records. Returns the code. */
+static uint32_t read_into(struct records *records, size_t part_capacity, size_t header_capacity)
 {
-    struct records *records = buffer;
-    (void)capacity;
-    (void)needed;
-    return rocktray_parts(it->input.at, it->input.length, records->limit, records->parts, records->part_capacity,
-                          &records->part_count, records->headers, records->header_capacity, &records->header_count);
+    records->headers = (struct rocktray_header_record *)(records->parts + part_capacity);
+    return rocktray_parts(records->at, records->length, records->limit, records->parts, part_capacity, &records->part_count,
+                          records->headers, header_capacity, &records->header_count);
+}
+
+static size_t size_of(size_t part_count, size_t header_count)
+{
+    return part_count * sizeof(struct rocktray_part) + header_count * sizeof(struct rocktray_header_record);
+}
+
+/* Makes the block as short as its records are. */
+static void shorten(struct records *records)
+{
+    size_t header_size = records->header_count * sizeof *records->headers;
+    struct rocktray_part *parts;
+    memmove(records->parts + records->part_count, records->headers, header_size);
+    parts = realloc(records->parts, size_of(records->part_count, records->header_count));
+    records->parts = parts ? parts : records->parts;
+    records->headers = (struct rocktray_header_record *)(records->parts + records->part_count);
+}
+
+/* Reads the mail. Returns the code; after any but ROCKTRAY_DONE nothing is allocated. */
+static uint32_t read_records(struct records *records)
+{
+    size_t part_capacity = between(FEW_PARTS, records->length / BYTES_OF_PART, MOST_PARTS);
+    size_t header_capacity = between(FEW_HEADERS, records->length / BYTES_OF_HEADER, MOST_HEADERS);
+    uint32_t code = ROCKTRAY_NO_MEMORY;
+    int tries;
+    for (tries = 0; tries < 2; tries++) {
+        if (!(records->parts = malloc(size_of(part_capacity, header_capacity))))
+            return ROCKTRAY_NO_MEMORY;
+        code = read_into(records, part_capacity, header_capacity);
+        if (code == ROCKTRAY_DONE) {
+            shorten(records);
+            return code;
+        }
+        free(records->parts);
+        if (code != ROCKTRAY_TOO_SHORT)
+            return code;
+        part_capacity = records->part_count;
+        header_capacity = records->header_count;
+    }
+    /* bytes that change meanwhile may have more records the second time */
+    return ROCKTRAY_NO_MEMORY;
 }
 
 /* Counts the offsets of records from `start` bytes earlier. */
@@ -67,14 +113,15 @@ static void move(const struct records *records, uint64_t start)
 }
 
 /* Makes a reading, which takes over these records. */
-static PyObject *reading_of(PyObject *type, PyObject *data, const struct records *records)
+static PyObject *reading_of(const struct types *types, PyObject *data, const struct records *records)
 {
-    struct reading *reading = (struct reading *)PyType_GenericAlloc((PyTypeObject *)type, 0);
+    struct reading *reading = (struct reading *)PyType_GenericAlloc((PyTypeObject *)types->reading, 0);
     if (!reading) {
         free(records->parts);
         return NULL;
     }
     reading->data = Py_NewRef(data);
+    reading->header_type = Py_NewRef(types->header);
     reading->part_count = records->part_count;
     reading->header_count = records->header_count;
     reading->parts = records->parts;
@@ -96,44 +143,132 @@ static int take_range(struct input *input, size_t *limit, PyObject *const *argum
     return narrow(input, start, end);
 }
 
-/* Reads a mail into records that it allocates. Returns the code; after any but ROCKTRAY_DONE nothing is allocated. */
-static uint32_t read_records(struct request *it, struct records *records)
-{
-    struct rocktray_part parts[FEW_PARTS];
-    struct rocktray_header_record headers[FEW_HEADERS];
-    struct records few = { records->limit, FEW_PARTS, 0, FEW_HEADERS, 0, parts, headers };
-    uint32_t code = run(it, &few, 0, NULL);
-    *records = few;
-    if (code != ROCKTRAY_DONE && code != ROCKTRAY_TOO_SHORT)
-        return code;
-    if (allocate(records, few.part_count, few.header_count) < 0)
-        return ROCKTRAY_NO_MEMORY;
-    if (code == ROCKTRAY_DONE) {
-        memcpy(records->parts, parts, few.part_count * sizeof *parts);
-        memcpy(records->headers, headers, few.header_count * sizeof *headers);
-        return code;
-    }
-    code = run(it, records, 0, NULL);
-    if (code != ROCKTRAY_DONE)
-        free(records->parts);
-    /* bytes that change meanwhile may have more records the second time */
-    return code == ROCKTRAY_TOO_SHORT ? ROCKTRAY_NO_MEMORY : code;
-}
-
 PyObject *read_mail(PyObject *module, PyObject *const *arguments, Py_ssize_t count)
 {
-    struct records records = { .limit = 0 };
-    struct request it = { .call = call_parts };
+    struct input input;
+    struct records records;
     uint32_t code;
-    if ((count != 2 && !is_count(count, 4)) || take_range(&it.input, &records.limit, arguments, count) < 0)
+    if ((count != 2 && !is_count(count, 4)) || take_range(&input, &records.limit, arguments, count) < 0)
         return NULL;
-    code = read_records(&it, &records);
+    records.at = input.at;
+    records.length = input.length;
+    if (is_read_freely(&input)) {
+        Py_BEGIN_ALLOW_THREADS
+        code = read_records(&records);
+        Py_END_ALLOW_THREADS
+    } else {
+        code = read_records(&records);
+    }
     if (code == ROCKTRAY_DONE)
-        move(&records, (uint64_t)(it.input.at - (const uint8_t *)it.input.view.buf));
-    give_back(&it.input);
+        move(&records, (uint64_t)(input.at - (const uint8_t *)input.view.buf));
+    give_back(&input);
     if (code != ROCKTRAY_DONE)
         return no_result(code);
-    return reading_of(*(PyObject **)PyModule_GetState(module), arguments[0], &records);
+    return reading_of(PyModule_GetState(module), arguments[0], &records);
+}
+
+/* Mails that are read together. */
+
+/* mails of a mailbox: where each begins, its own bytes, and what is read of it */
+struct batch {
+    Py_ssize_t count;
+    struct mail {
+        const uint8_t *from;
+        PyObject *raw;
+        struct records records;
+        uint32_t code;
+    } *mails;
+};
+
+/* Allocates the bytes of the mails at these places. Returns 0, or -1 for an error. */
+static int allocate(struct batch *batch, const struct input *input, PyObject *places, size_t limit)
+{
+    Py_ssize_t k;
+    for (k = 0; k < batch->count; k++) {
+        PyObject *place = PyList_GetItem(places, k);
+        struct mail *mail = &batch->mails[k];
+        size_t start, end;
+        if (!place || !PyTuple_Check(place) || PyTuple_Size(place) < 2 || take_size(&start, PyTuple_GetItem(place, 0)) < 0 ||
+            take_size(&end, PyTuple_GetItem(place, 1)) < 0 || start > end || end > input->length ||
+            !(mail->raw = PyBytes_FromStringAndSize(NULL, (Py_ssize_t)(end - start))))
+            return -1;
+        mail->from = input->at + start;
+        mail->records.at = (const uint8_t *)PyBytes_AsString(mail->raw);
+        mail->records.length = end - start;
+        mail->records.limit = limit;
+    }
+    return 0;
+}
+
+/* Copies and reads the mails, without Python's lock. */
+static void read_batch(struct batch *batch)
+{
+    Py_ssize_t k;
+    for (k = 0; k < batch->count; k++) {
+        struct mail *mail = &batch->mails[k];
+        memcpy((uint8_t *)mail->records.at, mail->from, mail->records.length);
+        mail->code = read_records(&mail->records);
+    }
+}
+
+/* Each mail with what was read of it, or with the code. */
+static PyObject *list_of(const struct batch *batch, const struct types *types)
+{
+    PyObject *list = PyList_New(batch->count);
+    Py_ssize_t k;
+    for (k = 0; list && k < batch->count; k++) {
+        struct mail *mail = &batch->mails[k];
+        PyObject *read = mail->code == ROCKTRAY_DONE ? reading_of(types, mail->raw, &mail->records)
+                                                     : PyLong_FromUnsignedLong(mail->code);
+        PyObject *pair = read ? PyTuple_Pack(2, mail->raw, read) : NULL;
+        mail->code = ROCKTRAY_ABSENT; /* its records are taken over */
+        Py_XDECREF(read);
+        if (pair)
+            PyList_SetItem(list, k, pair);
+        else
+            Py_CLEAR(list);
+    }
+    return list;
+}
+
+static void free_batch(struct batch *batch)
+{
+    Py_ssize_t k;
+    for (k = 0; k < batch->count; k++) {
+        Py_XDECREF(batch->mails[k].raw);
+        if (batch->mails[k].code == ROCKTRAY_DONE)
+            free(batch->mails[k].records.parts);
+    }
+    free(batch->mails);
+}
+
+PyObject *read_mails(PyObject *module, PyObject *const *arguments, Py_ssize_t count)
+{
+    struct batch batch;
+    struct input input;
+    size_t limit;
+    PyObject *list = NULL;
+    Py_ssize_t k;
+    if (!is_count(count, 3) || (batch.count = PyList_Size(arguments[1])) < 0 || take_size(&limit, arguments[2]) < 0 ||
+        take(&input, arguments[0]) < 0)
+        return NULL;
+    batch.mails = calloc((size_t)batch.count + 1, sizeof *batch.mails);
+    for (k = 0; batch.mails && k < batch.count; k++)
+        batch.mails[k].code = ROCKTRAY_ABSENT; /* nothing is read of it */
+    if (!batch.mails) {
+        batch.count = 0;
+        PyErr_NoMemory();
+    } else if (allocate(&batch, &input, arguments[1], limit) == 0) {
+        Py_BEGIN_ALLOW_THREADS
+        read_batch(&batch);
+        Py_END_ALLOW_THREADS
+        list = list_of(&batch, PyModule_GetState(module));
+    } else if (!PyErr_Occurred()) {
+        PyErr_SetString(PyExc_ValueError, "a place is a pair of offsets in the data");
+    }
+    free_batch(&batch);
+    give_back(&input);
+    return list;
 }
 
 static void reading_free(PyObject *self)
@@ -141,6 +276,7 @@ static void reading_free(PyObject *self)
     struct reading *reading = (struct reading *)self;
     PyTypeObject *type = Py_TYPE(self);
     Py_XDECREF(reading->data);
+    Py_XDECREF(reading->header_type);
     free(reading->parts);
     ((freefunc)PyType_GetSlot(type, Py_tp_free))(self);
     Py_DECREF(type);
@@ -226,12 +362,18 @@ static const struct rocktray_header_record *first_named(PyObject *self, const st
 
 static PyObject *reading_part(PyObject *self, PyObject *index)
 {
-    const struct rocktray_part *part = part_at(self, index);
-    if (!part)
-        return NULL;
-    return Py_BuildValue("LKKKKKKKKKK", (long long)part->parent, part->level, part->start, part->end, part->body_start,
-                         part->body_end, part->first_header, part->header_count, part->encoding, part->disposition,
-                         part->flags);
+    const uint64_t *members = (const uint64_t *)part_at(self, index);
+    PyObject *tuple = members ? PyTuple_New(MEMBERS) : NULL;
+    Py_ssize_t k;
+    for (k = 0; tuple && k < MEMBERS; k++) {
+        /* the parent of the mail itself is -1 */
+        PyObject *member = PyLong_FromLongLong((long long)members[k]);
+        if (member)
+            PyTuple_SetItem(tuple, k, member);
+        else
+            Py_CLEAR(tuple);
+    }
+    return tuple;
 }
 
 CALL(value, INPUT)
@@ -284,52 +426,12 @@ static PyObject *reading_values(PyObject *self, PyObject *const *arguments, Py_s
     return list;
 }
 
-/* The name and the value of a header. */
-static PyObject *pair_of(struct request *it, const struct rocktray_header_record *header)
-{
-    PyObject *value = value_of(it, header), *name, *pair = NULL;
-    if (!value)
-        return NULL;
-    name = PyUnicode_DecodeLatin1((const char *)bytes_at(&it->input, header->start),
-                                  (Py_ssize_t)(header->key_end - header->start), NULL);
-    pair = name ? PyTuple_Pack(2, name, value) : NULL;
-    Py_XDECREF(name);
-    Py_DECREF(value);
-    return pair;
-}
-
-/* headers(part): the name and the value of each header. */
-static PyObject *reading_headers(PyObject *self, PyObject *index)
-{
-    struct request it = { .call = call_value };
-    const struct rocktray_part *part = part_at(self, index);
-    const struct rocktray_header_record *header;
-    PyObject *list, *pair;
-    size_t k;
-    if (!part || take_mail(&it.input, self) < 0)
-        return NULL;
-    header = ((struct reading *)self)->headers + part->first_header;
-    list = PyList_New((Py_ssize_t)part->header_count);
-    for (k = 0; list && k < part->header_count; k++) {
-        if ((pair = pair_of(&it, header + k)))
-            PyList_SetItem(list, (Py_ssize_t)k, pair);
-        else
-            Py_CLEAR(list);
-    }
-    give_back(&it.input);
-    return list;
-}
-
-/* raw_value(part, number): the raw value of the header of a part with this number. */
-static PyObject *reading_raw_value(PyObject *self, PyObject *const *arguments, Py_ssize_t count)
+/* The raw value of a header of a part. */
+static PyObject *raw_value(PyObject *self, const struct rocktray_part *part, size_t number)
 {
     struct input input;
     const struct rocktray_header_record *header;
-    const struct rocktray_part *part;
     PyObject *made;
-    size_t number;
-    if (!is_count(count, 2) || !(part = part_at(self, arguments[0])) || take_size(&number, arguments[1]) < 0)
-        return NULL;
     if (number >= part->header_count) {
         PyErr_SetString(PyExc_IndexError, "there is no such header");
         return NULL;
@@ -341,6 +443,141 @@ static PyObject *reading_raw_value(PyObject *self, PyObject *const *arguments, P
                                      (Py_ssize_t)(header->value_end - header->value_start));
     give_back(&input);
     return made;
+}
+
+/* raw_value(part, number): the raw value of the header of a part with this number. */
+static PyObject *reading_raw_value(PyObject *self, PyObject *const *arguments, Py_ssize_t count)
+{
+    const struct rocktray_part *part;
+    size_t number;
+    if (!is_count(count, 2) || !(part = part_at(self, arguments[0])) || take_size(&number, arguments[1]) < 0)
+        return NULL;
+    return raw_value(self, part, number);
+}
+
+/* Headers as objects. */
+
+/* a header of a part; `source` is its raw value, or the reading with the part */
+struct header {
+    PyObject_HEAD
+    PyObject *name, *value, *source;
+    const struct rocktray_part *part;
+    size_t number;
+};
+
+static PyObject *header_new(PyTypeObject *type, PyObject *arguments, PyObject *names)
+{
+    PyObject *name, *value, *raw;
+    struct header *header;
+    if (names && PyDict_Size(names) > 0) {
+        PyErr_SetString(PyExc_TypeError, "a header takes no named arguments");
+        return NULL;
+    }
+    if (!PyArg_ParseTuple(arguments, "UUS:Header", &name, &value, &raw))
+        return NULL;
+    header = (struct header *)PyType_GenericAlloc(type, 0);
+    if (header) {
+        header->name = Py_NewRef(name);
+        header->value = Py_NewRef(value);
+        header->source = Py_NewRef(raw);
+    }
+    return (PyObject *)header;
+}
+
+static void header_free(PyObject *self)
+{
+    struct header *header = (struct header *)self;
+    PyTypeObject *type = Py_TYPE(self);
+    Py_XDECREF(header->name);
+    Py_XDECREF(header->value);
+    Py_XDECREF(header->source);
+    ((freefunc)PyType_GetSlot(type, Py_tp_free))(self);
+    Py_DECREF(type);
+}
+
+static PyObject *header_raw(PyObject *self, void *unused)
+{
+    struct header *header = (struct header *)self;
+    (void)unused;
+    return PyBytes_Check(header->source) ? Py_NewRef(header->source)
+                                         : raw_value(header->source, header->part, header->number);
+}
+
+static PyMemberDef header_members[] = {
+    { "name", T_OBJECT_EX, offsetof(struct header, name), READONLY, "The name, as the mail has it." },
+    { "value", T_OBJECT_EX, offsetof(struct header, value), READONLY, "The value: unfolded and decoded." },
+    { NULL, 0, 0, 0, NULL },
+};
+
+static PyGetSetDef header_getters[] = {
+    { "raw", header_raw, NULL, "The raw value, without decoding.", NULL },
+    { NULL, NULL, NULL, NULL, NULL },
+};
+
+static PyType_Slot header_slots[] = {
+    { Py_tp_new, header_new },
+    { Py_tp_dealloc, header_free },
+    { Py_tp_members, header_members },
+    { Py_tp_getset, header_getters },
+    { 0, NULL },
+};
+
+PyType_Spec header_spec = {
+    .name = "rocktray._engine.Header",
+    .basicsize = sizeof(struct header),
+    .flags = Py_TPFLAGS_DEFAULT | Py_TPFLAGS_BASETYPE,
+    .slots = header_slots,
+};
+
+/* A header of a part, as an object of this type. */
+static PyObject *header_of(PyTypeObject *type, PyObject *self, const struct rocktray_part *part, size_t number,
+                           struct request *it)
+{
+    const struct rocktray_header_record *record = ((struct reading *)self)->headers + part->first_header + number;
+    struct header *header = (struct header *)PyType_GenericAlloc(type, 0);
+    if (!header)
+        return NULL;
+    header->source = Py_NewRef(self);
+    header->part = part;
+    header->number = number;
+    header->name = PyUnicode_DecodeLatin1((const char *)bytes_at(&it->input, record->start),
+                                          (Py_ssize_t)(record->key_end - record->start), NULL);
+    header->value = value_of(it, record);
+    if (!header->name || !header->value)
+        Py_CLEAR(header);
+    return (PyObject *)header;
+}
+
+/* Takes a type of headers, which is ours or one made of it. Returns 0, or -1 for an error. */
+static int take_type(PyTypeObject **type, PyObject *self, PyObject *object)
+{
+    *type = (PyTypeObject *)object;
+    if (PyType_Check(object) && PyType_IsSubtype(*type, (PyTypeObject *)((struct reading *)self)->header_type))
+        return 0;
+    PyErr_SetString(PyExc_TypeError, "a type of headers is needed");
+    return -1;
+}
+
+/* headers(part, type): the headers, as objects of this type. */
+static PyObject *reading_headers(PyObject *self, PyObject *const *arguments, Py_ssize_t count)
+{
+    struct request it = { .call = call_value };
+    const struct rocktray_part *part;
+    PyTypeObject *type;
+    PyObject *list, *header;
+    size_t k;
+    if (!is_count(count, 2) || !(part = part_at(self, arguments[0])) || take_type(&type, self, arguments[1]) < 0 ||
+        take_mail(&it.input, self) < 0)
+        return NULL;
+    list = PyList_New((Py_ssize_t)part->header_count);
+    for (k = 0; list && k < part->header_count; k++) {
+        if ((header = header_of(type, self, part, k, &it)))
+            PyList_SetItem(list, (Py_ssize_t)k, header);
+        else
+            Py_CLEAR(list);
+    }
+    give_back(&it.input);
+    return list;
 }
 
 /* Types, names and addresses. */
@@ -590,20 +827,24 @@ static PyObject *with_damage(PyObject *made, const struct request *it)
     return made ? Py_BuildValue("NO", made, it->is_damaged ? Py_True : Py_False) : NULL;
 }
 
-/* body(part): what can be read of the decoded bytes of a body, and whether it is damaged. */
-static PyObject *reading_body(PyObject *self, PyObject *index)
+/* body(part, size): what can be read of the decoded bytes of a body, and whether it is damaged. The size is their number,
+ * or 0 if that is not known. */
+static PyObject *reading_body(PyObject *self, PyObject *const *arguments, Py_ssize_t count)
 {
     struct request it = { .call = call_body };
-    const struct rocktray_part *part = part_at(self, index);
+    const struct rocktray_part *part;
+    size_t size;
     PyObject *made;
-    if (begin_body(&it, self, part) < 0)
+    if (!is_count(count, 2) || !(part = part_at(self, arguments[0])) || take_size(&size, arguments[1]) < 0 ||
+        begin_body(&it, self, part) < 0)
         return NULL;
     if (part->encoding < ROCKTRAY_QUOTED_PRINTABLE) { /* it is not encoded */
         made = PyBytes_FromStringAndSize((const char *)it.input.at, (Py_ssize_t)it.input.length);
         give_back(&it.input);
         return with_damage(made, &it);
     }
-    return with_damage(bytes_and_back(&it, it.input.length), &it);
+    made = size ? sized_bytes_and_back(&it, size) : bytes_and_back(&it, it.input.length);
+    return with_damage(made, &it);
 }
 
 /* body_size(part): the number of these bytes, and whether the body is damaged. */
@@ -653,13 +894,13 @@ static PyMethodDef methods[] = {
     { "part", reading_part, METH_O, NULL },
     { "value", FAST(reading_value), METH_FASTCALL, NULL },
     { "values", FAST(reading_values), METH_FASTCALL, NULL },
-    { "headers", reading_headers, METH_O, NULL },
+    { "headers", FAST(reading_headers), METH_FASTCALL, NULL },
     { "raw_value", FAST(reading_raw_value), METH_FASTCALL, NULL },
     { "type", reading_type, METH_O, NULL },
     { "disposition", reading_disposition, METH_O, NULL },
     { "file_name", reading_file_name, METH_O, NULL },
     { "addresses", FAST(reading_addresses), METH_FASTCALL, NULL },
-    { "body", reading_body, METH_O, NULL },
+    { "body", FAST(reading_body), METH_FASTCALL, NULL },
     { "body_size", reading_body_size, METH_O, NULL },
     { "text", reading_text, METH_O, NULL },
     { "charset", reading_charset, METH_O, NULL },

@@ -1,6 +1,6 @@
 """The extension: the calls of the C library. python/engine/module.c says how inputs are read."""
 
-from typing import Dict, List, Optional, Tuple, overload
+from typing import Dict, List, Optional, Tuple, Type, TypeVar, Union, overload
 
 from ._library import Bytes
 
@@ -28,7 +28,25 @@ def read(mail: Bytes, limit: int, /) -> Reading:
 def read(data: Bytes, start: int, end: int, limit: int, /) -> Reading:
     """Reads the mail from `start` up to `end`, where all offsets are those in the data."""
 
+def read_mails(data: bytes, places: List[Tuple[int, int]], limit: int, /) -> List[Tuple[bytes, Union[Reading, int]]]:
+    """Copies and reads the mails at these places in one call, without Python's lock. Of each its bytes, with what was
+    read of it or the code of its refusal.
+    """
+
 Part = Tuple[int, int, int, int, int, int, int, int, int, int, int]
+
+class Header:
+    """A header of a part."""
+
+    def __init__(self, name: str, value: str, raw: bytes, /) -> None: ...
+    @property
+    def name(self) -> str: ...
+    @property
+    def value(self) -> str: ...
+    @property
+    def raw(self) -> bytes: ...
+
+_Header = TypeVar("_Header", bound=Header)
 
 class Reading:
     """A mail that was read: the records of its parts and headers. Its length is the number of parts. Parts and the
@@ -41,14 +59,16 @@ class Reading:
 
     def value(self, part: int, name: bytes, number: int, /) -> Optional[str]: ...
     def values(self, part: int, name: bytes, /) -> List[str]: ...
-    def headers(self, part: int, /) -> List[Tuple[str, str]]: ...
+    def headers(self, part: int, type: Type[_Header], /) -> List[_Header]: ...
     def raw_value(self, part: int, header: int, /) -> bytes: ...
     def type(self, part: int, /) -> Tuple[str, str, Dict[str, str]]: ...
     def disposition(self, part: int, /) -> Optional[str]: ...
     def file_name(self, part: int, /) -> Optional[str]: ...
     def addresses(self, part: int, name: bytes, /) -> List[Tuple[str, str]]: ...
-    def body(self, part: int, /) -> Tuple[bytes, bool]:
-        """What can be read of the decoded body, and whether it is damaged; so are the next two."""
+    def body(self, part: int, size: int, /) -> Tuple[bytes, bool]:
+        """What can be read of the decoded body, and whether it is damaged; so are the next two. The size is the number
+        of these bytes, or 0 if it is not known.
+        """
 
     def body_size(self, part: int, /) -> Tuple[int, bool]: ...
     def text(self, part: int, /) -> Tuple[str, bool]: ...

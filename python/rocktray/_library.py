@@ -14,6 +14,7 @@ if TYPE_CHECKING:
 
     Bytes = Union[bytes, bytearray, memoryview, mmap.mmap]
 
+NO_MEMORY = 2
 NOT_BASE64 = 19
 TOO_MANY = 22
 DATE_YEAR = 34

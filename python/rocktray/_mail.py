@@ -10,10 +10,11 @@ from typing import TYPE_CHECKING, Any, Callable, Dict, Iterator, List, NamedTupl
 from typing import cast, overload
 
 from . import _engine, _library
+from ._engine import Reading
 from ._library import MOST_ITEMS, UNLIMITED, Refused
 from ._node import IS_ATTACHMENT, IS_EXTRACTED, IS_MAIL, IS_TEXT, Node, add_inside, nodes_of
 from ._part import Header, Part
-from ._values import Address, Recipient, time_of
+from ._values import Address, Recipient, new_address, time_of
 
 if TYPE_CHECKING:
     from ._library import Bytes
@@ -43,6 +44,15 @@ def _checked(raw: Any) -> "Bytes":
     raise TypeError(f"a mail is bytes, not {kind}: {advice}")
 
 
+class Use:
+    """Whether mails of a mailbox are read, and not only returned: then the next ones are read together."""
+
+    __slots__ = ("is_read",)
+
+    def __init__(self) -> None:
+        self.is_read = False
+
+
 class Mail:
     """A mail. Its bytes are read when it is first used; `parse` reads them at once. What it has is decoded when it is
     asked for, and most of it remembered.
@@ -55,11 +65,12 @@ class Mail:
     ('Hi', '1997-11-21T09:55:06-06:00', 'Hello\\n')
     """
 
-    __slots__ = ("place", "_data", "_raw", "_limit", "_read", "_own", "_all", "_known")
+    __slots__ = ("place", "_data", "_raw", "_limit", "_read", "_own", "_all", "_known", "_use")
 
     place: Optional[Tuple[int, int]]
     """The offsets at which it begins and ends in its mailbox, or `None` outside of one."""
-    _read: Union[None, _engine.Reading, Refused]
+    _read: Union[None, Reading, Refused]
+    _use: Optional[Use]
     _own: Optional[List[Node]]
     _all: Optional[List[Node]]
 
@@ -68,8 +79,23 @@ class Mail:
         self._data = _checked(raw) if self._raw is None else raw
         self.place = place
         self._limit = UNLIMITED if limit is None else limit
-        self._read = self._own = self._all = None
+        self._read = self._use = self._own = self._all = None
         self._known: Dict[Any, Any] = {}
+
+    @classmethod
+    def _of_mailbox(
+        cls, raw: bytes, place: Tuple[int, int], limit: int, use: Use, read: Union[None, Reading, Refused]
+    ) -> "Mail":
+        """A mail of a mailbox, and what was read of it."""
+        mail = cls.__new__(cls)
+        mail.place = place
+        mail._data = mail._raw = raw
+        mail._limit = limit
+        mail._read = read
+        mail._use = use
+        mail._own = mail._all = None
+        mail._known = {}
+        return mail
 
     @property
     def raw(self) -> bytes:
@@ -81,10 +107,12 @@ class Mail:
         return raw
 
     @property
-    def _reading(self) -> _engine.Reading:
+    def _reading(self) -> Reading:
         """The records of the mail. Raises `Refused` if it is refused."""
         read = self._read
         if read is None:
+            if self._use is not None:
+                self._use.is_read = True
             try:
                 read = _engine.read(self._data, self._limit)
             except Refused as error:
@@ -105,12 +133,18 @@ class Mail:
         """The value of the first header with this name."""
         known = self._known
         if name not in known:
-            known[name] = self._reading.value(0, name, 0)
-        return cast("Optional[str]", known[name])
+            read = self._read
+            known[name] = (read if isinstance(read, Reading) else self._reading).value(0, name, 0)
+        return known[name]  # type: ignore[no-any-return]
 
-    def _addresses(self, name: bytes) -> List[Address]:
+    def _addresses(self, name: str) -> List[Address]:
         """The mailboxes in the headers with this name."""
-        return self._remember((name,), lambda: [Address(*pair) for pair in self._reading.addresses(0, name)]).copy()
+        known = self._known
+        if name not in known:
+            read = self._read
+            found = (read if isinstance(read, Reading) else self._reading).addresses(0, name.encode())
+            known[name] = [new_address(pair) for pair in found]
+        return known[name].copy()  # type: ignore[no-any-return]
 
     def _ids(self, name: bytes, needs_at: bool) -> List[str]:
         """The ids in the first header with this name."""
@@ -125,6 +159,8 @@ class Mail:
         >>> [mail.error or mail.subject for mail in (Mail(b"Subject: Hi\\n\\n"), Mail(b"A: b\\n\\rx"))]
         ['Hi', 'Headers were followed by an unexpected lone CR character!']
         """
+        if isinstance(self._read, Reading):
+            return None
         try:
             self._reading
         except Refused as error:
@@ -160,48 +196,51 @@ class Mail:
         >>> parse(b"From: =?utf-8?q?Doe=2C_Jos=C3=A9?= <j@example.org>\\n\\n").from_
         [Address(name='Doe, José', address='j@example.org')]
         """
-        return self._addresses(b"from")
+        return self._addresses("from")
 
     @property
     def to(self) -> List[Address]:
         """The mailboxes in To."""
-        return self._addresses(b"to")
+        return self._addresses("to")
 
     @property
     def cc(self) -> List[Address]:
         """The mailboxes in Cc."""
-        return self._addresses(b"cc")
+        return self._addresses("cc")
 
     @property
     def bcc(self) -> List[Address]:
         """The mailboxes in Bcc."""
-        return self._addresses(b"bcc")
+        return self._addresses("bcc")
 
     @property
     def sender(self) -> List[Address]:
         """The mailbox in Sender: who sent the mail, if that is not its only author."""
-        return self._addresses(b"sender")
+        return self._addresses("sender")
 
     @property
     def reply_to(self) -> List[Address]:
         """The mailboxes in Reply-To."""
-        return self._addresses(b"reply-to")
+        return self._addresses("reply-to")
+
+    def _read_date(self) -> Tuple[Optional[datetime], Optional[str], bool]:
+        """The time in the first Date, what is wrong in it, and whether its zone is known or it is none."""
+        value, is_zone_known = self._value(b"date"), True
+        if value is None:
+            return None, None, True
+        try:
+            seconds, offset = _engine.date(value)
+            is_zone_known = offset is not None
+            return time_of(seconds, offset), None, is_zone_known
+        except Refused as error:
+            return None, error.text, is_zone_known
 
     def _date(self) -> Tuple[Optional[datetime], Optional[str], bool]:
-        """The time in the first Date, what is wrong in it, and whether its zone is known or it is none."""
-
-        def found() -> Tuple[Optional[datetime], Optional[str], bool]:
-            value, is_zone_known = self._value(b"date"), True
-            if value is None:
-                return None, None, True
-            try:
-                seconds, offset = _engine.date(value)
-                is_zone_known = offset is not None
-                return time_of(seconds, offset), None, is_zone_known
-            except Refused as error:
-                return None, error.text, is_zone_known
-
-        return self._remember("date", found)
+        """The same, read once."""
+        known = self._known
+        if "time" not in known:
+            known["time"] = self._read_date()
+        return known["time"]  # type: ignore[no-any-return]
 
     @property
     def date(self) -> Optional[datetime]:
@@ -268,7 +307,7 @@ class Mail:
         """
         if number < 0:
             return None
-        if not isinstance(self._read, _engine.Reading):
+        if not isinstance(self._read, Reading):
             return _library.header(self._data, name, number)
         key = _library.name_of(name)
         return None if key is None else self._read.value(0, key, number)

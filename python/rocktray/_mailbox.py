@@ -10,17 +10,21 @@ import threading
 from collections import deque
 from itertools import islice
 from types import TracebackType
-from typing import Any, Deque, Iterator, List, NamedTuple, Optional, Protocol, Tuple, Type, Union
+from typing import Any, Deque, Iterator, List, NamedTuple, Optional, Protocol, Sequence, Tuple, Type, Union
 
 from . import _engine, _library
-from ._library import MOST_ITEMS
-from ._mail import Mail
+from ._engine import Reading
+from ._library import MOST_ITEMS, UNLIMITED, Refused
+from ._mail import Mail, Use
 
 FORMATS = ("mbox", "mboxrd", "mboxcl")
 # the least number of bytes that are read at once
 BLOCK = 1 << 19
 # the greatest number of mails that are found at once
 MOST = _library.MOST
+# the greatest number of mails that are read at once, and of their bytes, unless one mail has more
+AHEAD = 64
+AHEAD_BYTES = 1 << 18
 # what may be between a header block and a body and between mails, whose separator counts up to 1,000 bytes, and one byte
 SEPARATOR = 4 + 2 + 1000 + 1
 # how compressed files begin, and what opens them as a file of bytes
@@ -110,6 +114,10 @@ class _Window(NamedTuple):
     """
 
 
+# a mail that was found: the bytes with it, the offset of these, and where in them it begins and ends
+_Found = Tuple[bytes, int, int, int]
+
+
 class Mailbox:
     """The mails of a mailbox, as `open_mailbox` returns it: an iterator, and a context manager that closes the file.
 
@@ -124,13 +132,16 @@ class Mailbox:
         if format not in FORMATS:
             raise ValueError(f"{format!r} is none of {', '.join(FORMATS)}")
         self._format = format
-        self._limit = limit
+        self._limit = UNLIMITED if limit is None else limit
+        self._use = Use()
         self._is_counted = format == "mboxcl"
         self._is_quoted = format == "mboxrd"
         # reentrant, for the handler of a signal that closes the mailbox
         self._lock = threading.RLock()
-        # mails that were found: the bytes with the mail, the offset of these, and where in them it begins and ends
-        self._found: Deque[Tuple[bytes, int, int, int]] = deque()
+        # mails that were found
+        self._found: Deque[_Found] = deque()
+        # mails that were read ahead
+        self._ahead: Deque[Mail] = deque()
         # the path of a regular file
         self._path: Any = None
         self._file: Any = None
@@ -148,6 +159,9 @@ class Mailbox:
         """Begins to read. Raises `ValueError` if the input is no mailbox."""
         self._reader = reader
         self._found.clear()
+        self._ahead.clear()
+        # the greatest number of mails that are taken next
+        self._most = 1
         # the number of mails that were found, and of all if it is known
         self._seen = 0
         self._total: Optional[int] = None
@@ -215,17 +229,54 @@ class Mailbox:
     def __next__(self) -> Mail:
         while True:
             try:
-                data, offset, start, end = self._found.popleft()
-                break
+                return self._ahead.popleft()
             except IndexError:
                 pass
             with self._lock:
                 if not self._find():
                     raise StopIteration
-        raw = data[start:end]
-        if self._is_quoted and b">From " in raw:
-            raw = _engine.unquoted(raw)
-        return Mail(raw, (offset + start, offset + end), self._limit)
+                some = self._next_found()
+                reader = self._reader
+            try:
+                mails = self._mails_of(some)
+            except BaseException:
+                self._put_back(some, reader)
+                raise
+            with self._lock:
+                self._open_window()
+                if self._reader is reader:
+                    self._ahead.extend(mails)
+
+    def _next_found(self) -> List["_Found"]:
+        """Takes the next mails, of the same bytes: at first one."""
+        found, some, size = self._found, [self._found.popleft()], 0
+        while found and found[0][0] is some[0][0] and len(some) < self._most and size < AHEAD_BYTES:
+            size += found[0][3] - found[0][2]
+            some.append(found.popleft())
+        self._most = AHEAD
+        return some
+
+    def _put_back(self, some: List["_Found"], reader: Union[_File, _Stream]) -> None:
+        """Puts mails back that were taken from this reader."""
+        with self._lock:
+            if self._reader is reader and self._window is not None:
+                self._found.extendleft(reversed(some))
+
+    def _mails_of(self, some: List["_Found"]) -> List[Mail]:
+        """These mails. If mails are read, they are read together, so that Python's lock is free for long."""
+        data, offset, use, limit = some[0][0], some[0][1], self._use, self._limit
+        reads: Sequence[Tuple[bytes, Union[None, Reading, int]]]
+        if use.is_read:
+            reads = _engine.read_mails(data, [(start, end) for _, _, start, end in some], limit)
+        else:
+            reads = [(data[start:end], None) for _, _, start, end in some]
+        mails = []
+        for (raw, read), (_, _, start, end) in zip(reads, some):
+            if self._is_quoted and b">From " in raw:
+                raw, read = _engine.unquoted(raw), None
+            known = _refused(read) if isinstance(read, int) else read
+            mails.append(Mail._of_mailbox(raw, (offset + start, offset + end), limit, use, known))
+        return mails
 
     def __len__(self) -> int:
         """The number of mails that a loop would return now: at first all. It is found by reading the file, once. Raises
@@ -245,7 +296,7 @@ class Mailbox:
         with self._lock:
             if total is not None and self._reader is reader:
                 self._total = total
-            return max(0, (self._total or 0) - self._seen + len(self._found))
+            return max(0, (self._total or 0) - self._seen + len(self._found) + len(self._ahead))
 
     def __bool__(self) -> bool:
         return True
@@ -284,6 +335,7 @@ class Mailbox:
         with self._lock:
             self._release(None)
             self._found.clear()
+            self._ahead.clear()
 
     def __del__(self) -> None:
         if getattr(self, "_file", None) is not None:
@@ -300,6 +352,11 @@ class Mailbox:
         self, kind: Optional[Type[BaseException]], error: Optional[BaseException], trace: Optional[TracebackType]
     ) -> None:
         self.close()
+
+
+def _refused(code: int) -> Optional[Refused]:
+    """The refusal with this code. `None` if there was no memory: the mail is read again when it is used."""
+    return None if code == _library.NO_MEMORY else _library.refusal(code)
 
 
 def _check_front(name: str, data: bytes) -> None:

@@ -2,13 +2,14 @@
 
 from __future__ import annotations
 
-from typing import TYPE_CHECKING, Dict, List, Optional, Tuple
+from typing import TYPE_CHECKING, Any, Callable, Dict, List, Optional, Tuple
 
 from . import _engine
 from ._library import TOO_MANY, Refused
 
 if TYPE_CHECKING:
     from ._library import Bytes
+    from ._part import Header
 
 # the numbers of rocktray.h
 IDENTITIES = (0, 1, 2)
@@ -19,11 +20,13 @@ LEVELS = 100
 
 
 class Node:
-    """A part of a mail or of a mail inside it. Mails keep their nodes, and nodes refer to no mail."""
+    """A part of a mail or of a mail inside it. Mails keep their nodes, and nodes refer to no mail. What is in `_DECODED` is
+    decoded when it is first asked for.
+    """
 
     __slots__ = (
         "data", "reading", "number", "index", "path", "inside", "is_encoded", "parent", "children", "start", "end",
-        "body_start", "body_end", "encoding", "flags", "_type", "_names", "_size", "_text", "_headers",
+        "body_start", "body_end", "encoding", "flags", "headers", "type", "file_name", "disposition", "text", "_size",
     )  # fmt: skip
 
     data: Bytes
@@ -39,6 +42,12 @@ class Node:
     parent: Optional[int]
     """The index of the node that contains this one."""
     children: List[int]
+    type: Tuple[str, str, Dict[str, str]]
+    """The type, the charset and the parameters."""
+    file_name: Optional[str]
+    disposition: Optional[str]
+    text: Optional[str]
+    """The text, if the part is a text and no attachment."""
 
     def __init__(self, data: Bytes, reading: _engine.Reading, number: int, record: _engine.Part) -> None:
         self.data = data
@@ -47,34 +56,15 @@ class Node:
         _, _, self.start, self.end, self.body_start, self.body_end, _, _, self.encoding, _, self.flags = record
         self.children = []
         self.is_encoded = False
-        self._type: Optional[Tuple[str, str, Dict[str, str]]] = None
-        self._names: Optional[Tuple[Optional[str], Optional[str]]] = None
+        self.headers: Optional[List[Header]] = None
         self._size: Optional[Tuple[int, bool]] = None
-        self._text: Optional[str] = None
-        self._headers: Optional[List[Tuple[str, str]]] = None
 
-    @property
-    def type(self) -> Tuple[str, str, Dict[str, str]]:
-        """The type, the charset and the parameters."""
-        found = self._type
-        if found is None:
-            found = self._type = self.reading.type(self.number)
-        return found
-
-    @property
-    def names(self) -> Tuple[Optional[str], Optional[str]]:
-        """The file name and the disposition."""
-        found = self._names
-        if found is None:
-            found = self._names = self.reading.file_name(self.number), self.reading.disposition(self.number)
-        return found
-
-    @property
-    def headers(self) -> List[Tuple[str, str]]:
-        """The names and the values of the headers."""
-        found = self._headers
-        if found is None:
-            found = self._headers = self.reading.headers(self.number)
+    def __getattr__(self, name: str) -> Any:
+        find = _DECODED.get(name)
+        if find is None:
+            raise AttributeError(name)
+        found = find(self)
+        setattr(self, name, found)
         return found
 
     @property
@@ -88,20 +78,22 @@ class Node:
 
     def body(self) -> Tuple[bytes, bool]:
         """What can be read of the decoded body, and whether it is damaged."""
-        found, is_damaged = self.reading.body(self.number)
+        found, is_damaged = self.reading.body(self.number, self._size[0] if self._size else 0)
         self._size = len(found), is_damaged
         return found, is_damaged
-
-    @property
-    def text(self) -> Optional[str]:
-        """The text, if the part is a text and no attachment."""
-        if self._text is None and self.flags & IS_TEXT:
-            self._text, _ = self.reading.text(self.number)
-        return self._text
 
     def bytes_from(self, start: int) -> bytes:
         """The bytes from an offset up to the end of the part."""
         return bytes_of(self.data, start, self.end)
+
+
+# what is decoded of a node
+_DECODED: Dict[str, Callable[[Node], Any]] = {
+    "type": lambda node: node.reading.type(node.number),
+    "file_name": lambda node: node.reading.file_name(node.number),
+    "disposition": lambda node: node.reading.disposition(node.number),
+    "text": lambda node: node.reading.text(node.number)[0] if node.flags & IS_TEXT else None,
+}
 
 
 def bytes_of(data: Bytes, start: int, end: int) -> bytes:
@@ -116,21 +108,19 @@ def bytes_of(data: Bytes, start: int, end: int) -> bytes:
 
 def nodes_of(data: Bytes, reading: _engine.Reading, path: str = "", first: int = 0) -> List[Node]:
     """The parts of the mail in the part with this path, given the index of the first."""
-    nodes: List[Node] = []
-    for number in range(len(reading)):
+    root = Node(data, reading, 0, reading.part(0))
+    root.index, root.inside, root.parent = first, path or None, None
+    root.path = path_under(path, 1) if root.flags & IS_LEAF else path and path_under(path, 0)
+    nodes = [root]
+    for number in range(1, len(reading)):
         record = reading.part(number)
         node = Node(data, reading, number, record)
         node.index, node.inside = first + number, path or None
-        if number == 0:
-            node.parent, node.path = None, path and path_under(path, 0)
-            if node.flags & IS_LEAF:
-                node.path = path_under(path, 1)
-        else:
-            above = nodes[record[0]]
-            above.children.append(node.index)
-            # the parts of a mail in part 2, which is 2.0, are 2.1 and so on
-            above_path = path if above is nodes[0] else above.path
-            node.parent, node.path = above.index, path_under(above_path, len(above.children))
+        above = nodes[record[0]]
+        above.children.append(node.index)
+        # the parts of a mail in part 2, which is 2.0, are 2.1 and so on
+        above_path = path if above is root else above.path
+        node.parent, node.path = above.index, path_under(above_path, len(above.children))
         nodes.append(node)
     return nodes
 

@@ -15,7 +15,7 @@ if TYPE_CHECKING:
 _REPORTS = ("delivery-status", "global-delivery-status", "feedback-report", "disposition-notification")
 
 
-class Header:
+class Header(_engine.Header):
     """A header of a part: its `name`, its decoded `value`, and its `raw` value.
 
     >>> mail = parse(b"Subject: =?utf-8?q?caf=C3=A9?=\\r\\n at noon\\r\\n\\r\\n")
@@ -23,19 +23,7 @@ class Header:
     ('Subject', 'café at noon', b'=?utf-8?q?caf=C3=A9?=\\r\\n at noon')
     """
 
-    __slots__ = ("name", "value", "_raw", "_index")
-
-    def __init__(self, name: str, value: str, raw: Union[Node, bytes], index: int = 0) -> None:
-        self.name = name
-        self.value = value
-        self._raw = raw
-        self._index = index
-
-    @property
-    def raw(self) -> bytes:
-        """The raw value, without decoding."""
-        raw = self._raw
-        return raw if isinstance(raw, bytes) else raw.reading.raw_value(raw.number, self._index)
+    __slots__ = ()
 
     def __eq__(self, other: object) -> bool:
         return isinstance(other, Header) and (self.name, self.value, self.raw) == (other.name, other.value, other.raw)
@@ -111,12 +99,12 @@ class Part:
     @property
     def disposition(self) -> Optional[str]:
         """The disposition in lower case, such as 'attachment', or `None` without that header."""
-        return self._node.names[1]
+        return self._node.disposition
 
     @property
     def file_name(self) -> Optional[str]:
         """The name of the file as the sender wrote it, or `None`. It may contain slashes: never open it as it is."""
-        return self._node.names[0]
+        return self._node.file_name
 
     @property
     def safe_name(self) -> Optional[str]:
@@ -177,7 +165,9 @@ class Part:
     def headers(self) -> List[Header]:
         """The headers, in order."""
         node = self._node
-        return [Header(name, value, node, index) for index, (name, value) in enumerate(node.headers)]
+        if node.headers is None:
+            node.headers = node.reading.headers(node.number, Header)
+        return node.headers.copy()
 
     def header(self, name: str, number: int = 0) -> Optional[str]:
         """The value of the header with this name and number, counting from 0, or `None`."""

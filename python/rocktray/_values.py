@@ -2,6 +2,7 @@
 
 from __future__ import annotations
 
+import functools
 import re
 from datetime import datetime, timedelta, timezone
 from typing import List, NamedTuple, Optional
@@ -33,6 +34,10 @@ class Address(NamedTuple):
             name = '"' + re.sub(r'(["\\])', r"\\\1", self.name) + '"' if _SPECIAL.search(self.name) else self.name
             text = f"{name} <{self.address}>"
         return _CONTROL.sub("\ufffd", text)
+
+
+# makes an address of a pair, at less cost than Address(*pair)
+new_address = functools.partial(tuple.__new__, Address)
 
 
 class Recipient(NamedTuple):

@@ -223,14 +223,17 @@ def work():
     engine, found = rocktray._engine, []
     for data in (raw, large):
         reading = engine.read(data, 10**6)
-        found += [reading.part(0), reading.value(0, b"subject", 0), reading.values(0, b"from"), reading.headers(0), len(reading)]
+        found += [reading.part(0), reading.value(0, b"subject", 0), reading.values(0, b"from"), len(reading)]
+        found += [(it.name, it.value, it.raw) for it in reading.headers(0, rocktray.Header)]
         found += [reading.raw_value(0, 0), reading.addresses(0, b"from")]
         for part in range(len(reading)):
             found += [reading.type(part), reading.disposition(part), reading.file_name(part)]
-            found += [reading.body(part), reading.body_size(part), reading.text(part)]
+            found += [reading.body(part, 0), reading.body(part, reading.body_size(part)[0]), reading.text(part)]
         found += [engine.json(data), engine.recipients(data), engine.bounced_id(data), engine.unquoted(data)]
         found += [engine.header(data, b"from", 0), engine.raw_header(data, b"from", 0), engine.header(data, b"x-none", 0)]
     found += [engine.ids("<a@b>", True), engine.date("1 Jan 2000 00:00"), engine.reason(17), engine.version(), engine.safe_name("a/b")]
+    found += [(raw, len(read)) for raw, read in engine.read_mails(raw + large, [(0, len(raw)), (len(raw), len(raw + large))], 10**6)]
+    found += engine.read_mails(b" x" + raw, [(0, 2), (5, 5), (0, 0)], 10**6)[:1]
     return found + engine.mails(b"From a Fri Jul  8 12:08:34 2011\\nSubject: 1\\n\\n" * 3, 0, 999, False, 10)
 wanted, refused = work(), 0
 for start in range(1, 5000):

@@ -131,6 +131,82 @@ for size in (0, 1, 1_000_000, 2_000_000):
     )
 
 
+def mixed(count):
+    """A mailbox of mails of many sizes, some of which are refused or quoted."""
+    kinds = (b"Subject: %d\n\nx\n", b" refused %d\n", b"Subject: %d\n\n>From x\n", b"Subject: %d\n\n" + b"x" * 9000, b"%d" + b"\nA: b" * 500)
+    return b"".join(LINE + kinds[number % 5] % number + b"\n\n" for number in range(count)) + LINE + b"Subject: last\n\n" + b"x" * 900_000
+
+
+def all_of(mails):
+    """What a loop sees of mails, of which each is read."""
+    return [(mail.error or (mail.subject, len(mail.headers), mail.text), mail.raw, mail.place) for mail in mails]
+
+
+@pytest.mark.parametrize("format", _mailbox.FORMATS)
+def test_mails_read_ahead(format, tmp_path):
+    """Mails that are read together are those that are read one by one."""
+    (tmp_path / "box").write_bytes(mixed(700))
+    alone = []
+    for mail in rocktray.open_mailbox(tmp_path / "box", format, limit=300):
+        again = rocktray.Mail(mail.raw, mail.place, limit=300)
+        alone.append(again)
+    assert all_of(rocktray.open_mailbox(tmp_path / "box", format, limit=300)) == all_of(alone)
+    assert len({mail.error for mail in alone}) == 3
+    mails = rocktray.open_mailbox(tmp_path / "box", format)
+    assert next(mails).subject == "0" and next(mails).error and len(mails) == 699
+    first = [next(mails).place for _ in range(200)]
+    assert len(mails) == 499
+    mails.rewind()
+    assert [next(mails).place for _ in range(202)][2:] == first
+
+
+def test_reading_ahead_without_memory(box, monkeypatch):
+    """After an error the mails are still there."""
+    mails = rocktray.open_mailbox(box)
+    found, fails = [next(mails).subject], iter([True, False, False, True])
+    read_mails = _mailbox._engine.read_mails
+
+    def failing(*arguments):
+        if next(fails, False):
+            raise MemoryError
+        return read_mails(*arguments)
+
+    monkeypatch.setattr(_mailbox._engine, "read_mails", failing, raising=False)
+    for _ in range(2):
+        with pytest.raises(MemoryError):
+            for mail in mails:
+                found.append(mail.subject)
+    found += [mail.subject for mail in mails]
+    assert found == [str(number) for number in range(2000)]
+
+
+def test_threads_read_ahead(box):
+    """Each mail goes to one of the threads, and is read; beside them the mailbox is closed or begins again."""
+    succeeds(
+        """
+import rocktray, sys, threading, time
+def read(box, found):
+    try:
+        found.extend(mail.subject for mail in box)
+    except ValueError as error:
+        assert str(error) == "the mailbox is closed"
+for number in range(60):
+    box, found = rocktray.open_mailbox(sys.argv[1]), []
+    threads = [threading.Thread(target=read, args=(box, found)) for _ in range(4)]
+    for thread in threads: thread.start()
+    if number % 3:
+        time.sleep(number * 1e-4)
+        (box.close if number % 3 == 1 else box.rewind)()
+    for thread in threads: thread.join()
+    if number % 3 < 2:
+        assert len(set(found)) == len(found) and (number % 3 or len(found) == 2000), len(found)
+    else:
+        assert set(found) == set(map(str, range(2000)))
+""",
+        box,
+    )
+
+
 def test_growing_mailbox(box):
     """Mails that come meanwhile are not read."""
     mails = rocktray.open_mailbox(box)
