@@ -1,0 +1,146 @@
+#!/usr/bin/env python3
+"""Measures examples/archive on this machine, and prints a line for each figure.
+
+A mailbox of 1 GB with 200,000 made mails is read and loaded. Then a million mails are loaded, whose lines are written
+here with the words of a large vocabulary, some frequent and some rare, and searched; the pages of web.py are fetched. It
+takes about 10 GB and some minutes. --mails N makes fewer of the million. The program rocktray must be built or installed.
+"""
+import argparse
+import json
+import os
+import random
+import socket
+import subprocess
+import sys
+import tempfile
+import time
+import urllib.parse
+import urllib.request
+
+import made_mails
+
+TOP = os.path.dirname(os.path.dirname(os.path.abspath(__file__)))
+EXAMPLES = os.path.join(TOP, "examples", "archive")
+LETTERS = "etaoinshrdlucmfwypvbgk"
+SHARD = 25_000
+# the least of this many times
+TURNS = 5
+
+
+def ran(name, *words):
+    """Runs a program of the archive. Returns its seconds."""
+    begun = time.perf_counter()
+    ended = subprocess.run([sys.executable, os.path.join(EXAMPLES, name), *words], capture_output=True, text=True, check=False)
+    if ended.returncode > 1:  # 1 is a search that finds nothing
+        sys.exit(ended.stderr)
+    return time.perf_counter() - begun
+
+
+def fastest(call, *arguments):
+    """Returns the least seconds of some calls."""
+    return min(call(*arguments) for _ in range(TURNS))
+
+
+def gigabyte(work):
+    """Reads and loads a mailbox of 1 GB."""
+    os.mkdir(os.path.join(work, "mails"))
+    with open(os.path.join(work, "mails", "all.mbox"), "wb") as file:
+        for mail in made_mails.mails(100):
+            file.write(b"From a@example.org Sun Oct  2 14:06:22 2016\r\n" + mail + b"\r\n")
+        size = file.tell()
+    reading = ran("index_archive.py", os.path.join(work, "index"), os.path.join(work, "mails"))
+    loading = ran("load_sqlite.py", os.path.join(work, "index"), os.path.join(work, "gigabyte.db"))
+    total = 200_000 / (reading + loading)
+    print(f"200,000 mails, {size / 1e9:.2f} GB: read in {reading:.1f} s, loaded in {loading:.1f} s; both {total:.0f} mails a second")
+
+
+def vocabulary(rng):
+    """Returns words, and a text in which each is as frequent as its rank says."""
+    words = ["".join(rng.choice(LETTERS) for _ in range(rng.randrange(3, 9))) for _ in range(60_000)]
+    return words, rng.choices(words, [1 / (rank + 10) for rank in range(len(words))], k=400_000)
+
+
+def line_of(number, rng, words, text):
+    """Returns the object of a mail, as rocktray json writes it; seven mails are a thread."""
+    at, first = rng.randrange(len(text) - 200), number - number % 7
+    sender, to = (f"{words[int(5000 * rng.random() ** power)]}@example.org" for power in (3, 2))
+    subject = " ".join(text[first % 300_000 : first % 300_000 + 6])
+    parts = [{"path": "1", "type": "text/plain", "extracted": False, "file_name": None, "text": " ".join(text[at : at + 100]),
+              "headers": [["List-Id", f"<l{number % 200}.example>"]] if number % 3 else []}]
+    if number % 5 == 0:
+        kind = rng.choice(["application/pdf", "image/png"])
+        parts.append({"path": "2", "type": kind, "extracted": True, "file_name": f"{text[at]}.pdf", "text": None, "headers": []})
+    return {
+        "schema": 5, "file": "box", "number": number, "start": number, "end": number + 1, "message_id": [f"{number}@example.org"],
+        "in_reply_to": [], "references": [f"{first}@example.org"] if number % 7 else [], "date": 1_000_000_000 + number * 500,
+        "from": [{"name": sender.split("@")[0], "address": sender}], "to": [{"name": None, "address": to}], "cc": [], "bcc": [],
+        "subject": ("Re: " if number % 7 else "") + subject, "parts": parts,
+    }  # fmt: skip
+
+
+def write_index(directory, count):
+    """Writes the shards of made mails. Returns the words, the most frequent first."""
+    rng = random.Random(made_mails.SEED)
+    words, text = vocabulary(rng)
+    os.mkdir(directory)
+    names = [f"{first:032x}.jsonl" for first in range(0, count, SHARD)]
+    for name, first in zip(names, range(0, count, SHARD)):
+        with open(os.path.join(directory, name), "w", encoding="utf-8") as shard:
+            shard.writelines(json.dumps(line_of(number, rng, words, text)) + "\n" for number in range(first, min(count, first + SHARD)))
+    with open(os.path.join(directory, "MANIFEST"), "w", encoding="utf-8") as manifest:
+        manifest.writelines(json.dumps({"shard": name}) + "\n" for name in names)
+    return words
+
+
+def fetched(url):
+    """Returns the seconds in which a page comes."""
+    begun = time.perf_counter()
+    with urllib.request.urlopen(url, timeout=60) as page:
+        page.read()
+    return time.perf_counter() - begun
+
+
+def served(database):
+    """Starts web.py. Returns the process and the address."""
+    with socket.create_server(("127.0.0.1", 0)) as free:
+        port = free.getsockname()[1]
+    words = [sys.executable, os.path.join(EXAMPLES, "web.py"), database, "--port", str(port)]
+    server = subprocess.Popen(words, stdout=subprocess.DEVNULL, stderr=subprocess.DEVNULL)
+    for _ in range(200):
+        try:
+            socket.create_connection(("127.0.0.1", port), 1).close()
+            break
+        except OSError:
+            time.sleep(0.05)
+    return server, f"http://127.0.0.1:{port}"
+
+
+def million(work, count):
+    """Loads and searches many mails, and fetches pages of them."""
+    index, database = os.path.join(work, "lines"), os.path.join(work, "million.db")
+    words = write_index(index, count)
+    print(f"{count:,} mails: loaded in {ran('load_sqlite.py', index, database):.0f} s")
+    searches = {"the most frequent word": [words[0]], "two frequent words": words[:2], "two words": words[200:202], "a rare word": [words[40_000]]}
+    for name, asked in searches.items():
+        print(f"search.py, {name}: {1000 * fastest(ran, 'search.py', database, *asked):.0f} ms")
+    server, address = served(database)
+    paths = {name: "/?q=" + urllib.parse.quote(" ".join(asked)) for name, asked in searches.items()}
+    paths |= {"the first page": "/", "a list": "/?list=l5.example", "a thread": "/thread?id=70@example.org", "a mail": "/mail/0/5",
+              "the plot of months": "/plots/months.svg", "the plot of senders": "/plots/senders.svg"}
+    for name, path in paths.items():
+        print(f"page, {name}: {1000 * fastest(fetched, address + path):.0f} ms")
+    server.terminate()
+
+
+def main():
+    parser = argparse.ArgumentParser(description=__doc__, formatter_class=argparse.RawDescriptionHelpFormatter)
+    parser.add_argument("--mails", type=int, default=1_000_000)
+    parser.add_argument("--directory", metavar="DIRECTORY", help="where the data goes for a while")
+    given = parser.parse_args()
+    with tempfile.TemporaryDirectory(dir=given.directory) as work:
+        gigabyte(work)
+        million(work, given.mails)
+
+
+if __name__ == "__main__":
+    main()
