@@ -516,6 +516,22 @@ static void check_fields(void)
     free_records(&records);
 }
 
+/* Refuses that allocation of the next call. */
+static void begin_refusing(long at)
+{
+    calls = blocks = 0;
+    refuse_at = at;
+    is_library = 1;
+}
+
+/* Ends this. Whether the call made fewer allocations. */
+static bool is_all_given(long at)
+{
+    is_library = 0;
+    refuse_at = 0;
+    return calls < at;
+}
+
 static void check_records(void)
 {
     const struct bytes mail = BYTES(TREE), nothing = NOTHING, space = BYTES(" x"), block = BYTES("A: b\n\nx");
@@ -543,6 +559,15 @@ static void check_records(void)
     count(rocktray_headers(block.at, block.length, 1, NULL, 0, &needed) == ROCKTRAY_TOO_SHORT && needed == 1,
           "a block without an array", 0);
     count(rocktray_headers(space.at, space.length, 1, headers, 2, &needed) == ROCKTRAY_LEADING_SPACE, "no block", 0);
+    for (long at = 1; at < 1000; at++) {
+        uint32_t code;
+        needed = 77;
+        begin_refusing(at);
+        code = rocktray_headers(block.at, block.length, 1, headers, 2, &needed);
+        if (is_all_given(at))
+            break;
+        count(code == ROCKTRAY_NO_MEMORY && needed == 77 && blocks == 0, "a block without memory", (size_t)at);
+    }
     calls = 0;
     records_of(mail, &records);
     free_records(&records);
@@ -575,15 +600,16 @@ static void check_type(void)
           "a type with one end too many", 0);
     code = rocktray_type(value.at, value.length, ends, 6, &ends_needed, strings, 31, &needed);
     count(code == ROCKTRAY_TOO_SHORT && ends[0] == 5 && strings[0] == 'x', "a type that is too long", 0);
-    calls = 0;
-    refuse_at = 1;
-    is_library = 1;
-    ends_needed = needed = 77;
-    code = rocktray_type(value.at, value.length, ends, 6, &ends_needed, strings, sizeof strings, &needed);
-    is_library = 0;
-    refuse_at = 0;
-    count(code == ROCKTRAY_NO_MEMORY && ends_needed == 77 && needed == 77 && ends[0] == 5 && strings[0] == 'x',
-          "a type without memory", 0);
+    for (long at = 1; at < 1000; at++) {
+        ends[0] = 5, strings[0] = 'x', ends_needed = needed = 77;
+        begin_refusing(at);
+        code = rocktray_type(value.at, value.length, ends, 6, &ends_needed, strings, sizeof strings, &needed);
+        if (is_all_given(at))
+            break;
+        count(code == ROCKTRAY_NO_MEMORY && ends_needed == 77 && needed == 77 && ends[0] == 5 && strings[0] == 'x'
+                  && blocks == 0,
+              "a type without memory", (size_t)at);
+    }
 }
 
 /* RFC 5322, section 3.4 */
@@ -608,14 +634,15 @@ static void check_addresses(void)
         count(memcmp(&found[i], records_wanted[i], sizeof found[i]) == 0, "the record of an address", i);
     code = rocktray_addresses(value.at, value.length, found, 3, &records_needed, strings, sizeof strings, &needed);
     count(code == ROCKTRAY_TOO_SHORT && records_needed == 4 && needed == 22, "one address too many", 0);
-    records_needed = needed = 77;
-    refuse_at = 1;
-    calls = 0;
-    is_library = 1;
-    code = rocktray_addresses(value.at, value.length, found, 4, &records_needed, strings, sizeof strings, &needed);
-    is_library = 0;
-    refuse_at = 0;
-    count(code == ROCKTRAY_NO_MEMORY && records_needed == 77 && needed == 77, "addresses without memory", 0);
+    for (long at = 1; at < 1000; at++) {
+        records_needed = needed = 77;
+        begin_refusing(at);
+        code = rocktray_addresses(value.at, value.length, found, 4, &records_needed, strings, sizeof strings, &needed);
+        if (is_all_given(at))
+            break;
+        count(code == ROCKTRAY_NO_MEMORY && records_needed == 77 && needed == 77 && blocks == 0,
+              "addresses without memory", (size_t)at);
+    }
 }
 
 /* RFC 3464, section 2.1 */
@@ -804,6 +831,69 @@ static void print_report(struct bytes part)
     free(strings);
 }
 
+static void print_digits(const char *at, uint64_t start, uint64_t end)
+{
+    for (; start < end; start++)
+        printf("%02x", (uint8_t)at[start]);
+}
+
+/* Writes the strings of a type: its name, charset and parameters. */
+static void print_type(struct bytes raw)
+{
+    uint64_t ends[100], start = 0;
+    char strings[1 << 16];
+    size_t count = 0, length;
+    uint32_t code = rocktray_type(raw.at, raw.length, ends, 100, &count, strings, sizeof strings, &length);
+    printf(" type=");
+    if (code != ROCKTRAY_DONE)
+        printf("!%u", code);
+    for (size_t i = 0; i < count && code == ROCKTRAY_DONE; start = ends[i++]) {
+        fputs(i ? "," : "", stdout);
+        print_digits(strings, start, ends[i]);
+    }
+}
+
+/* Writes the addresses in the first headers with some names. */
+static void print_addresses(struct bytes mail, const struct records *records)
+{
+    static const char *const names[] = { "from", "to", "cc", "bcc", "reply-to" };
+    static struct rocktray_address addresses[10000];
+    static char strings[1 << 20];
+    for (size_t i = 0; i < sizeof names / sizeof *names; i++) {
+        struct bytes raw = named(mail, records, &records->parts[0], names[i]);
+        size_t count = 0, length;
+        if (rocktray_addresses(raw.at, raw.length, addresses, 10000, &count, strings, sizeof strings, &length)
+            != ROCKTRAY_DONE)
+            printf("too many addresses\n");
+        for (size_t j = 0; j < count; j++) {
+            const struct rocktray_address *one = &addresses[j];
+            printf("address of=%s kind=%d group=%lld name=", names[i], (int)one->kind, (long long)one->group);
+            print_digits(strings, one->name_start, one->name_end);
+            printf(" address=");
+            print_digits(strings, one->address_start, one->address_end);
+            printf("\n");
+        }
+    }
+}
+
+/* Whether the headers of a part, read alone, are those of its records. */
+static bool is_block_same(struct bytes mail, const struct records *records, const struct rocktray_part *part)
+{
+    struct bytes bytes = range(mail, part->start, part->end);
+    struct rocktray_header_record *headers = malloc((part->header_count + 1) * sizeof *headers);
+    const struct rocktray_header_record *wanted = records->headers + part->first_header;
+    size_t count = 0;
+    uint32_t code = rocktray_headers(bytes.at, bytes.length, SIZE_MAX, headers, part->header_count, &count);
+    bool is_same = code == ROCKTRAY_DONE && count == part->header_count;
+    for (size_t i = 0; is_same && i < count; i++)
+        is_same = headers[i].start + part->start == wanted[i].start && headers[i].end + part->start == wanted[i].end
+            && headers[i].key_end + part->start == wanted[i].key_end
+            && headers[i].value_start + part->start == wanted[i].value_start
+            && headers[i].value_end + part->start == wanted[i].value_end;
+    free(headers);
+    return is_same;
+}
+
 static void print_part(struct bytes mail, const struct records *records, const struct rocktray_part *part)
 {
     const struct bytes body = range(mail, part->body_start, part->body_end);
@@ -816,7 +906,8 @@ static void print_part(struct bytes mail, const struct records *records, const s
     print_result("text", BODY_TEXT, body, type, part->encoding);
     print_result("charset", BODY_CHARSET, body, type, part->encoding);
     print_report(range(mail, part->start, part->end));
-    printf("\n");
+    print_type(type);
+    printf(" block=%d\n", is_block_same(mail, records, part));
     for (uint64_t i = part->first_header; i < part->first_header + part->header_count; i++) {
         const struct rocktray_header_record *header = &records->headers[i];
         printf("header key=");
@@ -833,9 +924,15 @@ static int write_records(char **names)
         struct bytes mail = read_file(*names);
         struct records records;
         uint32_t code = records_of(mail, &records);
-        printf("mail code=%u\n", code);
+        printf("mail code=%u", code);
+        print_result("bounced_id", BOUNCED_ID, mail, range(mail, 0, 0), 0);
+        print_result("recipients", RECIPIENTS, mail, range(mail, 0, 0), 0);
+        print_result("unquoted", UNQUOTED, mail, range(mail, 0, 0), 0);
+        printf("\n");
         for (size_t i = 0; code == ROCKTRAY_DONE && i < records.parts_length; i++)
             print_part(mail, &records, &records.parts[i]);
+        if (code == ROCKTRAY_DONE)
+            print_addresses(mail, &records);
         free_records(&records);
         free((void *)mail.at);
     }

@@ -80,19 +80,35 @@ DISPOSITIONS = [None, "inline", "attachment", "form-data"]
 
 
 def records_of(output):
-    """The mails in the output of `check records`: the code of each, and its parts with their headers."""
+    """The mails in the output of `check records`: what it says of each, with its parts, their headers, and its addresses."""
     mails = []
     for line in output.splitlines():
         kind, *words = line.split(" ")
         values = dict(word.split("=", 1) for word in words)
         if kind == "mail":
-            mails.append((int(values["code"]), []))
+            mails.append(values | {"parts": [], "addresses": []})
         elif kind == "part":
-            mails[-1][1].append(values | {"headers": []})
+            mails[-1]["parts"].append(values | {"headers": []})
+        elif kind == "address":
+            mails[-1]["addresses"].append(values)
         else:
             key = bytes.fromhex(values["key"]).decode("latin-1")
-            mails[-1][1][-1]["headers"].append([key, text_in(values["value"])])
+            mails[-1]["parts"][-1]["headers"].append([key, text_in(values["value"])])
     return mails
+
+
+def addresses_of(mail, name):
+    """The addresses in the header with this name, as the JSON says them."""
+    elements, members = [], {}
+    for index, one in enumerate(one for one in mail["addresses"] if one["of"] == name):
+        display, address = bytes.fromhex(one["name"]).decode(), bytes.fromhex(one["address"])
+        made = (
+            {"name": display or None, "address": address.decode()} if one["kind"] == "0"
+            else {"group": display, "members": members.setdefault(str(index), [])} if one["kind"] == "1"
+            else {"unknown": address.decode("latin-1")}
+        )  # fmt: skip
+        (elements if one["group"] == "-1" else members[one["group"]]).append(made)
+    return elements
 
 
 def text_in(word):
@@ -114,6 +130,13 @@ def fields_of(report):
     return report and [[number, *field] for number, block in enumerate(report) for field in block]
 
 
+def type_of(part):
+    """The type of a part with a Content-Type."""
+    kind, charset, *words = (bytes.fromhex(word).decode() for word in part["type"].split(","))
+    given = {"type": kind, "charset": charset, "params": dict(zip(words[::2], words[1::2]))}
+    return given if any(key.lower() == "content-type" for key, _ in part["headers"]) else {}
+
+
 def member_of(part):
     """What a record says, as the JSON says it."""
     flags, disposition = int(part["flags"]), int(part["disposition"])
@@ -121,7 +144,7 @@ def member_of(part):
         "start": int(part["start"]), "end": int(part["end"]), "size": int(part["size"]),
         "encoding": ENCODINGS[int(part["encoding"])], "headers": part["headers"],
         "file_name": text_in(part["file_name"]), "attachment": bool(flags & 2), "extracted": bool(flags & 4),
-        "text": text_in(part["text"]) if flags & 8 else None,
+        "text": text_in(part["text"]) if flags & 8 else None, **type_of(part),
         "disposition": DISPOSITIONS[disposition] if disposition < 4 else "another",
     }
 
@@ -148,11 +171,20 @@ def test_records(check, hostile):
         lines = run([*command("json"), "--mail", *batch]).stdout.decode().split("\n")[:-1]
         found = records_of(ours.stdout.decode())
         assert len(found) == len(lines) == len(batch)
-        for path, (code, parts), line in zip(batch, found, map(json.loads, lines)):
-            assert (code != 0) == ("error" in line), path
+        for path, mail, line in zip(batch, found, map(json.loads, lines)):
+            parts = mail["parts"]
+            assert (mail["code"] != "0") == ("error" in line), path
+            if "error" in line:
+                continue
+            assert text_in(mail["bounced_id"]) == line["bounced_id"], path
+            assert json.loads(text_in(mail["recipients"])) == line["recipients"], path
+            for name in ("from", "to", "cc", "bcc", "reply-to"):
+                if sum(key.lower() == name for key, _ in parts[0]["headers"]) == 1:
+                    assert addresses_of(mail, name) == line[name.replace("-", "_")], (path, name)
             wanted = [part for part in line.get("parts", []) if part["inside"] is None]
             assert paths_of(parts) == [part["path"] for part in wanted], path
             for part, json_part in zip(parts, wanted):
+                assert part["block"] == "1", path
                 if json_part["disposition"] not in DISPOSITIONS:
                     json_part["disposition"] = "another"
                 assert member_of(part) == {name: json_part[name] for name in member_of(part)}, path
