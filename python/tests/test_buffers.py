@@ -89,6 +89,32 @@ assert own() < 60 << 20, own()
     )
 
 
+@pytest.mark.parametrize("mail", ["parts", "headers", "headers of a part"])
+def test_too_many(tmp_path, mail):
+    """47 MB of the least parts or headers are refused, and take no memory for more of them than the limit."""
+    front = b"" if mail == "headers" else b"Content-Type: multipart/mixed; boundary=b\n\n--b\n"
+    (tmp_path / "mail").write_bytes(front + (b"\n--b\n" * 9_400_000 if mail == "parts" else b"a\n" * 23_500_000))
+    succeeds(
+        """
+import mmap, re, resource, rocktray, sys
+def own():
+    return sum(int(size) for size in re.findall(r"(?:RssAnon|VmSwap):\\s*(\\d+) kB", open("/proc/self/status").read())) * 1024
+with open(sys.argv[1], "rb") as file:
+    data = mmap.mmap(file.fileno(), 0, access=mmap.ACCESS_READ)
+rocktray.parse(b"")
+resource.setrlimit(resource.RLIMIT_DATA, (own() + (100 << 20),) * 2)
+try:
+    rocktray.parse(data, limit=10_000)
+except rocktray.TooMany as error:
+    assert error.text == "The mail has too many parts and headers"
+else:
+    raise AssertionError("not refused")
+assert own() < 60 << 20, own()
+""",
+        tmp_path / "mail",
+    )
+
+
 def test_bytes_that_become_fewer():
     data = bytearray(RAW)
     mail = rocktray.parse(data)

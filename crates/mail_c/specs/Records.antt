@@ -7,7 +7,8 @@ use Rattle.mailparse.specs.Block.{HeaderList, header_place, read_headers}
 use Rattle.mailparse.specs.Body.{BodyKind, in_base64, in_quoted_printable, in_7bit, in_8bit, in_binary}
 use Rattle.mailparse.specs.Disposition.{Disposition, Kind, inline, attachment, form_data, extension}
 use Rattle.mailparse.specs.Header.{header_length, key_end, value_end, value_start}
-use Rattle.mailparse.specs.Mail.{Forest, Node, Tree, no_parts, part_and, read_mail_in, root, shown_as_in, tree, trees_within}
+use Rattle.mailparse.specs.Mail.{Forest, Node, Tree, no_parts, part_and, root, shown_as_in, strict, tree, trees_within}
+use Rattle.mailparse.specs.Limit.{read_mail_within}
 use Rattle.mailparse.specs.Map.{first_with_key}
 use Rattle.mailparse.specs.Placement.{Placement, placements}
 use Rattle.mail_data.specs.Files.{is_leaf, is_shown}
@@ -149,12 +150,11 @@ module _ (known : Charsets) where
   records_in items = (part_records 0 items, flat_map item_headers items)
 
   -- the records of a mail that was read
-  abbrev pub mail_records : ℕ → Result Tree ℕ → Result (List Part × List HeaderRecord) ℕ
-  mail_records limit (Ok mail) =
-      let found = records_in (items_of (trees_within mail) (placements 0 mail) (families 0 none 0 mail)) in
-      limited limit (length found.0 + length found.1) found
-  mail_records limit (Err code) = Err code
+  abbrev pub mail_records : Result Tree ℕ → Result (List Part × List HeaderRecord) ℕ
+  mail_records (Ok mail) = Ok (records_in (items_of (trees_within mail) (placements 0 mail) (families 0 none 0 mail)))
+  mail_records (Err code) = Err code
 
-  -- the records of a mail and of its parts, each before its own parts, and of all their headers; or the code of the refusal
+  -- the records of a mail and of its parts, each before its own parts, and of all their headers; or the code of the refusal, as
+  -- that of a mail with more than `limit` of them
   unfoldable pub records : ℕ → List ℕ → Result (List Part × List HeaderRecord) ℕ
-  records limit raw = mail_records limit (coded (read_mail_in known 100 raw))
+  records limit raw = mail_records (coded (read_mail_within (strict known) 100 limit raw))

@@ -1,5 +1,5 @@
 //! Records of a mail, of its parts and of their headers.
-ghost use Rattle.std.specs.Prelude.{◌≡◌, ◌≤◌, ◌<◌, ◌+◌, ◌^◌, ◌++◌, [], ◌∷◌, length, map, vec_len, IfOk, OnOk};
+ghost use Rattle.std.specs.Prelude.{Ok, ◌≡◌, ◌≤◌, ◌<◌, ◌+◌, ◌^◌, ◌++◌, [], ◌∷◌, length, map, vec_len, IfOk, OnOk};
 ghost use Rattle.mailparse.specs.Body.{BodyKind};
 ghost use Rattle.mailparse.specs.BodyViews.{Content, IsBody};
 ghost use Rattle.mailparse.specs.Mail.{root, shown_as_in, trees_within};
@@ -13,7 +13,7 @@ ghost use Rattle.mail_json.specs.Part.{is_attachment, is_read};
 ghost use Rattle.mail_c.specs.Records.{bit, disposition_number, encoding_number, families, flags};
 ghost use Rattle.mail_c.specs.Records.{header_block, header_records, item_headers, items_of};
 ghost use Rattle.mail_c.specs.Records.{kind_number, limited, none, part_record, records, records_in};
-ghost use Rattle.mail_c.specs.RecordViews.{family_view, item_view, lists, lists_found};
+ghost use Rattle.mail_c.specs.RecordViews.{family_view, item_view, lists};
 
 use crate::codes::{NO_MEMORY, TOO_MANY, code_of};
 use mail_data::files::{describes_attachment, is_attachment_disposition, is_leaf, is_shown};
@@ -21,8 +21,9 @@ use mail_data::lenient::lenient_body;
 use mail_data::texts::text_type;
 use mailparse::body::Body;
 use mailparse::{
-    DispositionType, KnownCharsets, MailHeaderMap, MailParseError, ParsedContentDisposition,
-    ParsedMail, header_places, parse_headers, parse_mail_in,
+    DispositionType, KnownCharsets, MAX_LEVELS, MailHeaderMap, MailParseError,
+    ParsedContentDisposition, ParsedMail, Strict, count_headers, header_places, parse_headers,
+    parse_mail_within,
 };
 use std::alloc::{AllocError, Global};
 
@@ -98,42 +99,25 @@ pub(crate) fn mail_records<K: KnownCharsets>(
 ) -> Result<Records, u32>
     ensures { IsCoded lists result (records (K.known known.now) limit raw.now) }
 {
-    match parse_mail_in(alloc, raw, known) {
-        Ok(mail) => tree_records(alloc, &mail, limit, known),
+    match parse_mail_within(alloc, raw, MAX_LEVELS, limit, &Strict(known)) {
+        Ok(mail) => tree_records(alloc, &mail, known),
         Err(error) => Err(code_of(&error)),
     }
 }
 
-/// Returns the records of a mail that was read, or `TOO_MANY` if there are more than `limit`.
+/// Returns the records of a mail that was read.
 fn tree_records<K: KnownCharsets>(
     alloc: Global,
     mail: &ParsedMail<'_>,
-    limit: usize,
     known: &K,
 ) -> Result<Records, u32>
-    ensures { let t = tree_of mail.now in
-        let found = records_in (K.known known.now)
-        (items_of (trees_within t) (placements_of mail.now) (families 0 none 0 t)) in
-        IsCoded lists result (limited limit (length found.0 + length found.1) found) }
+    ensures { let t = tree_of mail.now in IsCoded lists result (Ok (records_in (K.known known.now)
+        (items_of (trees_within t) (placements_of mail.now) (families 0 none 0 t)))) }
 {
     match records_of(alloc, mail, known) {
-        Ok(found) => within(found, limit),
+        Ok(found) => Ok(found),
         Err(_) => Err(NO_MEMORY),
     }
-}
-
-/// Returns the records, or `TOO_MANY` if there are more than `limit`.
-fn within(found: Records, limit: usize) -> Result<Records, u32>
-    ensures { lists_found result
-        ≡ limited limit (vec_len found.parts + vec_len found.headers) (lists found) }
-{
-    if limit < found.parts.len() {
-        return Err(TOO_MANY);
-    }
-    if limit - found.parts.len() < found.headers.len() {
-        return Err(TOO_MANY);
-    }
-    Ok(found)
 }
 
 /// Returns the records of the headers of a message, or the code of the refusal of its block,
@@ -141,6 +125,10 @@ fn within(found: Records, limit: usize) -> Result<Records, u32>
 pub(crate) fn headers(alloc: Global, raw: &[u8], limit: usize) -> Result<Vec<HeaderRecord>, u32>
     ensures { IsCoded (λ found. found.items) result (header_block limit raw.now) }
 {
+    let count = count_headers(raw);
+    if limit < count {
+        return Err(TOO_MANY);
+    }
     match parse_headers(alloc, raw) {
         Ok((headers, _)) => first_headers(alloc, raw, headers.len(), limit),
         Err(error) => Err(code_of(&error)),

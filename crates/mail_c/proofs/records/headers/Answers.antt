@@ -1,10 +1,16 @@
-use Rattle.std.proofs.Common.{◌≡◌, ℕ, List, length, Result, inl, inr, ⊎_elim, subst, arith}
+use Rattle.std.proofs.Common.{◌≡◌, ◌<◌, ℕ, List, length, Result, inl, inr, ⊎_elim, subst, arith}
 use Rattle.mailparse.specs.Block.{read_headers}
 use Rattle.mail_c.specs.Codes.{IsCoded}
 use Rattle.mail_c.specs.Records.{header_records, limited}
 use Rattle.mail_c.specs.declared.records.HeaderRecord.{HeaderRecord}
-use Rattle.mail_c.proofs.lemmas.Records.{headers_are, headers_refused, refused_code}
+use Rattle.mailparse.specs.Limit.{headers_met}
+use Rattle.mail_c.proofs.lemmas.Records.{headers_over, headers_are, headers_refused, refused_code}
 use Rattle.mail_c.proofs.records.headers.Goals as goal
+
+pub returns-then-limit-count : goal.returns-then-limit-count
+returns-then-limit-count c =
+    let high : c.args.limit < headers_met (read_headers c.args.raw.now) = omega (arith, c.if-limit-count.true, c.count_headers-count.ensures) in
+    inr (headers_over c.args.limit c.args.raw.now high)
 
 pub returns-in-Ok : goal.returns-in-Ok
 returns-in-Ok c =
