@@ -9,6 +9,7 @@ mod encodings;
 mod errors;
 mod files;
 mod headers;
+mod html;
 mod kinds;
 mod latin1;
 mod lenient;
@@ -46,7 +47,7 @@ fn make_any(row: &Row, answer: &mut Answer) -> Decision {
     Ok(make_of_codecs(row, answer)? || make_of_the_port(row, answer)? || make_above(row, answer)?)
 }
 
-/// The same for the calls of the codecs and of `mail_charsets`.
+/// The same for the calls of the codecs, of `mail_charsets` and of `mail_html`.
 fn make_of_codecs(row: &Row, answer: &mut Answer) -> Decision {
     Ok(
         searches::make(row, answer)?
@@ -54,6 +55,7 @@ fn make_of_codecs(row: &Row, answer: &mut Answer) -> Decision {
             || encodings::make(row, answer)?
             || transfer::make(row, answer)?
             || tables::make(row, answer)?
+            || html::make(row, answer)?
             || under::make(row, answer)?
             || sweeps::make(row, answer)?,
     )
