@@ -332,7 +332,7 @@ def test_interrupted_load(runs):
     """Ctrl-C while the shards are loaded is one line too, and leaves nothing that the next run cannot use."""
     words = [sys.executable, os.path.join(EXAMPLES, "load_sqlite.py"), runs.path("killed"), runs.path("interrupted")]
     with subprocess.Popen(words, stderr=subprocess.PIPE, start_new_session=True) as process:
-        wait_for(lambda: glob.glob(runs.path("interrupted/.load-*/*")), "the first shard")
+        wait_for(lambda: len(glob.glob(runs.path("interrupted/.load-*/*"))) >= 8, "the first shards")
         os.killpg(process.pid, signal.SIGINT)
         told = process.communicate()[1]
     assert (process.returncode, told) == (130, b"load_sqlite.py: interrupted; the next run goes on from here\n")
