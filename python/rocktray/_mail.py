@@ -432,10 +432,10 @@ class Mail:
         return cast(email.message.EmailMessage, email.message_from_bytes(self.raw, policy=email.policy.default))
 
     def __eq__(self, other: object) -> bool:
-        return isinstance(other, Mail) and (self.raw, self.place) == (other.raw, other.place)
+        return isinstance(other, Mail) and self.raw == other.raw
 
     def __hash__(self) -> int:
-        return hash((self.raw, self.place))
+        return hash(self.raw)
 
     def __reduce__(self) -> Tuple[Any, ...]:
         return Mail, (self.raw, self.place, self._limit)

@@ -207,6 +207,13 @@ for number in range(60):
     )
 
 
+def test_equal_mails(box):
+    """Mails are equal if their bytes are, wherever they come from, so that a set has each once."""
+    first = next(rocktray.open_mailbox(box))
+    again = rocktray.parse(first.raw)
+    assert first == again and first.place != again.place and len({first, again, rocktray.parse(b"")}) == 2
+
+
 def test_growing_mailbox(box):
     """Mails that come meanwhile are not read."""
     mails = rocktray.open_mailbox(box)
@@ -265,8 +272,9 @@ def test_blocks(format, block, tmp_path, monkeypatch):
         whole = list(rocktray.open_mailbox(tmp_path / "box", format))
         with monkeypatch.context() as patch:
             patch.setattr(_mailbox, "BLOCK", block)
-            assert list(rocktray.open_mailbox(tmp_path / "box", format)) == whole
-            assert list(rocktray.open_mailbox(io.BytesIO(data), format)) == whole
+            for opened in (tmp_path / "box", io.BytesIO(data)):
+                mails = list(rocktray.open_mailbox(opened, format))
+                assert mails == whole and [mail.place for mail in mails] == [mail.place for mail in whole]
         found += len(whole)
     assert found > 1000
 
