@@ -23,3 +23,4 @@ pub mod RenderValues
 pub mod RenderParts
 pub mod RenderTypes
 pub mod RenderReadings
+pub mod Limits

@@ -16,7 +16,8 @@ pub use mails::{
     ranges_apart, ranges_give_tree,
 };
 pub use manners::{
-    manners_agree, manners_keep_placements, manners_keep_ranges, nothing_is_refused,
+    limits_count_items, manners_agree, manners_keep_placements, manners_keep_ranges,
+    nothing_is_refused,
 };
 pub use parameters::{
     candidates_have_a_form, charset_source_is_the_greatest, dispositions_equal_by_kind,

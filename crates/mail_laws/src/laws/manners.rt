@@ -1,11 +1,13 @@
 //! Messages that are read in a manner of the caller's.
-ghost use Rattle.std.specs.Prelude.{◌≡◌, ℕ, true, IsOk, List, Ok, length, map};
+ghost use Rattle.std.specs.Prelude.{◌≡◌, ◌≤◌, ◌<◌, ℕ, true, IsOk, List, Ok, Err, length, map};
 ghost use Rattle.mail_codec.specs.Charset.{Charsets};
-ghost use Rattle.mailparse.specs.Bound.{IsBounded};
+ghost use Rattle.mailparse.specs.Bound.{IsBounded, items_within};
+ghost use Rattle.mailparse.specs.Limit.{read_mail_within};
 ghost use Rattle.mailparse.specs.Mail.{Tree, nodes, read_mail_as, read_mail_in, strict};
 ghost use Rattle.mailparse.specs.Manner.{Manner};
 ghost use Rattle.mailparse.specs.Placement.{placements_as};
 ghost use Rattle.mailparse.specs.Ranges.{Apart, slice};
+ghost use Rattle.mailparse.specs.Refusal.{too_many_items};
 ghost use Rattle.mail_laws.specs.Manners.{AreReadAlike};
 ghost use Rattle.mail_laws.specs.RangeTree.{AreNested, RangeTree, blocks_and_bodies, range_root, ranges_as, read_there, wholes_and_bodies};
 
@@ -13,6 +15,20 @@ ghost use Rattle.mail_laws.specs.RangeTree.{AreNested, RangeTree, blocks_and_bod
 pub fn nothing_is_refused()
     ensures { (manner : Manner) (greatest : ℕ) (mail : List ℕ) → manner.keeps_refused ≡ true →
         IsOk (read_mail_as manner greatest mail) }
+{}
+
+/// A limit on messages and headers refuses a mail that would be read exactly if its tree has more, and
+/// changes nothing else of it. No such limit reads a mail that is refused without it.
+pub fn limits_count_items()
+    ensures read { (manner : Manner) (greatest most : ℕ) (mail : List ℕ) (parsed : Tree) →
+        read_mail_as manner greatest mail ≡ Ok parsed → items_within parsed ≤ most →
+        read_mail_within manner greatest most mail ≡ Ok parsed }
+    ensures refused { (manner : Manner) (greatest most : ℕ) (mail : List ℕ) (parsed : Tree) →
+        read_mail_as manner greatest mail ≡ Ok parsed → most < items_within parsed →
+        read_mail_within manner greatest most mail ≡ Err too_many_items }
+    ensures others { (manner : Manner) (greatest most : ℕ) (mail : List ℕ) (parsed : Tree) →
+        read_mail_within manner greatest most mail ≡ Ok parsed →
+        read_mail_as manner greatest mail ≡ Ok parsed }
 {}
 
 /// The port's own manner reads each mail as the port does. Any other manner reads a mail as the

@@ -2,6 +2,9 @@
 //!
 //! - `max_levels => NUMBER`.
 //! - `parse_mail_limited LEVELS MAIL => PARTS`: how many parts there are, or the refusal.
+//! - `parse_mail_within LEVELS ITEMS MAIL => PARTS`: the same under a limit on parts and headers too.
+//! - `kept_within ITEMS MAIL => PARTS`: the same in the lenient manner, which keeps refused messages.
+//! - `count_headers MAIL => HEADERS`.
 //! - `levels MAIL => LEVELS PARTS PARTS`: the least limit under which the mail is not refused for
 //!   its depth, how many parts there are then, or the refusal, and the same of `parse_mail`.
 //! - `truncated MAIL => COUNT`: to how many lengths the mail can be truncated, from none of its
@@ -11,7 +14,11 @@
 
 use crate::calls::parts::{Held, count_below};
 use crate::notation::{Answer, Decision, FORM, Outcome, Row};
-use mailparse::{MAX_LEVELS, MailParseError, ParsedMail, parse_mail, parse_mail_limited};
+use mail_data::lenient::Lenient;
+use mailparse::{
+    MAX_LEVELS, MailParseError, ParsedMail, Strict, count_headers, parse_mail, parse_mail_limited,
+    parse_mail_within,
+};
 use std::alloc::Global;
 
 /// Makes the call of a row, if it is one of these.
@@ -21,6 +28,12 @@ pub fn make(row: &Row, answer: &mut Answer) -> Decision {
         "parse_mail_limited" => {
             answer.put(count_under(row.alloc, row.bytes(1), row.levels(0)));
         }
+        "parse_mail_within" => {
+            let found = count_within(row.alloc, row.bytes(2), row.levels(0), row.number(1));
+            answer.put(found);
+        }
+        "kept_within" => answer.put(count_kept(row.alloc, row.bytes(1), row.number(0))),
+        "count_headers" => answer.put(count_headers(row.bytes(0))),
         "levels" => push_levels(row, answer)?,
         "truncated" => push_truncated(answer, row.bytes(0)),
         _ => return Ok(false),
@@ -34,6 +47,26 @@ fn count_under(alloc: Global, raw: &[u8], levels: u8) -> Result<usize, MailParse
         return Err(FORM);
     }
     let mail = parse_mail_limited(alloc, raw, levels)?;
+    count_below(alloc, &mail)
+}
+
+/// Returns how many parts a mail has, with parts of parts, under both limits.
+fn count_within(
+    alloc: Global,
+    raw: &[u8],
+    levels: u8,
+    most: usize,
+) -> Result<usize, MailParseError> {
+    if levels > MAX_LEVELS {
+        return Err(FORM);
+    }
+    let mail = parse_mail_within(alloc, raw, levels, most, &Strict(&()))?;
+    count_below(alloc, &mail)
+}
+
+/// Returns how many parts a mail has in the lenient manner, under a limit on parts and headers.
+fn count_kept(alloc: Global, raw: &[u8], most: usize) -> Result<usize, MailParseError> {
+    let mail = parse_mail_within(alloc, raw, MAX_LEVELS, most, &Lenient(&()))?;
     count_below(alloc, &mail)
 }
 

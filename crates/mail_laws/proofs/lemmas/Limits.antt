@@ -1,0 +1,31 @@
+-- A limit on messages and headers beside the tree of a mail.
+use Rattle.std.proofs.Common.{◌≡◌, ℕ, suc, ◌<◌, ◌≤◌, false, List, Ok, Err, ◌∙◌, sym, arith}
+use Rattle.mailparse.specs.Bound.{items_within}
+use Rattle.mailparse.specs.Limit.{items_met, read_mail_within}
+use Rattle.mailparse.specs.Mail.{Tree, read_mail_as}
+use Rattle.mailparse.specs.Manner.{Manner}
+use Rattle.mailparse.specs.Refusal.{too_many_items}
+use Rattle.mailparse.proofs.lemmas.Limit.{limited-enough, limited-over, limited-read}
+use Rattle.mailparse.proofs.lemmas.LimitItems.{items_met-within}
+use Rattle.std.specs.Prelude.{Some}
+
+-- In this manner.
+module _ (manner : Manner) (greatest most : ℕ) (mail : List ℕ) (parsed : Tree) where
+  met : read_mail_as manner greatest mail ≡ Ok parsed → items_met manner (suc greatest) false mail ≡ items_within parsed
+  met read = items_met-within manner (suc greatest) false mail parsed read
+
+  pub enough : read_mail_as manner greatest mail ≡ Ok parsed → items_within parsed ≤ most → read_mail_within manner greatest most mail ≡ Ok parsed
+  unfolding read_mail_within
+  enough read low =
+      let same = met read in
+      limited-enough most (items_met manner (suc greatest) false mail) (read_mail_as manner greatest mail) (omega (arith, same, low)) ∙ read
+
+  pub over : read_mail_as manner greatest mail ≡ Ok parsed → most < items_within parsed → read_mail_within manner greatest most mail ≡ Err too_many_items
+  unfolding read_mail_within
+  over read high =
+      let same = met read in
+      limited-over most (items_met manner (suc greatest) false mail) (read_mail_as manner greatest mail) (omega (arith, same, high))
+
+  pub read_without : read_mail_within manner greatest most mail ≡ Ok parsed → read_mail_as manner greatest mail ≡ Ok parsed
+  unfolding read_mail_within
+  read_without h = limited-read (Some most) (items_met manner (suc greatest) false mail) (read_mail_as manner greatest mail) parsed h
