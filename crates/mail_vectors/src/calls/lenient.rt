@@ -12,7 +12,7 @@ use mail_data::lenient::{
     find_ids, lenient_body, lenient_content, lenient_file_name, refusal, zoned_date_of,
 };
 use mailparse::body::Body;
-use mailparse::{MAX_LEVELS, ParsedMail, parse_mail, parse_mail_as};
+use mailparse::{KnownCharsets, MAX_LEVELS, ParsedMail, parse_mail, parse_mail_as};
 
 /// Makes the call of a row, if it is one of these.
 pub fn make(row: &Row, answer: &mut Answer) -> Decision {
@@ -23,7 +23,7 @@ pub fn make(row: &Row, answer: &mut Answer) -> Decision {
         "lenient_content" => read_content(row, answer)?,
         "find_ids" => answer.put(find_ids(row.alloc, row.text(0), IdRule::WithAt)),
         "find_any_ids" => answer.put(find_ids(row.alloc, row.text(0), IdRule::Any)),
-        "lenient_nodes" | "lenient_file_names" => read_parts(row, answer)?,
+        "lenient_nodes" | "lenient_file_names" => read_parts(row, answer, &all_tables())?,
         "date_of" => write_date(answer, date_of(row.text(0))),
         "zoned_date_of" => write_date(answer, zoned_date_of(row.text(0))),
         "date_and_offset_of" => write_date(answer, date_and_offset_of(row.text(0))),
@@ -84,12 +84,12 @@ fn read_content(row: &Row, answer: &mut Answer) -> Outcome {
 }
 
 /// Writes the result of a call on each part of a mail.
-fn read_parts(row: &Row, answer: &mut Answer) -> Outcome {
+fn read_parts<K: KnownCharsets>(row: &Row, answer: &mut Answer, known: &K) -> Outcome {
     let levels = row.levels(1);
     if levels > MAX_LEVELS {
         return Err(FORM);
     }
-    let mail = parse_mail_as(row.alloc, row.bytes(0), levels, &Lenient(&all_tables()))?;
+    let mail = parse_mail_as(row.alloc, row.bytes(0), levels, &Lenient(known))?;
     for part in mail.parts(row.alloc)? {
         push_part(answer, row.call.as_str(), part);
     }
