@@ -4,7 +4,7 @@
 //! - `parse_mail_limited LEVELS MAIL => PARTS`: how many parts there are, or the refusal.
 //! - `parse_mail_within LEVELS ITEMS MAIL => PARTS`: the same under a limit on parts and headers too.
 //! - `kept_within ITEMS MAIL => PARTS`: the same in the lenient manner, which keeps refused messages.
-//! - `count_headers MAIL => HEADERS`.
+//! - `block_headers MAIL => HEADERS`: how many headers its block has, 0 if that is refused.
 //! - `levels MAIL => LEVELS PARTS PARTS`: the least limit under which the mail is not refused for
 //!   its depth, how many parts there are then, or the refusal, and the same of `parse_mail`.
 //! - `truncated MAIL => COUNT`: to how many lengths the mail can be truncated, from none of its
@@ -33,7 +33,7 @@ pub fn make(row: &Row, answer: &mut Answer) -> Decision {
             answer.put(found);
         }
         "kept_within" => answer.put(count_kept(row.alloc, row.bytes(1), row.number(0))),
-        "count_headers" => answer.put(count_headers(row.bytes(0))),
+        "block_headers" => answer.put(count_headers(row.bytes(0))),
         "levels" => push_levels(row, answer)?,
         "truncated" => push_truncated(answer, row.bytes(0)),
         _ => return Ok(false),
