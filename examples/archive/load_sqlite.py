@@ -28,7 +28,6 @@ import glob
 import html
 import json
 import marshal
-import multiprocessing
 import os
 import re
 import signal
@@ -332,9 +331,7 @@ def interruptible(given, named, paths):
             try:
                 return load_index(given, named, paths, pool, scratch)
             except KeyboardInterrupt:
-                for child in multiprocessing.active_children():
-                    child.terminate()
-                    child.join()
+                pool.shutdown(cancel_futures=True)  # waits for the shards that are being read
                 raise
 
 
