@@ -114,7 +114,7 @@ def test_sanitizers(c_library, tmp_path):
     with zipfile.ZipFile(wheel) as file:
         file.extractall(tmp_path / "module")
     libraries = [succeeds(["gcc", f"-print-file-name={name}.so"]).strip() for name in ("libasan", "libubsan")]
-    succeeds([sys.executable, "-m", "pytest", "-q", "-p", "no:cacheprovider", "-p", "no:xdist", "-k", "not memory and not no_copy",
+    succeeds([sys.executable, "-m", "pytest", "-q", "-p", "no:cacheprovider", "-p", "no:xdist", "-k", "not memory and not no_copy and not too_many",
               *(TOP / "python" / "tests" / f"test_{name}.py" for name in ("buffers", "lazy", "parts"))],
              env={**os.environ, "PYTHONPATH": str(tmp_path / "module"), "PYTHONDONTWRITEBYTECODE": "1", "PYTHONMALLOC": "malloc",
                   "LD_PRELOAD": " ".join(libraries), "ASAN_OPTIONS": "detect_leaks=0:allocator_may_return_null=1"})

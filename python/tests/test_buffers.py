@@ -174,7 +174,7 @@ thread.join()
 
 def test_the_lock_is_free():
     """Another thread runs while one reads a mail of 50 MB."""
-    raw = b"Content-Type: multipart/mixed; boundary=b\n\n" + b"--b\n\nsome text\n" * 3_500_000
+    raw = b"Content-Type: multipart/mixed; boundary=b\n\n" + b"-x\n" * 17_000_000
     steps, reading = [], threading.Event()
 
     def count():
@@ -184,8 +184,7 @@ def test_the_lock_is_free():
     thread = threading.Thread(target=count)
     thread.start()
     before = len(steps)
-    with pytest.raises(rocktray.Refused):
-        _engine.read(raw, 1000)
+    _engine.read(raw, 1000)
     while_reading = len(steps) - before
     reading.set()
     thread.join()
