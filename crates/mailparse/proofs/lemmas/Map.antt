@@ -149,17 +149,3 @@ same_tested key name bytes answer small utf8 ascii same test =
     by_test true u e f = e ∙ sym ((bytes_decides (map low key) (map low bytes)).1 (test.0 e))
     by_test false false e f = e ∙ sym f
     by_test false true e f = absurd (false≢true (sym e ∙ test.1 ((bytes_decides (map low key) (map low bytes)).0 f)))
-
--- if a name begins with an ASCII character and a key with another one, ignoring case, they differ
-pub other_first : (key name : List ℕ) (byte first : ℕ) → ((i : ℕ) → get_or key i 0 < 256) → IsUtf8 name → Some byte ≡ slice_get key 0 → Some first ≡ slice_get name 0
-    → is_ascii first ≡ true → eq_ignore_ascii_case byte first ≡ false → str_eq_ignore_ascii_case (latin1_text key) name ≡ false
-other_first [] name byte first bytes utf8 at starts ascii other = absurd (cc)
-other_first (b ∷ key) [] byte first bytes utf8 at starts ascii other = absurd (cc)
-other_first (b ∷ key) (n ∷ name) byte first bytes utf8 at starts ascii other =
-    let same : byte ≡ b = cc in
-    let begins : first ≡ n = cc in
-    let small : n < 128 = ltb-true n 128 (ap is_ascii (sym begins) ∙ ascii) in
-    same_name (b ∷ key) (n ∷ name) bytes utf8
-    ∙ ap (pointwise eq_ignore_ascii_case (b ∷ key)) (chars_past_char (n ∷ name) name n utf8 (sym (ap (λ bs. bs ++ name) (encode_ascii n small))))
-    ∙ ap (λ t. t && pointwise eq_ignore_ascii_case key (chars name))
-    (ap (λ x. eq_ignore_ascii_case x n) (sym same) ∙ ap (eq_ignore_ascii_case byte) (sym begins) ∙ other)

@@ -34,6 +34,7 @@ use mail_codec::bytescan::{find_byte, find_either};
 /// assert_eq!(rt; header.get_value(alloc)?.as_str(), "Hello, you");
 /// assert_eq!(rt; length, 22);
 /// ```
+#[inline(always)]
 #[tactic(auto, using(crate::proofs::lemmas::Header::header_readings))]
 pub fn parse_header(raw: &[u8]) -> Result<(MailHeader<'_>, usize), MailParseError>
     ensures read { Answers (λ found. (found.0, found.1)) result (read_header raw.now) }

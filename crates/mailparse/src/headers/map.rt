@@ -1,7 +1,7 @@
 //! Looking headers up by their names.
-ghost use Rattle.std.specs.Prelude.{◌≡◌, map, false, List, IsOk, IsNone, IsTrue, Ok};
+ghost use Rattle.std.specs.Prelude.{◌≡◌, map, List, IsOk, IsNone, IsTrue, Ok};
 ghost use Rattle.std.specs.Option.{option_copied};
-ghost use Rattle.std.specs.Str.{str_eq_ignore_ascii_case};
+ghost use Rattle.std.specs.Str.{IsAscii, str_eq_ignore_ascii_case};
 ghost use Rattle.mail_codec.specs.Latin1.{latin1_text};
 ghost use Rattle.mailparse.specs.Map.{first_with_key, all_with_key, first_value, first_value_in};
 ghost use Rattle.mailparse.specs.Map.{all_values, all_values_in, text_found};
@@ -56,8 +56,9 @@ pub trait MailHeaderMap {
     fn get_first_header(&self, key: &str) -> Option<&MailHeader<'_>>
         ensures { option_copied result ≡ first_with_key key.now (present self.now) }
     {
+        let name = Name::new(key);
         for header in self.headers() {
-            if is_key(header.get_key_raw(), key) {
+            if name.is_key(header.get_key_raw()) {
                 return Some(header);
             }
         }
@@ -181,9 +182,10 @@ pub trait MailHeaderMap {
             (all_values_in (K.known known.now) key.now (present self.now)) }
         ensures no_alloc { IsNone (first_with_key key.now (present self.now)) → IsOk result }
     {
+        let name = Name::new(key);
         let mut values = Vec::new(alloc);
         for header in self.headers() {
-            if is_key(header.get_key_raw(), key) {
+            if name.is_key(header.get_key_raw()) {
                 values.push(header.get_value_in(alloc, known)?)?;
             }
         }
@@ -217,9 +219,10 @@ pub trait MailHeaderMap {
             (Ok (all_with_key key.now (present self.now))) }
         ensures no_alloc { IsNone (first_with_key key.now (present self.now)) → IsOk result }
     {
+        let name = Name::new(key);
         let mut found = Vec::new(alloc);
         for header in self.headers() {
-            if is_key(header.get_key_raw(), key) {
+            if name.is_key(header.get_key_raw()) {
                 found.push(header)?;
             }
         }
@@ -243,33 +246,38 @@ impl MailHeaderMap for Headers<'_> {
     }
 }
 
-/// Whether the bytes of a key are the characters of a name, ignoring ASCII case.
-///
-/// Most keys differ from the name in the first byte. The bytes of an ASCII name, as nearly every
-/// name is, are compared as they are first, since most mails spell a name as the caller does.
-fn is_key(key: &[u8], name: &str) -> bool
-    ensures { result ≡ str_eq_ignore_ascii_case (latin1_text key.now) name.now }
-{
-    if begins_otherwise(key, name) {
-        return false;
-    }
-    if !name.is_ascii() {
-        return is_spelled_by(key, name);
-    }
-    key == name.as_bytes() || key.eq_ignore_ascii_case(name.as_bytes())
+/// A name to look for, and whether it is ASCII, as nearly every name is.
+#[derive(Clone, Copy, Debug)]
+struct Name<'n> {
+    text: &'n str,
+    is_ascii: bool,
 }
 
-/// Whether the name begins with an ASCII character and the key with another one, ignoring case.
-#[inline(always)]
-fn begins_otherwise(key: &[u8], name: &str) -> bool
-    ensures { IsTrue result → str_eq_ignore_ascii_case (latin1_text key.now) name.now ≡ false }
-{
-    let Some(byte) = key.first() else {
-        return false;
-    };
-    match name.as_bytes().first() {
-        Some(wanted) => wanted.is_ascii() && !byte.eq_ignore_ascii_case(wanted),
-        None => false,
+impl<'n> Name<'n> {
+    fn new(text: &'n str) -> Name<'n>
+        ensures same { result.text.now ≡ text.now }
+        ensures ascii { IsTrue result.is_ascii → IsAscii text.now }
+    {
+        Name {
+            text,
+            is_ascii: text.is_ascii(),
+        }
+    }
+
+    /// Whether the bytes of a key are the characters of this name, ignoring ASCII case.
+    ///
+    /// The bytes of an ASCII name are compared as they are first, since most mails spell a name as
+    /// the caller does.
+    #[inline(always)]
+    fn is_key(&self, key: &[u8]) -> bool
+        requires ascii { IsTrue self.now.is_ascii → IsAscii self.now.text.now }
+        ensures { result ≡ str_eq_ignore_ascii_case (latin1_text key.now) self.now.text.now }
+    {
+        if !self.is_ascii {
+            return is_spelled_by(key, self.text);
+        }
+        let wanted = self.text.as_bytes();
+        key == wanted || key.eq_ignore_ascii_case(wanted)
     }
 }
 
