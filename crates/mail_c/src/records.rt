@@ -7,7 +7,6 @@ ghost use Rattle.mailparse.specs.Views as views;
 ghost use Rattle.mailparse.specs.Views.{placement_of, placements_of, tree_of};
 ghost use Rattle.mail_c.specs.Codes.{IsCoded};
 ghost use Rattle.mailparse.specs.Disposition.{Disposition};
-ghost use Rattle.mail_data.specs.InnerMails.{forwards};
 ghost use Rattle.mail_data.specs.lenient.Encoding.{lenient_body_kind};
 ghost use Rattle.mail_json.specs.Part.{is_attachment, is_read};
 ghost use Rattle.mail_c.specs.Records.{bit, disposition_number, encoding_number, families, flags};
@@ -17,6 +16,7 @@ ghost use Rattle.mail_c.specs.RecordViews.{family_view, item_view, lists};
 
 use crate::codes::{NO_MEMORY, TOO_MANY, code_of};
 use mail_data::files::{describes_attachment, is_attachment_disposition, is_leaf, is_shown};
+use mail_data::inner_mails::forwards;
 use mail_data::lenient::lenient_body;
 use mail_data::texts::text_type;
 use mailparse::body::Body;
@@ -433,14 +433,4 @@ fn is_read(part: &ParsedMail<'_>, disposition: &ParsedContentDisposition) -> boo
     !is_attachment_disposition(&disposition.disposition)
         && is_leaf(part)
         && text_type(part.ctype.mimetype.as_str()).starts_with("text/")
-}
-
-/// Returns whether a part forwards a mail.
-fn forwards(part: &ParsedMail<'_>) -> bool
-    ensures { result ≡ forwards (root (tree_of part.now)) }
-{
-    matches!(
-        part.ctype.mimetype.as_str(),
-        "message/rfc822" | "message/global"
-    )
 }

@@ -108,26 +108,28 @@ abbrev mutual
 abbrev pub whole_path : Tree → List ℕ
 whole_path t = if is_leaf t then codes "1" else []
 
+-- the file name in the first header with a name, given how one is read in the text of that header:
+-- its encoded words stay as they are, so that none can end a parameter or begin one
+abbrev pub name_from : (List ℕ → Option (List ℕ)) → List ℕ → Node → Option (List ℕ)
+name_from read header node =
+    option_and_then read (first_value_in no_charsets header node.headers)
+
+-- the file name of a message, given how one is read in a disposition and in a type: that of the
+-- disposition, otherwise that of the type, and then its encoded words are decoded
+abbrev pub name_by : Charsets → (List ℕ → Option (List ℕ)) → (List ℕ → Option (List ℕ)) → Node
+    → Option (List ℕ)
+name_by known shown typed node =
+    option_and_then (λ name. filled (Some (lenient_value_in known name)))
+    (first_text (name_from shown (codes "Content-Disposition") node)
+    (name_from typed (codes "Content-Type") node))
+
 -- Under the charsets that are known.
 module _ (known : Charsets) where
-  -- the file name in the disposition of a message, which is cut into parameters while its encoded
-  -- words stay as they are, so that none can end a parameter or begin one
-  unfoldable pub undecoded_shown_name : Node → Option (List ℕ)
-  undecoded_shown_name node =
-      option_and_then (λ text. shown_name (disposition_in known text))
-      (first_value_in no_charsets (codes "Content-Disposition") node.headers)
-
-  -- the same in its type
-  unfoldable pub undecoded_typed_name : Node → Option (List ℕ)
-  undecoded_typed_name node =
-      option_and_then (λ text. typed_name (content_type_in known text))
-      (first_value_in no_charsets (codes "Content-Type") node.headers)
-
-  -- the file name of a message: one of these, and then its encoded words are decoded
+  -- the file name of a message, whose texts are read under these charsets
   unfoldable pub file_name : Node → Option (List ℕ)
   file_name node =
-      option_and_then (λ name. filled (Some (lenient_value_in known name)))
-      (first_text (undecoded_shown_name node) (undecoded_typed_name node))
+      name_by known (λ text. shown_name (disposition_in known text))
+      (λ text. typed_name (content_type_in known text)) node
 
   -- a message is a file: it has no parts, and its disposition and its type are those of a file
   unfoldable pub is_attachment : Tree → Bool

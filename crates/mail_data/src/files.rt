@@ -10,22 +10,23 @@ ghost use Rattle.mail_data.specs.Files.{attachments, describes_attachment, file_
 ghost use Rattle.mail_data.specs.Files.{is_attachment_disposition};
 ghost use Rattle.mail_data.specs.Files.{is_attachment, is_extracted, is_leaf, is_shown, name_among};
 ghost use Rattle.mail_data.specs.Files.{name_in, path_under, shown_name, typed_name};
-ghost use Rattle.mail_data.specs.Files.{undecoded_shown_name, undecoded_typed_name, whole_path};
+ghost use Rattle.mail_data.specs.Files.{whole_path};
 ghost use Rattle.mail_data.specs.FileViews.{attachment_view};
 
 mod left_over;
 mod names;
+mod naming;
 mod no_charsets;
 
 use crate::places::push_places;
 use left_over::left_over_text;
 use mail_codec::charset::KnownCharsets;
 use mailparse::{
-    DispositionType, MailHeaderMap, MailParseError, ParsedContentDisposition, ParsedContentType,
-    ParsedMail, parse_content_disposition_in, parse_content_type_in, value_text_in,
+    DispositionType, MailParseError, ParsedContentDisposition, ParsedContentType, ParsedMail,
+    Strict,
 };
 pub use names::safe_file_name;
-pub(crate) use no_charsets::NoCharsets;
+pub(crate) use naming::{NameReading, name_by};
 use std::alloc::{AllocError, Global};
 use std::collections::BTreeMap;
 
@@ -83,54 +84,7 @@ pub fn file_name<K: KnownCharsets>(
     ensures { AnswersOrMemory text_found result
         (Ok (file_name (K.known known.now) (root (tree_of part.now)))) }
 {
-    let name = match undecoded_shown_name(alloc, part, known)? {
-        Some(name) => Some(name),
-        None => undecoded_typed_name(alloc, part, known)?,
-    };
-    match name {
-        Some(name) => Ok(filled(value_text_in(alloc, name.as_bytes(), known)?)),
-        None => Ok(None),
-    }
-}
-
-/// Returns the file name in the disposition of a part, with its encoded words as they are.
-#[tactic(auto, unfolding(crate::specs::Files::undecoded_shown_name))]
-fn undecoded_shown_name<K: KnownCharsets>(
-    alloc: Global,
-    part: &ParsedMail<'_>,
-    known: &K,
-) -> Result<Option<String>, MailParseError>
-    ensures { AnswersOrMemory text_found result
-        (Ok (undecoded_shown_name (K.known known.now) (root (tree_of part.now)))) }
-{
-    let value = part
-        .headers
-        .get_first_value_in(alloc, "Content-Disposition", &NoCharsets)?;
-    let Some(value) = value else {
-        return Ok(None);
-    };
-    let disposition = parse_content_disposition_in(alloc, value.as_str(), known)?;
-    Ok(shown_name(alloc, &disposition)?)
-}
-
-/// Returns the file name in the type of a part, with its encoded words as they are.
-#[tactic(auto, unfolding(crate::specs::Files::undecoded_typed_name))]
-fn undecoded_typed_name<K: KnownCharsets>(
-    alloc: Global,
-    part: &ParsedMail<'_>,
-    known: &K,
-) -> Result<Option<String>, MailParseError>
-    ensures { AnswersOrMemory text_found result
-        (Ok (undecoded_typed_name (K.known known.now) (root (tree_of part.now)))) }
-{
-    let value = part
-        .headers
-        .get_first_value_in(alloc, "Content-Type", &NoCharsets)?;
-    let Some(value) = value else {
-        return Ok(None);
-    };
-    let ctype = parse_content_type_in(alloc, value.as_str(), known)?;
-    Ok(typed_name(alloc, &ctype)?)
+    name_by(alloc, part, &Strict(known), known)
 }
 
 /// Returns the file name in a disposition and a type, for callers that have read both; `file_name`

@@ -51,8 +51,7 @@ pub struct ForwardedMail<'m> {
 }
 
 /// Returns the mails inside a mail: those that its parts forward, in order, each before those
-/// inside it. A part forwards a mail if its type is `message/rfc822` (RFC 2046, section 5.2.1) or
-/// `message/global` (RFC 6532, section 3.7). A transfer encoding is removed as
+/// inside it. `forwards` says which parts forward a mail. A transfer encoding is removed as
 /// `lenient::lenient_content` does, and each mail is read as `parse_mail_in` reads it in the
 /// charsets `known`.
 ///
@@ -289,8 +288,21 @@ fn holds_mail(place: &Place<'_, '_>) -> bool
     forwards(place.part) && dot_count(place.path.as_str()) < 99
 }
 
-/// Returns whether a part forwards a mail.
-fn forwards(part: &ParsedMail<'_>) -> bool
+/// Returns whether a part forwards a mail: whether its type is `message/rfc822` (RFC 2046, section
+/// 5.2.1) or `message/global` (RFC 6532, section 3.7). Does not allocate.
+///
+/// # Examples
+///
+/// ```rust
+/// use mail_data::inner_mails::forwards;
+/// use mailparse::parse_mail;
+///
+/// let mail = parse_mail(alloc, b"Content-Type: message/global\n\nSubject: inside\n\n")?;
+/// assert!(rt; forwards(&mail));
+/// let mail = parse_mail(alloc, b"Content-Type: message/partial; id=a\n\nSubject: inside\n\n")?;
+/// assert!(rt; !forwards(&mail));
+/// ```
+pub fn forwards(part: &ParsedMail<'_>) -> bool
     ensures { result ≡ forwards (root (tree_of part.now)) }
 {
     matches!(

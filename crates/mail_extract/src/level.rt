@@ -2,9 +2,9 @@
 ghost use Rattle.std.specs.Prelude.{◌≡◌};
 ghost use Rattle.mailparse.specs.Mail.{root};
 ghost use Rattle.mailparse.specs.Views.{tree_of};
-ghost use Rattle.mail_data.specs.InnerMails.{forwards};
 ghost use Rattle.mail_extract.specs.Save.{is_contained};
 
+use mail_data::inner_mails::forwards;
 use mailparse::ParsedMail;
 
 /// The mail that has a part.
@@ -24,16 +24,6 @@ pub(crate) fn is_contained(level: Level, part: &ParsedMail<'_>) -> bool
         Level::Own => false,
         Level::Inside => forwards(part),
     }
-}
-
-/// Returns whether a part forwards a mail.
-fn forwards(part: &ParsedMail<'_>) -> bool
-    ensures { result ≡ forwards (root (tree_of part.now)) }
-{
-    matches!(
-        part.ctype.mimetype.as_str(),
-        "message/rfc822" | "message/global"
-    )
 }
 
 /// The mail whose parts are saved.

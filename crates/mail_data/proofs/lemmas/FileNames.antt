@@ -69,7 +69,7 @@ front_within-takes capacity (c ∷ cs) = elim (cases_Bool (nat_le (len_utf8 c) c
       ∙ ap (λ (k : ℕ). take k (c ∷ cs)) (sym (front_length-stop capacity c cs (leb-false (len_utf8 c) capacity n)))
 ]
 
--- the number that a loop has counted, when these characters are left and so many bytes
+-- the number that a loop has counted, when these characters and this number of bytes are left
 pub record CountsTo (capacity : ℕ) (cs : List ℕ) (left : ℕ) (rest : List ℕ) : Type 0 where
   pub within : length rest ≤ length cs
   pub same : length cs - length rest + front_length left rest ≡ front_length capacity cs
@@ -235,7 +235,7 @@ size-at_least (c ∷ cs) =
     let some = (len_utf8_bounds c).0 in
     omega (arith, later, all, one, some)
 
--- characters that fit have at most so many bytes
+-- characters that fit have at most that number of bytes
 fits-short : (capacity : ℕ) (cs : List ℕ) → fits capacity cs ≡ true → size cs ≤ capacity
 fits-short capacity cs h =
     let whole = eqb-true (front_length capacity cs) (length cs) h in

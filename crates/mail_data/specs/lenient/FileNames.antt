@@ -1,15 +1,13 @@
 -- File names, read leniently (RFC 2183, section 2.3; RFC 2231, section 4; RFC 6266, section 4.3): an
 -- extended name counts before one that is not, whatever its charset is.
-use Rattle.std.specs.Prelude.{ℕ, List, Option, Some, option_and_then, option_map, unwrap_or, codes}
+use Rattle.std.specs.Prelude.{ℕ, List, Option, option_map, unwrap_or, codes}
 use Rattle.mail_codec.specs.Charset.{Charsets}
 use Rattle.mailparse.specs.ContentType.{content_type_in}
 use Rattle.mailparse.specs.Disposition.{disposition_in}
 use Rattle.mailparse.specs.ExtendedValues.{label_in, text_in}
 use Rattle.mailparse.specs.Mail.{Node}
-use Rattle.mailparse.specs.Map.{first_value_in}
 use Rattle.mailparse.specs.Pairs.{Texts}
-use Rattle.mailparse.specs.Value.{lenient_value_in}
-use Rattle.mail_data.specs.Files.{filled, first_text, no_charsets}
+use Rattle.mail_data.specs.Files.{filled, first_text, name_by}
 use Rattle.mail_data.specs.lenient.Guess.{guessed, or_guessed}
 use Rattle.mail_data.specs.lenient.Repairs.{repaired}
 use Rattle.percent_encoding.specs.Percent.{percent_decode}
@@ -37,19 +35,6 @@ module _ (known : Charsets) where
       let params = (content_type_in (or_guessed known) (repaired text)).params in
       name_among params (codes "name") (codes "name*")
 
-  -- the name in the disposition of a message, whose encoded words stay as they are, and that in its
-  -- type
-  abbrev pub shown_name_of : Node → Option (List ℕ)
-  shown_name_of node =
-      option_and_then shown_name
-      (first_value_in no_charsets (codes "Content-Disposition") node.headers)
-
-  abbrev pub typed_name_of : Node → Option (List ℕ)
-  typed_name_of node =
-      option_and_then typed_name (first_value_in no_charsets (codes "Content-Type") node.headers)
-
-  -- the file name of a message: one of these, and then its encoded words are decoded
+  -- the file name of a message, whose texts are read so
   unfoldable pub lenient_file_name : Node → Option (List ℕ)
-  lenient_file_name node =
-      option_and_then (λ name. filled (Some (lenient_value_in known name)))
-      (first_text (shown_name_of node) (typed_name_of node))
+  lenient_file_name node = name_by known shown_name typed_name node

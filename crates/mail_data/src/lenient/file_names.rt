@@ -7,17 +7,15 @@ ghost use Rattle.mailparse.specs.Outcome.{AnswersOrMemory};
 ghost use Rattle.mailparse.specs.Pairs.{text_at};
 ghost use Rattle.mailparse.specs.Views.{tree_of};
 ghost use Rattle.mailparse.specs.ExtendedValues.{label_in, text_in};
-ghost use Rattle.mail_data.specs.lenient.FileNames.{extended_text, lenient_file_name, name_among, shown_name};
-ghost use Rattle.mail_data.specs.lenient.FileNames.{shown_name_of, typed_name, typed_name_of};
+ghost use Rattle.mail_data.specs.lenient.FileNames.{extended_text, lenient_file_name, name_among};
+ghost use Rattle.mail_data.specs.lenient.FileNames.{shown_name, typed_name};
 
 use super::guess::{Guess, OrGuess};
+use super::manner::Lenient;
 use super::repairs::repaired;
-use crate::files::{NoCharsets, filled, filled_parameter};
+use crate::files::{NameReading, filled, filled_parameter, name_by};
 use mail_codec::charset::{Decode, KnownCharsets};
-use mailparse::{
-    MailHeaderMap, MailParseError, ParsedMail, parse_content_disposition_in, parse_content_type_in,
-    value_text_in,
-};
+use mailparse::{MailParseError, ParsedMail, parse_content_disposition_in, parse_content_type_in};
 use percent_encoding::percent_decode;
 use std::alloc::{AllocError, Global};
 use std::collections::BTreeMap;
@@ -60,49 +58,20 @@ pub fn lenient_file_name<K: KnownCharsets>(
     ensures { AnswersOrMemory text_found result
         (Ok (lenient_file_name (K.known known.now) (root (tree_of part.now)))) }
 {
-    let name = match shown_name_of(alloc, part, known)? {
-        Some(name) => Some(name),
-        None => typed_name_of(alloc, part, known)?,
-    };
-    match name {
-        Some(name) => Ok(filled(value_text_in(alloc, name.as_bytes(), known)?)),
-        None => Ok(None),
-    }
+    name_by(alloc, part, &Lenient(known), known)
 }
 
-/// Returns the file name in the disposition of a part, with its encoded words as they are.
-fn shown_name_of<K: KnownCharsets>(
-    alloc: Global,
-    part: &ParsedMail<'_>,
-    known: &K,
-) -> Result<Option<String>, MailParseError>
-    ensures { AnswersOrMemory text_found result
-        (Ok (shown_name_of (K.known known.now) (root (tree_of part.now)))) }
-{
-    let value = part
-        .headers
-        .get_first_value_in(alloc, "Content-Disposition", &NoCharsets)?;
-    match value {
-        Some(value) => shown_name(alloc, value.as_str(), known),
-        None => Ok(None),
-    }
-}
+impl<'k, K: KnownCharsets> NameReading for Lenient<'k, K> {
+    ghost shown = { λ s text. shown_name (K.known s.0.now) text };
 
-/// Returns the file name in the type of a part, with its encoded words as they are.
-fn typed_name_of<K: KnownCharsets>(
-    alloc: Global,
-    part: &ParsedMail<'_>,
-    known: &K,
-) -> Result<Option<String>, MailParseError>
-    ensures { AnswersOrMemory text_found result
-        (Ok (typed_name_of (K.known known.now) (root (tree_of part.now)))) }
-{
-    let value = part
-        .headers
-        .get_first_value_in(alloc, "Content-Type", &NoCharsets)?;
-    match value {
-        Some(value) => typed_name(alloc, value.as_str(), known),
-        None => Ok(None),
+    ghost typed = { λ s text. typed_name (K.known s.0.now) text };
+
+    fn shown_name(&self, alloc: Global, text: &str) -> Result<Option<String>, MailParseError> {
+        shown_name(alloc, text, self.0)
+    }
+
+    fn typed_name(&self, alloc: Global, text: &str) -> Result<Option<String>, MailParseError> {
+        typed_name(alloc, text, self.0)
     }
 }
 

@@ -1,0 +1,108 @@
+//! The file name of a part, however names are read in the texts of its headers.
+ghost use Rattle.std.specs.Prelude.{◌≡◌, List, Option, codes, ℕ, Ok};
+ghost use Rattle.mailparse.specs.ContentType.{content_type_in};
+ghost use Rattle.mailparse.specs.Disposition.{disposition_in};
+ghost use Rattle.mailparse.specs.Mail.{root};
+ghost use Rattle.mailparse.specs.Map.{text_found};
+ghost use Rattle.mailparse.specs.Outcome.{AnswersOrMemory};
+ghost use Rattle.mailparse.specs.Views.{tree_of};
+ghost use Rattle.mail_data.specs.Files.{name_by, name_from, shown_name, typed_name};
+
+use super::no_charsets::NoCharsets;
+use super::{filled, shown_name, typed_name};
+use mail_codec::charset::KnownCharsets;
+use mailparse::{
+    MailHeaderMap, MailParseError, ParsedMail, Strict, parse_content_disposition_in,
+    parse_content_type_in, value_text_in,
+};
+use std::alloc::Global;
+
+/// How a file name is read in the texts of a disposition and a type.
+pub(crate) trait NameReading {
+    // The name in the text of a disposition.
+    ghost shown: { Self → List ℕ → Option (List ℕ) };
+
+    // The name in the text of a type.
+    ghost typed: { Self → List ℕ → Option (List ℕ) };
+
+    /// Returns the file name in the text of a disposition.
+    fn shown_name(&self, alloc: Global, text: &str) -> Result<Option<String>, MailParseError>
+        ensures { AnswersOrMemory text_found result (Ok (shown self.now text.now)) };
+
+    /// Returns the file name in the text of a type.
+    fn typed_name(&self, alloc: Global, text: &str) -> Result<Option<String>, MailParseError>
+        ensures { AnswersOrMemory text_found result (Ok (typed self.now text.now)) };
+}
+
+impl<'k, K: KnownCharsets> NameReading for Strict<'k, K> {
+    ghost shown = { λ s text. shown_name (disposition_in (K.known s.0.now) text) };
+
+    ghost typed = { λ s text. typed_name (content_type_in (K.known s.0.now) text) };
+
+    fn shown_name(&self, alloc: Global, text: &str) -> Result<Option<String>, MailParseError> {
+        let disposition = parse_content_disposition_in(alloc, text, self.0)?;
+        Ok(shown_name(alloc, &disposition)?)
+    }
+
+    fn typed_name(&self, alloc: Global, text: &str) -> Result<Option<String>, MailParseError> {
+        let ctype = parse_content_type_in(alloc, text, self.0)?;
+        Ok(typed_name(alloc, &ctype)?)
+    }
+}
+
+/// Returns the file name of a part: the one that is read in its disposition, otherwise the one in
+/// its type, with its encoded words decoded.
+pub(crate) fn name_by<N: NameReading, K: KnownCharsets>(
+    alloc: Global,
+    part: &ParsedMail<'_>,
+    reading: &N,
+    known: &K,
+) -> Result<Option<String>, MailParseError>
+    ensures { AnswersOrMemory text_found result (Ok (name_by (K.known known.now)
+        (N.shown reading.now) (N.typed reading.now) (root (tree_of part.now)))) }
+{
+    let name = match shown_name_of(alloc, part, reading)? {
+        Some(name) => Some(name),
+        None => typed_name_of(alloc, part, reading)?,
+    };
+    match name {
+        Some(name) => Ok(filled(value_text_in(alloc, name.as_bytes(), known)?)),
+        None => Ok(None),
+    }
+}
+
+/// Returns the file name in the disposition of a part, with its encoded words as they are.
+fn shown_name_of<N: NameReading>(
+    alloc: Global,
+    part: &ParsedMail<'_>,
+    reading: &N,
+) -> Result<Option<String>, MailParseError>
+    ensures { AnswersOrMemory text_found result (Ok (name_from (N.shown reading.now)
+        (codes "Content-Disposition") (root (tree_of part.now)))) }
+{
+    let value = part
+        .headers
+        .get_first_value_in(alloc, "Content-Disposition", &NoCharsets)?;
+    match value {
+        Some(value) => reading.shown_name(alloc, value.as_str()),
+        None => Ok(None),
+    }
+}
+
+/// Returns the file name in the type of a part, with its encoded words as they are.
+fn typed_name_of<N: NameReading>(
+    alloc: Global,
+    part: &ParsedMail<'_>,
+    reading: &N,
+) -> Result<Option<String>, MailParseError>
+    ensures { AnswersOrMemory text_found result (Ok (name_from (N.typed reading.now)
+        (codes "Content-Type") (root (tree_of part.now)))) }
+{
+    let value = part
+        .headers
+        .get_first_value_in(alloc, "Content-Type", &NoCharsets)?;
+    match value {
+        Some(value) => reading.typed_name(alloc, value.as_str()),
+        None => Ok(None),
+    }
+}
