@@ -58,22 +58,12 @@ gap_past Cell gap = wider gap Tab
 gap_past Block gap = wider gap LineEnd
 gap_past Paragraph gap = wider gap BlankLine
 gap_past Preformatted gap = wider gap BlankLine
-gap_past Inline gap = gap
-gap_past Image gap = gap
-gap_past Hidden gap = gap
-gap_past Foreign gap = gap
+gap_past _ gap = gap
 
 -- whether whitespace is kept after a start tag, or an end tag
 abbrev pub is_kept_past : Kind → Bool → Bool → Bool
 is_kept_past Preformatted is_start is_kept = is_start
-is_kept_past Inline is_start is_kept = is_kept
-is_kept_past Cell is_start is_kept = is_kept
-is_kept_past Block is_start is_kept = is_kept
-is_kept_past Paragraph is_start is_kept = is_kept
-is_kept_past Break is_start is_kept = is_kept
-is_kept_past Image is_start is_kept = is_kept
-is_kept_past Hidden is_start is_kept = is_kept
-is_kept_past Foreign is_start is_kept = is_kept
+is_kept_past _ is_start is_kept = is_kept
 
 -- the state after the start tag, or the end tag, of an element
 abbrev pub add_tag : Bool → Kind → State → State

@@ -12,7 +12,7 @@ use Rattle.mail_html.specs.References.{reference, value_text}
 use Rattle.mail_html.specs.Tags.{contents_length, declaration_length, name_length, past_byte, tag_length, value_named}
 use Rattle.mail_html.specs.declared.layout.Gap.TheVariants.{Nothing}
 use Rattle.mail_html.specs.declared.elements.Kind.{Kind}
-use Rattle.mail_html.specs.declared.elements.Kind.TheVariants.{Inline, Cell, Block, Paragraph, Break, Preformatted, Image, Hidden, Foreign}
+use Rattle.mail_html.specs.declared.elements.Kind.TheVariants.{Image, Hidden, Foreign}
 use Rattle.mail_html.specs.declared.references.References.{References}
 
 -- a state, and how many bytes lead to it
@@ -36,27 +36,14 @@ trimmed text = trimmed_at_end is_ascii_whitespace (trimmed_at_start is_ascii_whi
 abbrev pub shown_for : References → Kind → List ℕ → List ℕ
 shown_for references Image attributes =
     bracketed (trimmed (value_text 0 references (value_named 0 (codes "alt") attributes)))
-shown_for references Inline attributes = []
-shown_for references Cell attributes = []
-shown_for references Block attributes = []
-shown_for references Paragraph attributes = []
-shown_for references Break attributes = []
-shown_for references Preformatted attributes = []
-shown_for references Hidden attributes = []
-shown_for references Foreign attributes = []
+shown_for references _ attributes = []
 
 -- the number of bytes after a start tag that are hidden: the contents of hidden elements, and of foreign ones unless the tag
 -- closes itself
 abbrev pub hidden_length : Kind → List ℕ → List ℕ → List ℕ → ℕ
 hidden_length Hidden name tag rest = contents_length name rest
 hidden_length Foreign name tag rest = if ends_with nat_eq tag (codes "/>") then 0 else contents_length name rest
-hidden_length Inline name tag rest = 0
-hidden_length Cell name tag rest = 0
-hidden_length Block name tag rest = 0
-hidden_length Paragraph name tag rest = 0
-hidden_length Break name tag rest = 0
-hidden_length Preformatted name tag rest = 0
-hidden_length Image name tag rest = 0
+hidden_length _ name tag rest = 0
 
 -- a start tag, whose name is at the front of bytes, with the contents that it hides
 unfoldable pub start_step : References → State → List ℕ → Step

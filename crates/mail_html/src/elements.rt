@@ -122,10 +122,7 @@ fn gap_past(kind: Kind, gap: Gap) -> Gap
         Kind::Block => wider(gap, Gap::LineEnd),
         Kind::Paragraph => wider(gap, Gap::BlankLine),
         Kind::Preformatted => wider(gap, Gap::BlankLine),
-        Kind::Inline => gap,
-        Kind::Image => gap,
-        Kind::Hidden => gap,
-        Kind::Foreign => gap,
+        _ => gap,
     }
 }
 
@@ -135,20 +132,14 @@ fn is_kept_past(kind: Kind, is_start: bool, is_kept: bool) -> bool
 {
     match kind {
         Kind::Preformatted => is_start,
-        Kind::Inline => is_kept,
-        Kind::Cell => is_kept,
-        Kind::Block => is_kept,
-        Kind::Paragraph => is_kept,
-        Kind::Break => is_kept,
-        Kind::Image => is_kept,
-        Kind::Hidden => is_kept,
-        Kind::Foreign => is_kept,
+        _ => is_kept,
     }
 }
 
 /// Returns the layout after the start tag, or the end tag, of an element.
 pub(crate) fn add_tag(is_start: bool, kind: Kind, layout: Layout) -> Layout
-    ensures { (text : List ℕ) → state_of text result ≡ add_tag is_start kind (state_of text layout) }
+    ensures { (text : List ℕ) →
+        state_of text result ≡ add_tag is_start kind (state_of text layout) }
 {
     Layout {
         gap: gap_past(kind, layout.gap),

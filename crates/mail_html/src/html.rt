@@ -272,13 +272,7 @@ fn hidden_length(kind: Kind, name: &[u8], tag: &[u8], rest: &[u8]) -> usize
     match kind {
         Kind::Hidden => contents_length(name, rest),
         Kind::Foreign => foreign_length(name, tag, rest),
-        Kind::Inline => 0,
-        Kind::Cell => 0,
-        Kind::Block => 0,
-        Kind::Paragraph => 0,
-        Kind::Break => 0,
-        Kind::Preformatted => 0,
-        Kind::Image => 0,
+        _ => 0,
     }
 }
 
@@ -307,14 +301,7 @@ fn push_shown(
 {
     match kind {
         Kind::Image => push_alternative(alloc, text, layout, attributes, references),
-        Kind::Hidden => push_text(text, layout, b""),
-        Kind::Foreign => push_text(text, layout, b""),
-        Kind::Inline => push_text(text, layout, b""),
-        Kind::Cell => push_text(text, layout, b""),
-        Kind::Block => push_text(text, layout, b""),
-        Kind::Paragraph => push_text(text, layout, b""),
-        Kind::Break => push_text(text, layout, b""),
-        Kind::Preformatted => push_text(text, layout, b""),
+        _ => push_text(text, layout, b""),
     }
 }
 

@@ -356,7 +356,8 @@ fn push_front(
     bytes: &[u8],
 ) -> Result<usize, AllocError>
     requires { 0 < length bytes.now }
-    ensures pushed { IfOk result (λ taken. text.new.items ++ value_text 0 references.now (drop taken bytes.now)
+    ensures pushed { IfOk result (λ taken.
+        text.new.items ++ value_text 0 references.now (drop taken bytes.now)
         ≡ text.old.items ++ value_text 0 references.now bytes.now) }
     ensures some { IfOk result (λ taken. 0 < taken) }
     ensures bounds { IfOk result (λ taken. taken ≤ length bytes.now) }
