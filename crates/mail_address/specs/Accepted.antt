@@ -1,9 +1,9 @@
 -- Addresses that are read can be written again: their local part and their domain as texts are ones that `write_addresses` accepts.
-use Rattle.std.specs.Prelude.{◌≡◌, true, List, [], ◌∷◌, Some, ℕ}
+use Rattle.std.specs.Prelude.{◌≡◌, true, List, Some, ℕ}
 use Rattle.std.specs.Str.{IsUtf8}
 use Rattle.mailparse.specs.Value.{value_text}
 use Rattle.mail_address.specs.declared.writer.NewMailbox.{NewMailbox}
-use Rattle.mail_address.specs.Addresses.{Element, Single, single, group}
+use Rattle.mail_address.specs.Addresses.{Single}
 use Rattle.mail_address.specs.Mailbox.{Parts}
 use Rattle.mail_address.specs.Text.{address_bytes, bare}
 use Rattle.mail_address.specs.Writer.{is_writable, written_address}
@@ -25,13 +25,3 @@ pub record IsWrittenAgain (m : Parts) (new : NewMailbox) : Type 0 where
 -- so it is for an element without members that is a mailbox
 abbrev pub IsAccepted : Single → Type 0
 IsAccepted s = (m : Parts) (new : NewMailbox) → s.mailbox ≡ Some m → HasAddress m new → IsWrittenAgain m new
-
-abbrev pub AreAccepted : List Single → Type 0
-AreAccepted [] = Unit {0}
-AreAccepted (s ∷ ss) = IsAccepted s × AreAccepted ss
-
--- for each element of a list and each member of a group
-abbrev pub AreAllAccepted : List Element → Type 0
-AreAllAccepted [] = Unit {0}
-AreAllAccepted (single s ∷ es) = IsAccepted s × AreAllAccepted es
-AreAllAccepted (group g ∷ es) = AreAccepted g.members × AreAllAccepted es

@@ -108,3 +108,14 @@ element_at start bytes =
 -- the elements of a list
 abbrev pub addresses : List ℕ → List Element
 addresses raw = items element_at element_len 0 raw
+
+-- each of these elements without members has a property
+abbrev pub EachSingle : (Single → Type 0) → List Single → Type 0
+EachSingle P [] = Unit {0}
+EachSingle P (s ∷ ss) = P s × EachSingle P ss
+
+-- so has each element of a list and each member of a group
+abbrev pub EachElement : (Single → Type 0) → List Element → Type 0
+EachElement P [] = Unit {0}
+EachElement P (single s ∷ es) = P s × EachElement P es
+EachElement P (group g ∷ es) = EachSingle P g.members × EachElement P es

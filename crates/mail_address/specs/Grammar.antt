@@ -4,7 +4,7 @@
 use Rattle.std.specs.Prelude.{◌≡◌, ℕ, true, List, [], ◌∷◌, ◌++◌, Some}
 use Rattle.std.specs.List.{list_all}
 use Rattle.mail_codec.specs.Ascii.{closing_parenthesis, colon, comma, greater_than, less_than, opening_parenthesis}
-use Rattle.mail_address.specs.Addresses.{Element, Single, single, group}
+use Rattle.mail_address.specs.Addresses.{Single}
 use Rattle.mail_address.specs.Enclosed.{IsBetween, IsCommented}
 use Rattle.mail_address.specs.Mailbox.{are_clean, Parts}
 use Rattle.mail_address.specs.Names.{IsNameWord}
@@ -144,13 +144,3 @@ pub data IsMailbox : List ℕ → Parts → Type 0 where
 -- an element without members is the mailbox that its text is by the grammar, and no mailbox if its text is none
 abbrev pub IsByGrammar : Single → Type 0
 IsByGrammar s = (m : Parts) → (s.mailbox ≡ Some m → IsMailbox s.text m) × (IsMailbox s.text m → s.mailbox ≡ Some m)
-
-abbrev pub AreByGrammar : List Single → Type 0
-AreByGrammar [] = Unit {0}
-AreByGrammar (s ∷ ss) = IsByGrammar s × AreByGrammar ss
-
--- so is each element of a list and each member of a group
-abbrev pub FollowGrammar : List Element → Type 0
-FollowGrammar [] = Unit {0}
-FollowGrammar (single s ∷ es) = IsByGrammar s × FollowGrammar es
-FollowGrammar (group g ∷ es) = AreByGrammar g.members × FollowGrammar es

@@ -6,17 +6,17 @@ ghost use Rattle.mail_codec.specs.Tables.{charsets_with};
 ghost use Rattle.mailparse.specs.Header.{Header};
 ghost use Rattle.mail_codec.specs.declared.charset.tables.SingleByteTable.{SingleByteTable};
 ghost use Rattle.mail_address.specs.Encode.{KnowUtf8};
-ghost use Rattle.mail_address.specs.Accepted.{AreAllAccepted};
-ghost use Rattle.mail_address.specs.Addresses.{addresses, element_at, element_len};
+ghost use Rattle.mail_address.specs.Accepted.{IsAccepted};
+ghost use Rattle.mail_address.specs.Addresses.{EachElement, addresses, element_at, element_len};
 ghost use Rattle.mail_address.specs.Addresses.{Group, group, is_separator, items, single};
 ghost use Rattle.mail_address.specs.Enclosed.{IsEnclosed, IsInAngles};
-ghost use Rattle.mail_address.specs.Grammar.{FollowGrammar, IsMailbox};
+ghost use Rattle.mail_address.specs.Grammar.{IsByGrammar, IsMailbox};
 ghost use Rattle.mail_address.specs.Groups.{GroupsFollow, IsGroup};
 ghost use Rattle.mail_address.specs.Headers.{addresses_of};
 ghost use Rattle.mail_address.specs.Mailbox.{Parts};
 ghost use Rattle.mail_address.specs.Names.{AreNameWords, bracketed, named};
 ghost use Rattle.mail_address.specs.Order.{AreInOrder, MakeUp};
-ghost use Rattle.mail_address.specs.Safe.{AreAllSafe};
+ghost use Rattle.mail_address.specs.Safe.{IsSafe};
 ghost use Rattle.mail_address.specs.Text.{phrase_text, quoted_text};
 ghost use Rattle.mail_address.specs.Tokens.{is_in, run};
 ghost use Rattle.mail_address.specs.Writer.{HaveTexts, are_writable, element_shows};
@@ -101,7 +101,7 @@ pub fn names_forge_nothing()
 /// mail_address::laws::mailboxes_are_those_of_the_grammar();
 /// ```
 pub fn mailboxes_are_those_of_the_grammar()
-    ensures elements { (raw : List ℕ) → FollowGrammar (addresses raw) }
+    ensures elements { (raw : List ℕ) → EachElement IsByGrammar (addresses raw) }
     ensures one { (text : List ℕ) (m n : Parts) → IsMailbox text m → IsMailbox text n → m ≡ n }
 {}
 
@@ -124,9 +124,9 @@ pub fn separators_separate()
         ≡ single (record { start = start; text = text; mailbox = Some m }) ∷ [] }
 {}
 
-/// A group whose members are mailboxes is read exactly if its text is one by a grammar of bytes (RFC
-/// 5322, sections 3.4 and 4.4; RFC 6854), and it has the members that the grammar gives it. The list
-/// goes on after it, and after the separator if one follows.
+/// A group whose members are mailboxes is read exactly if its text is one by a grammar of bytes
+/// (RFC 5322, sections 3.4 and 4.4; RFC 6854), and it has the members that the grammar gives it. The
+/// list goes on after it, and after the separator if one follows.
 ///
 /// # Examples
 ///
@@ -152,9 +152,9 @@ pub fn groups_are_those_of_the_grammar()
 /// mail_address::laws::addresses_contain_no_control();
 /// ```
 pub fn addresses_contain_no_control()
-    ensures value { (raw : List ℕ) → AreAllSafe (addresses raw) }
+    ensures value { (raw : List ℕ) → EachElement IsSafe (addresses raw) }
     ensures headers { (name : List ℕ) (headers : List Header) →
-        AreAllSafe (addresses_of name headers) }
+        EachElement IsSafe (addresses_of name headers) }
 {}
 
 /// Every address that is read can be written: `write_addresses` accepts the local part and the
@@ -167,9 +167,9 @@ pub fn addresses_contain_no_control()
 /// mail_address::laws::addresses_that_are_read_can_be_written();
 /// ```
 pub fn addresses_that_are_read_can_be_written()
-    ensures value { (raw : List ℕ) → AreAllAccepted (addresses raw) }
+    ensures value { (raw : List ℕ) → EachElement IsAccepted (addresses raw) }
     ensures headers { (name : List ℕ) (headers : List Header) →
-        AreAllAccepted (addresses_of name headers) }
+        EachElement IsAccepted (addresses_of name headers) }
 {}
 
 /// What `write_addresses` writes reads back: as many elements, in order, with the same names,

@@ -47,7 +47,8 @@ fn has_encoding(bytes: &[u8]) -> bool
 
 /// Returns whether there is nothing at an offset, or a byte that may follow an encoded word.
 fn may_end(bytes: &[u8], place: usize) -> bool
-    ensures { result ≡ (is_empty (drop place bytes.now) || begins may_follow (drop place bytes.now)) }
+    ensures { result
+        ≡ (is_empty (drop place bytes.now) || begins may_follow (drop place bytes.now)) }
 {
     if place >= bytes.len() {
         return true;

@@ -10,18 +10,15 @@ use Rattle.std.proofs.lemmas.Str.{encodes-append}
 use lib.Utf8.{encode, next}
 use Rattle.mail_codec.specs.Latin1.{latin1_text}
 use Rattle.mail_codec.specs.Places.{begins}
-use Rattle.mailparse.specs.Header.{Header}
-use Rattle.mailparse.specs.Map.{all_with_key}
 use Rattle.mailparse.specs.Value.{value_text}
 use Rattle.mail_address.specs.declared.tokens.Kind.{Kind}
 use Rattle.mail_address.specs.declared.tokens.Kind.TheVariants.{Atom, Blank, Comment, Dot, Literal}
 use Rattle.mail_address.specs.declared.writer.NewMailbox.{NewMailbox}
-use Rattle.mail_address.specs.Accepted.{AreAccepted, AreAllAccepted, bare_text, HasAddress, IsWrittenAgain}
-use Rattle.mail_address.specs.Addresses.{addresses, Element, group, items, items_within, Single, single}
+use Rattle.mail_address.specs.Accepted.{bare_text, HasAddress, IsAccepted, IsWrittenAgain}
+use Rattle.mail_address.specs.Addresses.{items, items_within, Single}
 use Rattle.mail_address.specs.Enclosed.{IsBetween, no_bytes, plain_byte, quoted_pair}
 use Rattle.mail_address.specs.Folding.{has_no_control, without_white}
-use Rattle.mail_address.specs.Grammar.{address, AreByGrammar, AreDotted, AreDotWords, atom, atoms, dot_word, dots_end, dotted, FollowGrammar, in_brackets, IsDomain, IsMailbox, IsPadded, IsWhite, IsWord, literal, literals, named_address, white_byte, white_comment, white_ends}
-use Rattle.mail_address.specs.Headers.{addresses_in, addresses_of}
+use Rattle.mail_address.specs.Grammar.{address, AreDotted, AreDotWords, atom, atoms, dot_word, dots_end, dotted, in_brackets, IsByGrammar, IsDomain, IsMailbox, IsPadded, IsWhite, IsWord, literal, literals, named_address, white_byte, white_comment, white_ends}
 use Rattle.mail_address.specs.Mailbox.{are_clean, is_clean, is_dotted, Parts}
 use Rattle.mail_address.specs.Text.{address_bytes, address_front, address_front_at, address_meaning, bare, front_len, local_text, needs_no_quotes}
 use Rattle.mail_address.specs.Tokens.{front_token, is_atom_byte, is_in, is_white}
@@ -30,7 +27,6 @@ use Rattle.mail_address.proofs.lemmas.Addresses.{items-more}
 use Rattle.mail_address.proofs.lemmas.Encode.{list_all-weaker}
 use Rattle.mail_address.proofs.lemmas.Enclosed.{ClosedToken, comment-closed, delimited, literal-closed}
 use Rattle.mail_address.proofs.lemmas.Folding.{clean-bare, text-no_control}
-use Rattle.mail_address.proofs.lemmas.GrammarLists.{elements-follow}
 use Rattle.mail_address.proofs.lemmas.GrammarRead.{dotted-read, prefix-whole, white-no_atom}
 use Rattle.mail_address.proofs.lemmas.Passed.{dot-front, white_byte-front}
 use Rattle.mail_address.proofs.lemmas.Text.{front_len-some, text-latin1, text-utf8}
@@ -345,27 +341,5 @@ mailbox-accepted : {text : List ℕ} {m : Parts} → IsMailbox text m → (new :
 mailbox-accepted (address {local = local} {domain = domain} _ is clean _) = address-accepted [] local domain is clean
 mailbox-accepted (named_address {name = name} {local = local} {domain = domain} _ _ _ is clean _ _) = address-accepted name local domain is clean
 
-singles-accepted : (ss : List Single) → AreByGrammar ss → AreAccepted ss
-singles-accepted [] are = tt
-singles-accepted (s ∷ ss) are = ((λ m new e. mailbox-accepted ((are.0 m).0 e) new), singles-accepted ss are.1)
-
-elements-accepted : (es : List Element) → FollowGrammar es → AreAllAccepted es
-elements-accepted [] are = tt
-elements-accepted (single s ∷ es) are = ((λ m new e. mailbox-accepted ((are.0 m).0 e) new), elements-accepted es are.1)
-elements-accepted (group g ∷ es) are = (singles-accepted g.members are.0, elements-accepted es are.1)
-
-pub addresses-accepted : (raw : List ℕ) → AreAllAccepted (addresses raw)
-addresses-accepted raw = elements-accepted (addresses raw) (elements-follow raw)
-
-accepted-append : (xs ys : List Element) → AreAllAccepted xs → AreAllAccepted ys → AreAllAccepted (xs ++ ys)
-accepted-append [] ys first second = second
-accepted-append (single s ∷ xs) ys first second = (first.0, accepted-append xs ys first.1 second)
-accepted-append (group g ∷ xs) ys first second = (first.0, accepted-append xs ys first.1 second)
-
-headers-accepted : (headers : List Header) → AreAllAccepted (addresses_in headers)
-headers-accepted [] = tt
-headers-accepted (h ∷ headers) = accepted-append (addresses h.value) (addresses_in headers) (addresses-accepted h.value) (headers-accepted headers)
-
-pub named-accepted : (name : List ℕ) (headers : List Header) → AreAllAccepted (addresses_of name headers)
-unfolding addresses_of
-named-accepted name headers = headers-accepted (all_with_key name headers)
+pub single-accepted : (s : Single) → IsByGrammar s → IsAccepted s
+single-accepted s is m new e = mailbox-accepted ((is m).0 e) new
