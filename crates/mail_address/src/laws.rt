@@ -125,8 +125,8 @@ pub fn separators_separate()
 {}
 
 /// A group whose members are mailboxes is read exactly if its text is one by a grammar of bytes
-/// (RFC 5322, sections 3.4 and 4.4; RFC 6854), and it has the members that the grammar gives it. The
-/// list goes on after it, and after the separator if one follows.
+/// (RFC 5322, sections 3.4 and 4.4; RFC 6854), and it has the members that the grammar gives it.
+/// The list goes on after it, and after the separator if one follows.
 ///
 /// # Examples
 ///

@@ -78,8 +78,9 @@ pub fn flowed_text<K: KnownCharsets>(
     })
 }
 
-/// Returns the text of a part of this type, as `lenient::lenient_text` reads it, with each paragraph
-/// as one line if they flow: `flowed_text` is this for a part whose body is not decoded yet.
+/// Returns the text of a part of this type, as `lenient::lenient_text` reads it, with each
+/// paragraph as one line if they flow: `flowed_text` is this for a part whose body is not decoded
+/// yet.
 ///
 /// Returns the text itself if they do not flow, and otherwise allocates the new one.
 ///

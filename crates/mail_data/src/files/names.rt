@@ -15,8 +15,8 @@ const MOST_OF_ENDING: usize = 17;
 /// Returns the name of a file made safe: on a POSIX system it names a file in the directory where
 /// it is used, and no other. Names that Windows reserves, such as `NUL` and `C:x`, stay.
 ///
-/// Each `/`, `\` and control character, including NUL, becomes `_`. A name of more than 255 bytes is
-/// cut between characters, before its ending: the last dot and at most 16 bytes after it. If the
+/// Each `/`, `\` and control character, including NUL, becomes `_`. A name of more than 255 bytes
+/// is cut between characters, before its ending: the last dot and at most 16 bytes after it. If the
 /// result is empty, `.` or `..`, it becomes `_`. A name that is already safe stays as it is.
 /// Characters that change the text direction stay. Allocates the name and its characters.
 ///

@@ -54,8 +54,8 @@ pub fn date_of(text: &str) -> Result<i64, DateError>
 }
 
 /// Returns the seconds that `date_of` returns, and whether the zone of the date is known (RFC 5322,
-/// sections 3.3 and 4.3): false if there is no zone, if it is `-0000`, or if `date_of` does not know
-/// its name.
+/// sections 3.3 and 4.3): false if there is no zone, if it is `-0000`, or if `date_of` does not
+/// know its name.
 ///
 /// Does not allocate.
 ///
@@ -80,8 +80,8 @@ pub fn zoned_date_of(text: &str) -> Result<(i64, bool), DateError>
 }
 
 /// Returns the seconds that `date_of` returns, and the offset of the date's zone: the seconds by
-/// which its clocks are ahead of UTC, or `None` if `zoned_date_of` reports that the zone is not known
-/// (RFC 5322, sections 3.3 and 4.3).
+/// which its clocks are ahead of UTC, or `None` if `zoned_date_of` reports that the zone is not
+/// known (RFC 5322, sections 3.3 and 4.3).
 ///
 /// Does not allocate.
 ///

@@ -146,7 +146,8 @@ fn extended_text<K: KnownCharsets>(
     value: &str,
     known: &K,
 ) -> Result<String, AllocError>
-    ensures { IfOk result (λ text. string_bytes text ≡ extended_text (K.known known.now) value.now) }
+    ensures { IfOk result (λ text.
+        string_bytes text ≡ extended_text (K.known known.now) value.now) }
 {
     let mut bytes = Vec::new(alloc);
     percent_decode(text_in(value).as_bytes()).append_to(&mut bytes)?;
@@ -156,7 +157,8 @@ fn extended_text<K: KnownCharsets>(
     }
 }
 
-/// Returns the label of an extended value: the text before its first apostrophe, or the whole value.
+/// Returns the label of an extended value: the text before its first apostrophe, or the whole
+/// value.
 fn label_in(value: &str) -> &str
     ensures { result.now ≡ label_in value.now }
 {

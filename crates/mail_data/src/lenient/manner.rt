@@ -23,10 +23,10 @@ const PLAIN_NAME: &str = "text/plain";
 ///
 /// Comments in a `Content-Type` are left out, and a type without a readable name is plain text (RFC
 /// 2045, sections 5.1 and 5.2). Missing semicolons, closing quotes and apostrophes of extended
-/// values are put in, whose charset may be missing or unknown (RFC 2231, section 4). A boundary that
-/// contains a line end does not count, and a delimiter is a whole line (RFC 2046, section 5.1.1).
-/// No mail is refused: a message that `parse_mail` would refuse is kept as plain text without
-/// headers, and `refusal` returns why.
+/// values are put in, whose charset may be missing or unknown (RFC 2231, section 4). A boundary
+/// that contains a line end does not count, and a delimiter is a whole line (RFC 2046, section
+/// 5.1.1). No mail is refused: a message that `parse_mail` would refuse is kept as plain text
+/// without headers, and `refusal` returns why.
 ///
 /// # Examples
 ///
