@@ -3,14 +3,12 @@ use Rattle.std.specs.Prelude.{ℕ, zero, suc, ◌+◌, ◌-◌, true, false, ◌
 use Rattle.std.specs.Char.{is_ascii_alphabetic, is_ascii_whitespace}
 use Rattle.std.specs.List.{ends_with}
 use Rattle.std.specs.Prelude.{nat_eq}
-use Rattle.std.specs.Str.Lossy.{utf8_lossy}
 use Rattle.mail_codec.specs.Ascii.{greater_than, less_than, slash}
 use Rattle.mail_codec.specs.Places.{begins, first_place, is_empty, trimmed_at_end, trimmed_at_start}
 use Rattle.mail_html.specs.Elements.{add_tag, kind_of}
 use Rattle.mail_html.specs.Layout.{State, add_text}
 use Rattle.mail_html.specs.References.{reference, value_text}
 use Rattle.mail_html.specs.Tags.{contents_length, declaration_length, name_length, past_byte, tag_length, value_named}
-use Rattle.mail_html.specs.declared.layout.Gap.TheVariants.{Nothing}
 use Rattle.mail_html.specs.declared.elements.Kind.{Kind}
 use Rattle.mail_html.specs.declared.elements.Kind.TheVariants.{Image, Hidden, Foreign}
 use Rattle.mail_html.specs.declared.references.References.{References}
@@ -98,7 +96,3 @@ state_after (suc taken) references state (b ∷ rest) = state_after taken refere
 state_after zero references state (b ∷ rest) =
     let step = front_step references state (b ∷ rest) in
     state_after (step.1 - 1) references step.0 rest
-
--- the text of HTML
-unfoldable pub html_text : References → List ℕ → List ℕ
-html_text references html = utf8_lossy (state_after 0 references ([], Nothing, false) html).0

@@ -4,4 +4,6 @@ pub mod ReferenceViews
 pub mod Layout
 pub mod Elements
 pub mod Html
+pub mod Links
+pub mod Text
 pub mod Plain

@@ -1,6 +1,6 @@
-//! The text of HTML.
-ghost use Rattle.std.specs.Prelude.{◌≡◌, ◌+◌, ◌<◌, ◌≤◌, false, [], length, IfOk, encode_utf8, string_bytes};
-ghost use Rattle.mail_html.specs.Html.{bracketed, end_step, front_step, hidden_length, html_text, literal_step, markup_step, reference_step, shown_for, start_step, state_after, text_length};
+//! The text of HTML, without its links.
+ghost use Rattle.std.specs.Prelude.{◌≡◌, ◌+◌, ◌<◌, ◌≤◌, false, [], length, IfOk, encode_utf8};
+ghost use Rattle.mail_html.specs.Html.{bracketed, end_step, front_step, hidden_length, literal_step, markup_step, reference_step, shown_for, start_step, state_after, text_length};
 ghost use Rattle.mail_html.specs.Layout.{state_of, with_text};
 ghost use Rattle.mail_html.specs.ReferenceViews.{referred_text};
 ghost use Rattle.mail_html.specs.declared.elements.Kind.TheVariants.{Foreign, Image};
@@ -17,48 +17,15 @@ use std::alloc::{AllocError, Global};
 
 /// The layout after what is at the front of bytes, and how many bytes that takes.
 #[derive(Clone, Copy)]
-struct Step {
+pub(crate) struct Step {
     /// The layout.
-    layout: Layout,
+    pub(crate) layout: Layout,
     /// The number of bytes.
-    taken: usize,
-}
-
-/// Returns the text of HTML, after the tokenizer of the HTML Standard (section 13.2.5), under the
-/// references that are known.
-///
-/// Text in elements such as `p`, `div` and `li` is on lines of its own, cells of tables are
-/// separated by tabs, and the alternative text of an image is in brackets. Whitespace collapses
-/// except in `pre`. Comments and the contents of `script`, `style`, `template`, `noscript`, `svg`
-/// and `math` are no text. No text is refused; nothing here makes HTML safe. Allocates the text.
-///
-/// # Errors
-///
-/// `AllocError` if it runs out of memory.
-///
-/// # Examples
-///
-/// ```rust
-/// use mail_html::{References, html_text};
-///
-/// let references = References::standard();
-/// let html = "<style>p { color: red }</style><p>2 &lt; 3<br>a  b <img alt=\"c\" src=\"d\">";
-/// assert_eq!(rt; html_text(alloc, html, &references)?.as_str(), "2 < 3\na b [c]");
-/// ```
-pub fn html_text(
-    alloc: Global,
-    html: &str,
-    references: &References<'_>,
-) -> Result<String, AllocError>
-    ensures { IfOk result (λ text. string_bytes text ≡ html_text references.now html.now) }
-{
-    let bytes = text_bytes(alloc, html.as_bytes(), references)?;
-    let text = String::from_utf8_lossy(alloc, bytes.as_slice())?;
-    Ok(text)
+    pub(crate) taken: usize,
 }
 
 /// Returns the bytes of the text of HTML.
-fn text_bytes(
+pub(crate) fn text_bytes(
     alloc: Global,
     html: &[u8],
     references: &References<'_>,
@@ -81,7 +48,7 @@ fn text_bytes(
 }
 
 /// Appends the text of what is at the front of bytes.
-fn push_front(
+pub(crate) fn push_front(
     alloc: Global,
     text: &mut Vec<u8>,
     layout: Layout,

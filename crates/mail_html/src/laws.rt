@@ -1,25 +1,28 @@
 //! What the definitions mean, as laws over all texts.
 //!
 //! Each function does nothing; its contract is the law.
-ghost use Rattle.std.specs.Prelude.{◌≡◌, ◌+◌, ◌∷◌, [], true, false, ℕ, Bool, List, All, IsUtf8, take, drop};
+ghost use Rattle.std.specs.Prelude.{◌≡◌, ◌+◌, ◌∷◌, ◌++◌, [], true, false, ℕ, Bool, List};
+ghost use Rattle.std.specs.Prelude.{All, IsUtf8, codes, length, take, drop};
 ghost use Rattle.std.specs.Char.{is_ascii_alphabetic};
 ghost use Rattle.mail_codec.specs.Places.{begins};
 ghost use Rattle.mail_html.specs.Elements.{kind_of};
-ghost use Rattle.mail_html.specs.Html.{front_step, html_text, state_after};
+ghost use Rattle.mail_html.specs.Html.{front_step, state_after};
 ghost use Rattle.mail_html.specs.Layout.{State};
 ghost use Rattle.mail_html.specs.Plain.{is_plain, separators};
 ghost use Rattle.mail_html.specs.References.{reference};
 ghost use Rattle.mail_html.specs.Tags.{contents_length, name_length, tag_length};
+ghost use Rattle.mail_html.specs.Text.{html_text};
 ghost use Rattle.mail_html.specs.declared.elements.Kind.TheVariants.{Hidden};
 ghost use Rattle.mail_html.specs.declared.layout.Gap.TheVariants.{Nothing};
+ghost use Rattle.mail_html.specs.declared.links.Links.{Links};
 ghost use Rattle.mail_html.specs.declared.references.References.{References};
 
 /// A text without `<` and `&` whose only whitespace is single spaces between other characters is
-/// its own text.
+/// its own text, whatever becomes of links.
 #[tactic(auto, using(crate::proofs::lemmas::Laws::plain_is))]
 pub fn plain_text_stays()
-    ensures { (references : References) (text : List ℕ) → IsUtf8 text → is_plain text ≡ true
-        → html_text references text ≡ text }
+    ensures { (links : Links) (references : References) (text : List ℕ)
+        → IsUtf8 text → is_plain text ≡ true → html_text links references text ≡ text }
 {}
 
 /// A start tag of a hidden element, such as `script`, takes its contents up to its end tag, or to
@@ -34,6 +37,31 @@ pub fn hidden_contents_are_no_text()
           1 + (tag_length bytes
               + contents_length (take (name_length bytes) bytes) (drop (tag_length bytes) bytes)),
         ) }
+{}
+
+/// What follows a hidden element, such as `script`, is read as if the element were not there:
+/// neither its start tag nor its contents change what is written.
+#[tactic(auto, using(crate::proofs::lemmas::Html::hidden_left))]
+pub fn hidden_elements_leave_nothing()
+    ensures { (references : References) (state : State) (bytes : List ℕ)
+        → begins is_ascii_alphabetic bytes ≡ true
+        → kind_of (take (name_length bytes) bytes) ≡ Hidden
+        → state_after 0 references state (60 ∷ bytes) ≡ state_after 0 references state
+        (drop (tag_length bytes
+        + contents_length (take (name_length bytes) bytes) (drop (tag_length bytes) bytes))
+        bytes) }
+{}
+
+/// Nothing between `<script` and its end tag is in the text: whatever was read before a script,
+/// what follows it is read as if the script were not there.
+#[tactic(auto, using(crate::proofs::lemmas::Html::script_left))]
+pub fn scripts_leave_nothing()
+    ensures { (references : References) (state : State) (contents after : List ℕ)
+        → contents_length (codes "script") (contents ++ (codes "</script>" ++ after))
+        ≡ length contents
+        → state_after 0 references state
+        (codes "<script>" ++ (contents ++ (codes "</script>" ++ after)))
+        ≡ state_after 0 references state after }
 {}
 
 /// Each byte that is written is in the text, in the text of a reference, or is a separator: a test

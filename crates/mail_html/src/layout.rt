@@ -67,7 +67,7 @@ pub(crate) fn one_more_line(gap: Gap) -> Gap
 }
 
 /// Appends a gap, unless there is no text before it.
-fn push_gap(text: &mut Vec<u8>, gap: Gap) -> Result<(), AllocError>
+pub(crate) fn push_gap(text: &mut Vec<u8>, gap: Gap) -> Result<(), AllocError>
     ensures { OnOk result (text.new.items ≡ with_gap text.old.items gap) }
 {
     if text.is_empty() {

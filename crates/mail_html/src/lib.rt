@@ -9,10 +9,10 @@
 //! # Examples
 //!
 //! ```rust
-//! use mail_html::{References, html_text};
+//! use mail_html::{Links, References, html_text};
 //!
 //! let references = References::standard();
-//! let text = html_text(alloc, "<p>Fish &amp;\n chips</p><p>Tea", &references)?;
+//! let text = html_text(alloc, "<p>Fish &amp;\n chips</p><p>Tea", Links::Omitted, &references)?;
 //! assert_eq!(rt; text.as_str(), "Fish & chips\n\nTea");
 //! ```
 #![tactic(auto)]
@@ -21,10 +21,13 @@ mod elements;
 mod html;
 pub mod laws;
 mod layout;
+mod links;
 mod named;
 mod references;
 mod scans;
 mod tags;
+mod text;
 
-pub use self::html::html_text;
+pub use self::links::Links;
 pub use self::references::References;
+pub use self::text::html_text;

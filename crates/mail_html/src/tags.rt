@@ -1,5 +1,5 @@
 //! Tags with their attributes, comments and other markup, by where they end.
-ghost use Rattle.std.specs.Prelude.{◌≡◌, ◌+◌, ◌-◌, ◌<◌, ◌≤◌, length};
+ghost use Rattle.std.specs.Prelude.{◌≡◌, true, ◌+◌, ◌-◌, ◌<◌, ◌≤◌, length};
 ghost use Rattle.mail_codec.specs.Places.{first_place};
 ghost use Rattle.mail_html.specs.Tags.{assigned, attribute, close_length, closes_comment, comment_length, contents_length, declaration_length, has_name, is_end_tag, name_length, past_byte, piece, quoted, tag_length, tag_rest_length, value, value_from, value_named};
 
@@ -249,8 +249,9 @@ fn is_end_tag(name: &[u8], bytes: &[u8]) -> bool
 }
 
 /// Returns whether bytes begin with the name of a tag, ignoring ASCII case.
-fn has_name(name: &[u8], bytes: &[u8]) -> bool
-    ensures { result ≡ has_name name.now bytes.now }
+pub(crate) fn has_name(name: &[u8], bytes: &[u8]) -> bool
+    ensures value { result ≡ has_name name.now bytes.now }
+    ensures some { result ≡ true → length name.now ≤ length bytes.now }
 {
     if bytes.len() < name.len() {
         return false;

@@ -1,6 +1,6 @@
 -- The text of HTML, a step at a time.
-use Rattle.std.proofs.Common.{◌≡◌, ◌∙◌, ℕ, zero, suc, ◌+◌, ◌-◌, ◌<◌, Bool, true, false, cond, List, [], ◌∷◌, take, drop, length, refl, sym, ap, arith, eqb-true}
-use Rattle.std.specs.Prelude.{◌==◌, ◌||◌}
+use Rattle.std.proofs.Common.{◌≡◌, ◌∙◌, ℕ, zero, suc, ◌+◌, ◌-◌, ◌<◌, Bool, true, false, cond, List, [], ◌∷◌, ◌++◌, take, drop, length, refl, sym, ap, arith, eqb-true}
+use Rattle.std.specs.Prelude.{◌==◌, ◌||◌, codes}
 use Rattle.std.specs.Char.{is_ascii_alphabetic}
 use Rattle.mail_codec.specs.Places.{begins, is_empty}
 use Rattle.mail_html.specs.Elements.{add_tag, kind_of}
@@ -155,3 +155,47 @@ hidden_step refs s bs letter hidden =
     sym (markup_start refs s bs (start_step refs s bs) letter refl)
     ∙ ap (λ (q : Kind). started refs s bs (name_length bs) (tag_length bs) q) hidden
     ∙ ap (λ (w : Written). ((w.0, w.1, s.2), taken)) (nothing_added s.2 (s.0, s.1))
+
+-- what follows a hidden element is read as if the element were not there
+pub hidden_left : (refs : References) (s : State) (bs : List ℕ) → begins is_ascii_alphabetic bs ≡ true → kind_of (take (name_length bs) bs) ≡ Hidden
+    → state_after 0 refs s (60 ∷ bs) ≡ state_after 0 refs s (drop (tag_length bs + contents_length (take (name_length bs) bs) (drop (tag_length bs) bs)) bs)
+hidden_left refs s bs letter hidden =
+    let n = tag_length bs + contents_length (take (name_length bs) bs) (drop (tag_length bs) bs) in
+    let e : 1 + n - 1 ≡ n = omega arith in
+    ap (λ (p : Step). state_after (p.1 - 1) refs p.0 bs) (hidden_step refs s bs letter hidden)
+    ∙ ap (λ (m : ℕ). state_after m refs s bs) e ∙ skips n refs s bs
+
+script_is_hidden : kind_of (codes "script") ≡ Hidden
+unfolding kind_of
+script_is_hidden = refl
+
+tag_of_script : (rest : List ℕ) → tag_length (codes "script>" ++ rest) ≡ 7
+unfolding tag_length
+tag_of_script rest = refl
+
+end_of_script : (refs : References) (s : State) (after : List ℕ) → front_step refs s (codes "</script>" ++ after) ≡ (s, 9)
+end_of_script refs s after =
+    sym (front_markup refs s (codes "</script>" ++ after) (s, 9) refl
+    (markup_end refs s (codes "/script>" ++ after) (s, 9) refl refl
+    (end_tag s s (codes "script>" ++ after) 6 7 Hidden refl refl (sym script_is_hidden) (sym (tag_of_script after)) refl)))
+
+-- a script, whose contents are those up to its end tag
+pub script_left : (refs : References) (s : State) (contents after : List ℕ)
+    → contents_length (codes "script") (contents ++ (codes "</script>" ++ after)) ≡ length contents
+    → state_after 0 refs s (codes "<script>" ++ (contents ++ (codes "</script>" ++ after))) ≡ state_after 0 refs s after
+script_left refs s contents after same =
+    let rest = contents ++ (codes "</script>" ++ after) in
+    let bs = codes "script>" ++ rest in
+    hidden_left refs s bs refl script_is_hidden
+    ∙ ap (λ (m : ℕ). state_after 0 refs s (drop (m + contents_length (codes "script") (drop m bs)) bs)) (tag_of_script rest)
+    ∙ ap (λ (m : ℕ). state_after 0 refs s (drop m bs)) (seven (contents_length (codes "script") rest))
+    ∙ ap (λ (m : ℕ). state_after 0 refs s (drop m rest)) same
+    ∙ ap (λ (bytes : List ℕ). state_after 0 refs s bytes) (drop-length-append contents (codes "</script>" ++ after))
+    ∙ ap (λ (p : Step). state_after (p.1 - 1) refs p.0 (codes "/script>" ++ after)) (end_of_script refs s after)
+  where
+    seven : (n : ℕ) → 7 + n ≡ suc (suc (suc (suc (suc (suc (suc n))))))
+    seven n = omega arith
+
+    drop-length-append : (xs ys : List ℕ) → drop (length xs) (xs ++ ys) ≡ ys
+    drop-length-append [] ys = refl
+    drop-length-append (x ∷ xs) ys = drop-length-append xs ys

@@ -7,13 +7,18 @@ use Rattle.std.specs.Str.Lossy.{utf8_lossy}
 use Rattle.std.proofs.lemmas.Bool.{and_parts, cases_Bool}
 use Rattle.std.proofs.lemmas.Str.{utf8_lossy-IsUtf8}
 use Rattle.mail_codec.specs.Places.{begins, first_place}
-use Rattle.mail_html.specs.Html.{Step, front_step, html_text, literal_step, state_after, text_length}
+use Rattle.mail_html.specs.Html.{Step, front_step, literal_step, state_after, text_length, trimmed}
 use Rattle.mail_html.specs.Layout.{State, Written, wider, with_collapsed, with_gap, with_text}
+use Rattle.mail_html.specs.Links.{Linked, add_link, add_target, linked_after, target_at, with_notes}
 use Rattle.mail_html.specs.Plain.{begins_markup, is_plain, is_plain_after}
 use Rattle.mail_html.specs.declared.layout.Gap.{Gap}
 use Rattle.mail_html.specs.declared.layout.Gap.TheVariants.{Nothing, Space}
+use Rattle.mail_html.specs.Text.{html_text}
+use Rattle.mail_html.specs.declared.links.Links.{Links}
+use Rattle.mail_html.specs.declared.links.Links.TheVariants.{Omitted, Footnotes}
 use Rattle.mail_html.specs.declared.references.References.{References}
 use Rattle.mail_html.proofs.lemmas.Html.{front_text, text_of}
+use Rattle.mail_html.proofs.lemmas.Links.{no_tag}
 
 -- a space is a gap, and any other byte of plain text is written
 space_step : (made : List ℕ) (gap : Gap) (b : ℕ) → b ≡ 32 → with_collapsed (made, gap) b ≡ (made, wider gap Space)
@@ -121,19 +126,45 @@ neither b h = by_cases (b == 60) (b == 38) h
     by_cases true y h = (h, absurd (cc))
     by_cases false y h = (refl, h)
 
-pub plain_is : (refs : References) (text : List ℕ) → IsUtf8 text → is_plain text ≡ true → html_text refs text ≡ text
-unfolding html_text with_text
-plain_is refs [] utf8 h = utf8_lossy-IsUtf8 [] utf8
-plain_is refs (b ∷ rest) utf8 h =
-    let p = plain_first b rest h in
-    let n = neither b p.0 in
-    let start : State = ([], Nothing, false) in
-    let all : text_length (b ∷ rest) ≡ length (b ∷ rest) = no_markup (b ∷ rest) true h in
-    let front : ((b ∷ rest, Nothing, false), length (b ∷ rest)) ≡ front_step refs start (b ∷ rest) =
-    front_text refs start (b ∷ rest) _ n.0 n.1
-    (text_of (b ∷ rest) start _ (length (b ∷ rest)) (sym all)
-    (ap (λ (w : Written). ((w.0, w.1, false), length (b ∷ rest))) (sym p.1)
-    ∙ ap (λ (t : List ℕ). literal_step t start) (sym (all_taken (b ∷ rest))))) in
-    let done : state_after 0 refs start (b ∷ rest) ≡ (b ∷ rest, Nothing, false) =
-    ap (λ (s : Step). state_after (s.1 - 1) refs s.0 rest) (sym front) ∙ nothing_left (length (b ∷ rest) - 1) refs (b ∷ rest, Nothing, false) rest (omega arith) in
-    ap (λ (s : State). utf8_lossy s.0) done ∙ utf8_lossy-IsUtf8 (b ∷ rest) utf8
+-- what is written of it, and of its links, which it does not have
+nothing_linked : (n : ℕ) (refs : References) (l : Linked) (bs : List ℕ) → length bs ≤ n → linked_after n refs l bs ≡ l
+nothing_linked n refs l [] h = refl
+nothing_linked zero refs l (b ∷ bs) h = absurd (omega arith)
+nothing_linked (suc n) refs l (b ∷ bs) h = nothing_linked n refs l bs (omega arith)
+
+no_target : (refs : References) (b : ℕ) (rest : List ℕ) (l : Linked) → (b == 60) ≡ false → add_link (target_at refs (b ∷ rest)) l ≡ l
+unfolding add_link
+no_target refs b rest l other = ap (λ (t : List ℕ). add_target (trimmed t) l) (sym (no_tag refs (b ∷ rest) other))
+
+module _ (refs : References) (b : ℕ) (rest : List ℕ) (h : is_plain (b ∷ rest) ≡ true) where
+  start : State
+  start = ([], Nothing, false)
+
+  front : ((b ∷ rest, Nothing, false), length (b ∷ rest)) ≡ front_step refs start (b ∷ rest)
+  unfolding with_text start
+  front =
+      let p = plain_first b rest h in
+      let n = neither b p.0 in
+      let all : text_length (b ∷ rest) ≡ length (b ∷ rest) = no_markup (b ∷ rest) true h in
+      front_text refs start (b ∷ rest) _ n.0 n.1
+      (text_of (b ∷ rest) start _ (length (b ∷ rest)) (sym all)
+      (ap (λ (w : Written). ((w.0, w.1, false), length (b ∷ rest))) (sym p.1)
+      ∙ ap (λ (t : List ℕ). literal_step t start) (sym (all_taken (b ∷ rest)))))
+
+  omitted : state_after 0 refs ([], Nothing, false) (b ∷ rest) ≡ (b ∷ rest, Nothing, false)
+  unfolding start
+  omitted = ap (λ (s : Step). state_after (s.1 - 1) refs s.0 rest) (sym front) ∙ nothing_left (length (b ∷ rest) - 1) refs (b ∷ rest, Nothing, false) rest (omega arith)
+
+  linked : linked_after 0 refs (([], Nothing, false), [], 0) (b ∷ rest) ≡ ((b ∷ rest, Nothing, false), [], 0)
+  unfolding start
+  linked =
+      ap (λ (s : Step). linked_after (s.1 - 1) refs (add_link (target_at refs (b ∷ rest)) (s.0, [], 0)) rest) (sym front)
+      ∙ ap (λ (l : Linked). linked_after (length (b ∷ rest) - 1) refs l rest) (no_target refs b rest ((b ∷ rest, Nothing, false), [], 0) (neither b (plain_first b rest h).0).0)
+      ∙ nothing_linked (length (b ∷ rest) - 1) refs ((b ∷ rest, Nothing, false), [], 0) rest (omega arith)
+
+pub plain_is : (links : Links) (refs : References) (text : List ℕ) → IsUtf8 text → is_plain text ≡ true → html_text links refs text ≡ text
+unfolding html_text
+plain_is Omitted refs [] utf8 h = utf8_lossy-IsUtf8 [] utf8
+plain_is Footnotes refs [] utf8 h = utf8_lossy-IsUtf8 [] utf8
+plain_is Omitted refs (b ∷ rest) utf8 h = ap (λ (s : State). utf8_lossy s.0) (omitted refs b rest h) ∙ utf8_lossy-IsUtf8 (b ∷ rest) utf8
+plain_is Footnotes refs (b ∷ rest) utf8 h = ap (λ (l : Linked). utf8_lossy (with_notes l.0.0 l.1)) (linked refs b rest h) ∙ utf8_lossy-IsUtf8 (b ∷ rest) utf8
