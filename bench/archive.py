@@ -27,10 +27,10 @@ SHARD = 25_000
 TURNS = 5
 
 
-def ran(name, *words):
-    """Runs a program of the archive. Returns its seconds."""
+def ran(name, *arguments):
+    """Runs a program of the archive. Returns how many seconds it took."""
     begun = time.perf_counter()
-    ended = subprocess.run([sys.executable, os.path.join(EXAMPLES, name), *words], capture_output=True, text=True, check=False)
+    ended = subprocess.run([sys.executable, os.path.join(EXAMPLES, name), *arguments], capture_output=True, text=True, check=False)
     if ended.returncode > 1:  # 1 is a search that finds nothing
         sys.exit(ended.stderr)
     return time.perf_counter() - begun
@@ -104,8 +104,8 @@ def served(database):
     """Starts web.py. Returns the process and the address."""
     with socket.create_server(("127.0.0.1", 0)) as free:
         port = free.getsockname()[1]
-    words = [sys.executable, os.path.join(EXAMPLES, "web.py"), database, "--port", str(port)]
-    server = subprocess.Popen(words, stdout=subprocess.DEVNULL, stderr=subprocess.DEVNULL)
+    command = [sys.executable, os.path.join(EXAMPLES, "web.py"), database, "--port", str(port)]
+    server = subprocess.Popen(command, stdout=subprocess.DEVNULL, stderr=subprocess.DEVNULL)
     for _ in range(200):
         try:
             socket.create_connection(("127.0.0.1", port), 1).close()

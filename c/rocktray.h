@@ -279,7 +279,7 @@ uint32_t rocktray_ids(const void *text, size_t text_length, bool needs_at, void 
 uint32_t rocktray_date(const void *text, size_t text_length, int64_t *seconds, bool *is_zone_known);
 
 /* Reads the value of a Date header as rocktray_date does, and sets *offset to the seconds by which the clocks of its zone
- * are ahead of UTC: below 0 in the west of Greenwich, and 0 if the zone is not known. Unchanged if it is refused. */
+ * are ahead of UTC: negative west of Greenwich, and 0 if the zone is not known. Unchanged if it is refused. */
 uint32_t rocktray_date_and_offset(const void *text, size_t text_length, int64_t *seconds, int64_t *offset,
                                   bool *is_zone_known);
 

@@ -12,7 +12,7 @@ bench/fetch_real.sh fetches mails to compare. The programs must be built (tools/
 For each item it prints in how many mails it differs, in how many of these it is refused here and in how many
 by Python, and some of them: the mail, what is said here, and what Python says. The item `mail` are those that are
 refused whole. What both refuse counts as the same. An attachment whose Base64 is damaged has the size of what
-mail_jobs reads of it. The last line says how many mails agree in all. The status is 0 however many differ.
+mail_jobs reads of it. The last line says how many mails agree in all. The exit status is 0 however many differ.
 """
 import argparse
 import collections
@@ -82,11 +82,11 @@ def quoted(mail):
     return mail if mail.endswith(b"\n") else mail + b"\n"
 
 
-def ran(words, data):
-    """What a program writes of a mailbox, with the status 3, or 1, where a mail is refused."""
-    ended = subprocess.run(words, input=data, stdout=subprocess.PIPE, check=False)
+def ran(command, data):
+    """What a program writes of a mailbox, with exit status 3, or 1, if a mail is refused."""
+    ended = subprocess.run(command, input=data, stdout=subprocess.PIPE, check=False)
     if ended.returncode not in (0, 1, 3):
-        sys.exit(f"{words[0]} ended with status {ended.returncode}")
+        sys.exit(f"{command[0]} ended with exit status {ended.returncode}")
     return ended.stdout.decode("utf-8")
 
 

@@ -27,7 +27,7 @@ BAD_BOUNDARIES = [b"", b"a-b", b"b ", b" b", b"b\"", b"b\n", b"b:", b"\xc3\xa9",
 PIECES = [b"-", b"--", b"--b", b"--b1", b"--b10", b"--B", b"--0", b"--b--", b"b", b"1", b"\r", b"\n", b"\r\n", b"\n\r", b"\r\n\r\n",
           b":", b": ", b" ", b"A: 1\r\n", b"\0", b"\xff", b"=?", b"x", b"\t", b"--bb", b"\n--", b"\r--b"]
 
-# What the texts of --texts are made of: characters of one to four bytes, what has a meaning in a header, whitespace, marks.
+# The pieces of the texts of --texts: characters of one to four bytes, syntax of headers, whitespace, a byte order mark.
 PARTS = ["a", "Z9", "~", "\u00e9", "\u07ff", "\u20ac", "\ufffd", "\U0001f600", "\U0010ffff", " ", "  ", "=?", "?=", "=", "?", "=?utf-8?B?w6k=?=",
          "=?utf-8?Q?a?= ", "\r", "\n", "\r\n", "\r\n ", "\t", "\0", "\x1f", "\x7f", "\x80", "\x85", "\xa0", "\u2028", "\u3000", "\ufeff", ": ",
          "--b", "\n--b", "--b1"]

@@ -260,7 +260,7 @@ def test_nested_bytes(tmp_path):
 
 
 def test_refused_mails_inside(tmp_path):
-    """The line of a mail inside that is refused comes where the lines of its files would."""
+    """A mail inside that is refused has its line in the place of the lines of its files."""
     forwarded = b"Content-Type: message/rfc822\n\n"
     image = multipart(b"c", b"Content-Type: image/png\n\nimage")
     (tmp_path / "mail").write_bytes(multipart(b"b", forwarded + b" x\n", forwarded + image, b"Content-Type: image/gif\n\nlast"))

@@ -6,7 +6,7 @@
 #     . "$(dirname "$0")/arguments.sh"
 #
 # `--help` prints the help. Too few or too many arguments, and an unknown option, end the script with
-# status 2. What it sets: `script` (its name), `here` (this directory) and `top` (the repository).
+# exit status 2. What it sets: `script` (its name), `here` (this directory) and `top` (the repository).
 set -eu
 script=$(basename "$(readlink -f "$0")")
 here=$(dirname "$(readlink -f "$0")")

@@ -1,7 +1,7 @@
 #!/bin/sh
 # install_needs.sh: installs what the gate needs beyond the kit, Python 3, bash and Debian's own tools, and with --release
 # what only a release needs. As root on Debian it calls apt-get; otherwise, or if that fails, it names the packages that
-# are missing, and ends with status 1.
+# are missing, and ends with exit status 1.
 # If nothing is missing it takes a tenth of a second. Modules of Python are those of Debian's /usr/bin/python3.
 arguments='[--release]'
 . "$(dirname "$0")/arguments.sh"

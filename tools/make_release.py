@@ -27,7 +27,7 @@ from try_edits import stamps_in
 
 TOP = Path(__file__).resolve().parent.parent
 PROGRAMS = ("rocktray", "mail_show")
-# what the kit compiles of each crate that is in a release
+# the object or archive that the kit makes of each crate in a release
 COMPILED = {"rocktray": "rocktray.o", "mail_show": "mail_show.o", "mail_c": "libmail_c.a"}
 PROCESSOR = "x86-64-v2"
 # the system whose C library the programs are linked against, and what is taken of it
@@ -39,7 +39,7 @@ MIRROR = os.environ.get("MIRROR", "http://deb.debian.org/debian")
 # what the programs and libraries may need at run time
 NEEDED = {"libc.so.6", "ld-linux-x86-64.so.2"}
 DOCUMENTS = ("README.md", "CHANGELOG.md", "SECURITY.md", "LICENSE", "docs/C.md", "docs/SCRIPTS.md", "examples/attachments.c")
-# what is said of programs and libraries that are only packed
+# the entries of BUILD.json for programs and libraries that are only packed
 NOT_BUILT = {"proved_objects": {}, "linked_against": "nothing: packed as it was"}
 LICENCES = {"LICENSE-APACHE": "Apache-2.0", "LICENSE-MIT": "MIT", "LICENSE-UNICODE": "Unicode-3.0", "LICENSE-ZMIJ": "MIT"}
 

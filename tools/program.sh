@@ -1,5 +1,5 @@
 #!/bin/sh
-# program.sh NAME: prints where the program of the crate NAME is, a directory crates/NAME with src/main.rt.
+# program.sh NAME: prints the path of the program of the crate NAME, a directory crates/NAME with src/main.rt.
 #
 # If the program is missing or older than a source, the crate is proved and the program built first, with progress on
 # standard error (docs/CONTRIBUTING.md says how long). With BUILT=only in the environment a program that has to be built

@@ -1,6 +1,6 @@
 # What scripts of a checkout use without the kit; they source this file after they set `top`.
 
-# unpacked PATH: prints where a file of a release is that is unpacked at the top of the checkout. With the kit there is none.
+# unpacked PATH: prints the path of a file of a release that is unpacked at the top of the checkout. With the kit it fails.
 unpacked() {
     ! command -v rt > /dev/null || return 1
     for file in "$top"/rocktray-*/"$1"; do

@@ -35,7 +35,7 @@ TOLD = re.compile(r"^(fn|impl|struct|enum|trait) (\S+): (proved|not proved|no pr
 WAITS = re.compile(r"[:;] it (?:[^;]*?, which (?:is|are) not proved|waits for the proof of [^;]*)")
 ERROR = re.compile(r"^(?:\./)?(\S+?)/([^/\s]+:\d+:\d+): error: (.*)", re.M)
 FOLLOWS = re.compile(r"depends? on `[^`]+`, which was (?:rejected|not admitted)")
-# what an error says where a proof only names what an edit took away
+# the texts of errors in proofs that only name something that an edit removed
 IS_GONE = re.compile(r"has no field|is not in scope|has no `|was not admitted")
 Edit = namedtuple("Edit", "crate name functions changes")  # each change is a file, an old text and a new one
 

@@ -66,23 +66,23 @@ static inline void bench_work(const struct work *work, const char *bytes, size_t
     free(times);
 }
 
-/* Runs the command over the works of a reader; the last one has no name. Returns the status of the program. */
-static inline int bench(int count, char **words, const struct work *works)
+/* Runs the command over the works of a reader; the last one has no name. Returns the exit status. */
+static inline int bench(int count, char **arguments, const struct work *works)
 {
-    size_t rounds = count > 2 && !strcmp(words[1], "bench") ? strtoul(words[2], NULL, 10) : 0;
+    size_t rounds = count > 2 && !strcmp(arguments[1], "bench") ? strtoul(arguments[2], NULL, 10) : 0;
     size_t length;
     char *bytes;
     if (!rounds) {
-        fprintf(stderr, "usage: %s bench ROUNDS WORK..\n", words[0]);
+        fprintf(stderr, "usage: %s bench ROUNDS WORK..\n", arguments[0]);
         return 2;
     }
     bytes = bench_input(&length);
     for (int at = 3; at < count; at++) {
         const struct work *work = works;
-        while (work->name && strcmp(work->name, words[at]))
+        while (work->name && strcmp(work->name, arguments[at]))
             work++;
         if (!work->name) {
-            fprintf(stderr, "%s: no work has the name %s\n", words[0], words[at]);
+            fprintf(stderr, "%s: no work has the name %s\n", arguments[0], arguments[at]);
             return 2;
         }
         bench_work(work, bytes, length, rounds);

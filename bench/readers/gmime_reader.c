@@ -141,8 +141,8 @@ static const struct work works[] = {
     { NULL, NULL },
 };
 
-int main(int count, char **words)
+int main(int count, char **arguments)
 {
     g_mime_init();
-    return bench(count, words, works);
+    return bench(count, arguments, works);
 }

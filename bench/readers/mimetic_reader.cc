@@ -73,7 +73,7 @@ static const struct work works[] = {
     { NULL, NULL },
 };
 
-int main(int count, char **words)
+int main(int count, char **arguments)
 {
-    return bench(count, words, works);
+    return bench(count, arguments, works);
 }

@@ -44,7 +44,7 @@ select message_id, date, datetime(date, 'unixepoch'), sender, recipients, subjec
 from mails join copies on copies.rowid = (select min(rowid) from copies where mail = mails.id)
 where mails.id in (select value from json_each(?)) order by date desc
 """
-# the mails with words, and the number of them from which on it is faster to look through all mails in the order of time
+# the mails with words, and the number of them above which it is faster to look through all mails in the order of time
 MATCH = "mails.id in (select rowid from texts where texts match ?)"
 COMMON = 5000
 HIDDEN = re.compile("[\x00-\x1f\x7f-\x9f\u2028\u2029\u202a-\u202e\u2066-\u2069]")
@@ -140,7 +140,7 @@ def in_tree(found, order):
 
 
 def opened(path):
-    """Opens a slice for reading alone, in any thread."""
+    """Opens a slice for reading only, in any thread."""
     return sqlite3.connect(f"file:{urllib.parse.quote(path)}?mode=ro", uri=True, check_same_thread=False)
 
 

@@ -74,7 +74,7 @@ bool is_count(Py_ssize_t count, Py_ssize_t wanted);
 int take_size(size_t *size, PyObject *object);
 int take_name(const uint8_t **name, size_t *length, PyObject *object);
 
-/* Whether these bytes are read without Python's lock: they are many, and no thread can change them. */
+/* Whether these bytes are read without Python's lock: there are many, and no thread can change them. */
 bool is_read_freely(const struct input *input);
 
 /* Makes a call, with Python's lock or without it, and returns its code. */

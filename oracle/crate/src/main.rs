@@ -49,8 +49,8 @@ fn main() -> ExitCode {
 }
 
 fn run() -> Result<ExitCode, Fault> {
-    let words: Vec<String> = std::env::args().skip(1).collect();
-    let command = words.first().map_or("", String::as_str);
+    let arguments: Vec<String> = std::env::args().skip(1).collect();
+    let command = arguments.first().map_or("", String::as_str);
     if command == "batch" {
         batch()?;
         return Ok(ExitCode::SUCCESS);
@@ -60,12 +60,12 @@ fn run() -> Result<ExitCode, Fault> {
     let mut output = String::new();
     match command {
         "bench" => {
-            let rounds = words.get(1).and_then(|count| count.parse().ok());
-            let names = words.get(2..).unwrap_or_default();
+            let rounds = arguments.get(1).and_then(|count| count.parse().ok());
+            let names = arguments.get(2..).unwrap_or_default();
             bench::bench(&mut output, &input, rounds.unwrap_or(10), names);
         }
         "search" => {
-            let rounds = words.get(1).and_then(|count| count.parse().ok());
+            let rounds = arguments.get(1).and_then(|count| count.parse().ok());
             bench::search(&mut output, &input, rounds.unwrap_or(10));
         }
         "show" => match shown_mail(&input) {

@@ -9,19 +9,19 @@ use std::io::{Read, Write};
 use std::time::Instant;
 
 fn main() {
-    let words: Vec<String> = std::env::args().collect();
+    let arguments: Vec<String> = std::env::args().collect();
     let mut input = Vec::new();
     std::io::stdin().read_to_end(&mut input).unwrap();
-    if words.len() == 3 && words[1] == "text" {
-        let encoding = Encoding::for_label(words[2].as_bytes()).expect("a label");
+    if arguments.len() == 3 && arguments[1] == "text" {
+        let encoding = Encoding::for_label(arguments[2].as_bytes()).expect("a label");
         let text = encoding.decode_without_bom_handling(&input).0;
         std::io::stdout().write_all(text.as_bytes()).unwrap();
         return;
     }
-    if words.len() == 4 && words[1] == "time" {
-        let encoding = Encoding::for_label(words[3].as_bytes()).expect("a label");
+    if arguments.len() == 4 && arguments[1] == "time" {
+        let encoding = Encoding::for_label(arguments[3].as_bytes()).expect("a label");
         let mut least = f64::MAX;
-        for _ in 0..words[2].parse::<usize>().unwrap() {
+        for _ in 0..arguments[2].parse::<usize>().unwrap() {
             let start = Instant::now();
             let text = encoding.decode_without_bom_handling(&input).0;
             let spent = start.elapsed().as_nanos() as f64;
