@@ -23,7 +23,7 @@ fn is_label_byte(byte: u8) -> bool
     !(is_control(byte) || byte == b'?')
 }
 
-/// Returns how many bytes of a label are at the front.
+/// Returns the length of the label at the front.
 fn label_len(bytes: &[u8]) -> usize
     ensures value { result ≡ prefix_len is_label_byte bytes.now }
     ensures bounds { result ≤ length bytes.now }

@@ -124,7 +124,7 @@ fn plain_name_len(bytes: &[u8]) -> usize
     white + word_name_len(&bytes[white..])
 }
 
-/// Returns whether the bytes are none, or begin with a separator.
+/// Returns whether there are no bytes, or they begin with a separator.
 pub(crate) fn ends_single(level: Level, bytes: &[u8]) -> bool
     ensures { result ≡ ends_at (separates level) bytes.now }
 {

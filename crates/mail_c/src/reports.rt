@@ -86,7 +86,7 @@ fn block_records(alloc: Global, blocks: &[Block]) -> Result<FieldRecords, AllocE
     Ok(found)
 }
 
-/// Appends the records of the fields of blocks to none.
+/// Appends the records of the fields of blocks, if there are none yet.
 fn push_blocks(found: &mut FieldRecords, blocks: &[Block]) -> Result<(), AllocError>
     ensures { OnOk result (AreFields [] found.old →
         AreFields (entries_from 0 (map block_view blocks.now)) found.new) }

@@ -1,4 +1,4 @@
--- Which files are chosen, and the pattern by which a type or a name is; the program's own rule.
+-- Which files are chosen, and the patterns that types and names match; the program's own rule.
 use Rattle.std.specs.Prelude.{ℕ, Bool, true, false, ◌&&◌, ◌||◌, ◌==◌, List, [], ◌∷◌, Option, if◌then◌else◌}
 use Rattle.std.specs.Char.{to_ascii_lowercase}
 use Rattle.std.specs.Option.{option_map_or}

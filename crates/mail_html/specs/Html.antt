@@ -17,7 +17,7 @@ use Rattle.mail_html.specs.declared.references.References.{References}
 abbrev pub Step : Type 0
 Step = State × ℕ
 
--- text that is as long as its bytes
+-- bytes that are text as they are
 abbrev pub literal_step : List ℕ → State → Step
 literal_step text state = (add_text text state, length text)
 
@@ -54,14 +54,14 @@ start_step references state bytes =
       1 + (tag_length bytes + hidden_length kind name tag (drop (tag_length bytes) bytes)),
     )
 
--- what `</` begins: an end tag, itself at the end of the bytes, or all up to the first `>`
+-- the markup that `</` begins: an end tag, or all up to the first `>`; at the end of the bytes it is text
 unfoldable pub end_step : State → List ℕ → Step
 end_step state bytes =
     if begins is_ascii_alphabetic bytes
     then (add_tag false (kind_of (take (name_length bytes) bytes)) state, 2 + tag_length bytes)
     else if is_empty bytes then literal_step (codes "</") state else (state, 2 + past_byte bytes greater_than)
 
--- what `<` begins: a tag, a comment or another declaration, or itself
+-- the markup that `<` begins: a tag, a comment or another declaration; otherwise it is text
 unfoldable pub markup_step : References → State → List ℕ → Step
 markup_step references state bytes =
     if begins is_ascii_alphabetic bytes then start_step references state bytes
@@ -82,7 +82,7 @@ text_length bytes = first_place (begins (λ b. b == less_than || b == 0x26)) byt
 unfoldable pub text_step : State → List ℕ → Step
 text_step state bytes = literal_step (take (text_length bytes) bytes) state
 
--- what is at the front of bytes
+-- the markup, the reference or the run of text at the front of bytes
 unfoldable pub front_step : References → State → List ℕ → Step
 front_step references state bytes =
     if begins (λ b. b == less_than) bytes then markup_step references state (drop 1 bytes)

@@ -6,12 +6,12 @@ use Rattle.std.specs.Str.{str_eq_ignore_ascii_case}
 use Rattle.mail_codec.specs.Ascii.{apostrophe, equals_sign, greater_than, quote, slash}
 use Rattle.mail_codec.specs.Places.{begins, byte_place, first_place, has_prefix}
 
--- the length up to and including a byte at a place, or the whole length if there is no place
+-- the length up to and including the byte at an offset, or the whole length if there is no such byte
 abbrev pub length_past : Option ℕ → List ℕ → ℕ
 length_past None bytes = length bytes
 length_past (Some place) bytes = place + 1
 
--- the length up to and including the first of a byte, or the whole length if it does not occur
+-- the length up to and including the first occurrence of a byte, or the whole length if it does not occur
 abbrev pub past_byte : List ℕ → ℕ → ℕ
 past_byte bytes byte = length_past (byte_place bytes byte) bytes
 

@@ -15,7 +15,7 @@ use mail_codec::bytescan::find_either;
 use mail_codec::charset::decoder::put_char;
 use std::alloc::{AllocError, Global};
 
-/// The layout after what is at the front of bytes, and how many bytes that takes.
+/// The layout after the front of some bytes, and the number of these bytes.
 #[derive(Clone, Copy)]
 pub(crate) struct Step {
     /// The layout.
@@ -47,7 +47,7 @@ pub(crate) fn text_bytes(
     Ok(text)
 }
 
-/// Appends the text of what is at the front of bytes.
+/// Appends the text of the markup, the reference or the run of text at the front of bytes.
 pub(crate) fn push_front(
     alloc: Global,
     text: &mut Vec<u8>,
@@ -85,7 +85,7 @@ fn text_length(bytes: &[u8]) -> usize
     }
 }
 
-/// Appends text that takes as many bytes.
+/// Appends bytes as text, and returns the step over them.
 fn push_literal(text: &mut Vec<u8>, layout: Layout, bytes: &[u8]) -> Result<Step, AllocError>
     ensures { IfOk result (λ step. (state_of text.new.items step.layout, step.taken)
         ≡ literal_step bytes.now (state_of text.old.items layout)) }
@@ -100,7 +100,7 @@ fn push_literal(text: &mut Vec<u8>, layout: Layout, bytes: &[u8]) -> Result<Step
     })
 }
 
-/// Appends the text of the reference by bytes after an ampersand.
+/// Appends the text of the reference that an ampersand before the bytes begins.
 fn push_reference(
     text: &mut Vec<u8>,
     layout: Layout,
@@ -148,7 +148,7 @@ fn push_character(text: &mut Vec<u8>, layout: Layout, character: char) -> Result
     push_text(text, layout, &buffer[..end])
 }
 
-/// Appends the text of what `<` begins.
+/// Appends the text of the markup that a `<` before the bytes begins.
 fn push_markup(
     alloc: Global,
     text: &mut Vec<u8>,
@@ -179,7 +179,7 @@ fn push_markup(
     Ok(literal)
 }
 
-/// Appends the text of what `</` begins.
+/// Appends the text of the markup that a `</` before the bytes begins.
 fn push_end(text: &mut Vec<u8>, layout: Layout, bytes: &[u8]) -> Result<Step, AllocError>
     ensures read { IfOk result (λ step. (state_of text.new.items step.layout, step.taken)
         ≡ end_step (state_of text.old.items layout) bytes.now) }
@@ -289,7 +289,7 @@ fn push_alternative(
     Ok(gap)
 }
 
-/// Returns a text in brackets, or no text for none.
+/// Returns a text in brackets, or an empty text if it is empty.
 fn bracketed(alloc: Global, text: &[u8]) -> Result<Vec<u8>, AllocError>
     ensures { IfOk result (λ shown. shown.items ≡ bracketed text.now) }
 {

@@ -1,7 +1,7 @@
 //! The text of HTML, for search and for reading.
 //!
 //! Tags, attributes, comments and character references are read as in the HTML Standard (section
-//! 13.2.5); what differs is in RULES.md, "The text of HTML". There is no tree, no style and no
+//! 13.2.5); RULES.md, "The text of HTML", lists the differences. There is no tree, no style and no
 //! rendering, and nothing here makes HTML safe.
 //!
 //! The examples assume a function that has the runtime `rt` and its allocator `alloc`.

@@ -302,7 +302,7 @@ fn read_named<'t>(references: &References<'t>, in_value: bool, bytes: &[u8]) -> 
     }
 }
 
-/// Returns the reference by bytes after an ampersand.
+/// Returns the reference that an ampersand before the bytes begins.
 pub(crate) fn read_reference<'t>(
     references: &References<'t>,
     in_value: bool,

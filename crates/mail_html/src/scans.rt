@@ -1,4 +1,4 @@
-//! What bytes begin with, and how far a kind of bytes goes at their front.
+//! Tests of the front of bytes, and the length of a run of bytes of one kind there.
 ghost use Rattle.std.specs.Prelude.{◌≡◌, true, ◌<◌, ◌≤◌, ◌==◌, ◌||◌, length, drop};
 ghost use Rattle.std.specs.Char.{is_ascii_alphabetic, is_ascii_whitespace};
 ghost use Rattle.std.specs.Str.{str_eq_ignore_ascii_case};

@@ -29,7 +29,7 @@ struct Value<'t> {
     taken: usize,
 }
 
-/// Returns the length up to and including the first of a byte, or the whole length.
+/// Returns the length up to and including the first occurrence of a byte, or the whole length.
 pub(crate) fn past_byte(bytes: &[u8], byte: u8) -> usize
     ensures value { result ≡ past_byte bytes.now byte }
     ensures bounds { result ≤ length bytes.now }
@@ -230,7 +230,7 @@ fn comment_length(bytes: &[u8]) -> usize
     close + close_length(&bytes[close..])
 }
 
-/// Returns the length of what `<!` or `<?` begins, from its second byte.
+/// Returns the length of the markup that `<!` or `<?` begins, from its second byte.
 pub(crate) fn declaration_length(bytes: &[u8]) -> usize
     ensures value { result ≡ declaration_length bytes.now }
     ensures bounds { result ≤ length bytes.now }

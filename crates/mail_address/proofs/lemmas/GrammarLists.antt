@@ -63,7 +63,7 @@ element-follows start bytes =
 pub elements-follow : (raw : List ℕ) → EachElement IsByGrammar (addresses raw)
 elements-follow raw = items-hold element_at element_len (EachElement IsByGrammar) tt (elements-append IsByGrammar) element-follows 0 raw
 
--- what the grammar gives to an element without members, each that is read has
+-- a property that elements without members have by the grammar is one of each that is read
 module _ (P : Single → Type 0) (given : (s : Single) → IsByGrammar s → P s) where
   singles-have : (ss : List Single) → EachSingle IsByGrammar ss → EachSingle P ss
   singles-have [] are = tt

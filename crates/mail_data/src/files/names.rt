@@ -137,7 +137,7 @@ fn kept_ending(characters: &[char]) -> &[char]
     }
 }
 
-/// Returns the bytes that a few characters have.
+/// Returns the length of characters in bytes, of at most 17 of them.
 fn size(characters: &[char]) -> usize
     requires { length characters.now ≤ 17 }
     ensures value { result ≡ size characters.now }

@@ -22,7 +22,7 @@ pub fn mailboxes_join()
 {}
 
 /// Says that a mailbox may be read in equal parts, each with the mails whose separator begins in
-/// it: together they are all mails in order, each with its place.
+/// it: together they are all mails in order, each with its offset.
 pub fn mailbox_parts_join()
     ensures { (bytes : List ℕ) (count : ℕ) → 0 < count →
         flat_map (λ mails. mails) (values_below count (part_mails bytes count)) ≡ placed bytes }
@@ -38,7 +38,7 @@ pub fn mails_are_at_their_offsets()
         (placed_from (front_length bytes) (entries_in format bytes))) }
 {}
 
-/// Says that the mails that begin in a range of places are found without the bytes more than three
+/// Says that the mails that begin in a range of offsets are found without the bytes more than three
 /// before the range: an empty line of at most two bytes, and a LF, precede a separator.
 pub fn mailbox_range_stays()
     ensures { (bytes : List ℕ) (from to : ℕ) → from ≤ length bytes →

@@ -123,7 +123,7 @@ front_shown read more n q is_front line marked low =
     let marked_here : is_separator (drop q read) ≡ true = sym (separator-stays (drop q read) more there) ∙ ap is_separator (sym (drop-append-le q read more within)) ∙ marked in
     front_at read q (front_same read more q is_front (separator-stays read more (line_before read n line)) within marked marked_here) (before_text (drop q read) marked_here there)
 
--- no mail begins in a range of which the last line was read, but no separator before the end
+-- no mail begins in a range if its last line was read and no separator begins before its end
 none_found : (format : Format) (from to start n q : ℕ) (read more : List ℕ) → q ≡ front_length (read ++ more) → has_front read ≡ false → has_line (drop n read) ≡ true → to ≤ start + n
     → in_range from to (placed_from (start + q) (entries_by (length_in format) (drop q (read ++ more)))) ≡ []
 none_found format from to start n q read more is_front none line past = elim (cases_Bool (is_separator (drop q (read ++ more)))) [

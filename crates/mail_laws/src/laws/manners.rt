@@ -17,8 +17,9 @@ pub fn nothing_is_refused()
         IsOk (read_mail_as manner greatest mail) }
 {}
 
-/// A limit on messages and headers refuses a mail that would be read exactly if its tree has more, and
-/// changes nothing else of it. No such limit reads a mail that is refused without it.
+/// A mail that is read without a limit on messages and headers is read the same with it, unless its
+/// tree has more of them: then it is refused. A mail that is refused without a limit is refused
+/// with it.
 pub fn limits_count_items()
     ensures read { (manner : Manner) (greatest most : ℕ) (mail : List ℕ) (parsed : Tree) →
         read_mail_as manner greatest mail ≡ Ok parsed → items_within parsed ≤ most →
