@@ -399,7 +399,7 @@ pub fn attachments<'m, 'a, K: KnownCharsets>(
         (Ok (attachments (K.known known.now) (tree_of mail.now))) }
 {
     let mut found = Vec::new(alloc);
-    push_places(alloc, mail, whole_path(mail), &mut found)?;
+    push_places(alloc, &mut found, mail, whole_path(mail))?;
     let mut files = Vec::new(alloc);
     for place in found {
         if is_attachment(alloc, place.part, known)? {

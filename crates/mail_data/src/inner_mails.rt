@@ -126,7 +126,7 @@ pub fn inner_mails_as<M: ReadingManner>(
         (placements_of mail.now))) }
 {
     let mut mails = Vec::new(alloc);
-    push_inner(alloc, mail, "", Some(0), MAX_LEVELS, manner, &mut mails)?;
+    push_inner(alloc, &mut mails, mail, "", Some(0), MAX_LEVELS, manner)?;
     Ok(mails)
 }
 
@@ -134,12 +134,12 @@ pub fn inner_mails_as<M: ReadingManner>(
 /// contains that mail and its offset.
 fn push_inner<M: ReadingManner>(
     alloc: Global,
+    mails: &mut Vec<InnerMail>,
     mail: &ParsedMail<'_>,
     path: &str,
     start: Option<usize>,
     most: u8,
     manner: &M,
-    mails: &mut Vec<InnerMail>,
 ) -> Result<(), MailParseError>
     ensures written { OnOk result (map inner_view mails.new.items ≡ map inner_view mails.old.items
         ++ inner_mails_as (M.manner manner.now) most path.now start (tree_of mail.now)
@@ -157,18 +157,18 @@ fn push_inner<M: ReadingManner>(
             let at = mail_start(start, place, &body);
             match parse_mail_as(alloc, bytes.as_slice(), MAX_LEVELS, manner) {
                 Ok(inside) => {
-                    push_mail(alloc, place, bytes.as_slice(), at, None, mails)?;
+                    push_mail(alloc, mails, place, bytes.as_slice(), at, None)?;
                     push_inner(
                         alloc,
+                        mails,
                         &inside,
                         place.path.as_str(),
                         at,
                         most - 1,
                         manner,
-                        mails,
                     )?;
                 }
-                Err(error) => push_refused(alloc, place, bytes.as_slice(), at, error, mails)?,
+                Err(error) => push_refused(alloc, mails, place, bytes.as_slice(), at, error)?,
             }
         }
     }
@@ -232,11 +232,11 @@ fn held_bytes(alloc: Global, body: &Body<'_>) -> Result<Vec<u8>, MailParseError>
 /// Appends a mail that is refused with this error, unless that is out of memory.
 fn push_refused(
     alloc: Global,
+    mails: &mut Vec<InnerMail>,
     place: &Place<'_, '_>,
     bytes: &[u8],
     start: Option<usize>,
     error: MailParseError,
-    mails: &mut Vec<InnerMail>,
 ) -> Result<(), MailParseError>
     ensures written { OnOk result (map inner_view mails.new.items
         ≡ map inner_view mails.old.items ++ record {
@@ -250,18 +250,18 @@ fn push_refused(
 {
     match error {
         MailParseError::Memory(error) => Err(MailParseError::Memory(error)),
-        error => Ok(push_mail(alloc, place, bytes, start, Some(error), mails)?),
+        error => Ok(push_mail(alloc, mails, place, bytes, start, Some(error))?),
     }
 }
 
 /// Appends the mail in a part.
 fn push_mail(
     alloc: Global,
+    mails: &mut Vec<InnerMail>,
     place: &Place<'_, '_>,
     bytes: &[u8],
     start: Option<usize>,
     error: Option<MailParseError>,
-    mails: &mut Vec<InnerMail>,
 ) -> Result<(), AllocError>
     ensures { OnOk result (map inner_view mails.new.items
         ≡ map inner_view mails.old.items ++ record {
@@ -381,7 +381,7 @@ pub fn places_under<'m, 'a>(
 {
     let mut found = Vec::new(alloc);
     let path = path_within(alloc, path, mail)?;
-    push_places(alloc, mail, path.as_str(), &mut found)?;
+    push_places(alloc, &mut found, mail, path.as_str())?;
     Ok(found)
 }
 

@@ -56,28 +56,28 @@ pub fn places<'m, 'a>(
         ≡ places (tree_of mail.now) (placements_of mail.now)) }
 {
     let mut found = Vec::new(alloc);
-    push_places(alloc, mail, whole_path(mail), &mut found)?;
+    push_places(alloc, &mut found, mail, whole_path(mail))?;
     Ok(found)
 }
 
 /// Appends a message with this path, and then its parts.
 pub(crate) fn push_places<'m, 'a>(
     alloc: Global,
+    found: &mut Vec<Place<'m, 'a>>,
     mail: &'m ParsedMail<'a>,
     path: &str,
-    found: &mut Vec<Place<'m, 'a>>,
 ) -> Result<(), AllocError>
     ensures paths { OnOk result (map numbered_view found.new.items
         ≡ map numbered_view found.old.items ++ with_paths path.now (tree_of mail.now)) }
     ensures ranges { OnOk result (map placement_view found.new.items
         ≡ map placement_view found.old.items ++ placements_of mail.now) }
 {
-    push_place(alloc, mail, path, found)?;
+    push_place(alloc, found, mail, path)?;
     let mut number = 0;
     for part in &mail.subparts {
         number += 1;
         let path = path_under(alloc, path, number)?;
-        push_places(alloc, part, path.as_str(), found)?;
+        push_places(alloc, found, part, path.as_str())?;
     }
     Ok(())
 }
@@ -85,9 +85,9 @@ pub(crate) fn push_places<'m, 'a>(
 /// Appends a message with this path.
 fn push_place<'m, 'a>(
     alloc: Global,
+    found: &mut Vec<Place<'m, 'a>>,
     part: &'m ParsedMail<'a>,
     path: &str,
-    found: &mut Vec<Place<'m, 'a>>,
 ) -> Result<(), AllocError>
     ensures paths { OnOk result (map numbered_view found.new.items
         ≡ map numbered_view found.old.items ++ (path.now, tree_of part.now) ∷ []) }

@@ -34,15 +34,15 @@ fn is_utf8_type(kind: &str) -> bool
 
 /// Cuts a text at the first of these ASCII characters: the text before and after it, or `None` if
 /// there is none.
-fn cut_at(text: &str, mark: char) -> Option<(&str, &str)>
-    requires ascii { mark < 128 }
-    ensures value { option_map (λ p. (p.0.now, p.1.now)) result ≡ cut_at mark text.now }
-    ensures pieces { MatchOption result (slice_split (λ b. b == mark) text.now ≡ text.now ∷ [])
-        (λ p. slice_split (λ b. b == mark) text.now
-        ≡ p.0.now ∷ slice_split (λ b. b == mark) p.1.now) }
+fn cut_at(text: &str, delimiter: char) -> Option<(&str, &str)>
+    requires ascii { delimiter < 128 }
+    ensures value { option_map (λ p. (p.0.now, p.1.now)) result ≡ cut_at delimiter text.now }
+    ensures pieces { MatchOption result (slice_split (λ b. b == delimiter) text.now ≡ text.now ∷ [])
+        (λ p. slice_split (λ b. b == delimiter) text.now
+        ≡ p.0.now ∷ slice_split (λ b. b == delimiter) p.1.now) }
     ensures shorter { IfSome result (λ p. length p.1.now < length text.now) }
 {
-    text.split_once(mark)
+    text.split_once(delimiter)
 }
 
 /// Returns a text with the characters that are written as `\x{..}`.
