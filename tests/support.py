@@ -40,20 +40,20 @@ def program(name):
 
 
 def command(name):
-    """The words that start a subcommand of rocktray, or another program."""
+    """The command line that starts a subcommand of rocktray, or another program."""
     return [program("rocktray"), name] if name in SUBCOMMANDS else [program(name)]
 
 
 def run(command, data=b"", **options):
     """Runs a command on the bytes, for a minute at most."""
     options = {"capture_output": True, "timeout": 60, **options}
-    return subprocess.run([os.fspath(word) for word in command], input=data, **options)
+    return subprocess.run([os.fspath(argument) for argument in command], input=data, **options)
 
 
-def compiled(source, target, *words):
+def compiled(source, target, *arguments):
     """Compiles a source of C into the target, and returns the target."""
     compiler = (os.environ.get("CC") or "cc").split()
-    subprocess.run([*compiler, "-Wall", *words, "-o", str(target), str(source)], check=True)
+    subprocess.run([*compiler, "-Wall", *arguments, "-o", str(target), str(source)], check=True)
     return target
 
 

@@ -96,11 +96,11 @@ def make_archive(directory):
     ]
 
 
-def dask(stack, directory, name, *words):
+def dask(stack, directory, name, *arguments):
     """Starts a program of dask, which ends with the stack; what it says goes to a file of this name."""
     log = stack.enter_context(open(os.path.join(directory, name), "wb"))
     process = subprocess.Popen(
-        [sys.executable, "-m", "dask", *words], cwd=directory, stdout=log, stderr=log, env={**os.environ, **QUIET, **DASK}
+        [sys.executable, "-m", "dask", *arguments], cwd=directory, stdout=log, stderr=log, env={**os.environ, **QUIET, **DASK}
     )
     stack.callback(process.wait)
     stack.callback(process.terminate)
@@ -143,30 +143,30 @@ class Runs:
 
     def __init__(self, directory, scheduler):
         self.directory = directory
-        self.words = [os.path.join(directory, "mails"), "--program", os.path.join(directory, "rocktray"), "--bytes", "2000000"]
+        self.arguments = [os.path.join(directory, "mails"), "--program", os.path.join(directory, "rocktray"), "--bytes", "2000000"]
         self.scheduler = scheduler
 
-    def start(self, name, *words):
+    def start(self, name, *arguments):
         """Starts index_archive.py, which writes to the directory of this name."""
-        words = [os.path.join(EXAMPLES, "index_archive.py"), os.path.join(self.directory, name), *self.words, *words]
+        arguments = [os.path.join(EXAMPLES, "index_archive.py"), os.path.join(self.directory, name), *self.arguments, *arguments]
         environment = {**os.environ, **QUIET}
-        return subprocess.Popen([sys.executable, *words], stdout=subprocess.DEVNULL, stderr=subprocess.PIPE, env=environment)
+        return subprocess.Popen([sys.executable, *arguments], stdout=subprocess.DEVNULL, stderr=subprocess.PIPE, env=environment)
 
-    def index(self, name, *words):
+    def index(self, name, *arguments):
         """Runs it; returns its status and what it says."""
-        process = self.start(name, *(words or ["--scheduler", self.scheduler]))
+        process = self.start(name, *(arguments or ["--scheduler", self.scheduler]))
         told = process.communicate()[1].decode()
         return process.returncode, told
 
-    def call(self, name, *words):
+    def call(self, name, *arguments):
         """What another program writes."""
-        return subprocess.run([sys.executable, os.path.join(EXAMPLES, name), *words], capture_output=True, cwd=self.directory, check=False)
+        return subprocess.run([sys.executable, os.path.join(EXAMPLES, name), *arguments], capture_output=True, cwd=self.directory, check=False)
 
-    def search(self, *words):
+    def search(self, *arguments):
         """The subjects of the mails that a search finds."""
-        ended = self.call("search.py", "db", *words)
-        assert ended.returncode == (0 if ended.stdout else 1), f"search.py {words}"
-        assert not re.search(rb"[^\t\n -~\x80-\xff]", ended.stdout), f"search.py {words}: control characters"
+        ended = self.call("search.py", "db", *arguments)
+        assert ended.returncode == (0 if ended.stdout else 1), f"search.py {arguments}"
+        assert not re.search(rb"[^\t\n -~\x80-\xff]", ended.stdout), f"search.py {arguments}: control characters"
         return [line.split("\t")[2] for line in ended.stdout.decode().splitlines()]
 
     def path(self, name):
@@ -191,7 +191,7 @@ def stack():
 def wanted(directory):
     """The lines of one process over the archive."""
     calls = make_archive(directory)
-    lines = b"".join(run([program("rocktray"), "json", *words]).stdout for words in calls)
+    lines = b"".join(run([program("rocktray"), "json", *arguments]).stdout for arguments in calls)
     assert lines.count(b"\n") == MAILS + 10
     write(os.path.join(directory, "rocktray"), STAND_IN.format(directory=directory, json=program("rocktray")).encode())
     os.chmod(os.path.join(directory, "rocktray"), 0o755)
@@ -204,8 +204,8 @@ def scheduler(directory, stack):
     if importlib.util.find_spec("distributed") is None:
         missing("dask is missing (Debian: python3-distributed)")
     file = os.path.join(directory, "address")
-    words = ["--host", "127.0.0.1", "--port", "0", "--dashboard-address", "127.0.0.1:0", "--scheduler-file", file]
-    dask(stack, directory, "scheduler.log", "scheduler", *words)
+    arguments = ["--host", "127.0.0.1", "--port", "0", "--dashboard-address", "127.0.0.1:0", "--scheduler-file", file]
+    dask(stack, directory, "scheduler.log", "scheduler", *arguments)
     wait_for(lambda: os.path.exists(file), "the scheduler")
     return file
 
@@ -295,8 +295,8 @@ def test_packed(tmp_path):
         ("f.xz", b""), ("caf\udce9", mail), ("m/cur/1.gz", gzip.compress(mail)), ("m/cur/2.gz", mail),
     ):
         write(f"{tmp_path}/mails/{name}", data)
-    words = [sys.executable, os.path.join(EXAMPLES, "index_archive.py"), "out", "mails", "--program", program("rocktray")]
-    ended = subprocess.run(words, cwd=tmp_path, capture_output=True, env={**os.environ, **QUIET}, check=False)
+    script = [sys.executable, os.path.join(EXAMPLES, "index_archive.py"), "out", "mails", "--program", program("rocktray")]
+    ended = subprocess.run(script, cwd=tmp_path, capture_output=True, env={**os.environ, **QUIET}, check=False)
     assert (ended.returncode, ended.stderr) == (0, b"")
     found = [json.loads(line) for line in lines(f"{tmp_path}/out").splitlines()]
     counts = {os.path.basename(file): sum(line["file"] == file for line in found) for file in {line["file"] for line in found}}
@@ -320,8 +320,8 @@ def test_interrupted(tmp_path):
     write(f"{tmp_path}/mails/a", SMALL[0])
     write(f"{tmp_path}/slow", b"#!/bin/sh\ntouch begun\nsleep 60\n")
     os.chmod(f"{tmp_path}/slow", 0o755)
-    words = [sys.executable, os.path.join(EXAMPLES, "index_archive.py"), "out", "mails", "--program", "./slow"]
-    with subprocess.Popen(words, cwd=tmp_path, stdout=subprocess.PIPE, stderr=subprocess.PIPE, env={**os.environ, **QUIET}, start_new_session=True) as process:
+    script = [sys.executable, os.path.join(EXAMPLES, "index_archive.py"), "out", "mails", "--program", "./slow"]
+    with subprocess.Popen(script, cwd=tmp_path, stdout=subprocess.PIPE, stderr=subprocess.PIPE, env={**os.environ, **QUIET}, start_new_session=True) as process:
         wait_for(lambda: os.path.exists(f"{tmp_path}/begun"), "the first part")
         os.killpg(process.pid, signal.SIGINT)
         told = process.communicate()[1]
@@ -330,8 +330,8 @@ def test_interrupted(tmp_path):
 
 def test_interrupted_load(runs):
     """Ctrl-C while the shards are loaded is one line too, and leaves nothing that the next run cannot use."""
-    words = [sys.executable, os.path.join(EXAMPLES, "load_sqlite.py"), runs.path("killed"), runs.path("interrupted")]
-    with subprocess.Popen(words, stderr=subprocess.PIPE, start_new_session=True) as process:
+    script = [sys.executable, os.path.join(EXAMPLES, "load_sqlite.py"), runs.path("killed"), runs.path("interrupted")]
+    with subprocess.Popen(script, stderr=subprocess.PIPE, start_new_session=True) as process:
         wait_for(lambda: len(glob.glob(runs.path("interrupted/.load-*/*"))) >= 8, "the first shards")
         os.killpg(process.pid, signal.SIGINT)
         told = process.communicate()[1]
@@ -364,7 +364,7 @@ def test_loaded(runs):
 def test_searched(runs):
     """Searches, whose mails are known."""
     first, answer, forged = "Zebra crossing", "Re: Zebra crossing", "Zebra\ufffdforged"
-    for words, wanted in (
+    for arguments, wanted in (
         (["zebra"], [answer, first, forged]),
         (["zebra", "quagga"], [first]),
         (['"quagga is"'], [first]),
@@ -386,7 +386,7 @@ def test_searched(runs):
         (["zebra", "--limit", "1"], [answer]),
         (["zebra", "quagga", "--threads"], [first, f"  {answer}", f"    {forged}"]),
     ):
-        assert runs.search(*words) == wanted, f"search.py {words}"
+        assert runs.search(*arguments) == wanted, f"search.py {arguments}"
     assert len(runs.search("--attachment", "i.png", "--limit", "99999")) == MAILS, "search.py --attachment i.png"
     assert len(runs.search("--from", "from17@example.org")) == 1, "search.py --from from17@example.org"
 
@@ -414,9 +414,9 @@ def test_outputs(runs):
     shown = runs.call("search.py", "db", "--id", "2@small", "--show", "--program", program("rocktray"))
     assert b"Re: Zebra crossing" in shown.stdout, "--show"
     assert runs.call("search.py", "db", "--id", "none").returncode == 1, "nothing is found"
-    for words in (["ana@example.net"], ["--after", "yesterday"], ["zebra", "(", "--raw"]):
-        ended = runs.call("search.py", "db", *words)
-        assert ended.returncode == 2 and ended.stdout == b"", f"search.py {words}"
+    for arguments in (["ana@example.net"], ["--after", "yesterday"], ["zebra", "(", "--raw"]):
+        ended = runs.call("search.py", "db", *arguments)
+        assert ended.returncode == 2 and ended.stdout == b"", f"search.py {arguments}"
 
 
 def test_copies(runs):
@@ -460,18 +460,18 @@ def test_bad_file_of_a_batch(tmp_path):
     script += f"    case $* in *$bad*) [ -e {tmp_path}/mended ] || {{ echo \"$bad: gone\" >&2; exit 1; }} ;; esac\ndone\n"
     write(f"{tmp_path}/rocktray", f"{script}exec {program('rocktray')} \"$@\"\n".encode())
     os.chmod(f"{tmp_path}/rocktray", 0o755)
-    words = [sys.executable, os.path.join(EXAMPLES, "index_archive.py"), "out", "mails", "--program", "./rocktray"]
-    ended = subprocess.run(words, cwd=tmp_path, capture_output=True, text=True, env={**os.environ, **QUIET}, check=False)
+    script = [sys.executable, os.path.join(EXAMPLES, "index_archive.py"), "out", "mails", "--program", "./rocktray"]
+    ended = subprocess.run(script, cwd=tmp_path, capture_output=True, text=True, env={**os.environ, **QUIET}, check=False)
     wanted = "".join(f"index_archive.py: {path} (--mail): exit status 1: {path}: gone\n" for path in bad)
     assert (ended.returncode, ended.stderr) == (1, wanted)
     assert manifest(f"{tmp_path}/out", "refused") == [f"{path} (--mail)" for path in bad]
     subjects = [json.loads(line)["subject"] for line in lines(f"{tmp_path}/out").splitlines()]
     assert subjects == [str(number) for number in range(40) if number not in (17, 18, 31)]
     before = shards(f"{tmp_path}/out")
-    assert subprocess.run(words, cwd=tmp_path, stderr=subprocess.DEVNULL, check=False).returncode == 1
+    assert subprocess.run(script, cwd=tmp_path, stderr=subprocess.DEVNULL, check=False).returncode == 1
     assert shards(f"{tmp_path}/out") == before, "no file that was read is read again"
     write(f"{tmp_path}/mended")
-    assert subprocess.run(words, cwd=tmp_path, check=False).returncode == 0
+    assert subprocess.run(script, cwd=tmp_path, check=False).returncode == 0
     assert lines(f"{tmp_path}/out").count(b"\n") == 40 and len(shards(f"{tmp_path}/out")) == 1
 
 
@@ -484,10 +484,10 @@ def test_lists(runs):
     write(runs.path("lists/a.jsonl"), json.dumps(line).encode() + b"\n")
     write(runs.path("lists/MANIFEST"), b'{"shard": "a.jsonl"}\n')
     assert runs.call("load_sqlite.py", "lists", "lists.db").returncode == 0, "addresses in lists"
-    for words in (["--from", "ana@example.net"], ["--from", "bo"], ["--hash", "0123ABCD"], ["--list", "L.example"]):
-        ended = runs.call("search.py", "lists.db", *words)
+    for arguments in (["--from", "ana@example.net"], ["--from", "bo"], ["--hash", "0123ABCD"], ["--list", "L.example"]):
+        ended = runs.call("search.py", "lists.db", *arguments)
         wanted = "-\tAna Lima <ana@example.net>, bo@example.net\tLists\ta\t1\tx:0-1\n"
-        assert ended.stdout.decode() == wanted, f"addresses in lists: {words}"
+        assert ended.stdout.decode() == wanted, f"addresses in lists: {arguments}"
     write(runs.path("old/a.jsonl"), json.dumps({**line, "schema": 4}).encode() + b"\n")
     write(runs.path("old/MANIFEST"), b'{"shard": "a.jsonl"}\n')
     ended = runs.call("load_sqlite.py", "old", "old.db")

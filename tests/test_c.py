@@ -13,9 +13,9 @@ from support import SAMPLES, TOP, VERSION, command, run
 STRICT = ["-std=c11", "-Wall", "-Wextra", "-Werror"]
 
 
-def gcc(*words):
+def gcc(*arguments):
     """Runs gcc, which must not warn."""
-    subprocess.run(["gcc", *map(str, words)], check=True)
+    subprocess.run(["gcc", *map(str, arguments)], check=True)
 
 
 @pytest.fixture(scope="module")
@@ -29,10 +29,10 @@ def check(c_library, tmp_path_factory):
     return target
 
 
-def run_check(check, *words, **options):
+def run_check(check, *arguments, **options):
     """Runs check.c."""
     sanitizers = {"ASAN_OPTIONS": "detect_stack_use_after_return=1", "UBSAN_OPTIONS": "print_stacktrace=1"}
-    return run([check, *words], env={**os.environ, **sanitizers}, timeout=900, **options)
+    return run([check, *arguments], env={**os.environ, **sanitizers}, timeout=900, **options)
 
 
 def passed(ended):
@@ -211,11 +211,11 @@ def test_stack(c_library, hostile, tmp_path):
     gcc(*STRICT, "-O1", f"-I{c_library}/include", "-o", tmp_path / "check", TOP / "c" / "check.c",
         "-Wl,--wrap=malloc,--wrap=realloc,--wrap=free", TOP / "crates" / "mail_c" / "out" / "libmail_c.a",
         f"{kit}/c/liblibc_c.a", "-lpthread")
-    words = run([tmp_path / "check", "stack", *SAMPLES, *hostile[:300]]).stdout.decode()
-    used = [int(number) for number in re.findall(r"\d+", words)]
+    said = run([tmp_path / "check", "stack", *SAMPLES, *hostile[:300]]).stdout.decode()
+    used = [int(number) for number in re.findall(r"\d+", said)]
     header = (TOP / "c" / "rocktray.h").read_text()
     mails, ranges = (1024 * int(number) for number in re.findall(r"up to (\d+) KB", header))
-    assert len(used) == 3 and used[0] <= ranges and max(used[1:]) <= mails, words
+    assert len(used) == 3 and used[0] <= ranges and max(used[1:]) <= mails, said
     page = (TOP / "docs" / "C.md").read_text()
     assert [1024 * int(number) for number in re.findall(r"up to (\d+) KB", page)] == [ranges, mails]
 
@@ -223,8 +223,8 @@ def test_stack(c_library, hostile, tmp_path):
 @pytest.mark.quick
 def test_header_as_cpp():
     """rocktray.h is C++ too."""
-    words = ["g++", "-Wall", "-Werror", f"-I{TOP}/c", "-x", "c++", "-fsyntax-only", "-"]
-    assert run(words, b'#include "rocktray.h"\n').returncode == 0
+    command = ["g++", "-Wall", "-Werror", f"-I{TOP}/c", "-x", "c++", "-fsyntax-only", "-"]
+    assert run(command, b'#include "rocktray.h"\n').returncode == 0
 
 
 def test_version(c_library):
@@ -236,11 +236,11 @@ def test_version(c_library):
 
 
 def test_example(c_library, tmp_path):
-    """examples/attachments.c compiles by pkg-config's words, and writes what docs/C.md shows."""
+    """examples/attachments.c compiles by pkg-config's flags, and writes what docs/C.md shows."""
     config = (c_library / "lib" / "pkgconfig" / "rocktray.pc").read_text()
-    words = re.findall(r"^(?:Libs|Cflags): (.*)$", config.replace("${libdir}", f"{c_library}/lib")
+    flags = re.findall(r"^(?:Libs|Cflags): (.*)$", config.replace("${libdir}", f"{c_library}/lib")
                        .replace("${includedir}", f"{c_library}/include"), re.M)
-    gcc(*STRICT, "-o", tmp_path / "example", TOP / "examples" / "attachments.c", *" ".join(sorted(words)).split())
+    gcc(*STRICT, "-o", tmp_path / "example", TOP / "examples" / "attachments.c", *" ".join(sorted(flags)).split())
     fences = re.findall(r"^```console\n(.*?)^```$", (TOP / "docs" / "C.md").read_text(), re.M | re.S)
     wanted = "".join(line + "\n" for fence in fences for line in fence.splitlines() if not line.startswith("$"))
     ended = run([tmp_path / "example", "samples/attachment.eml"], cwd=TOP,

@@ -309,8 +309,8 @@ def test_stdout(options, path, tmp_path):
     mail = tmp_path / "parted.eml"
     mail.write_bytes(parted())
     body = dict(saved_files(parted()))[path]
-    for words, data in (([mail], b""), ([], parted()), (["-"], parted())):
-        ended = run([*command("extract"), "--stdout", *options, *words], data, cwd=tmp_path)
+    for arguments, data in (([mail], b""), ([], parted()), (["-"], parted())):
+        ended = run([*command("extract"), "--stdout", *options, *arguments], data, cwd=tmp_path)
         assert (ended.returncode, ended.stdout, ended.stderr) == (0, body, b"")
     assert [entry.name for entry in tmp_path.iterdir()] == ["parted.eml"]
 

@@ -47,9 +47,9 @@ HIDDEN = re.compile("[\x00-\x1f\x7f-\x9f\u2028\u2029]")
 SCHEMA = jsonschema.Draft202012Validator(json.loads((TOP / "docs" / "mail_json.schema.json").read_text()))
 
 
-def run(words, data=b"", **streams):
+def run(arguments, data=b"", **streams):
     """Runs the program on the bytes."""
-    return subprocess.run([*command("json"), *words], input=data, capture_output=not streams, timeout=60, **streams)
+    return subprocess.run([*command("json"), *arguments], input=data, capture_output=not streams, timeout=60, **streams)
 
 
 def is_ordered(value, members):
@@ -75,9 +75,9 @@ def lines(output, what):
     return values
 
 
-def objects(words, data, status, what):
+def objects(arguments, data, status, what):
     """The values of the lines that a run writes, whose status has to be this one."""
-    ended = run(words, data)
+    ended = run(arguments, data)
     assert ended.returncode == status, f"{what}: the status"
     assert ended.stderr == b"", f"{what}: standard error"
     return lines(ended.stdout, what)
@@ -505,9 +505,9 @@ def test_places():
         assert starts == [len(front) + at for _path, _part, at in places], f"places {turn} in a mailbox"
 
 
-def subjects(words, data, status, what):
+def subjects(arguments, data, status, what):
     """The subject of each mail of a mailbox, or its error."""
-    return [value.get("subject", value.get("error")) for value in objects(words, data, status, what)]
+    return [value.get("subject", value.get("error")) for value in objects(arguments, data, status, what)]
 
 
 def test_mailboxes():
@@ -594,17 +594,17 @@ def made_mailbox(random_):
     return data
 
 
-def compare_parts(name, data, words, counts):
+def compare_parts(name, data, arguments, counts):
     """Compares the lines of the parts of a file with those of the whole, cut at where their mails begin."""
     with open(name, "wb") as file:
         file.write(data)
-    whole = lines(run([*words, name]).stdout, f"{data!r:.300}")
+    whole = lines(run([*arguments, name]).stdout, f"{data!r:.300}")
     for count in counts:
         found = []
         for number in range(1, count + 1):
             what = f"{data!r:.300}, part {number} of {count}"
             first, after = len(data) * (number - 1) // count, len(data) * number // count
-            ended = run([*words, "--part", f"{number}/{count}", name])
+            ended = run([*arguments, "--part", f"{number}/{count}", name])
             part = lines(ended.stdout, what)
             wanted = [
                 {**line, "number": None}
@@ -623,13 +623,13 @@ def test_parts():
     with tempfile.TemporaryDirectory() as directory:
         name = os.path.join(directory, "file")
         for turn in range(24):
-            words = [[], ["--mbox"], ["--mbox=rd"]][turn % 3]
-            compare_parts(name, made_mailbox(random_), words, range(1, 8))
+            arguments = [[], ["--mbox"], ["--mbox=rd"]][turn % 3]
+            compare_parts(name, made_mailbox(random_), arguments, range(1, 8))
         for data in (FROM + b"\none\n\n" + FROM, b"\r\n" + FROM + b"\r\n" + FROM + b" x\n"):
             compare_parts(name, data, ["--mbox"], [len(data), len(data) + 3])
-        for words in ([], ["--mbox"]):
+        for arguments in ([], ["--mbox"]):
             for data in (b"", b"Subject: 1\n\none\n", b" x", b"\n"):
-                compare_parts(name, data, words, [1, 3, 40])
+                compare_parts(name, data, arguments, [1, 3, 40])
         long_ = b"".join(FROM + b"Subject: %d\n\n" % n + b"x\n" * random_.randrange(60_000) + b"\n" for n in range(20))
         compare_parts(name, long_ + FROM + b"\n" + b"x\n" * 1_000_000, [], [2, 16])
         with open(name, "wb") as file:
@@ -643,9 +643,9 @@ def test_parts():
         wrong += [["--part", word, name] for word in ("0/2", "3/2", "0/0", "1", "1/", "/1", "+1/2", "1/+2", "-1/2", "1/2/3", "a/b", "", "1 /2")]
         wrong += [["--part", "1/2", option, name] for option in ("--mail", "--mbox=cl")]
         wrong += [["--mail", "--part", "1/2", name], ["--part", "1/2", directory], ["--part", "1/2", name, os.path.join(directory, "pipe")]]
-        for words in wrong:
-            ended = run(words)
-            assert ended.returncode == 2 and not ended.stdout and ended.stderr, f"{words} is refused"
+        for arguments in wrong:
+            ended = run(arguments)
+            assert ended.returncode == 2 and not ended.stdout and ended.stderr, f"{arguments} is refused"
         compare_parts(name, FROM + b"\n" + FROM + b"\n" + FROM, [], [2])
         ended = run(["--part", "2/2", "/no/such/file", name])
         found = lines(ended.stdout, "a part of a file that is missing")
@@ -658,9 +658,9 @@ def test_calls():
     assert ended.returncode == 0 and b"--mbox" in ended.stdout and not ended.stderr, "--help"
     ended = run(["--version"])
     assert ended.returncode == 0 and ended.stdout.startswith(b"rocktray json ") and not ended.stderr, "--version"
-    for words in (["--no-such-option"], ["-x"], ["--mbox", "--mboxes"], ["--mbox=x"], [""]):
-        ended = run(words)
-        assert ended.returncode == 2 and not ended.stdout and ended.stderr, f"{words} is refused"
+    for arguments in (["--no-such-option"], ["-x"], ["--mbox", "--mboxes"], ["--mbox=x"], [""]):
+        ended = run(arguments)
+        assert ended.returncode == 2 and not ended.stdout and ended.stderr, f"{arguments} is refused"
     names = [os.path.join(TOP, "samples", name) for name in ("plain.eml", "parts.eml")]
     both = b"".join(run([name]).stdout for name in names)
     assert run(names).stdout == both, "two files"

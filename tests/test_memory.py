@@ -46,7 +46,7 @@ MAILBOXES = {
     "json": (TOP / "crates" / "rocktray" / "stdin").read_bytes(),
     "files": b"\n".join(FROM + mail for mail in FILES_OF_MAILS),
 }
-RUNS = [(name, words, mail) for name, words in (("mail_show", []), ("json", []), ("show", ["-"])) for mail in MAILS]
+RUNS = [(name, arguments, mail) for name, arguments in (("mail_show", []), ("json", []), ("show", ["-"])) for mail in MAILS]
 RUNS += [(name, ["--mbox", "-"], "json") for name in ("json", "show")]
 RUNS += [("extract", [option, "--into", "into"], "files") for option in ("--hash", "--by-hash")]
 
@@ -54,9 +54,9 @@ RUNS += [("extract", [option, "--into", "into"], "files") for option in ("--hash
 class Refused:
     """Runs of a program on a mail with allocations refused, in a directory with the subdirectory `into`."""
 
-    def __init__(self, library, name, words, mail, directory):
+    def __init__(self, library, name, arguments, mail, directory):
         self.library, self.name, self.directory = library, name, directory
-        self.command = [*command(name), *words]
+        self.command = [*command(name), *arguments]
         (directory / "mail").write_bytes((MAILS | MAILBOXES)[mail])
         (directory / "into").mkdir()
         self.wanted = self.run({})[0]
@@ -95,10 +95,10 @@ class Refused:
 
 
 @pytest.mark.parametrize("which", ["REFUSE_AT", "REFUSE_FROM"])
-@pytest.mark.parametrize("name, words, mail", RUNS)
-def test_refused_allocations(refuse, tmp_path, name, words, mail, which):
+@pytest.mark.parametrize("name, arguments, mail", RUNS)
+def test_refused_allocations(refuse, tmp_path, name, arguments, mail, which):
     """Each allocation in turn, until a run meets no refusal."""
-    runs = Refused(refuse, name, words, mail, tmp_path)
+    runs = Refused(refuse, name, arguments, mail, tmp_path)
     for number in range(1, 100_000):
         found, (_calls, refused) = runs.run({which: str(number)})
         assert runs.is_short(found) if refused else runs.is_right(found), f"allocation {number}: {found}"
@@ -107,11 +107,11 @@ def test_refused_allocations(refuse, tmp_path, name, words, mail, which):
     assert number > 5
 
 
-def replay(refuse, report, words, **environment):
+def replay(refuse, report, arguments, **environment):
     """The numbers of rows that passed, and how often memory ran out and was refused, in a replay of the suite."""
     report.write_bytes(b"")
     loaded = {"LD_PRELOAD": str(refuse), "REFUSE_REPORT": str(report), **environment}
-    ended = subprocess.run([program("mail_vectors"), *words], capture_output=True, text=True, cwd=DATA, timeout=900,
+    ended = subprocess.run([program("mail_vectors"), *arguments], capture_output=True, text=True, cwd=DATA, timeout=900,
                            env={**os.environ, **loaded})
     rows = re.search(r"^(\d+) passed, 0 failed$", ended.stderr, re.M)
     ran_out = re.search(r"^memory ran out (\d+) times$", ended.stderr, re.M)
@@ -179,7 +179,7 @@ def shown():
 
 
 # the options of each program, where it has some
-WORDS = {"show": ["-"], "extract": ["--hash", "--into", "."]}
+ARGUMENTS = {"show": ["-"], "extract": ["--hash", "--into", "."]}
 LIMITED = {
     "mail_show": (LONG, lambda: f"part 0: text/plain, {COUNT} headers, 4 body bytes\n" + f"  Subject: {SUBJECT}\n" * COUNT),
     "json": (LONG, json_line),
@@ -204,10 +204,10 @@ def run_limited(command, mail, directory, limit):
 def test_limits(name, tmp_path):
     """Smaller and smaller limits on memory, from 32 MB down to where the loader cannot start the program."""
     mail, wanted = LIMITED[name][0], LIMITED[name][1]().encode()
-    words = [*command(name), *WORDS.get(name, [])]
+    arguments = [*command(name), *ARGUMENTS.get(name, [])]
     right = short = 0
     for limit in range(32_000, 0, -250):
-        ended = run_limited(words, mail, tmp_path, limit)
+        ended = run_limited(arguments, mail, tmp_path, limit)
         if b"error while loading shared libraries" in ended.stderr:
             break
         if name == "extract":
@@ -235,16 +235,16 @@ def mailbox_file(path, mails):
     return path
 
 
-@pytest.mark.parametrize("words, count", [
+@pytest.mark.parametrize("arguments, count", [
     (["json", "--mbox"], 820), (["json", "--mbox", "--no-text"], 820), (["extract", "--by-hash", "--into", "."], 210),
 ])
-def test_long_mailbox(words, count, tmp_path):
+def test_long_mailbox(arguments, count, tmp_path):
     """A mailbox of 200 MB in 100 MB of memory."""
     small = [multipart(b"s", b"\nText %d\n" % number) for number in range(610)]
     mails = small + [multipart(b"b", b"\nText\n", ATTACHED)] * 210
     path = mailbox_file(tmp_path / "mailbox", mails)
     assert path.stat().st_size > 195_000_000
-    ended = run_limited([*command(words[0]), *words[1:], path], b"", tmp_path, 100_000)
+    ended = run_limited([*command(arguments[0]), *arguments[1:], path], b"", tmp_path, 100_000)
     path.unlink()
     assert (ended.returncode, ended.stderr, ended.stdout.count(b"\n")) == (0, b"", count)
 
@@ -266,6 +266,6 @@ def test_mails_inside_one_another(tmp_path):
     for level in range(98):
         mail = multipart(b"level%d" % level, b"Content-Type: message/rfc822\n\n" + mail)
     (tmp_path / "mail").write_bytes(mail)
-    for words, count in ((["json"], 1), (["extract", "--into", "."], 2)):
-        ended = run_limited([*command(words[0]), *words[1:], tmp_path / "mail"], b"", tmp_path, 40_000)
-        assert (ended.returncode, ended.stderr, ended.stdout.count(b"\n")) == (0, b"", count), words
+    for arguments, count in ((["json"], 1), (["extract", "--into", "."], 2)):
+        ended = run_limited([*command(arguments[0]), *arguments[1:], tmp_path / "mail"], b"", tmp_path, 40_000)
+        assert (ended.returncode, ended.stderr, ended.stdout.count(b"\n")) == (0, b"", count), arguments

@@ -109,9 +109,9 @@ def prefix(tmp_path_factory):
     source = made / "rocktray.c"
     bodies = "\n".join(f"{call} {{ return malloc(1) == 0; }}" for call in words_of_header())
     source.write_text(f'#include <stdlib.h>\n#include "rocktray.h"\n{bodies}\n')
-    words = ["-fPIC", f"-I{made}/include"]
-    compiled(source, made / "lib" / "librocktray.so.0", *words, "-shared", "-Wl,-soname,librocktray.so.0")
-    compiled(source, made / "rocktray.o", *words, "-c")
+    flags = ["-fPIC", f"-I{made}/include"]
+    compiled(source, made / "lib" / "librocktray.so.0", *flags, "-shared", "-Wl,-soname,librocktray.so.0")
+    compiled(source, made / "rocktray.o", *flags, "-c")
     run(["ar", "rcsD", made / "lib" / "librocktray.a", made / "rocktray.o"], check=True)
     (made / "lib" / "pkgconfig" / "rocktray.pc").write_text(f"prefix=/usr\nlibdir=/usr/lib\nVersion: {VERSION}\n")
     return made
@@ -225,11 +225,11 @@ def completed(shell, line, directory):
         ask = """. /usr/share/bash-completion/bash_completion; . "$1"; COMP_LINE=$2 COMP_POINT=${#2} COMP_TYPE=9
             read -ra COMP_WORDS <<< "${2//=/ = }"; [[ $2 != *' ' ]] || COMP_WORDS+=(''); COMP_CWORD=$((${#COMP_WORDS[@]} - 1))
             _rocktray 2> /dev/null; printf '%s\\n' "${COMPREPLY[@]}" """
-        words = ["bash", "-c", ask, "-", share / "bash-completion" / "completions" / "rocktray", line]
+        command = ["bash", "-c", ask, "-", share / "bash-completion" / "completions" / "rocktray", line]
     else:
         ask = "source $argv[1]; complete -C $argv[2]"
-        words = ["fish", "-c", ask, share / "fish" / "vendor_completions.d" / "rocktray.fish", line]
-    return {word.split("\t")[0].rstrip("=") for word in run(words, cwd=directory).stdout.decode().splitlines()}
+        command = ["fish", "-c", ask, share / "fish" / "vendor_completions.d" / "rocktray.fish", line]
+    return {word.split("\t")[0].rstrip("=") for word in run(command, cwd=directory).stdout.decode().splitlines()}
 
 
 def options_in(text):

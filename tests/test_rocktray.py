@@ -35,16 +35,16 @@ def lines(ended):
     return [json.loads(line) for line in ended.stdout.splitlines()]
 
 
-def refused(words, *wanted, data=b""):
+def refused(arguments, *wanted, data=b""):
     """Asserts that these arguments are wrong, and that standard error says so."""
-    ended = run([program("rocktray"), *words], data)
+    ended = run([program("rocktray"), *arguments], data)
     said = ended.stderr.decode()
-    assert (ended.returncode, ended.stdout) == (2, b""), words
-    assert all(text in said for text in wanted), (words, said)
-    assert "\x1b" not in said and "\x9b" not in said, words
+    assert (ended.returncode, ended.stdout) == (2, b""), arguments
+    assert all(text in said for text in wanted), (arguments, said)
+    assert "\x1b" not in said and "\x9b" not in said, arguments
 
 
-@pytest.mark.parametrize("words, wanted", [
+@pytest.mark.parametrize("arguments, wanted", [
     (["jsn"], ("unrecognized subcommand 'jsn'", "json")),
     (["--bogus"], ("unexpected argument '--bogus' found",)),
     (["json", "--bogus"], ("unexpected argument '--bogus' found",)),
@@ -69,9 +69,9 @@ def refused(words, *wanted, data=b""):
     (["json", ""], ("INPUT",)),
     (["json", "--x\x1b[2J\x9b\nforged"], ("unexpected argument",)),
 ])
-def test_wrong_arguments(words, wanted):
+def test_wrong_arguments(arguments, wanted):
     """Each message names the argument, without its control characters."""
-    refused(words, *wanted)
+    refused(arguments, *wanted)
 
 
 def test_control_characters():
@@ -83,26 +83,26 @@ def test_control_characters():
     assert lines(ended)[0]["file"] == "no\nforged\x1b"
 
 
-@pytest.mark.parametrize("words, wanted", [
+@pytest.mark.parametrize("arguments, wanted", [
     (["--version"], "rocktray {}\n"), (["-V"], "rocktray {}\n"), (["json", "--version"], "rocktray json {}\n"),
 ])
-def test_version(words, wanted):
+def test_version(arguments, wanted):
     """The version, the commit of a release and the logic of the kit."""
-    ended = run([program("rocktray"), *words])
+    ended = run([program("rocktray"), *arguments])
     wanted = wanted.format(VERSION) + f"commit none, since it was built from a checkout\nlogic {LOGIC}\n"
     assert (ended.returncode, ended.stdout.decode(), ended.stderr) == (0, wanted, b"")
 
 
 def test_help():
     """The help of the program is that of the script, which has it in docs/usage.txt; each subcommand has its own."""
-    for words in (["--help"], ["-h"], ["help"]):
-        ended = run([program("rocktray"), *words])
-        assert (ended.returncode, ended.stdout.decode(), ended.stderr) == (0, text_of("docs/usage.txt"), b""), words
-    for words in (["json", "--help"], ["help", "json"]):
-        ended = run([program("rocktray"), *words])
+    for arguments in (["--help"], ["-h"], ["help"]):
+        ended = run([program("rocktray"), *arguments])
+        assert (ended.returncode, ended.stdout.decode(), ended.stderr) == (0, text_of("docs/usage.txt"), b""), arguments
+    for arguments in (["json", "--help"], ["help", "json"]):
+        ended = run([program("rocktray"), *arguments])
         said = ended.stdout.decode()
-        assert (ended.returncode, ended.stderr) == (0, b"") and "Usage: rocktray json [OPTIONS] [INPUT]..." in said, words
-        assert all(len(line) <= 100 for line in said.splitlines()), words
+        assert (ended.returncode, ended.stderr) == (0, b"") and "Usage: rocktray json [OPTIONS] [INPUT]..." in said, arguments
+        assert all(len(line) <= 100 for line in said.splitlines()), arguments
     ended = run([program("rocktray")])
     assert ended.returncode == 2 and b"Usage: rocktray" in ended.stderr and not ended.stdout
 
@@ -123,7 +123,7 @@ def test_terminal():
 def test_part(tmp_path):
     """Both forms of an option with a value are the same."""
     name = write(f"{tmp_path}/a.mbox", FROM + b"Subject: 1\n\n" + FROM + b"Subject: 2\n\n")
-    outputs = {run([*command("json"), *words, name]).stdout for words in (["--part=1/1"], ["--part", "1/1"])}
+    outputs = {run([*command("json"), *arguments, name]).stdout for arguments in (["--part=1/1"], ["--part", "1/1"])}
     assert len(outputs) == 1 and len(outputs.pop().splitlines()) == 2
 
 
@@ -143,17 +143,17 @@ FOREIGN = {
 
 
 @pytest.mark.parametrize("name", FOREIGN)
-@pytest.mark.parametrize("words", [[], ["--mail"], ["--mbox"], ["--part=1/2"]])
-def test_foreign(name, words, tmp_path):
+@pytest.mark.parametrize("arguments", [[], ["--mail"], ["--mbox"], ["--part=1/2"]])
+def test_foreign(name, arguments, tmp_path):
     """An input of another format is named by its first bytes, whatever its name is, and the next one is read."""
     foreign, mail = write(f"{tmp_path}/a.eml", FOREIGN[name]), write(f"{tmp_path}/b.eml")
-    ended = run([*command("json"), *words, foreign, mail])
+    ended = run([*command("json"), *arguments, foreign, mail])
     found = lines(ended)
     assert ended.returncode == 1 and found[0]["file"] == foreign and name in found[0]["error"]
     assert f"rocktray: {foreign}: {found[0]['error']}\n" in ended.stderr.decode()
-    assert [line["file"] for line in found[1:]] == ([] if words == ["--part=1/2"] and len(found) == 1 else [mail])
-    if words != ["--part=1/2"]:
-        ended = run([*command("json"), *words], FOREIGN[name])
+    assert [line["file"] for line in found[1:]] == ([] if arguments == ["--part=1/2"] and len(found) == 1 else [mail])
+    if arguments != ["--part=1/2"]:
+        ended = run([*command("json"), *arguments], FOREIGN[name])
         assert (ended.returncode, [line["file"] for line in lines(ended)]) == (1, [None])
 
 
@@ -172,15 +172,15 @@ def test_name_with_gz(tmp_path):
 
 def test_label():
     """The label is the name of standard input, as of a file that is unpacked before."""
-    for words, wanted in ((["--label", "a.gz"], "a.gz"), (["--label=b\n", "-"], "b\n"), ([], None)):
-        assert [line["file"] for line in lines(run([*command("json"), *words], MAIL))] == [wanted], words
+    for arguments, wanted in ((["--label", "a.gz"], "a.gz"), (["--label=b\n", "-"], "b\n"), ([], None)):
+        assert [line["file"] for line in lines(run([*command("json"), *arguments], MAIL))] == [wanted], arguments
     ended = run([*command("json"), "--label", "a.gz"], FOREIGN["gzip"])
     assert lines(ended)[0]["file"] == "a.gz" and ended.stderr.startswith(b"rocktray: a.gz: the input is gzip")
 
 
-def read(words, directory):
+def read(arguments, directory):
     """The files of the lines of a run, as paths in the directory, and its standard error."""
-    ended = run([*command("json"), *words, directory])
+    ended = run([*command("json"), *arguments, directory])
     return [os.path.relpath(line["file"], directory) for line in lines(ended)], ended.stderr.decode(), ended.returncode
 
 

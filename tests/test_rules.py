@@ -100,8 +100,8 @@ def replays(refuse, tmp_path):
         for mode in (None, "at", "from"):
             report.write_bytes(b"")
             loaded = {"LD_PRELOAD": str(refuse), "REFUSE_REPORT": str(report)} | ({"REFUSE_ROWS": mode} if mode else {})
-            words = [program("mail_vectors"), *(["again"] if mode else []), str(file)]
-            ended = subprocess.run(words, capture_output=True, text=True, env={**os.environ, **loaded}, timeout=600)
+            command = [program("mail_vectors"), *(["again"] if mode else []), str(file)]
+            ended = subprocess.run(command, capture_output=True, text=True, env={**os.environ, **loaded}, timeout=600)
             assert ended.stderr.splitlines()[-1] == f"{len(lines)} passed, 0 failed", ended.stdout[:5000]
             ran_out = re.search(r"^memory ran out (\d+) times$", ended.stderr, re.M)
             assert int(ran_out[1]) == int(report.read_text().split()[1])

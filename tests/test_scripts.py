@@ -85,8 +85,8 @@ def test_rocktray_is_not_built(tmp_path):
     """Without the program ./rocktray prints the help of the program, or one line that says how to build it."""
     copy = tmp_path / "copy"
     shutil.copytree(TOP, copy, ignore=shutil.ignore_patterns("out", ".git", "data"), symlinks=True)
-    for words in (["--help"], ["-h"], ["help"]):
-        ended = run(["./rocktray", *words], cwd=copy)
+    for arguments in (["--help"], ["-h"], ["help"]):
+        ended = run(["./rocktray", *arguments], cwd=copy)
         assert (ended.returncode, ended.stdout.decode(), ended.stderr) == (0, text_of("docs/usage.txt"), b"")
     ended = run(["./rocktray"], cwd=copy)
     assert (ended.returncode, ended.stdout, ended.stderr.decode()) == (2, b"", text_of("docs/usage.txt"))
@@ -96,11 +96,11 @@ def test_rocktray_is_not_built(tmp_path):
 
 
 @pytest.mark.quick
-@pytest.mark.parametrize("words", [["samples/plain.eml"], ["-"]])
+@pytest.mark.parametrize("arguments", [["samples/plain.eml"], ["-"]])
 @pytest.mark.parametrize("last, status, said", [
     ("run=ended status=3 runners=1", 3, "a warning\n"), ("run=none", 2, "a warning\nrun=none\nrocktray: rt try has not"),
 ], ids=["ended", "none"])
-def test_show_before_the_program_is_built(words, last, status, said, tmp_path):
+def test_show_before_the_program_is_built(arguments, last, status, said, tmp_path):
     """Until the program is built, ./rocktray show runs rt try on the mail: here another rt, which prints the mail."""
     copy, path = tmp_path / "copy", tmp_path / "path"
     shutil.copytree(TOP, copy, ignore=shutil.ignore_patterns("out", ".git", "data"), symlinks=True)
@@ -108,7 +108,7 @@ def test_show_before_the_program_is_built(words, last, status, said, tmp_path):
     (path / "rt").write_text(f"#!/bin/sh\necho $PWD $*\ncat\necho a warning >&2\necho '{last}' >&2\nexit 3\n")
     (path / "rt").chmod(0o755)
     mail = (copy / "samples" / "plain.eml").read_bytes()
-    ended = run(["./rocktray", "show", *words], mail, cwd=copy, env={"PATH": f"{path}:/usr/bin:/bin"})
+    ended = run(["./rocktray", "show", *arguments], mail, cwd=copy, env={"PATH": f"{path}:/usr/bin:/bin"})
     first, _, output = ended.stdout.partition(b"\n")
     assert (first.decode(), output) == (f"{copy}/crates/rocktray try -- show -", mail)
     assert ended.returncode == status and f"tools/program.sh rocktray\n{said}" in ended.stderr.decode()
@@ -125,7 +125,7 @@ def test_version_without_a_program(name):
 def outputs(command, directory):
     """What a launcher or a program writes of the mail on standard input, and of the file."""
     first = ["json"] if command.name == "rocktray" else []
-    return [run([command, *first, *words], data, cwd=directory).stdout for words, data in (([], MAIL), (["mail"], b""))]
+    return [run([command, *first, *arguments], data, cwd=directory).stdout for arguments, data in (([], MAIL), (["mail"], b""))]
 
 
 def test_program(link, tmp_path):
@@ -134,9 +134,9 @@ def test_program(link, tmp_path):
     (tmp_path / "mail").write_bytes(MAIL)
     ends([built, "--help"], 0, "stdout")
     ends([built, "--no-such-option"], 2, "stderr")
-    words = ["json"] if link.name == "rocktray" else []
-    ends([built, *words, "no/such/argument", "-h"], 0, "stdout")
-    ends([built, *words, "mail", ""], 2, "stderr", cwd=tmp_path)
+    arguments = ["json"] if link.name == "rocktray" else []
+    ends([built, *arguments, "no/such/argument", "-h"], 0, "stdout")
+    ends([built, *arguments, "mail", ""], 2, "stderr", cwd=tmp_path)
     found = outputs(link, tmp_path)
     assert found == outputs(type(link)(built), tmp_path)
     assert found[0] and found[1]

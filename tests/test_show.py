@@ -88,11 +88,11 @@ def show(streams, tmp_path):
     def run(message, **settings):
         message_file.write_bytes(message)
         report.write_bytes(b"")
-        words = {f"STREAM_{name.upper()}": str(value) for name, value in settings.items()}
-        words.update(STREAM_REPORT=str(report), LD_PRELOAD=str(streams))
+        variables = {f"STREAM_{name.upper()}": str(value) for name, value in settings.items()}
+        variables.update(STREAM_REPORT=str(report), LD_PRELOAD=str(streams))
         with open(message_file, "rb") as file:
             ended = subprocess.run(
-                [program("mail_show")], stdin=file, capture_output=True, env={**os.environ, **words}, timeout=60
+                [program("mail_show")], stdin=file, capture_output=True, env={**os.environ, **variables}, timeout=60
             )
         return ended.returncode, ended.stdout, ended.stderr.decode(), [int(it) for it in report.read_text().split()]
 

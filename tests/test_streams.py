@@ -31,13 +31,13 @@ class Runner:
 
     def __init__(self, name, directory):
         self.name, self.directory = name, directory
-        self.words = command(name)
-        self.program = os.path.basename(self.words[0])
+        self.command = command(name)
+        self.program = os.path.basename(self.command[0])
         self.input = "standard input" if name in SUBCOMMANDS else "input failed"
         if name == "extract":
-            self.words += ["--into", str(self.into())]
+            self.command += ["--into", str(self.into())]
         if name == "show":
-            self.words.append("-")
+            self.command.append("-")
 
     def into(self):
         """A new empty directory."""
@@ -49,8 +49,8 @@ class Runner:
     def run(self, redirections, *arguments, stdin=None):
         """The exit status and standard error of a run with these redirections of sh."""
         if self.name == "extract":
-            self.words[-1] = str(self.into())
-        command = ["sh", "-c", f'exec "$@" {redirections}', "sh", *self.words, *map(str, arguments)]
+            self.command[-1] = str(self.into())
+        command = ["sh", "-c", f'exec "$@" {redirections}', "sh", *self.command, *map(str, arguments)]
         ended = subprocess.run(command, stdin=stdin or subprocess.DEVNULL, stdout=subprocess.DEVNULL,
                                stderr=subprocess.PIPE, timeout=60, cwd=self.directory)
         return ended.returncode, ended.stderr.decode()
@@ -94,7 +94,7 @@ def test_pipes(runner, tmp_path, count):
     with open(tmp_path / "mail" if count else MAIL, "rb") as file:
         if not count:
             os.close(reader)
-        process = subprocess.Popen(runner.words, stdin=file, stdout=writer, stderr=subprocess.PIPE)
+        process = subprocess.Popen(runner.command, stdin=file, stdout=writer, stderr=subprocess.PIPE)
     os.close(writer)
     if count:
         assert len(os.read(reader, count)) == count

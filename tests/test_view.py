@@ -86,9 +86,9 @@ def view(raw):
     return "".join(line + "\n" for line in lines)
 
 
-def show(*words, data=b""):
+def show(*arguments, data=b""):
     """The exit status and the output of the program."""
-    ended = run([*command("show"), *words], data)
+    ended = run([*command("show"), *arguments], data)
     return ended.returncode, ended.stdout.decode("utf-8")
 
 

@@ -59,8 +59,8 @@ def address(database):
         missing("Flask or pygal is missing (Debian: python3-flask, python3-pygal)")
     with socket.create_server(("127.0.0.1", 0)) as free:
         port = free.getsockname()[1]
-    words = [sys.executable, os.path.join(EXAMPLES, "web.py"), str(database), "--port", str(port), "--program", program("rocktray")]
-    with subprocess.Popen(words, stdout=subprocess.DEVNULL, stderr=subprocess.DEVNULL) as server:
+    command = [sys.executable, os.path.join(EXAMPLES, "web.py"), str(database), "--port", str(port), "--program", program("rocktray")]
+    with subprocess.Popen(command, stdout=subprocess.DEVNULL, stderr=subprocess.DEVNULL) as server:
         for _ in range(200):
             with contextlib.suppress(OSError), socket.create_connection(("127.0.0.1", port), 1):
                 break
@@ -128,8 +128,8 @@ def test_browser(address, tmp_path):
     except ImportError:
         missing("selenium is missing (Debian: python3-selenium, chromium-driver)")
     options = webdriver.ChromeOptions()
-    for word in ("--headless=new", "--no-sandbox", "--disable-dev-shm-usage", "--window-size=390,844"):
-        options.add_argument(word)
+    for argument in ("--headless=new", "--no-sandbox", "--disable-dev-shm-usage", "--window-size=390,844"):
+        options.add_argument(argument)
     options.add_experimental_option("prefs", {"download.default_directory": str(tmp_path)})
     options.set_capability("goog:loggingPrefs", {"browser": "ALL", "performance": "ALL"})
     service = webdriver.chrome.service.Service("/usr/bin/chromedriver")

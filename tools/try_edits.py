@@ -152,13 +152,13 @@ class Run:
         shutil.copy2(f"{top}/crates.txt", to)
         shutil.copy2(f"{top}/HANDLES", to)
 
-    def rt(self, what, crate, top, *words, jobs=1):
+    def rt(self, what, crate, top, *arguments, jobs=1):
         """Runs rt on one processor (on four a check takes half as much again of them), and returns what it printed."""
-        words = ["timeout", "--foreground", "3600", "rt", *words, "--jobs", str(jobs)]
+        command = ["timeout", "--foreground", "3600", "rt", *arguments, "--jobs", str(jobs)]
         how = {"cwd": f"{top}/crates/{crate}", "stdin": subprocess.DEVNULL, "stdout": subprocess.PIPE, "errors": "replace"}
         with self.lanes:
             start = time.monotonic()
-            said = subprocess.run(words, stderr=subprocess.STDOUT, **how).stdout
+            said = subprocess.run(command, stderr=subprocess.STDOUT, **how).stdout
             print(f"{crate}: {what}: {time.monotonic() - start:.0f} s", flush=True)
         return said
 
@@ -183,7 +183,7 @@ class Run:
         top, before, pairs = f"{self.scratch}/{crate}", {}, {}
         for file, *pair in {change for edit in edits for change in edit.changes}:
             pairs.setdefault(Path(f"{top}/crates/{crate}/{file}"), []).append(pair)
-        only = [word for edit in edits for it in edit.functions for word in ("--only", it)]
+        only = [argument for edit in edits for it in edit.functions for argument in ("--only", it)]
         try:
             for path in pairs:
                 before[path] = path.read_text("utf-8")
@@ -248,17 +248,17 @@ def main():
     reader.add_argument("--ci", metavar="PATH", help="`rt ci` writes to PATH.log, and PATH.status is there when it has ended")
     reader.add_argument("--jobs", type=int, default=2, help="how many checks at once, 2 if left out; each takes up to 4 GB")
     reader.add_argument("names", nargs="*", metavar="NAME", help="a crate, or an edit as CRATE/NAME; without any, all")
-    words, paths = reader.parse_args(), sorted(TOP.glob("crates/*/edits/*.txt"))
+    given, paths = reader.parse_args(), sorted(TOP.glob("crates/*/edits/*.txt"))
     edits = [edit for path in paths for edit in edits_in(path.parts[-3], path.read_text("utf-8"))]
-    for it in set(words.names) - {it.crate for it in edits} - {it.name for it in edits}:
+    for it in set(given.names) - {it.crate for it in edits} - {it.name for it in edits}:
         reader.error(f"there is no crate with edits, and no edit, of the name {it}")
     if shutil.which("rt") is None:
         print("try_edits.py: this needs the Rattle kit, whose command is rt", file=sys.stderr)
         return 2
     with tempfile.TemporaryDirectory(prefix="try-edits-") as scratch:
         signal.signal(signal.SIGTERM, lambda *_: (shutil.rmtree(scratch, ignore_errors=True), os._exit(1)))
-        run = Run(scratch, words.jobs, words.ci)
-        run.try_all([it for it in edits if not words.names or {it.crate, it.name} & set(words.names)], words.archive)
+        run = Run(scratch, given.jobs, given.ci)
+        run.try_all([it for it in edits if not given.names or {it.crate, it.name} & set(given.names)], given.archive)
     print(f"{run.passed.count(True)} passed, {run.passed.count(False)} failed")
     return 1 if False in run.passed else 0
 

@@ -155,9 +155,9 @@ def parts(options, files, most):
 
 def title(options, files):
     """Returns the title of a part."""
-    words = " ".join(options if "--label" not in options else options[:-2])
+    shown = " ".join(options if "--label" not in options else options[:-2])
     more = f" and {len(files) - 1} more" if len(files) > 1 else ""
-    return f"{label(files[0][0])}{more}{f' ({words})' if words else ''}"
+    return f"{label(files[0][0])}{more}{f' ({shown})' if shown else ''}"
 
 
 def read_alone(command, path, shard):
@@ -253,7 +253,7 @@ def parts_of(found, paths, most, options):
     wanted = []
     for top in paths:
         for reading, files in found.visit(top) if os.path.isdir(top) else [([], found.mails([top], []))]:
-            wanted += [([*options, *words], batch) for words, batch in parts(reading, files, most)]
+            wanted += [([*options, *more], batch) for more, batch in parts(reading, files, most)]
     return wanted
 
 

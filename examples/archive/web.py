@@ -167,8 +167,8 @@ def download(raw, name):
 def extracted(archive, raw, path):
     """Returns the name and the bytes of a file of a mail, as rocktray extract saves it."""
     with tempfile.TemporaryDirectory() as into:
-        words = [archive.program, "extract", "--mail", "--into", into, "--only", path, "-"]
-        subprocess.run(words, input=raw, stdout=subprocess.DEVNULL, check=False, timeout=60)
+        command = [archive.program, "extract", "--mail", "--into", into, "--only", path, "-"]
+        subprocess.run(command, input=raw, stdout=subprocess.DEVNULL, check=False, timeout=60)
         for name in os.listdir(into):
             with open(os.path.join(into, name), "rb") as file:
                 return name, file.read()
