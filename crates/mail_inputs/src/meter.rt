@@ -16,7 +16,7 @@ pub enum Progress {
 }
 
 /// Reports on standard error how far an input is read, if that is wanted.
-#[derive(Drop)]
+#[derive(Debug, Drop)]
 pub struct Meter<'r, R> {
     rt: &'r R,
     name: Option<&'r str>,
