@@ -1,5 +1,6 @@
 //! The recipients that delivery status notifications (RFC 3464), or delivery reports, report.
-ghost use Rattle.std.specs.Prelude.{◌≡◌, ◌++◌, map, option_map, string_bytes, IfErr, IfOk, Ok, OnOk};
+ghost use Rattle.std.specs.Prelude.{◌≡◌, ◌++◌, flat_map, map, option_map, string_bytes};
+ghost use Rattle.std.specs.Prelude.{IfErr, IfOk, Ok, OnOk};
 ghost use Rattle.mailparse.specs.Mail.{root};
 ghost use Rattle.mailparse.specs.Map.{text_found};
 ghost use Rattle.mailparse.specs.Outcome.{AnswersOrMemory, IsMemory};
@@ -9,6 +10,7 @@ ghost use Rattle.mail_data.specs.Bounce.{delivery_to};
 ghost use Rattle.mail_data.specs.Bounce.{failed_recipients, field, has_original, listed, named_in};
 ghost use Rattle.mail_data.specs.Bounce.{original_message_id, recipients, report_part};
 ghost use Rattle.mail_data.specs.BounceViews.{cleaned, delivery};
+ghost use Rattle.mail_data.specs.Reports.{blocks};
 ghost use Rattle.mail_data.specs.TextViews.{tree_found};
 
 mod address_escapes;
@@ -94,7 +96,7 @@ pub fn recipients<K: KnownCharsets>(
     for part in mail.parts(alloc)? {
         push_deliveries(alloc, &mut found, part, known)?;
     }
-    push_failed(alloc, &mut found, mail, known)?;
+    add_failed(alloc, &mut found, mail, known)?;
     Ok(found)
 }
 
@@ -182,7 +184,41 @@ fn push_deliveries<K: KnownCharsets>(
         return Ok(());
     }
     let content = part_content(alloc, part)?;
-    for block in blocks(alloc, content.bytes.as_slice())? {
+    add_reported(alloc, found, content.bytes.as_slice(), known)
+}
+
+/// Appends the recipients that a delivery report with this content is about, as `recipients` reads
+/// them. The content is that of the body without its transfer encoding, so that a caller who needs
+/// it too decodes the body once; `has_status` says which parts are such reports.
+///
+/// Allocates the blocks, their headers and the texts.
+///
+/// # Errors
+///
+/// `MailParseError::Memory` if it runs out of memory.
+///
+/// # Examples
+///
+/// ```rust
+/// use mail_data::bounce::add_reported;
+///
+/// let report = b"Reporting-MTA: dns; mx.example.org\n\nFinal-Recipient: rfc822; ann@example.org\n";
+/// let mut found = Vec::new(alloc);
+/// add_reported(alloc, &mut found, report, &())?;
+/// assert_eq!(rt; found.len(), 1);
+/// assert_eq!(rt; found[0].final_recipient.as_deref(), Some("ann@example.org"));
+/// ```
+pub fn add_reported<K: KnownCharsets>(
+    alloc: Global,
+    found: &mut Vec<Recipient>,
+    report: &[u8],
+    known: &K,
+) -> Result<(), MailParseError>
+    ensures written { OnOk result (map delivery found.new.items ≡ map delivery found.old.items
+        ++ flat_map (delivery_or_none (K.known known.now)) (blocks report.now)) }
+    ensures only_memory { IfErr result IsMemory }
+{
+    for block in blocks(alloc, report)? {
         push_delivery(alloc, found, block, known)?;
     }
     Ok(())
@@ -286,9 +322,28 @@ fn after_type(text: &str) -> &str
     }
 }
 
-/// Appends the recipients in the headers of a mail.
+/// Appends the recipients in the headers `X-Failed-Recipients` of a mail, as `recipients` reads
+/// them.
+///
+/// Allocates the values and the texts.
+///
+/// # Errors
+///
+/// `MailParseError::Memory` if it runs out of memory.
+///
+/// # Examples
+///
+/// ```rust
+/// use mail_data::bounce::add_failed;
+/// use mailparse::parse_mail;
+///
+/// let mail = parse_mail(alloc, b"X-Failed-Recipients: ann@example.org\n\n")?;
+/// let mut found = Vec::new(alloc);
+/// add_failed(alloc, &mut found, &mail, &())?;
+/// assert_eq!(rt; found[0].final_recipient.as_deref(), Some("ann@example.org"));
+/// ```
 #[tactic(auto, unfolding(crate::specs::Bounce::failed_recipients))]
-fn push_failed<K: KnownCharsets>(
+pub fn add_failed<K: KnownCharsets>(
     alloc: Global,
     found: &mut Vec<Recipient>,
     mail: &ParsedMail<'_>,

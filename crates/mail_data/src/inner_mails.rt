@@ -280,9 +280,23 @@ fn push_mail(
     Ok(())
 }
 
-/// Returns whether a part contains a mail that is to be read.
+/// Returns whether a part contains a mail that `inner_mails` reads: it forwards one, and its path
+/// has fewer than `MAX_LEVELS` numbers (RFC 2046, section 5.2.1).
+///
+/// Does not allocate.
+///
+/// # Examples
+///
+/// ```rust
+/// use mail_data::inner_mails::holds_mail;
+/// use mail_data::places::places;
+/// use mailparse::parse_mail;
+///
+/// let mail = parse_mail(alloc, b"Content-Type: message/rfc822\n\nSubject: inside\n\nHello\n")?;
+/// assert!(rt; holds_mail(&places(alloc, &mail)?[0]));
+/// ```
 #[tactic(auto, unfolding(crate::specs::InnerMails::holds_mail))]
-fn holds_mail(place: &Place<'_, '_>) -> bool
+pub fn holds_mail(place: &Place<'_, '_>) -> bool
     ensures { result ≡ holds_mail (place_view place.now) }
 {
     forwards(place.part) && dot_count(place.path.as_str()) < 99
@@ -320,9 +334,26 @@ fn dot_count(path: &str) -> usize
 }
 
 /// Returns the offset of the mail in the body of a part, given the offset of the mail that contains
-/// the part, or `None` if it does not occur in the whole mail.
+/// the part, or `None` if it does not occur in the whole mail, since it is encoded. The body is that
+/// of the part, as `lenient::lenient_body` returns it.
+///
+/// Does not allocate.
+///
+/// # Examples
+///
+/// ```rust
+/// use mail_data::inner_mails::mail_start;
+/// use mail_data::lenient::lenient_body;
+/// use mail_data::places::places;
+/// use mailparse::parse_mail;
+///
+/// let mail = parse_mail(alloc, b"Content-Type: message/rfc822\n\nSubject: inside\n\nHello\n")?;
+/// let places = places(alloc, &mail)?;
+/// let body = lenient_body(alloc, &mail)?;
+/// assert_eq!(rt; mail_start(Some(0), &places[0], &body), Some(30));
+/// ```
 #[tactic(auto, unfolding(crate::specs::InnerMails::mail_start))]
-fn mail_start(start: Option<usize>, place: &Place<'_, '_>, body: &Body<'_>) -> Option<usize>
+pub fn mail_start(start: Option<usize>, place: &Place<'_, '_>, body: &Body<'_>) -> Option<usize>
     ensures { let node = root (tree_of place.now.part.now) in
         IsBody (lenient_body_kind node) (content_of node) body.now →
         result ≡ mail_start start (place_view place.now) }

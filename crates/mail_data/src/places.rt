@@ -1,5 +1,6 @@
 //! The positions of a mail and each of its parts.
 ghost use Rattle.std.specs.Prelude.{◌≡◌, ◌++◌, [], ◌∷◌, map, IfOk, OnOk};
+ghost use Rattle.mailparse.specs.Mail.{trees_within};
 ghost use Rattle.mailparse.specs.Views.{placement_of, placements_of, tree_of};
 ghost use Rattle.mail_data.specs.Files.{whole_path, with_paths};
 ghost use Rattle.mail_data.specs.PartPlaces.{places};
@@ -52,8 +53,10 @@ pub fn places<'m, 'a>(
     alloc: Global,
     mail: &'m ParsedMail<'a>,
 ) -> Result<Vec<Place<'m, 'a>>, AllocError>
-    ensures { IfOk result (λ found. map place_view found.items
+    ensures read { IfOk result (λ found. map place_view found.items
         ≡ places (tree_of mail.now) (placements_of mail.now)) }
+    ensures whole { IfOk result (λ found. map (λ place. tree_of place.part.now) found.items
+        ≡ trees_within (tree_of mail.now)) }
 {
     let mut found = Vec::new(alloc);
     push_places(alloc, &mut found, mail, whole_path(mail))?;

@@ -76,8 +76,26 @@ pub fn report_blocks<K: KnownCharsets>(
     Ok(Some(read_blocks(alloc, content.bytes.as_slice(), known)?))
 }
 
-/// Returns the blocks of a report with their fields.
-fn read_blocks<K: KnownCharsets>(
+/// Returns the blocks of a report with this content, in order, as `report_blocks` reads them. The
+/// content is that of its body without the transfer encoding, so that a caller who needs it too
+/// decodes the body once.
+///
+/// Allocates the headers of each block, and the texts.
+///
+/// # Errors
+///
+/// `MailParseError::Memory` if it runs out of memory.
+///
+/// # Examples
+///
+/// ```rust
+/// use mail_data::reports::read_blocks;
+///
+/// let blocks = read_blocks(alloc, b"Reporting-MTA: dns; mx.example\n\nAction: failed\n", &())?;
+/// assert_eq!(rt; blocks.len(), 2);
+/// assert_eq!(rt; blocks[1].fields[0].value.as_str(), "failed");
+/// ```
+pub fn read_blocks<K: KnownCharsets>(
     alloc: Global,
     report: &[u8],
     known: &K,
@@ -142,8 +160,22 @@ fn read_field<K: KnownCharsets>(
     })
 }
 
-/// Returns whether a part is a report whose blocks are read.
-fn has_report(part: &ParsedMail<'_>) -> bool
+/// Returns whether a part is a report whose blocks `report_blocks` reads (RFC 3464, section 2.1; RFC
+/// 6533, section 4; RFC 5965, section 2; RFC 8098, section 3.1).
+///
+/// Does not allocate.
+///
+/// # Examples
+///
+/// ```rust
+/// use mail_data::reports::has_report;
+/// use mailparse::parse_mail;
+///
+/// let mail = parse_mail(alloc, b"Content-Type: message/feedback-report\n\nVersion: 1\n")?;
+/// assert!(rt; has_report(&mail));
+/// assert!(rt; !has_report(&parse_mail(alloc, b"Content-Type: text/plain\n\nVersion: 1\n")?));
+/// ```
+pub fn has_report(part: &ParsedMail<'_>) -> bool
     ensures { result ≡ has_report (root (tree_of part.now)) }
 {
     has_status(part)
@@ -151,8 +183,20 @@ fn has_report(part: &ParsedMail<'_>) -> bool
         || has_type(part, "message/disposition-notification")
 }
 
-/// Returns whether a part has the status of deliveries.
-pub(crate) fn has_status(part: &ParsedMail<'_>) -> bool
+/// Returns whether a part has the status of deliveries (RFC 3464, section 2.1; RFC 6533, section 4).
+///
+/// Does not allocate.
+///
+/// # Examples
+///
+/// ```rust
+/// use mail_data::reports::has_status;
+/// use mailparse::parse_mail;
+///
+/// let mail = parse_mail(alloc, b"Content-Type: message/delivery-status\n\nAction: failed\n")?;
+/// assert!(rt; has_status(&mail));
+/// ```
+pub fn has_status(part: &ParsedMail<'_>) -> bool
     ensures { result ≡ has_status (root (tree_of part.now)) }
 {
     has_type(part, "message/delivery-status") || has_type(part, "message/global-delivery-status")

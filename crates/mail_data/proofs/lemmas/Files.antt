@@ -1,5 +1,5 @@
 -- Lemmas on the files of a mail.
-use Rattle.std.proofs.Common.{◌≡◌, ℕ, Bool, true, false, eqb, List, [], ◌∷◌, ◌&&◌, length, map, Ok, refl, sym, ap, ◌∙◌, arith}
+use Rattle.std.proofs.Common.{◌≡◌, Bool, true, false, eqb, List, [], ◌∷◌, ◌&&◌, length, map, Ok, refl, sym, ap, ◌∙◌, arith}
 use Rattle.std.proofs.lemmas.Bool.{ne_eqb, and_left}
 use Rattle.std.proofs.lemmas.List.{length-map}
 use Rattle.mail_codec.specs.Charset.{Charsets}

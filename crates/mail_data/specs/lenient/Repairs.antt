@@ -1,7 +1,7 @@
 -- Values with parameters (RFC 2045, section 5.1; RFC 2231, section 4) that lack semicolons, closing
 -- quotes or the apostrophes of extended values; the crate's own rule. What is missing is put in, and
 -- every character stays.
-use Rattle.std.specs.Prelude.{ℕ, zero, suc, ◌-◌, Bool, true, false, not, ◌&&◌, ◌||◌, ◌==◌, List, [], ◌∷◌, ◌++◌, is_some, chars, encode_utf8_all, codes, if◌then◌else◌}
+use Rattle.std.specs.Prelude.{ℕ, zero, suc, ◌-◌, Bool, false, not, ◌&&◌, ◌||◌, ◌==◌, List, [], ◌∷◌, ◌++◌, is_some, chars, encode_utf8_all, codes, if◌then◌else◌}
 use Rattle.std.specs.Char.{is_ascii_alphabetic, is_ascii_alphanumeric, is_ascii_whitespace}
 use Rattle.mail_codec.specs.Ascii.{apostrophe, asterisk, backslash, equals_sign, quote, semicolon, slash}
 use Rattle.mail_codec.specs.Places.{text_place}

@@ -1,16 +1,16 @@
 -- Types that need no lenient reading, and the refusals of messages that were kept.
-use Rattle.std.proofs.Common.{◌≡◌, ◌≢◌, ℕ, Bool, true, false, not, ◌&&◌, List, [], ◌∷◌, Some, Ok, Err, refl, sym, ap, ◌∙◌}
+use Rattle.std.proofs.Common.{◌≡◌, ◌≢◌, ℕ, true, false, not, ◌&&◌, List, [], ◌∷◌, Some, Ok, Err, refl, sym, ap, ◌∙◌}
 use Rattle.std.proofs.lemmas.Bool.{and_parts, cond-false, not-true}
 use Rattle.std.proofs.lemmas.Slice.Eq.{bytes_eq-Decides}
-use Rattle.std.specs.List.{list_all, list_any}
+use Rattle.std.specs.List.{list_any}
 use Rattle.std.specs.Map.{update, update_all}
 use Rattle.std.specs.Str.{bytes_eq, str_to_ascii_lowercase}
 use Rattle.mail_codec.specs.Charset.{Charsets}
 use Rattle.mailparse.specs.Block.{HeaderList, read_headers}
-use Rattle.mailparse.specs.ContentType.{ContentType, content_type_in, type_with}
+use Rattle.mailparse.specs.ContentType.{content_type_in, type_with}
 use Rattle.mailparse.specs.Continuations.{parameters_in}
 use Rattle.mailparse.specs.Mail.{kept_message, root}
-use Rattle.mailparse.specs.Pairs.{Texts, last_of, no_texts, pairs_of, value_of}
+use Rattle.mailparse.specs.Pairs.{Texts, no_texts, pairs_of, value_of}
 use Rattle.mailparse.specs.Refusal.{Reads, Refusal, recursion_limit}
 use Rattle.mailparse.specs.Sections.{is_star}
 use Rattle.mailparse.specs.private.Continuations.{has_star}

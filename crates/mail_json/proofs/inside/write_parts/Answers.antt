@@ -11,7 +11,7 @@ pub returns : goal.returns
 returns g c =
     let known = g.K.KnownCharsets.known c.args.known.now in
     let mail = tree_of c.args.mail.now in
-    let found = c.in_ok-found.ensures ∙ ap (λ (ps : List Placement). places mail ps) c.requires.placed in
+    let found = c.in_ok-found.ensures.read ∙ ap (λ (ps : List Placement). places mail ps) c.requires.placed in
     let first = ap (map place_view) c.as_slice.ensures.value ∙ found in
     let again = ap (map place_view) c.as_slice-2.ensures.value ∙ found in
     let parts = c.in_ok-write_found.ensures in

@@ -1,4 +1,4 @@
-use Rattle.std.proofs.Common.{◌≡◌, false, true, sym, ◌∙◌}
+use Rattle.std.proofs.Common.{◌≡◌, true, sym, ◌∙◌}
 use Rattle.std.proofs.lemmas.List.{nil_from_length}
 use Rattle.std.proofs.lemmas.Str.{IsUtf8-past_char}
 use Rattle.mail_data.proofs.lemmas.lenient.Repairs.{goes_on, missing-end, missing-next, missing-one, missing-stop, stops, stops-equals, stops-left, stops-semicolon}

@@ -1,5 +1,5 @@
 -- The result for the rest is that for the whole text.
-use Rattle.std.proofs.Common.{◌≡◌, ◌≤◌}
+use Rattle.std.proofs.Common.{◌≡◌}
 use Rattle.std.specs.Str.{chars, IsUtf8}
 use Rattle.mail_data.specs.lenient.Repairs.{missing_apostrophes}
 use Rattle.mail_data.proofs.lenient.repairs.missing_apostrophes.Given as goal

@@ -7,7 +7,7 @@ use Rattle.mailparse.specs.Map.{all_values_in}
 use Rattle.mailparse.specs.Views.{tree_of}
 use Rattle.mail_data.specs.Bounce.{listed}
 use Rattle.mail_data.specs.BounceViews.{delivery}
-use Rattle.mail_data.proofs.bounce.push_failed.Given as goal
+use Rattle.mail_data.proofs.bounce.add_failed.Given as goal
 
 abbrev pub invariant-loop-value : goal.invariant-loop-value
 invariant-loop-value g l =
