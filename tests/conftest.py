@@ -53,22 +53,24 @@ def chance(seed, request):
     return random.Random(f"{seed} {request.node.name}")
 
 
+def path_given(request, option, what):
+    """The path that an option gives. Without it the test is skipped."""
+    path = request.config.getoption(option)
+    if not path:
+        pytest.skip(f"{what} is given by {option}")
+    return os.path.abspath(path)
+
+
 @pytest.fixture(scope="session")
 def oracle(request):
     """The program of oracle/crate."""
-    path = request.config.getoption("--oracle")
-    if not path:
-        pytest.skip("the Rust crate is given by --oracle")
-    return os.path.abspath(path)
+    return path_given(request, "--oracle", "the Rust crate")
 
 
 @pytest.fixture(scope="session")
 def patched_oracle(request):
     """The program of oracle/crate over a crate that is changed where docs/DIFFERENCES.md says that this port differs."""
-    path = request.config.getoption("--patched-oracle")
-    if not path:
-        pytest.skip("the changed crate is given by --patched-oracle")
-    return os.path.abspath(path)
+    return path_given(request, "--patched-oracle", "the changed crate")
 
 
 @pytest.fixture(scope="session")

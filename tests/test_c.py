@@ -60,16 +60,23 @@ def as_json(line, path):
     return {"schema": 5, "file": path, "number": None, "start": 0, "end": int(refused[1]), "error": refused[2]}
 
 
-def test_lines(check, hostile):
-    """Of the samples and of 20,000 made mails the library writes what rocktray json writes."""
+def batches(check, what, hostile):
+    """The samples and the hostile mails, by the thousand: their paths, what `check` writes of them, and their JSON lines."""
     paths = [str(path) for path in [*SAMPLES, *hostile]]
     for first in range(0, len(paths), 1000):
         batch = paths[first : first + 1000]
-        ours = run_check(check, "lines", *batch)
+        ours = run_check(check, what, *batch)
         assert (ours.returncode, ours.stderr) == (0, b"")
-        wanted = run([*command("json"), "--mail", *batch]).stdout.decode().split("\n")
-        found = ours.stdout.decode().split("\n")
-        assert len(found) == len(wanted) == len(batch) + 1
+        lines = run([*command("json"), "--mail", *batch]).stdout.decode().split("\n")[:-1]
+        assert len(lines) == len(batch)
+        yield batch, ours.stdout.decode(), lines
+
+
+def test_lines(check, hostile):
+    """Of the samples and of 20,000 made mails the library writes what rocktray json writes."""
+    for batch, ours, wanted in batches(check, "lines", hostile):
+        found = ours.split("\n")[:-1]
+        assert len(found) == len(wanted)
         for path, line, line_of_json in zip(batch, found, wanted):
             same = line == line_of_json.replace(f'"file":{json.dumps(path, ensure_ascii=False)}', '"file":null', 1)
             assert same or as_json(line, path) == json.loads(line_of_json), path
@@ -163,14 +170,9 @@ def paths_of(parts):
 
 def test_records(check, hostile):
     """Of the samples and of 20,000 made mails the records and the calls on ranges say what rocktray json writes."""
-    paths = [str(path) for path in [*SAMPLES, *hostile]]
-    for first in range(0, len(paths), 1000):
-        batch = paths[first : first + 1000]
-        ours = run_check(check, "records", *batch)
-        assert (ours.returncode, ours.stderr) == (0, b"")
-        lines = run([*command("json"), "--mail", *batch]).stdout.decode().split("\n")[:-1]
-        found = records_of(ours.stdout.decode())
-        assert len(found) == len(lines) == len(batch)
+    for batch, ours, lines in batches(check, "records", hostile):
+        found = records_of(ours)
+        assert len(found) == len(lines)
         for path, mail, line in zip(batch, found, map(json.loads, lines)):
             parts = mail["parts"]
             assert (mail["code"] != "0") == ("error" in line), path

@@ -18,6 +18,17 @@ RAW = (
     b"Content-Transfer-Encoding: base64\n\nJVBERg==\n--b\nContent-Type: message/rfc822\n\nSubject: in\n\n--b--\n"
 )
 
+# the start of a script: `data` is the file that its argument names, in an mmap, and 100 MB are left to allocate
+IN_100_MB = """
+import mmap, re, resource, rocktray, sys
+def own():
+    return sum(int(size) for size in re.findall(r"(?:RssAnon|VmSwap):\\s*(\\d+) kB", open("/proc/self/status").read())) * 1024
+with open(sys.argv[1], "rb") as file:
+    data = mmap.mmap(file.fileno(), 0, access=mmap.ACCESS_READ)
+rocktray.parse(b"")
+resource.setrlimit(resource.RLIMIT_DATA, (own() + (100 << 20),) * 2)
+"""
+
 
 def succeeds(script, *arguments):
     """Runs a script in a process of its own."""
@@ -68,14 +79,8 @@ def test_no_copy(tmp_path):
     """200 MB in an mmap: neither the mail nor what is asked of it takes memory of that size."""
     (tmp_path / "mail").write_bytes(RAW.replace(b"text\n", b"text of a line of a letter\n" * 7_500_000))
     succeeds(
-        """
-import mmap, re, resource, rocktray, sys
-def own():
-    return sum(int(size) for size in re.findall(r"(?:RssAnon|VmSwap):\\s*(\\d+) kB", open("/proc/self/status").read())) * 1024
-with open(sys.argv[1], "rb") as file:
-    data = mmap.mmap(file.fileno(), 0, access=mmap.ACCESS_READ)
-rocktray.parse(b"")
-resource.setrlimit(resource.RLIMIT_DATA, (own() + (100 << 20),) * 2)
+        IN_100_MB
+        + """
 for kind in (data, memoryview(data)):
     mail = rocktray.parse(kind)
     assert mail.subject == mail["Subject"] == "Hi" and mail.date is None and mail.recipients == []
@@ -95,14 +100,8 @@ def test_too_many(tmp_path, mail):
     front = b"" if mail == "headers" else b"Content-Type: multipart/mixed; boundary=b\n\n--b\n"
     (tmp_path / "mail").write_bytes(front + (b"\n--b\n" * 9_400_000 if mail == "parts" else b"a\n" * 23_500_000))
     succeeds(
-        """
-import mmap, re, resource, rocktray, sys
-def own():
-    return sum(int(size) for size in re.findall(r"(?:RssAnon|VmSwap):\\s*(\\d+) kB", open("/proc/self/status").read())) * 1024
-with open(sys.argv[1], "rb") as file:
-    data = mmap.mmap(file.fileno(), 0, access=mmap.ACCESS_READ)
-rocktray.parse(b"")
-resource.setrlimit(resource.RLIMIT_DATA, (own() + (100 << 20),) * 2)
+        IN_100_MB
+        + """
 try:
     rocktray.parse(data, limit=10_000)
 except rocktray.TooMany as error:
