@@ -16,13 +16,18 @@ pytestmark = pytest.mark.quick
 SUBJECTS = ("a", "Re: a", "b", "Re: b", "Fwd: [list] a", "")
 
 
+def sent(one, date, subject, references):
+    """What a mail with this subject says of itself."""
+    return Sent(one, date, *base_subject(subject), references)
+
+
 def made_mails(source):
     """A few mails that refer to one another in any way, also in circles, some twice."""
     ids = [f"{number}@x" for number in range(source.randint(1, 8))]
     mails = []
     for _ in range(source.randint(1, 9)):
         references = tuple(source.choices([*ids, "lost@x", "gone@x"], k=source.randint(0, 4)))
-        mails.append(Sent(source.choice(ids), source.choice([None, 1, 2, 3]), source.choice(SUBJECTS), references))
+        mails.append(sent(source.choice(ids), source.choice([None, 1, 2, 3]), source.choice(SUBJECTS), references))
     return mails
 
 
@@ -61,7 +66,7 @@ def test_laws(pytestconfig):
 )
 def test_trees(mails, wanted):
     """Trees after the rules that jwz.org/doc/threading.html has for these cases."""
-    assert trees([Sent(*mail) for mail in mails]) == wanted
+    assert trees([sent(*mail) for mail in mails]) == wanted
 
 
 @pytest.mark.parametrize(
@@ -76,6 +81,6 @@ def test_subjects(subject, wanted):
 def test_long_threads():
     """A thread of 100,000 mails, and a mail with 100,000 references, are read in linear time."""
     count = 100_000
-    chain = [Sent(f"{number}", number, "a", (f"{number - 1}",) if number else ()) for number in range(count)]
+    chain = [sent(f"{number}", number, "a", (f"{number - 1}",) if number else ()) for number in range(count)]
     assert tops_of(trees(chain)) == dict.fromkeys((mail.id for mail in chain), "0")
-    assert trees([Sent("x", 1, "a", tuple(map(str, range(count))))]) == {"x": None}
+    assert trees([sent("x", 1, "a", tuple(map(str, range(count))))]) == {"x": None}

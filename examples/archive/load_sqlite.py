@@ -24,6 +24,7 @@ import argparse
 import collections
 import concurrent.futures
 import contextlib
+import gc
 import glob
 import html
 import json
@@ -50,6 +51,7 @@ create table if not exists mails(
 create unique index if not exists mails_by_message_id on mails(message_id);
 create index if not exists mails_by_date on mails(date);
 create index if not exists mails_by_list_id on mails(list_id);
+create index if not exists mails_by_sender on mails(sender);
 create table if not exists copies(mail integer, shard text, file text, start integer, "end" integer, flags text);
 create index if not exists copies_by_mail on copies(mail);
 create index if not exists copies_by_shard on copies(shard);
@@ -61,6 +63,7 @@ create table if not exists attachments(
     mail integer, number integer, path text, name text, type text, size integer, start integer, "end" integer, sha256 text,
     primary key(mail, number)) without rowid;
 create index if not exists attachments_by_sha256 on attachments(sha256);
+create index if not exists attachments_by_type on attachments(type);
 create virtual table if not exists texts using fts5(subject, sender, recipients, body, content=mails, content_rowid=id);
 """
 THREADS = """
@@ -70,15 +73,18 @@ create table months(month text primary key, mails integer) without rowid;
 drop table if exists senders;
 create table senders(sender text primary key, mails integer) without rowid;
 drop table if exists threads;
-create table threads(message_id text primary key, parent text, top text, date integer) without rowid;
-create index threads_by_top on threads(top);
-create index threads_by_parent on threads(parent);
+create table threads(message_id text, parent text, top text, date integer);
 """
+# what follows when all threads are there
+THREADS_LOADED = (
+    "create unique index threads_by_message_id on threads(message_id)", "create index threads_by_top on threads(top)",
+    f"pragma user_version = {VERSION}", "commit",
+)
 # the numbers of mails, by month and by sender
-COUNTS = {
-    "months": "select strftime('%Y-%m', date, 'unixepoch'), count(*) from mails where date is not null group by 1",
-    "senders": "select sender, count(*) from mails where sender != '' group by 1",
-}
+COUNTS = (
+    "select strftime('%Y-%m', date, 'unixepoch'), count(*) from mails where date is not null group by 1",
+    "select sender, count(*) from mails where sender != '' group by 1",
+)
 SENDERS = 1000
 # the number of bytes of words that are sorted in memory
 BUFFER = "insert into texts(texts, rank) values('hashsize', 100000000)"
@@ -140,7 +146,7 @@ def mail_of(line):
 def read_line(line):
     """Returns the object of a line of a shard."""
     try:
-        return json.loads(line)
+        return json.loads(str(line, "utf-8"))
     except ValueError as fault:
         raise ValueError(f"a shard is damaged ({fault}): remove it, and repeat index_archive.py") from None
 
@@ -236,20 +242,19 @@ def load(path, stale, fresh):
                 remove(db, shard)
         for shard, name in fresh:
             with open(name, "rb") as file:
-                mails, refused = marshal.load(file)
+                mails, refused = marshal.loads(file.read())
             with db:
                 total += insert(db, shard, mails, refused)
     return total
 
 
-def sent(path):
+def sent(db):
     """Returns what the mails of a slice say of themselves, for threads."""
-    with contextlib.closing(sqlite3.connect(path)) as db:
-        links = {}
-        for mail, one in db.execute("select mail, id from links order by mail, position"):
-            links.setdefault(mail, []).append(one)
-        columns = "select id, message_id, date, subject from mails where message_id is not null"
-        return [threads.Sent(one, date, subject or "", tuple(links.get(mail, ()))) for mail, one, date, subject in db.execute(columns)]
+    links = {}
+    for mail, one in db.execute("select mail, id from links order by mail, position"):
+        links.setdefault(mail, []).append(one)
+    columns = "select id, message_id, date, subject from mails where message_id is not null"
+    return [(one, date, *threads.base_subject(subject or ""), tuple(links.get(mail, ()))) for mail, one, date, subject in db.execute(columns)]
 
 
 def set_version(path, version):
@@ -258,28 +263,31 @@ def set_version(path, version):
         db.execute(f"pragma user_version = {version}")
 
 
-def counted(path):
-    """Returns the numbers of mails of a slice, by month and by sender."""
+def overview(path):
+    """Returns of a slice the numbers of mails, by month and by sender, and what its mails say of themselves."""
     with contextlib.closing(sqlite3.connect(path)) as db:
-        return {table: collections.Counter(dict(db.execute(query))) for table, query in COUNTS.items()}
+        return [dict(db.execute(query)) for query in COUNTS], sent(db)
 
 
 def load_threads(path, slices, pool):
     """Makes the threads and the numbers of all mails anew."""
-    counts = list(pool.map(counted, slices))
-    months, senders = (sum((one[table] for one in counts), collections.Counter()) for table in COUNTS)
-    mails = [one for some in pool.map(sent, slices) for one in some]
-    dates = {one.id: one.date for one in mails}
+    counts, mails = (collections.Counter(), collections.Counter()), []
+    for some, fresh in pool.map(overview, slices):
+        for count, one in zip(counts, some):
+            count.update(one)
+        mails += map(threads.Sent._make, fresh)
+    months, senders = counts
     parents = threads.trees(mails)
     tops = threads.tops_of(parents)
+    dates = {one.id: one.date for one in mails}
     with contextlib.closing(sqlite3.connect(path, isolation_level=None)) as db:
         db.executescript(THREADS)
         db.executemany("insert into months values(?, ?)", months.items())
         db.executemany("insert into senders values(?, ?)", senders.most_common(SENDERS))
         rows = ((one, above, tops[one], dates.get(one)) for one, above in parents.items())
         db.executemany("insert into threads values(?, ?, ?, ?)", rows)
-        db.execute(f"pragma user_version = {VERSION}")
-        db.execute("commit")
+        for statement in THREADS_LOADED:
+            db.execute(statement)
 
 
 def load_all(given, named, paths, trees, pool, scratch):
@@ -319,15 +327,16 @@ def load_index(given, named, paths, pool, scratch):
     return total
 
 
-def ignore_interrupts():
-    """Leaves Ctrl-C to the process that waits for this one."""
+def prepare():
+    """Leaves Ctrl-C to the process that waits for this one, which makes no cycles of objects and needs not look for them."""
     signal.signal(signal.SIGINT, signal.SIG_IGN)
+    gc.disable()
 
 
 def interruptible(given, named, paths):
     """Loads the index by several processes, which end with this one."""
     with tempfile.TemporaryDirectory(prefix=".load-", dir=given.database) as scratch:
-        with concurrent.futures.ProcessPoolExecutor(initializer=ignore_interrupts) as pool:
+        with concurrent.futures.ProcessPoolExecutor(initializer=prepare) as pool:
             try:
                 return load_index(given, named, paths, pool, scratch)
             except KeyboardInterrupt:

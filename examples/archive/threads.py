@@ -4,6 +4,7 @@
 id occurs once, and no id is above itself. It depends on the set of mails alone, and not on the order in which they
 come. An id to which mails refer, but which no mail has, is a node if two mails or more are below it.
 """
+import collections
 import re
 from typing import NamedTuple
 
@@ -13,11 +14,13 @@ NEVER = float("inf")
 
 
 class Sent(NamedTuple):
-    """What a mail says of itself. The ids to which it refers are in their order, its parent last."""
+    """What a mail says of itself. Its subject is what `base_subject` returns; the ids to which it refers are in their order,
+    its parent last."""
 
     id: str
     date: "int | None"
     subject: str
+    is_reply: bool
     references: "tuple[str, ...]"
 
 
@@ -62,69 +65,48 @@ def without_cycles(parents, ranks):
     return parents
 
 
-def above_first(parents):
-    """Returns the ids, each before those below it."""
-    children = {}
-    for one, above in parents.items():
-        children.setdefault(above, []).append(one)
-    order = list(children.get(None, ()))
-    for one in order:
-        order += children.get(one, ())
-    return order
+def nearest(starts, parents, stops=()):
+    """Returns for each of these ids the first of it and those above it that is one of `stops` or the top of its thread."""
+    found = {}
+    for one in starts:
+        way = []
+        while one not in found and one not in stops and parents[one] is not None:
+            way.append(one)
+            one = parents[one]
+        end = found.setdefault(one, one)
+        found.update(dict.fromkeys(way, end))
+    return found
 
 
 def without_empty(parents, ids):
     """Leaves out ids that no mail has, but for those at a top that hold two threads or more together."""
-    order, shown, counts = above_first(parents), set(), dict.fromkeys(parents, 0)
-    for one in reversed(order):
-        above = parents[one]
-        if one in ids or (above is None and counts[one] > 1):
-            shown.add(one)
-        if above is not None:
-            counts[above] += 1 if one in shown else counts[one]
-    nearest, kept = {None: None}, {}
-    for one in order:
-        nearest[one] = one if one in shown else nearest[parents[one]]
-        if one in shown:
-            kept[one] = nearest[parents[one]]
-    return kept
+    ends = nearest(parents.keys() - ids, parents, ids)
+    kept = {one: ends.get(above, above) for one, above in parents.items() if one in ids}
+    counts = collections.Counter(above for above in kept.values() if above is not None and above not in ids)
+    kept.update((one, None) for one, count in counts.items() if count > 1)
+    return {one: above if above in kept else None for one, above in kept.items()}
 
 
 def by_subject(parents, mails):
     """Puts replies whose parent is unknown below the first mail with their subject, which is no reply if one is not."""
-    roots = [mail for mail in mails if parents[mail.id] is None]
-    firsts = {}
-    for wants_reply in (False, True):
-        for mail in roots:
-            subject, is_reply = base_subject(mail.subject)
-            if subject and is_reply == wants_reply:
-                firsts.setdefault(subject, mail.id)
+    roots = [mail for mail in mails if mail.subject and parents[mail.id] is None]
+    firsts = {mail.subject: mail.id for mail in reversed(sorted(roots, key=lambda mail: mail.is_reply))}
     for mail in roots:
-        subject, is_reply = base_subject(mail.subject)
-        first = firsts.get(subject) if is_reply else None
-        if first is not None and first != mail.id:
-            parents[mail.id] = first
+        if mail.is_reply and firsts[mail.subject] != mail.id:
+            parents[mail.id] = firsts[mail.subject]
     return parents
 
 
 def trees(mails):
     """Returns the parent of each id, or None at the top of a thread. Of mails with one id the first in order counts."""
     of = {}
-    for mail in sorted(mails, key=lambda it: (NEVER if it.date is None else it.date, it.id, it.subject, it.references)):
+    for mail in sorted(mails, key=lambda it: (NEVER if it.date is None else it.date, it)):
         of.setdefault(mail.id, mail)
     ordered = list(of.values())
     ranks = {one: rank for rank, one in enumerate(of)}
-    return by_subject(without_empty(without_cycles(linked(ordered), ranks), of), ordered)
+    return by_subject(without_empty(without_cycles(linked(ordered), ranks), of.keys()), ordered)
 
 
 def tops_of(parents):
     """Returns the top of the thread of each id."""
-    tops = {}
-    for one in parents:
-        way = []
-        while one not in tops and parents[one] is not None:
-            way.append(one)
-            one = parents[one]
-        top = tops.setdefault(one, one)
-        tops.update(dict.fromkeys(way, top))
-    return tops
+    return nearest(parents, parents)
