@@ -26,6 +26,7 @@ import pytest
 
 from support import FROM, TOP, missing, program, run, text_of
 
+from archive import write_index
 from fences import fences_of
 from made_mails import mailbox
 
@@ -449,6 +450,43 @@ def test_older_database(runs):
     check_loaded(runs, MAILS + 9)
     assert search.version_of(path) == search.VERSION and not glob.glob(runs.path("db/*.new*")), "the older database is replaced"
     assert runs.search("okapi") == ["Changed"], "a database that is loaded anew"
+
+
+@pytest.mark.quick
+@pytest.mark.parametrize("common", [0, 10**9])
+@pytest.mark.parametrize("cost", [0, 10**9])
+def test_latest(tmp_path_factory, monkeypatch, common, cost):
+    """The latest mails and their number, in whichever way they are looked for, are those whose lines have the words."""
+    directory = tmp_path_factory.getbasetemp() / "latest"
+    words = write_index(str(directory / "out"), 2000)
+    if not (directory / "db").exists():
+        loader = [sys.executable, os.path.join(EXAMPLES, "load_sqlite.py"), "out", "db", "--slices", "3"]
+        assert subprocess.run(loader, cwd=directory, capture_output=True, check=False).returncode == 0
+    with open(directory / "out" / f"{0:032x}.jsonl", encoding="utf-8") as file:
+        mails = sorted(map(json.loads, file), key=lambda line: -line["date"])
+    monkeypatch.setattr(search, "COMMON", common)
+    texts = {line["number"]: set(re.findall(r"\w+", f"{line['subject']} {line['from']} {line['to']} {line['parts'][0]['text']}")) for line in mails}
+    pdf = search.with_file("type = ?", "application/pdf")
+    with contextlib.ExitStack() as stack:
+        slices = [stack.enter_context(contextlib.closing(search.opened(path))) for path in search.slices_of(str(directory / "db"))]
+        assert len(slices) == 3
+        for wheres, meets in (
+            ([search.with_words(words[0])], lambda line: words[0] in texts[line["number"]]),
+            ([search.with_words(f"{words[0]} {words[1]}")], lambda line: {*words[:2]} <= texts[line["number"]]),
+            ([search.with_words(words[3000])], lambda line: words[3000] in texts[line["number"]]),
+            ([pdf], lambda line: line["parts"][-1]["type"] == "application/pdf"),
+            ([search.with_words(words[0]), pdf], lambda line: words[0] in texts[line["number"]] and line["parts"][-1]["type"] == "application/pdf"),
+            ([search.with_words(words[0]), ("date < ?", 1_000_500_000)], lambda line: words[0] in texts[line["number"]] and line["number"] < 1000),
+            ([("list_id = ?", "l5.example")], lambda line: line["number"] % 200 == 5 and line["number"] % 3),
+            ([], lambda line: True),
+        ):
+            wanted = [line["message_id"][0] for line in mails if meets(line)]
+            wheres = [it._replace(cost=cost) if isinstance(it, search.Among) else it for it in wheres]
+            for first, last in ((0, 20), (25, 50)):
+                chosen, total = search.latest(slices, wheres, last)
+                found = [mail["message_id"] for mail, _, _ in search.mails_of(slices, chosen, first, last)]
+                assert (found, total) == (wanted[first:last], len(wanted)), wheres
+            assert [mail["message_id"] for mail, _, _ in search.found_in(slices, wheres, None)[0]] == wanted, wheres
 
 
 def test_bad_file_of_a_batch(tmp_path):

@@ -24,6 +24,8 @@ import concurrent.futures
 import contextlib
 import datetime
 import glob
+import heapq
+import itertools
 import json
 import os
 import re
@@ -31,6 +33,7 @@ import sqlite3
 import subprocess
 import sys
 import urllib.parse
+from typing import NamedTuple
 
 from program import rocktray
 
@@ -42,11 +45,11 @@ select message_id, date, datetime(date, 'unixepoch'), sender, recipients, subjec
     (select json_group_array(name) from attachments where mail = mails.id),
     (select count(*) from copies where mail = mails.id), file, start, "end", mails.id
 from mails join copies on copies.rowid = (select min(rowid) from copies where mail = mails.id)
-where mails.id in (select value from json_each(?)) order by date desc
+where mails.id in (select value from json_each(?))
 """
-# the mails with words, and the number of them above which it is faster to look through all mails in the order of time
-MATCH = "mails.id in (select rowid from texts where texts match ?)"
+# the number of mails above which it is faster to look through all mails in the order of time
 COMMON = 5000
+NEVER = float("-inf")
 HIDDEN = re.compile("[\x00-\x1f\x7f-\x9f\u2028\u2029\u202a-\u202e\u2066-\u2069]")
 SEPARATOR = re.compile(rb"^(>*From )", re.MULTILINE)
 PACKED = ((b"\x1f\x8b", "gzip"), (b"\xfd7zX", "xz"), (b"BZh", "bzip2"), (b"\x28\xb5\x2f\xfd", "zstd"))
@@ -74,13 +77,34 @@ def quoted(text):
     return '"' + text.replace('"', '""') + '"'
 
 
+class Among(NamedTuple):
+    """The condition that a mail is among those of another table: the queries of their numbers and of one mail, with their
+    values; and how many numbers are read in the time that the query of one mail takes."""
+
+    numbers: str
+    one: str
+    values: tuple
+    cost: int
+
+
+def with_words(query):
+    """Returns the condition that a mail has words, by a query of FTS5."""
+    return Among("select rowid from texts where texts match ?", "select 1 from texts where texts match ? and rowid = mails.id", (query,), 300)
+
+
+def with_file(condition, *values):
+    """Returns the condition that a mail has a file with a condition."""
+    one = f"select 1 from attachments where mail = mails.id and {condition}"
+    return Among(f"select distinct mail from attachments where {condition}", one, values, 10)
+
+
 def conditions(given):
     """Yields the conditions on a mail, each with the values that it has."""
     words = [f"({given.query})"] if given.query else []
     words += [f"sender: {quoted(given.sender)}"] if given.sender else []
     words += [f"recipients: {quoted(given.to)}"] if given.to else []
     if words:
-        yield MATCH, " AND ".join(words)
+        yield with_words(" AND ".join(words))
     if given.after is not None:
         yield "date >= ?", given.after
     if given.before is not None:
@@ -88,11 +112,11 @@ def conditions(given):
     if given.list:
         yield "list_id = ?", given.list.lower()
     if given.has:
-        yield ("mails.id in (select mail from attachments)",)
+        yield with_file("number = 0")
     if given.attachment:
-        yield "mails.id in (select mail from attachments where name like ?)", f"%{given.attachment}%"
+        yield with_file("name like ?", f"%{given.attachment}%")
     if given.hash:
-        yield "mails.id in (select mail from attachments where sha256 = ?)", given.hash.lower()
+        yield with_file("sha256 = ?", given.hash.lower())
     if given.id:
         yield "message_id = ?", given.id
     if given.thread:
@@ -150,47 +174,54 @@ def in_all(slices, ask):
         return list(pool.map(ask, slices))
 
 
-def condition_of(db, wheres):
-    """Returns conditions on the mails of a slice as one, with its values, and the number of the mails that meet it or None."""
-    total, parts = None, ["true"]
-    for condition, *given in wheres:
-        if condition == MATCH:
-            total = db.execute("select count(*) from texts where texts match ?", given).fetchone()[0]
-            condition = f"+{MATCH}" if total > COMMON else MATCH
-        parts.append(condition)
-    return total if len(wheres) == 1 else None, " and ".join(parts), [value for _, *given in wheres for value in given]
+def plan_of(db, wheres, most):
+    """Returns the conditions on the mails of a slice as one, with its values, and the number of mails that meet them, or None
+    if they are best counted by listing them all."""
+    tables, columns = ([it for it in wheres if isinstance(it, Among) == is_table] for is_table in (True, False))
+    counts = [db.execute(f"select count(*) from ({it.numbers})", it.values).fetchone()[0] for it in tables]
+    is_only = len(wheres) == len(tables) == 1
+    every = db.execute("select coalesce(max(id), 0) from mails").fetchone()[0]
+    if is_only and most is not None and counts[0] ** 2 > tables[0].cost * most * every:
+        parts = [f"exists ({tables[0].one})"]
+    else:
+        parts = [f"{'+' * (count > COMMON)}mails.id in ({it.numbers})" for it, count in zip(tables, counts)]
+    where = " and ".join([*parts, *(condition for condition, *_ in columns)]) or "true"
+    values = [value for it in tables for value in it.values] + [value for _, *some in columns for value in some]
+    if not tables:
+        return where, values, db.execute(f"select count(*) from mails where {where}", values).fetchone()[0]
+    return where, values, counts[0] if is_only else None
 
 
 def latest(slices, wheres, most):
-    """Returns of each slice the numbers of the mails that meet the conditions, the latest first and at most `most`, and how
-    many there are in all slices."""
+    """Returns of each slice the latest mails that meet the conditions, at most `most`, each by its date and its number, and
+    how many there are in all slices."""
 
     def ask(db):
-        total, where, values = condition_of(db, wheres)
-        if total is None:
-            total = db.execute(f"select count(*) from mails where {where}", values).fetchone()[0]
-        rows = db.execute(f"select id from mails where {where} order by date desc limit ?", (*values, -1 if most is None else most))
-        return db, [number for number, *_ in rows], total
+        where, values, total = plan_of(db, wheres, most)
+        limit = -1 if most is None or total is None else most
+        rows = db.execute(f"select date, id from mails where {where} order by date desc limit ?", (*values, limit)).fetchall()
+        return rows[:most], len(rows) if total is None else total
 
     answers = in_all(slices, ask)
-    return [(db, numbers) for db, numbers, _ in answers], sum(total for _, _, total in answers)
+    return [rows for rows, _ in answers], sum(total for _, total in answers)
 
 
-def mails_of(chosen, limit):
-    """Returns the latest of the mails with these numbers in their slices, those without a date last. With each mail are its
-    slice and its number there."""
-    found = []
-    for db, numbers in chosen:
-        rows = db.execute(FOUND, (json.dumps(numbers[:limit]),))
-        found += [(dict(zip(COLUMNS, row)), db, row[-1]) for row in rows]
-    found.sort(key=lambda it: float("-inf") if it[0]["date"] is None else it[0]["date"], reverse=True)
-    return found[:limit]
+def mails_of(slices, chosen, first, last):
+    """Returns some of the latest mails of all slices, from the first up to the last number, those without a date last. With
+    each mail are its slice and its number there."""
+    rows = heapq.merge(*([(*row, of) for row in rows] for of, rows in enumerate(chosen)), key=lambda it: NEVER if it[0] is None else it[0], reverse=True)
+    wanted = [(of, number) for _, number, of in itertools.islice(rows, first, last)]
+    found = {}
+    for of, db in enumerate(slices):
+        numbers = json.dumps([number for it, number in wanted if it == of])
+        found.update(((of, row[-1]), dict(zip(COLUMNS, row))) for row in db.execute(FOUND, (numbers,)))
+    return [(found[it], slices[it[0]], it[1]) for it in wanted]
 
 
 def found_in(slices, wheres, limit):
     """Returns the mails of all slices that meet the conditions, the latest first, and their number without the limit."""
     chosen, total = latest(slices, wheres, limit)
-    return mails_of(chosen, limit), total
+    return mails_of(slices, chosen, 0, limit), total
 
 
 def path_of(label):

@@ -26,7 +26,7 @@ from program import rocktray
 
 PAGE = 25
 # the number of the latest mails that are counted beside a search
-COUNTED = 2000
+COUNTED = 400
 POLICY = "default-src 'none'; style-src 'self'; img-src 'self'; form-action 'self'; base-uri 'none'; frame-ancestors 'none'"
 HEADERS = {
     "Content-Security-Policy": POLICY,
@@ -91,30 +91,31 @@ class Archive:
 def given_of(words):
     """Returns what a request searches for, as the arguments of search.py."""
     given = SimpleNamespace(query=words.get("q", "").strip(), after=None, before=None, to=words.get("to"), has=words.get("has"))
-    given.sender, given.list, given.type = words.get("sender"), words.get("list"), words.get("type")
-    given.id = given.thread = given.hash = given.attachment = None
+    given.list = words.get("list")
+    given.sender = given.id = given.thread = given.hash = given.attachment = None
     year = words.get("year", "")
     if re.fullmatch(r"[0-9]{4}", year) and year != "0000" and year != "9999":
         given.after, given.before = (search.seconds(f"{int(year) + more:04}-01-01") for more in (0, 1))
     return given
 
 
-def wheres_of(given):
+def wheres_of(words):
     """Returns the conditions of a search."""
-    wheres = list(search.conditions(given))
-    if given.type:
-        wheres.append(("mails.id in (select mail from attachments where type = ?)", given.type))
+    wheres = list(search.conditions(given_of(words)))
+    if words.get("sender"):
+        wheres.append(("sender = ?", words["sender"]))
+    if words.get("type"):
+        wheres.append(search.with_file("type = ?", words["type"]))
     return wheres
 
 
-def facets_of(chosen):
-    """Returns the most frequent years, senders, lists and types of files among mails with these numbers in their slices."""
+def facets_of(slices, chosen):
+    """Returns the most frequent years, senders, lists and types of files among the latest mails that were chosen in slices."""
     counts = {name: {} for name in FACETS}
     columns = ", ".join(f"{what} as {name}" for name, what in FACETS.items())
     query = f"select {columns} from mails where id in (select value from json_each(?))"
-    for db, numbers in chosen:
-        rows = db.execute(query, (json.dumps(numbers[: COUNTED // len(chosen)]),))
-        for row in rows:
+    for db, rows in zip(slices, chosen):
+        for row in db.execute(query, (json.dumps([number for _, number in rows[: COUNTED // len(slices)]]),)):
             for name in FACETS:
                 if row[name]:
                     counts[name][row[name]] = counts[name].get(row[name], 0) + 1
@@ -203,16 +204,16 @@ def create_app(directory, program, hosts=None):
     def index():
         words = {key: flask.request.args[key] for key in ("q", "to", "has", "year", "sender", "list", "type") if flask.request.args.get(key)}
         page = max(1, min(flask.request.args.get("page", 1, type=int), 400))
-        wheres = wheres_of(given_of(words))
+        wheres = wheres_of(words)
         with archive.slices() as slices:
             try:
                 chosen, total = search.latest(slices, wheres, max(page * PAGE, COUNTED // len(slices)))
-                found, facets = search.mails_of(chosen, page * PAGE), facets_of(chosen)
+                found, facets = search.mails_of(slices, chosen, (page - 1) * PAGE, page * PAGE), facets_of(slices, chosen)
             except sqlite3.OperationalError:
                 return flask.render_template("index.html", words=words, wrong=True, mails=[], total=0, facets={}, page=1, pages=1)
-            mails = [{**mail, "files": json.loads(mail["files"]), "slice": slices.index(db), "id": number} for mail, db, number in found[(page - 1) * PAGE :]]
+            mails = [{**mail, "files": json.loads(mail["files"]), "slice": slices.index(db), "id": number} for mail, db, number in found]
         pages = min(-(-total // PAGE), 400)
-        return flask.render_template("index.html", words=words, mails=mails, total=total, facets=facets, page=page, pages=pages)
+        return flask.render_template("index.html", words=words, mails=mails, total=total, facets=facets, counted=COUNTED, page=page, pages=pages)
 
     @app.get("/mail/<int:number>/<int:mail>")
     def mail(number, mail):
