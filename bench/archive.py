@@ -3,7 +3,9 @@
 
 A mailbox of 1 GB with 200,000 made mails is read and loaded. Then a million mails are loaded, whose lines are written
 here with the words of a large vocabulary, some frequent and some rare, and searched; the pages of web.py are fetched. It
-takes about 10 GB and some minutes. --mails N makes fewer of the million. The program rocktray must be built or installed.
+takes about 10 GB and some minutes. --mails N makes fewer of the million. With --directory the mails and lines stay there
+for later runs, and --prepare makes only these, so that the run that measures takes two minutes. The program rocktray
+must be built or installed.
 """
 import argparse
 import json
@@ -41,17 +43,25 @@ def fastest(call, *arguments):
     return min(call(*arguments) for _ in range(TURNS))
 
 
-def gigabyte(work):
+def write_mailbox(directory):
+    """Writes a mailbox of 1 GB, unless it is there."""
+    path = os.path.join(directory, "all.mbox")
+    os.makedirs(directory, exist_ok=True)
+    if not os.path.exists(path):
+        with open(f"{path}.part", "wb") as file:
+            for mail in made_mails.mails(100):
+                file.write(b"From a@example.org Sun Oct  2 14:06:22 2016\r\n" + mail + b"\r\n")
+        os.replace(f"{path}.part", path)
+    return os.path.getsize(path)
+
+
+def gigabyte(data, work):
     """Reads and loads a mailbox of 1 GB."""
-    os.mkdir(os.path.join(work, "mails"))
-    with open(os.path.join(work, "mails", "all.mbox"), "wb") as file:
-        for mail in made_mails.mails(100):
-            file.write(b"From a@example.org Sun Oct  2 14:06:22 2016\r\n" + mail + b"\r\n")
-        size = file.tell()
-    reading = ran("index_archive.py", os.path.join(work, "index"), os.path.join(work, "mails"))
+    size = write_mailbox(data)
+    reading = ran("index_archive.py", os.path.join(work, "index"), data)
     loading = ran("load_sqlite.py", os.path.join(work, "index"), os.path.join(work, "gigabyte.db"))
-    total = 200_000 / (reading + loading)
-    print(f"200,000 mails, {size / 1e9:.2f} GB: read in {reading:.1f} s, loaded in {loading:.1f} s; both {total:.0f} mails a second")
+    rates = [f"{200_000 / seconds:,.0f}" for seconds in (loading, reading + loading)]
+    print(f"200,000 mails, {size / 1e9:.2f} GB: read in {reading:.1f} s, loaded in {loading:.1f} s, {rates[0]} mails a second; both {rates[1]} a second")
 
 
 def vocabulary(rng):
@@ -79,17 +89,27 @@ def line_of(number, rng, words, text):
 
 
 def write_index(directory, count):
-    """Writes the shards of made mails. Returns the words, the most frequent first."""
+    """Writes the shards of made mails, unless they are there. Returns the words, the most frequent first."""
     rng = random.Random(made_mails.SEED)
     words, text = vocabulary(rng)
-    os.mkdir(directory)
     names = [f"{first:032x}.jsonl" for first in range(0, count, SHARD)]
+    manifest = "".join(json.dumps({"shard": name, "mails": count}) + "\n" for name in names)
+    path = os.path.join(directory, "MANIFEST")
+    if os.path.exists(path) and read_text(path) == manifest:
+        return words
+    os.makedirs(directory, exist_ok=True)
     for name, first in zip(names, range(0, count, SHARD)):
         with open(os.path.join(directory, name), "w", encoding="utf-8") as shard:
             shard.writelines(json.dumps(line_of(number, rng, words, text)) + "\n" for number in range(first, min(count, first + SHARD)))
-    with open(os.path.join(directory, "MANIFEST"), "w", encoding="utf-8") as manifest:
-        manifest.writelines(json.dumps({"shard": name}) + "\n" for name in names)
+    with open(path, "w", encoding="utf-8") as file:
+        file.write(manifest)
     return words
+
+
+def read_text(path):
+    """Returns the text of a file."""
+    with open(path, encoding="utf-8") as file:
+        return file.read()
 
 
 def fetched(url):
@@ -115,17 +135,18 @@ def served(database):
     return server, f"http://127.0.0.1:{port}"
 
 
-def million(work, count):
+def million(index, work, count):
     """Loads and searches many mails, and fetches pages of them."""
-    index, database = os.path.join(work, "lines"), os.path.join(work, "million.db")
-    words = write_index(index, count)
-    print(f"{count:,} mails: loaded in {ran('load_sqlite.py', index, database):.0f} s")
+    words, database = write_index(index, count), os.path.join(work, "million.db")
+    seconds = ran("load_sqlite.py", index, database)
+    print(f"{count:,} mails: loaded in {seconds:.0f} s, {count / seconds:,.0f} mails a second")
     searches = {"the most frequent word": [words[0]], "two frequent words": words[:2], "two words": words[200:202], "a rare word": [words[40_000]]}
     for name, asked in searches.items():
         print(f"search.py, {name}: {1000 * fastest(ran, 'search.py', database, *asked):.0f} ms")
     server, address = served(database)
     paths = {name: "/?q=" + urllib.parse.quote(" ".join(asked)) for name, asked in searches.items()}
-    paths |= {"the first page": "/", "a list": "/?list=l5.example", "a thread": "/thread?id=70@example.org", "a mail": "/mail/0/5",
+    paths |= {"the first page": "/", "a year": "/?year=2005", "mails with files": "/?has=attachment", "a type of file": "/?type=image/png",
+              "a list": "/?list=l5.example", "a thread": "/thread?id=70@example.org", "a mail": "/mail/0/5",
               "the plot of months": "/plots/months.svg", "the plot of senders": "/plots/senders.svg"}
     for name, path in paths.items():
         print(f"page, {name}: {1000 * fastest(fetched, address + path):.0f} ms")
@@ -135,11 +156,18 @@ def million(work, count):
 def main():
     parser = argparse.ArgumentParser(description=__doc__, formatter_class=argparse.RawDescriptionHelpFormatter)
     parser.add_argument("--mails", type=int, default=1_000_000)
-    parser.add_argument("--directory", metavar="DIRECTORY", help="where the data goes for a while")
+    parser.add_argument("--directory", metavar="DIRECTORY", help="where the mails and lines stay, and databases are for a while")
+    parser.add_argument("--prepare", action="store_true", help="only write the mails and lines")
     given = parser.parse_args()
     with tempfile.TemporaryDirectory(dir=given.directory) as work:
-        gigabyte(work)
-        million(work, given.mails)
+        data = os.path.abspath(given.directory or work)
+        mails, lines = os.path.join(data, "mails"), os.path.join(data, "lines")
+        if given.prepare:
+            write_mailbox(mails)
+            write_index(lines, given.mails)
+        else:
+            gigabyte(mails, work)
+            million(lines, work, given.mails)
 
 
 if __name__ == "__main__":
