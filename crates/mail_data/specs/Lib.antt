@@ -15,6 +15,8 @@ pub mod MailboxViews
 pub mod lenient
 pub mod Texts
 pub mod TextViews
+pub mod Readable
+pub mod ReadableViews
 pub mod Flowed
 pub mod FlowedViews
 pub mod InnerMails

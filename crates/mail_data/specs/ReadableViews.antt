@@ -1,0 +1,9 @@
+-- What a contract sees of a text that was looked for.
+use Rattle.std.specs.Prelude.{Option, option_map}
+use Rattle.mail_data.specs.lenient.Texts as read
+use Rattle.mail_data.specs.lenient.TextViews.{text_view}
+use Rattle.mail_data.specs.declared.lenient.texts.BodyText.{BodyText}
+
+-- the text, if there is one
+abbrev pub text_found : Option BodyText → Option read.BodyText
+text_found found = option_map text_view found
