@@ -1,10 +1,10 @@
 -- Names of files that are safe in any directory; the crate's own rule. A text is the list of its
 -- bytes in UTF-8.
-use Rattle.std.specs.Prelude.{◌≡◌, ◌≢◌, ℕ, suc, ◌-◌, ◌≤◌, Bool, true, not, ◌&&◌, ◌||◌, ◌==◌, nat_lt, List, [], ◌++◌, length, take, drop, map, chars, encode_utf8_all, codes, if◌then◌else◌}
-use Rattle.std.specs.Char.{is_control}
+use Rattle.std.specs.Prelude.{◌≡◌, ◌≢◌, ℕ, suc, ◌-◌, ◌≤◌, Bool, true, false, not, ◌&&◌, ◌||◌, ◌==◌, nat_lt, List, [], ◌∷◌, ◌++◌, length, take, drop, map, chars, encode_utf8_all, codes, if◌then◌else◌}
+use Rattle.std.specs.Char.{is_ascii_alphabetic, is_control}
 use Rattle.std.specs.List.{list_all, suffix_len}
 use Rattle.std.specs.Str.{bytes_eq}
-use Rattle.mail_codec.specs.Ascii.{backslash, slash, underscore}
+use Rattle.mail_codec.specs.Ascii.{backslash, colon, slash, underscore}
 use Rattle.mail_codec.specs.Places.{is_empty, least}
 
 -- a character that no safe name contains: `/`, `\` or a control character, including NUL
@@ -30,9 +30,20 @@ made_safe c = if is_unsafe c then underscore else c
 
 -- ---- What is kept of a name.
 
+-- characters are a Windows path: they begin with a drive, which is a letter and `:\`, or with `\\`,
+-- and there are at least three
+abbrev pub is_windows_path : List ℕ → Bool
+is_windows_path (a ∷ (b ∷ (c ∷ cs))) =
+    (is_ascii_alphabetic a && (b == colon && c == backslash)) || (a == backslash && b == backslash)
+is_windows_path _ = false
+
 -- the number of characters after the last that is c, or of all characters if none is
 abbrev pub trailing : ℕ → List ℕ → ℕ
 trailing c cs = suffix_len (λ d. not (d == c)) cs
+
+-- the last component of a Windows path; all other characters stay
+abbrev pub last_component : List ℕ → List ℕ
+last_component cs = if is_windows_path cs then drop (length cs - trailing backslash cs) cs else cs
 
 -- the bytes of characters
 abbrev pub size : List ℕ → ℕ
@@ -69,9 +80,9 @@ kept_ending cs = if fits most cs then [] else ending cs
 abbrev pub shortened : List ℕ → List ℕ
 shortened cs = take (front_length (most - size (kept_ending cs)) cs) cs ++ kept_ending cs
 
--- the characters of a name made safe, as many as fit
+-- the characters of a name, or of its last component, made safe, as many as fit
 unfoldable pub front_name : List ℕ → List ℕ
-front_name name = encode_utf8_all (shortened (map made_safe (chars name)))
+front_name name = encode_utf8_all (shortened (map made_safe (last_component (chars name))))
 
 -- the name made safe: these, or `_` if they are no name of a file
 unfoldable pub safe_name : List ℕ → List ℕ

@@ -1,7 +1,7 @@
 -- Lemmas on safe names of files.
 use Rattle.std.proofs.Common.{◌≡◌, ◌≢◌, ℕ, zero, suc, ◌+◌, ◌-◌, ◌*◌, ◌<◌, ◌≤◌, Bool, true, false, not, eqb, List, [], ◌∷◌, ◌++◌, ◌||◌, ◌&&◌, length, take, drop, get_or, map, if◌then◌else◌, refl, sym, ap, ◌∙◌, arith, append_assoc, length-append, inl, inr}
 use Rattle.std.specs.Prelude.{nat_le, nat_lt, codes}
-use Rattle.std.specs.Char.{encode_utf8, len_utf8}
+use Rattle.std.specs.Char.{encode_utf8, is_ascii_alphabetic, len_utf8}
 use Rattle.std.specs.List.{list_all}
 use Rattle.std.specs.Str.{chars, encode_utf8_all, IsUtf8, bytes_eq}
 use Rattle.std.proofs.lemmas.Bool.{cond-true, cond-false, cond_both, cases_Bool, leb-true, leb-false, le-ltb, lt-ltb, ltb-true, ltb-false, and_parts, and_from, or_parts, or_cases, not-true, eq-eqb, eqb-true, false≢true}
@@ -12,7 +12,7 @@ use Rattle.std.proofs.lemmas.Slice.Eq.{bytes_eq-Decides}
 use Rattle.std.proofs.lemmas.Str.{chars-nil, chars-encodes, chars_past_char, encodes-append, encodes-chars, scalars-chars, length-encode, len_utf8_bounds}
 use lib.Utf8.{scalar, scalars}
 use Rattle.mail_codec.specs.Places.{is_empty, least}
-use Rattle.mail_data.specs.FileNames.{after_dot, ending, fits, front_length, front_name, is_reserved, is_unsafe, kept_ending, made_safe, most, safe_name, shortened, size, trailing, IsSafeName}
+use Rattle.mail_data.specs.FileNames.{after_dot, ending, fits, front_length, front_name, is_reserved, is_unsafe, is_windows_path, kept_ending, last_component, made_safe, most, safe_name, shortened, size, trailing, IsSafeName}
 
 -- ---- as many characters as fit, one after another
 
@@ -105,17 +105,15 @@ CountsTo-end {rest = c ∷ rest} counts none = absurd (omega (arith, none))
 
 -- ---- the characters of a name
 
-pub characters-start : (name made rest : List ℕ) → made ≡ [] → rest ≡ name → made ++ map made_safe (chars rest) ≡ map made_safe (chars name)
-characters-start name made rest none all = ap (λ (cs : List ℕ). cs ++ map made_safe (chars rest)) none ∙ ap (λ n. map made_safe (chars n)) all
+pub characters-start : (name made rest : List ℕ) → made ≡ [] → rest ≡ name → made ++ chars rest ≡ chars name
+characters-start name made rest none all = ap (λ (cs : List ℕ). cs ++ chars rest) none ∙ ap chars all
 
-pub characters-more : (made new rest next : List ℕ) (c d : ℕ) → IsUtf8 rest → rest ≡ encode_utf8 c ++ next → new ≡ made ++ d ∷ [] → d ≡ made_safe c
-    → new ++ map made_safe (chars next) ≡ made ++ map made_safe (chars rest)
-characters-more made new rest next c d utf8 e push is =
-    ap (λ (cs : List ℕ). cs ++ map made_safe (chars next)) push ∙ append_assoc made (d ∷ []) (map made_safe (chars next))
-    ∙ ap (λ (f : ℕ). made ++ f ∷ map made_safe (chars next)) is ∙ ap (λ (cs : List ℕ). made ++ map made_safe cs) (sym (chars_past_char rest next c utf8 e))
+pub characters-more : (made new rest next : List ℕ) (c : ℕ) → IsUtf8 rest → rest ≡ encode_utf8 c ++ next → new ≡ made ++ c ∷ [] → new ++ chars next ≡ made ++ chars rest
+characters-more made new rest next c utf8 e push =
+    ap (λ (cs : List ℕ). cs ++ chars next) push ∙ append_assoc made (c ∷ []) (chars next) ∙ ap (λ (cs : List ℕ). made ++ cs) (sym (chars_past_char rest next c utf8 e))
 
-pub characters-end : (made rest : List ℕ) → rest ≡ [] → made ≡ made ++ map made_safe (chars rest)
-characters-end made rest none = sym (append-nil made) ∙ ap (λ (cs : List ℕ). made ++ map made_safe cs) (sym (ap chars none ∙ chars-nil))
+pub characters-end : (made rest : List ℕ) → rest ≡ [] → made ≡ made ++ chars rest
+characters-end made rest none = sym (append-nil made) ∙ ap (λ (cs : List ℕ). made ++ cs) (sym (ap chars none ∙ chars-nil))
 
 -- ---- the leading characters and the ending, one after another
 
@@ -303,25 +301,33 @@ single = record {
   characters = refl;
 }
 
--- the characters of the name made safe
+-- the characters of which the safe name is made
 characters_of : List ℕ → List ℕ
-characters_of name = map made_safe (chars name)
+characters_of name = map made_safe (last_component (chars name))
+
+-- a test that all characters pass is passed by all of the last component
+component-all : (test : ℕ → Bool) (cs : List ℕ) → list_all test cs ≡ true → list_all test (last_component cs) ≡ true
+component-all test cs h =
+    cond_both (is_windows_path cs) (drop (length cs - trailing 92 cs) cs) cs (λ (ds : List ℕ). list_all test ds ≡ true)
+    (λ e. all-drop test (length cs - trailing 92 cs) cs h) (λ e. h)
 
 scalars_of : (name : List ℕ) → IsUtf8 name → scalars (shortened (characters_of name)) ≡ true
 unfolding characters_of
 scalars_of name utf8 =
-    scalars-are (shortened (map made_safe (chars name)))
-    ∙ all-shortened scalar (map made_safe (chars name)) (sym (scalars-are (map made_safe (chars name))) ∙ made-scalars (chars name) (scalars-chars name utf8))
+    let cs = last_component (chars name) in
+    let whole = scalars-are cs ∙ component-all scalar (chars name) (sym (scalars-are (chars name)) ∙ scalars-chars name utf8) in
+    scalars-are (shortened (map made_safe cs))
+    ∙ all-shortened scalar (map made_safe cs) (sym (scalars-are (map made_safe cs)) ∙ made-scalars cs whole)
 
 front_name-safe : (name : List ℕ) → IsUtf8 name → list_all (λ c. not (is_unsafe c)) (chars (front_name name)) ≡ true
 unfolding all_safe front_name characters_of
 front_name-safe name utf8 =
     ap all_safe (chars-encodes (shortened (characters_of name)) (scalars_of name utf8))
-    ∙ all-shortened (λ c. not (is_unsafe c)) (characters_of name) (all-made (chars name))
+    ∙ all-shortened (λ c. not (is_unsafe c)) (characters_of name) (all-made (last_component (chars name)))
 
 front_name-short : (name : List ℕ) → length (front_name name) ≤ 255
 unfolding front_name
-front_name-short name = shortened-short (map made_safe (chars name))
+front_name-short name = shortened-short (map made_safe (last_component (chars name)))
 
 not_reserved : (name : List ℕ) → is_reserved name ≡ false → (name ≢ []) × (name ≢ codes ".") × (name ≢ codes "..")
 not_reserved name h =
@@ -344,13 +350,36 @@ safe_name-safe name utf8 =
       characters = front_name-safe name utf8;
     })
 
+-- a backslash is unsafe, so safe characters are no Windows path
+backslash-unsafe : (c : ℕ) → eqb c 92 ≡ true → not (is_unsafe c) ≡ true → ⊥
+backslash-unsafe c is safe = false≢true (ap (λ k. not (is_unsafe k)) (sym (eqb-true c 92 is)) ∙ safe)
+
+safe-no_path : (cs : List ℕ) → all_safe cs ≡ true → is_windows_path cs ≡ true → ⊥
+unfolding all_safe
+safe-no_path [] h e = false≢true e
+safe-no_path (a ∷ []) h e = false≢true e
+safe-no_path (a ∷ b ∷ []) h e = false≢true e
+safe-no_path (a ∷ b ∷ c ∷ cs) h e =
+    let first = and_parts (not (is_unsafe a)) (all_safe (b ∷ c ∷ cs)) h in
+    let second = and_parts (not (is_unsafe b)) (all_safe (c ∷ cs)) first.1 in
+    let third = and_parts (not (is_unsafe c)) (all_safe cs) second.1 in
+    elim (or_cases (is_ascii_alphabetic a && (eqb b 58 && eqb c 92)) (eqb a 92 && eqb b 92) e) [
+      | inl drive ↦ backslash-unsafe c (and_parts (eqb b 58) (eqb c 92) (and_parts (is_ascii_alphabetic a) (eqb b 58 && eqb c 92) drive).1).1 third.0
+      | inr two ↦ backslash-unsafe a (and_parts (eqb a 92) (eqb b 92) two).0 first.0
+    ]
+
+component-same : (cs : List ℕ) → all_safe cs ≡ true → last_component cs ≡ cs
+component-same cs h =
+    cond_both (is_windows_path cs) (drop (length cs - trailing 92 cs) cs) cs (λ (ds : List ℕ). ds ≡ cs) (λ e. absurd (safe-no_path cs h e)) (λ e. refl)
+
 front_name-same : (name : List ℕ) → IsUtf8 name → IsSafeName name → front_name name ≡ name
 unfolding all_safe front_name
 front_name-same name utf8 h =
     let short = h.short in
     let back = encodes-chars name utf8 in
     let len = ap length back in
-    ap (λ (cs : List ℕ). encode_utf8_all (shortened cs)) (made_safe-same (chars name) h.characters)
+    ap (λ (cs : List ℕ). encode_utf8_all (shortened (map made_safe cs))) (component-same (chars name) h.characters)
+    ∙ ap (λ (cs : List ℕ). encode_utf8_all (shortened cs)) (made_safe-same (chars name) h.characters)
     ∙ ap encode_utf8_all (shortened-same (chars name) (omega (arith, short, len))) ∙ back
 
 bytes_eq-true : (a b : List ℕ) → bytes_eq a b ≡ true → a ≡ b

@@ -1,7 +1,8 @@
 //! Names of files that are safe in any directory of a POSIX system.
 ghost use Rattle.std.specs.Prelude.{◌≡◌, ◌++◌, ◌≤◌, IfOk, IsTrue, OnOk, chars, encode_utf8_all, length, map, string_bytes};
 ghost use Rattle.mail_data.specs.FileNames.{IsSafeName, ending, fits, front_length};
-ghost use Rattle.mail_data.specs.FileNames.{front_name, is_reserved, kept_ending};
+ghost use Rattle.mail_data.specs.FileNames.{front_name, is_reserved, is_windows_path, kept_ending};
+ghost use Rattle.mail_data.specs.FileNames.{last_component};
 ghost use Rattle.mail_data.specs.FileNames.{made_safe, safe_name, shortened, size, trailing};
 
 use std::alloc::{AllocError, Global};
@@ -15,10 +16,12 @@ const MOST_OF_ENDING: usize = 17;
 /// Returns the name of a file made safe: on a POSIX system it names a file in the directory where
 /// it is used, and no other. Names that Windows reserves, such as `NUL` and `C:x`, stay.
 ///
-/// Each `/`, `\` and control character, including NUL, becomes `_`. A name of more than 255 bytes
-/// is cut between characters, before its ending: the last dot and at most 16 bytes after it. If the
-/// result is empty, `.` or `..`, it becomes `_`. A name that is already safe stays as it is.
-/// Characters that change the text direction stay. Allocates the name and its characters.
+/// Of a Windows path, which begins with a drive, such as `C:\`, or with `\\`, only the text after
+/// the last `\` stays. Each `/`, `\` and control character, including NUL, becomes `_`. A name of
+/// more than 255 bytes is cut between characters, before its ending: the last dot and at most 16
+/// bytes after it. If the result is empty, `.` or `..`, it becomes `_`. A name that is already safe
+/// stays as it is. Characters that change the text direction stay. Allocates the name and its
+/// characters.
 ///
 /// # Errors
 ///
@@ -30,6 +33,7 @@ const MOST_OF_ENDING: usize = 17;
 /// use mail_data::files::safe_file_name;
 ///
 /// assert_eq!(rt; safe_file_name(alloc, "../../etc/passwd")?.as_str(), ".._.._etc_passwd");
+/// assert_eq!(rt; safe_file_name(alloc, "C:\\Users\\ann\\a.pdf")?.as_str(), "a.pdf");
 /// assert_eq!(rt; safe_file_name(alloc, "..")?.as_str(), "_");
 /// assert_eq!(rt; safe_file_name(alloc, "résumé.pdf")?.as_str(), "résumé.pdf");
 /// ```
@@ -46,24 +50,61 @@ pub fn safe_file_name(alloc: Global, name: &str) -> Result<String, AllocError>
     Ok(safe)
 }
 
-/// Returns the characters of a name made safe, as many as fit.
+/// Returns the characters of a name, or of its last component, made safe, as many as fit.
 #[tactic(auto, unfolding(crate::specs::FileNames::front_name))]
 fn front_name(alloc: Global, name: &str) -> Result<String, AllocError>
     ensures { IfOk result (λ safe. string_bytes safe ≡ front_name name.now) }
 {
-    let safe = safe_characters(alloc, name)?;
+    let characters = characters(alloc, name)?;
+    let safe = safe_characters(alloc, last_component(characters.as_slice()))?;
     shortened(alloc, safe.as_slice())
 }
 
-/// Returns the characters of a name made safe.
-fn safe_characters(alloc: Global, name: &str) -> Result<Vec<char>, AllocError>
-    ensures { IfOk result (λ safe. safe.items ≡ map made_safe (chars name.now)) }
+/// Returns the characters of a name.
+fn characters(alloc: Global, name: &str) -> Result<Vec<char>, AllocError>
+    ensures { IfOk result (λ characters. characters.items ≡ chars name.now) }
+{
+    let mut characters = Vec::new(alloc);
+    for c in name.chars() {
+        characters.push(c)?;
+    }
+    Ok(characters)
+}
+
+/// Returns characters made safe.
+fn safe_characters(alloc: Global, characters: &[char]) -> Result<Vec<char>, AllocError>
+    ensures { IfOk result (λ safe. safe.items ≡ map made_safe characters.now) }
 {
     let mut safe = Vec::new(alloc);
-    for c in name.chars() {
-        safe.push(made_safe(c))?;
+    for c in characters {
+        safe.push(made_safe(*c))?;
     }
     Ok(safe)
+}
+
+/// Returns the last component of a Windows path; all other characters stay.
+fn last_component(characters: &[char]) -> &[char]
+    ensures { result.now ≡ last_component characters.now }
+{
+    if is_windows_path(characters) {
+        &characters[characters.len() - trailing('\\', characters)..]
+    } else {
+        characters
+    }
+}
+
+/// Returns whether characters begin with a drive, or with two backslashes, as a path of Windows
+/// does.
+fn is_windows_path(characters: &[char]) -> bool
+    ensures { result ≡ is_windows_path characters.now }
+{
+    match characters {
+        [first, second, third, ..] => {
+            first.is_ascii_alphabetic() && *second == ':' && *third == '\\'
+                || *first == '\\' && *second == '\\'
+        }
+        _ => false,
+    }
 }
 
 /// Returns the number of characters after the last that is `c`, or of all characters if none is.

@@ -1,11 +1,7 @@
--- The characters so far, and then those of the rest, are all characters made safe.
-use Rattle.std.proofs.Common.{◌≡◌, ◌++◌, map}
-use Rattle.std.specs.Str.{chars, IsUtf8}
+-- The characters so far, and then those of the rest made safe, are all characters made safe.
+use Rattle.std.proofs.Common.{◌≡◌, ◌++◌, drop, map}
 use Rattle.mail_data.specs.FileNames.{made_safe}
 use Rattle.mail_data.proofs.files.names.safe_characters.Given as goal
 
 abbrev pub invariant-loop-c : goal.invariant-loop-c
-invariant-loop-c l = record {
-  utf8 : IsUtf8 l.c-iterator.rest.now;
-  made : l.safe.items ++ map made_safe (chars l.c-iterator.rest.now) ≡ map made_safe (chars l.name);
-}
+invariant-loop-c l = l.safe.items ++ map made_safe (drop l.c-index l.characters) ≡ map made_safe l.characters
