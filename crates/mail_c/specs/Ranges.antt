@@ -83,7 +83,7 @@ module _ (known : Charsets) where
   unfoldable pub bounced_id : List ℕ → Found
   bounced_id raw = do
     mail ← read_mail_in known 100 raw
-    Ok (original_message_id known mail)
+    Ok (original_message_id mail)
 
 -- a flag of C
 abbrev pub flag : Bool → ℕ

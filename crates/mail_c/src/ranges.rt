@@ -144,7 +144,7 @@ pub(crate) fn bounced_id<K: KnownCharsets>(
     ensures { AnswersOrMemory bytes_found result (bounced_id (K.known known.now) raw.now) }
 {
     let mail = parse_mail_in(alloc, raw, known)?;
-    match original_message_id(alloc, &mail, known)? {
+    match original_message_id(alloc, &mail)? {
         Some(id) => Ok(Some(id.into_bytes())),
         None => Ok(None),
     }

@@ -34,6 +34,12 @@ abbrev pub report_part : (Node → Bool) → Tree → Option Tree
 report_part test (tree node parts) =
     if has_type (codes "multipart/report") node then first_part test parts else None
 
+-- the id of the mail that a report is about, in the headers that it returns
+unfoldable pub original_message_id : Tree → Option (List ℕ)
+original_message_id t =
+    option_map_or (λ part. id_among (fields (message_content (root part)).bytes))
+    (report_part has_original t) None
+
 -- the text after the first `;`, or the whole text if it contains no `;`
 unfoldable pub after_type : List ℕ → List ℕ
 after_type text =
@@ -120,9 +126,3 @@ module _ (known : Charsets) where
   -- the recipients that a mail reports: those in its parts, and then those in its headers
   unfoldable pub recipients : Tree → List Delivery
   recipients t = reported (trees_within t) ++ failed_recipients (root t)
-
-  -- the id of the mail that a report is about, in the headers that it returns
-  unfoldable pub original_message_id : Tree → Option (List ℕ)
-  original_message_id t =
-      option_map_or (λ part. id_among known (fields (message_content (root part)).bytes))
-      (report_part has_original t) None

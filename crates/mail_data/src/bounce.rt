@@ -105,9 +105,9 @@ pub fn recipients<K: KnownCharsets>(
 ///
 /// The mail has to be a `multipart/report`; the first of its own parts that is a `message/rfc822`,
 /// a `text/rfc822-headers`, a `message/global` or a `message/global-headers` is used. Its id is
-/// read as `archive::message_id` reads one, in the charsets `known`. Headers that `parse_headers`
-/// refuses have no id. The body is read without its transfer encoding, as `lenient_content` reads
-/// it. Allocates the body if it is encoded, the headers and the id.
+/// read as `archive::message_id` reads one. Headers that `parse_headers` refuses have no id. The
+/// body is read without its transfer encoding, as `lenient_content` reads it. Allocates the body if
+/// it is encoded, the headers and the id.
 ///
 /// # Errors
 ///
@@ -122,24 +122,22 @@ pub fn recipients<K: KnownCharsets>(
 /// let raw = b"Content-Type: multipart/report; boundary=b\n\n\
 ///     --b\nContent-Type: text/rfc822-headers\n\nMessage-ID: <one@example.org>\n\n--b--\n";
 /// let mail = parse_mail(alloc, raw)?;
-/// let id = original_message_id(alloc, &mail, &())?.ok_or("no id")?;
+/// let id = original_message_id(alloc, &mail)?.ok_or("no id")?;
 /// assert_eq!(rt; id.as_str(), "one@example.org");
 /// ```
 #[tactic(auto, unfolding(crate::specs::Bounce::original_message_id))]
-pub fn original_message_id<K: KnownCharsets>(
+pub fn original_message_id(
     alloc: Global,
     mail: &ParsedMail<'_>,
-    known: &K,
 ) -> Result<Option<String>, MailParseError>
-    ensures { AnswersOrMemory text_found result
-        (Ok (original_message_id (K.known known.now) (tree_of mail.now))) }
+    ensures { AnswersOrMemory text_found result (Ok (original_message_id (tree_of mail.now))) }
 {
     let Some(part) = original_part(mail) else {
         return Ok(None);
     };
     let content = part_content(alloc, part)?;
     let headers = fields(alloc, content.bytes.as_slice())?;
-    id_among(alloc, &headers, known)
+    id_among(alloc, &headers)
 }
 
 /// Returns the part that is the returned mail or its headers, if there is one.

@@ -27,6 +27,7 @@ use mailparse::{
 };
 pub use names::safe_file_name;
 pub(crate) use naming::{NameReading, name_by};
+pub use no_charsets::NoCharsets;
 use std::alloc::{AllocError, Global};
 use std::collections::BTreeMap;
 

@@ -13,5 +13,5 @@ pub record IsEntry (known : Charsets) (t : Tree) (entry : IndexEntry) : Type 0 w
   pub subject : text_found entry.subject ≡ first_value_in known (codes "Subject") (root t).headers
   pub sender : text_found entry.sender ≡ mail.sender (root t)
   pub date : entry.date ≡ mail.date known (root t)
-  pub message_id : text_found entry.message_id ≡ message_id known (root t)
+  pub message_id : text_found entry.message_id ≡ message_id (root t)
   pub text : option_map text_view entry.text ≡ mail.text known t

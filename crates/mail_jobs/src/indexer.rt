@@ -43,7 +43,7 @@ pub fn index_entry<K: KnownCharsets>(
         subject: value_of(alloc, mail, "Subject", known)?,
         sender: sender_address(alloc, mail)?,
         date: date_of(alloc, mail, known)?,
-        message_id: message_id(alloc, mail, known)?,
+        message_id: message_id(alloc, mail)?,
         text: text_of(alloc, mail, known)?,
     })
 }

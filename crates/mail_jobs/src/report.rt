@@ -40,7 +40,7 @@ fn push_lines<K: KnownCharsets>(
     push_entry(lines, &index_entry(alloc, mail, known)?)?;
     push_files(lines, &stored_files(alloc, mail, known)?)?;
     push_failed(lines, &failed_recipients(alloc, mail, known)?)?;
-    push_parents(lines, &thread_place(alloc, mail, known)?)?;
+    push_parents(lines, &thread_place(alloc, mail)?)?;
     Ok(lines.push('\n')?)
 }
 

@@ -6,7 +6,7 @@ ghost use Rattle.mailparse.specs.Views.{tree_of};
 ghost use Rattle.mail_jobs.specs.ThreadViews.{IsPlace};
 
 use mail_data::archive::{message_id, parents};
-use mailparse::{KnownCharsets, MailParseError, ParsedMail};
+use mailparse::{MailParseError, ParsedMail};
 use std::alloc::Global;
 
 /// The place of a mail in a thread: its id, and those of the mails before it, each once.
@@ -17,16 +17,12 @@ pub struct ThreadPlace {
 }
 
 /// Returns the place of a mail in a thread.
-pub fn thread_place<K: KnownCharsets>(
-    alloc: Global,
-    mail: &ParsedMail<'_>,
-    known: &K,
-) -> Result<ThreadPlace, MailParseError>
-    ensures read { IfOk result (IsPlace (K.known known.now) (root (tree_of mail.now))) }
+pub fn thread_place(alloc: Global, mail: &ParsedMail<'_>) -> Result<ThreadPlace, MailParseError>
+    ensures read { IfOk result (IsPlace (root (tree_of mail.now))) }
     ensures only_memory { IfErr result IsMemory }
 {
     Ok(ThreadPlace {
-        message_id: message_id(alloc, mail, known)?,
-        parents: parents(alloc, mail, known)?,
+        message_id: message_id(alloc, mail)?,
+        parents: parents(alloc, mail)?,
     })
 }

@@ -242,7 +242,7 @@ module _ (known : Charsets) where
       let node = root mail in
       origin_members origin ++ values_members node ++ one (codes "raw") (raw_values node)
       ++ date_members (option_map zoned_date_of (value_of known (codes "Date") node)) ++ ids_members node
-      ++ one (codes "bounced_id") (string_or_null (original_message_id known mail))
+      ++ one (codes "bounced_id") (string_or_null (original_message_id mail))
       ++ one (codes "recipients") (recipients_value (recipients_if known decodes mail))
 
   -- the members of a mail with this origin and these mails inside, whose parts have these values

@@ -117,7 +117,7 @@ fn write_head<W: Write, K: KnownCharsets>(
     write_raw(alloc, out, mail)?;
     write_date(alloc, out, mail, known)?;
     write_ids(alloc, out, mail, known)?;
-    let bounced = original_message_id(alloc, mail, known)?;
+    let bounced = original_message_id(alloc, mail)?;
     add_optional(out, key!("bounced_id"), bounced.as_deref())?;
     write_word(out, key!("recipients"))?;
     write_reported(alloc, out, mail, options.decodes_bodies, known)?;

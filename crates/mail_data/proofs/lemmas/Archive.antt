@@ -7,7 +7,6 @@ use Rattle.std.proofs.lemmas.Bool.{not-false, not-true}
 use Rattle.std.proofs.lemmas.List.Elements.{filter-append}
 use Rattle.std.proofs.lemmas.List.Folds.{list_any-append}
 use Rattle.std.proofs.lemmas.List.{append-nil}
-use Rattle.mail_codec.specs.Charset.{Charsets}
 use Rattle.mailparse.specs.Mail.{Node}
 use Rattle.mail_data.specs.Archive.{ids_of, parents, without_repeats}
 
@@ -100,11 +99,11 @@ seen-next ids id key q old new same is before =
 
 -- ---- the parents of a mail
 
-pub parents-are : (known : Charsets) (node : Node) (first second all ids : List (List ℕ)) → first ≡ ids_of known (codes "References") node → second ≡ ids_of known (codes "In-Reply-To") node
-    → all ≡ first ++ second → ids ≡ without_repeats all → parents known node ≡ ids
+pub parents-are : (node : Node) (first second all ids : List (List ℕ)) → first ≡ ids_of true (codes "References") node.headers → second ≡ ids_of true (codes "In-Reply-To") node.headers
+    → all ≡ first ++ second → ids ≡ without_repeats all → parents node ≡ ids
 unfolding parents
-parents-are known node first second all ids a b both is =
-    ap (λ (l : List (List ℕ)). without_repeats (l ++ ids_of known (codes "In-Reply-To") node)) (sym a)
+parents-are node first second all ids a b both is =
+    ap (λ (l : List (List ℕ)). without_repeats (l ++ ids_of true (codes "In-Reply-To") node.headers)) (sym a)
     ∙ ap (λ (l : List (List ℕ)). without_repeats (first ++ l)) (sym b) ∙ ap without_repeats (sym both) ∙ sym is
 
 pub parents-distinct : (all ids : List (List ℕ)) → ids ≡ without_repeats all → IsDistinct bytes_eq ids

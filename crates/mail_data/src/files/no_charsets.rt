@@ -3,8 +3,12 @@ ghost use Rattle.mail_data.specs.Files.{no_charsets};
 
 use mail_codec::charset::{Charset, KnownCharsets};
 
-/// Knows no charset, so that no encoded word is decoded.
-pub(crate) struct NoCharsets;
+/// No charsets: values that are read in these keep their encoded words (RFC 2047, section 2).
+///
+/// Message ids and the parameters that name files are read so, since an encoded word in them is
+/// either no word or must not end a parameter.
+#[derive(Clone, Copy, Debug)]
+pub struct NoCharsets;
 
 impl KnownCharsets for NoCharsets {
     type Decoder = Charset;

@@ -227,7 +227,7 @@ mail_good options origin mail value is =
     let dated : AreGood 5 (date ++ ids) =
     members_then 5 date ids (date_good 5 _)
     (id_list_good known false (codes "Message-ID") node, (id_list_good known true (codes "In-Reply-To") node, (id_list_good known true (codes "References") node, tt))) in
-    let bounced = string_or_null (original_message_id known mail) in
+    let bounced = string_or_null (original_message_id mail) in
     let recipients = recipients_value (recipients_if known options.decodes_bodies mail) in
     let own = date ++ ids ++ one (codes "bounced_id") bounced in
     let noted : AreGood 5 own = members_then 5 (date ++ ids) (one (codes "bounced_id") bounced) dated (optional_good 5 _, tt) in

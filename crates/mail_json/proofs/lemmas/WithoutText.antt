@@ -123,7 +123,7 @@ module _ (options : Options) where
       let same : is.0 ≡ map object_without_text all =
       found.4 ∙ ap₂ (λ (a b : List Json). a ++ b) parts.2 others.2 ∙ map_then parts.0 others.0 in
       let date = option_map zoned_date_of (value_of known (codes "Date") (root mail)) in
-      let bounced = string_or_null (original_message_id known mail) in
+      let bounced = string_or_null (original_message_id mail) in
       let recipients = recipients_value (recipients_if known true mail) in
       let inside = list_of (map (inner_value origin.start) (mails_inside known mail)) in (
         object_of (mail_members known true origin mail (mails_inside known mail) all),

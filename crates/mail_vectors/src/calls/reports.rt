@@ -27,9 +27,9 @@ fn read_mail(row: &Row, answer: &mut Answer) -> Outcome {
     let mail = parse_mail(row.alloc, row.bytes(0))?;
     match row.call.as_str() {
         "recipients" => write_recipients(answer, recipients(row.alloc, &mail, &())?.as_slice()),
-        "original_message_id" => answer.put(original_message_id(row.alloc, &mail, &())),
-        "message_id" => answer.put(message_id(row.alloc, &mail, &())),
-        _ => answer.put(parents(row.alloc, &mail, &())),
+        "original_message_id" => answer.put(original_message_id(row.alloc, &mail)),
+        "message_id" => answer.put(message_id(row.alloc, &mail)),
+        _ => answer.put(parents(row.alloc, &mail)),
     }
     Ok(())
 }
