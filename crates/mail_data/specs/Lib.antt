@@ -19,6 +19,7 @@ pub mod Readable
 pub mod ReadableViews
 pub mod Flowed
 pub mod FlowedViews
+pub mod Reading
 pub mod InnerMails
 pub mod InnerMailViews
 pub mod Reports
@@ -40,6 +41,7 @@ pub use Rattle.mailparse.specs.ContentType
 pub use Rattle.mailparse.specs.Date
 pub use Rattle.mailparse.specs.Disposition
 pub use Rattle.mailparse.specs.Header
+pub use Rattle.mailparse.specs.Limit
 pub use Rattle.mailparse.specs.Mail
 pub use Rattle.mailparse.specs.Map
 pub use Rattle.mailparse.specs.Outcome

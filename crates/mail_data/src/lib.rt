@@ -4,8 +4,8 @@
 //! texts whose paragraphs flow over lines (RFC 3676; `flowed`), the mails inside a mail with their
 //! paths (`inner_mails`), the fields of reports (`reports`) and the recipients of delivery status
 //! notifications among them (RFC 3464; `bounce`), the ids that place a mail in a thread
-//! (`archive`), and lenient readings that recover what they can when the strict calls refuse
-//! (`lenient`).
+//! (`archive`), lenient readings that recover what they can when the strict calls refuse
+//! (`lenient`), and how programs read a mail (`reading`).
 //!
 //! The rules of this layer are its own; those of `mailparse` stay as they are. Each call that
 //! allocates has the argument `alloc` and returns a `Result`; no call panics. Calls that read
@@ -24,5 +24,6 @@ mod line_ends;
 pub mod mailbox;
 pub mod places;
 pub mod readable;
+pub mod reading;
 pub mod reports;
 pub mod texts;

@@ -6,7 +6,7 @@ use Rattle.std.specs.Result.{result_err}
 use Rattle.std.proofs.lemmas.Bool.{cases_Bool, cond-true, cond-false}
 use Rattle.std.proofs.lemmas.List.{append-nil}
 use Rattle.mail_codec.specs.Charset.{Charsets}
-use Rattle.mailparse.specs.Mail.{Tree, read_mail_in, root}
+use Rattle.mailparse.specs.Mail.{Tree, root}
 use Rattle.mailparse.specs.Outcome.{IsMemory, IsRefusalOrMemory, refusal_of}
 use Rattle.mailparse.specs.Placement.{Placement, placements}
 use Rattle.mailparse.specs.Refusal.{Reads, Refusal, generic, encoding, base64_fault}
@@ -14,6 +14,7 @@ use Rattle.mailparse.specs.declared.error.MailParseError.{MailParseError}
 use Rattle.mailparse.specs.declared.error.MailParseError.TheVariants.{QuotedPrintableDecodeError, Base64DecodeError, EncodingError, Generic, Memory}
 use Rattle.mail_data.specs.InnerMails.{Forwarded, InnerMail, forwarded, holds_mail, inner_mails_by, is_plain, mail_bytes, mail_read_by, mail_start, mails_below, mails_below_by, mails_in_place, mails_in_place_by, places_under}
 use Rattle.mail_data.specs.PartPlaces.{Place}
+use Rattle.mail_data.specs.Reading.{mail_reading}
 use Rattle.mail_data.specs.lenient.Encoding.{lenient_body_kind}
 
 -- a mail inside, given its fields
@@ -76,15 +77,15 @@ forwarded_read_by reads placed most start at place bytes read h e = elim (cases_
   | inr holds ↦ absurd (some≢none (h ∙ cond-false (holds_mail place) _ _ holds))
 ]
 
--- the same in the manner of the port
-pub not_forwarded : (known : Charsets) (most : ℕ) (start : Option ℕ) (place : Place) → ◌≡◌ {A = Option Forwarded} None (forwarded start place)
-    → mails_in_place known most start place ≡ []
-not_forwarded known = not_forwarded_by (read_mail_in known 100) (placements 0)
+-- the same as the programs read mails
+pub not_forwarded : (known : Charsets) (limit most : ℕ) (start : Option ℕ) (place : Place) → ◌≡◌ {A = Option Forwarded} None (forwarded start place)
+    → mails_in_place known limit most start place ≡ []
+not_forwarded known limit = not_forwarded_by (mail_reading known limit) (placements 0)
 
-pub forwarded_read : (known : Charsets) (most : ℕ) (start at : Option ℕ) (place : Place) (bytes : List ℕ) (read : Reads Tree)
-    → ◌≡◌ {A = Option Forwarded} (Some (forwarded_with bytes at)) (forwarded start place) → read_mail_in known 100 bytes ≡ read
-    → mails_in_place known most start place ≡ inner_with place.path bytes at (result_err read) ∷ mails_below known most place.path at read
-forwarded_read known = forwarded_read_by (read_mail_in known 100) (placements 0)
+pub forwarded_read : (known : Charsets) (limit most : ℕ) (start at : Option ℕ) (place : Place) (bytes : List ℕ) (read : Reads Tree)
+    → ◌≡◌ {A = Option Forwarded} (Some (forwarded_with bytes at)) (forwarded start place) → mail_reading known limit bytes ≡ read
+    → mails_in_place known limit most start place ≡ inner_with place.path bytes at (result_err read) ∷ mails_below known limit most place.path at read
+forwarded_read known limit = forwarded_read_by (mail_reading known limit) (placements 0)
 
 -- the refusal in an error that is not out of memory
 refused-is : (e : MailParseError) (given : Reads Tree) → (IsMemory e → ⊥) → IsRefusalOrMemory e given
