@@ -100,6 +100,8 @@ def test_pages(address):
     assert get(address, links(mail, "/raw/")[0])[2] == MAILS[0]
     thread = get(address, "/thread?id=2@small")[2]
     assert re.search(r'level-0.*Zebra crossing.*level-1.*Re: Zebra crossing', thread, re.DOTALL)
+    plots = get(address, "/plots")[2]
+    assert "<td>2025-03</td><td>3</td>" in plots and "<td>Ana Lima &lt;ana@example.net&gt;</td><td>1</td>" in plots
     for name in ("months", "senders"):
         assert ElementTree.fromstring(get(address, f"/plots/{name}.svg")[2]).tag == "{http://www.w3.org/2000/svg}svg"
 
@@ -120,20 +122,79 @@ def test_safety(address):
     assert get(address, "/", host="mail.example.org")[0] == 403
 
 
-def test_browser(address, tmp_path):
-    """In a browser: search, thread, mail and download; no dialog, no other address, and nothing in the console."""
+def chromium(downloads):
+    """Starts a browser as wide as a phone."""
     try:
         from selenium import webdriver
-        from selenium.webdriver.common.by import By
     except ImportError:
         missing("selenium is missing (Debian: python3-selenium, chromium-driver)")
     options = webdriver.ChromeOptions()
-    for argument in ("--headless=new", "--no-sandbox", "--disable-dev-shm-usage", "--window-size=390,844"):
+    for argument in ("--headless=new", "--no-sandbox", "--disable-dev-shm-usage"):
         options.add_argument(argument)
-    options.add_experimental_option("prefs", {"download.default_directory": str(tmp_path)})
+    options.add_experimental_option("prefs", {"download.default_directory": str(downloads)})
     options.set_capability("goog:loggingPrefs", {"browser": "ALL", "performance": "ALL"})
-    service = webdriver.chrome.service.Service("/usr/bin/chromedriver")
-    with webdriver.Chrome(service=service, options=options) as browser:
+    browser = webdriver.Chrome(service=webdriver.chrome.service.Service("/usr/bin/chromedriver"), options=options)
+    browser.execute_cdp_cmd("Emulation.setDeviceMetricsOverride", {"width": 390, "height": 844, "deviceScaleFactor": 1, "mobile": True})
+    return browser
+
+
+# the least contrast of texts with the background, by the formula of WCAG 2.1; and elements that are beyond the content's edge
+LOOKS = """
+const numbers = (text) => text.match(/[0-9.]+/g).map(Number);
+const light = (rgb) => {
+    const [r, g, b] = rgb.slice(0, 3).map(v => (v /= 255) <= 0.03928 ? v / 12.92 : ((v + 0.055) / 1.055) ** 2.4);
+    return 0.2126 * r + 0.7152 * g + 0.0722 * b;
+};
+const probe = document.createElement('div');
+probe.style.color = 'Canvas';
+document.body.append(probe);
+const canvas = light(numbers(getComputedStyle(probe).color));
+probe.remove();
+const ratio = (a, b) => (Math.max(a, b) + 0.05) / (Math.min(a, b) + 0.05);
+const seen = [...document.querySelectorAll('main *')].filter(it => it.getClientRects().length);
+const edge = document.querySelector('main').getBoundingClientRect().right + 1;
+return {
+    least: Math.min(...seen.map(it => ratio(light(numbers(getComputedStyle(it).color)), canvas))),
+    beyond: [...document.querySelectorAll('header *, main *')].filter(it => !it.closest('figure') && it.getBoundingClientRect().right > edge).map(it => it.outerHTML),
+    wide: document.documentElement.scrollWidth > innerWidth,
+};
+"""
+
+
+@pytest.mark.parametrize("scheme", ["light", "dark"])
+def test_looks(address, tmp_path, scheme):
+    """On a phone nothing is cut off, and texts have the contrast of WCAG 2.1 (AA), by day and by night."""
+    with chromium(tmp_path) as browser:
+        browser.execute_cdp_cmd("Emulation.setEmulatedMedia", {"features": [{"name": "prefers-color-scheme", "value": scheme}]})
+        for path in ("/?q=zebra", "/?q=alert", "/thread?id=2@small", "/plots", "/none", "/mail/0/1"):
+            browser.get(address + path)
+            browser.save_screenshot(str(tmp_path / f"{re.sub('[^a-z]', '', path)}.png"))
+            looks = browser.execute_script(LOOKS)
+            assert looks["least"] >= 4.5 and not looks["beyond"] and not looks["wide"], (path, looks)
+
+
+def test_keys(address, tmp_path):
+    """Without a mouse: the first key leads to a link past the header, then the links, the words and the mails, and Enter opens one."""
+    from selenium.webdriver.common.keys import Keys
+
+    with chromium(tmp_path) as browser:
+        browser.get(f"{address}/?q=zebra")
+        reached = []
+        for _ in range(6):
+            browser.switch_to.active_element.send_keys(Keys.TAB)
+            now = browser.switch_to.active_element
+            reached.append(now.get_attribute("id") or now.text)
+            assert now.is_displayed() and now.value_of_css_property("outline-style") == "solid", reached
+        assert reached == ["Skip to the content", "Search", "Plots", "q", "Search", "Re: Zebra crossing"]
+        browser.switch_to.active_element.send_keys(Keys.ENTER)
+        assert browser.title == "Re: Zebra crossing"
+
+
+def test_browser(address, tmp_path):
+    """In a browser: search, thread, mail and download; no dialog, no other address, and nothing in the console."""
+    with chromium(tmp_path) as browser:
+        from selenium.webdriver.common.by import By
+
         browser.get(address)
         browser.find_element(By.NAME, "q").send_keys("zebra quagga\n")
         assert browser.find_element(By.TAG_NAME, "h1").text == "1 mail"

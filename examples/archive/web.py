@@ -42,6 +42,8 @@ FACETS = {
     "list": "list_id",
     "type": "(select type from attachments where mail = id limit 1)",
 }
+MONTHS = "select month, mails from months order by month desc limit 240"
+SENDERS = "select sender, mails from senders order by mails desc, sender limit 15"
 MAIL = "select message_id, date, datetime(date, 'unixepoch') as time, sender, recipients, subject, list_id, body from mails where id = ?"
 
 
@@ -251,16 +253,15 @@ def create_app(directory, program, hosts=None):
 
     @app.get("/plots")
     def plots():
-        return flask.render_template("plots.html")
+        return flask.render_template("plots.html", months=archive.numbers(MONTHS), senders=archive.numbers(SENDERS))
 
     @app.get("/plots/months.svg")
     def months():
-        counts = archive.numbers("select month, mails from months order by month desc limit 240")
-        return bars("Mails per month", counts[::-1])
+        return bars("Mails per month", archive.numbers(MONTHS)[::-1])
 
     @app.get("/plots/senders.svg")
     def senders():
-        counts = archive.numbers("select sender, mails from senders order by mails desc, sender limit 15")
+        counts = archive.numbers(SENDERS)
         return bars("Most frequent senders", [(HIDDEN.sub("\ufffd", sender)[:40], count) for sender, count in counts[::-1]], is_horizontal=True)
 
     return app
