@@ -38,6 +38,28 @@ def test_script(script):
 
 
 @pytest.mark.quick
+def test_executable():
+    """A file that begins with `#!` can be executed, and no other."""
+    modes = run(["git", "ls-files", "-s"], cwd=TOP).stdout.decode().splitlines()
+    for mode, _, _, path in (line.split(None, 3) for line in modes):
+        if mode != "120000":
+            assert (mode == "100755") == (TOP / path).read_bytes().startswith(b"#!"), path
+
+
+@pytest.mark.quick
+@pytest.mark.parametrize("module, script", [("flask", ["web.py", "db"]), ("pygal", ["web.py", "db"]), ("dask", ["index_archive.py", "out", ".", "--scheduler", "x"])])
+def test_missing_module(module, script, tmp_path):
+    """A module of Python that is missing is named in one line, with the package that has it."""
+    (tmp_path / f"{module}.py").write_text(f"raise ModuleNotFoundError('no', name='{module}')\n")
+    (tmp_path / "a.eml").write_bytes(MAIL)
+    name, *arguments = script
+    ended = run(["/usr/bin/python3", TOP / "examples" / "archive" / name, *arguments, "--program", "/bin/true"], cwd=tmp_path,
+                env={**os.environ, "PYTHONPATH": str(tmp_path)})
+    assert ended.returncode == 2 and ended.stdout == b"", ended
+    assert re.fullmatch(rf"{re.escape(name)}: this Python has no {module}: on Debian install python3-[^\n]*\n", ended.stderr.decode())
+
+
+@pytest.mark.quick
 def test_help_of_test():
     """./test passes its other arguments to pytest, which ends with status 4 on unknown ones; without its needs it ends with 2."""
     ends([TOP / "test", "--help"], 0, "stdout")

@@ -235,8 +235,12 @@ def run_here(wanted, places):
 
 def run_there(scheduler, wanted, places):
     """Reads these parts on the workers. Yields for each what `read` returns, or why it did not return."""
-    from dask.distributed import Client, progress, wait  # here, so that --help needs no dask
-
+    try:
+        from dask.distributed import Client, progress, wait  # here, so that the rest needs no dask
+    except ImportError as fault:
+        why = f"this Python has no {fault.name}: on Debian install python3-distributed, and run it by /usr/bin/python3"
+        print(f"index_archive.py: {why}; without --scheduler this machine reads all", file=sys.stderr)
+        sys.exit(2)
     with Client(address=scheduler) as client:
         futures = client.map(read, wanted, pure=False, **places)
         if sys.stdout.isatty():

@@ -18,8 +18,12 @@ import tempfile
 from types import SimpleNamespace
 from xml.etree import ElementTree
 
-import flask
-import pygal
+try:
+    import flask
+    import pygal
+except ImportError as fault:  # so that --help needs neither
+    flask = None
+    LACKING = fault.name
 
 import search
 from program import rocktray
@@ -275,6 +279,9 @@ def main():
     parser.add_argument("--port", type=int, default=8025)
     parser.add_argument("--program", metavar="ROCKTRAY", help="by default the one that is built here, in a release that is unpacked here, or installed")
     given = parser.parse_args()
+    if flask is None:
+        print(f"web.py: this Python has no {LACKING}: on Debian install python3-flask and python3-pygal, and run it by /usr/bin/python3", file=sys.stderr)
+        sys.exit(2)
     hosts = {f"{host}:{given.port}" for host in ("127.0.0.1", "localhost", "[::1]", given.host)}
     if given.host not in ("127.0.0.1", "localhost", "::1"):
         print("web.py: anyone who reaches this port can read the archive; there are no passwords", file=sys.stderr)
