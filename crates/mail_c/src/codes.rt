@@ -30,7 +30,8 @@ pub(crate) const TOO_MANY: u32 = 22;
 /// There are bytes, but no line that begins a mail of a mailbox.
 pub(crate) const NO_MAILBOX: u32 = 23;
 
-/// Returns the code of an error: that of its kind of refusal, or `NO_MEMORY` if it is not a refusal.
+/// Returns the code of an error: that of its kind of refusal, or `NO_MEMORY` if it is not a
+/// refusal.
 pub(crate) fn code_of(error: &MailParseError) -> u32
     ensures { result ≡ error_code error.now }
 {

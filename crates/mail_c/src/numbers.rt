@@ -43,8 +43,8 @@ pub(crate) fn date_and_offset(
     }
 }
 
-/// Returns the seconds since 1970 of a date and the offset of its zone, if that is known, or the code
-/// of its refusal.
+/// Returns the seconds since 1970 of a date and the offset of its zone, if that is known, or the
+/// code of its refusal.
 fn dated(text: &[u8]) -> Result<(i64, Option<i64>), u32>
     ensures { result ≡ date text.now }
 {

@@ -20,7 +20,7 @@ const HIDDEN_NAMES: u32 = 1000;
 const BLOCK: usize = 64 * 1024;
 
 /// A directory of the file system. No contract sees its files.
-#[derive(Drop)]
+#[derive(Debug, Drop)]
 pub struct Disk<'r, R> {
     /// The runtime, for the file system.
     pub rt: &'r R,
@@ -41,8 +41,8 @@ impl<'r, R: Files + AllocGlobal> Directory for Disk<'r, R> {
 
     ghost can_fail = { λ files. true };
 
-    /// The bytes are written to a file with a hidden name, `.rocktray-0`. Only when it is whole does
-    /// it get its name, by a link, so that it replaces nothing. If it could not be written
+    /// The bytes are written to a file with a hidden name, `.rocktray-0`. Only when it is whole
+    /// does it get its name, by a link, so that it replaces nothing. If it could not be written
     /// completely, it is removed, or the error says that it stays.
     fn create(&mut self, name: &str, bytes: &[u8]) -> Result<Created, AllocError> {
         let path = self.path_of(name)?;
@@ -92,7 +92,7 @@ fn is_same(rt: &impl Files, path: &str, bytes: &[u8], mut buffer: Vec<u8>) -> io
     Ok(false)
 }
 
-/// Writes a new file, which has a hidden path, and gives it its path, unless that is taken.
+/// Writes a new file under its hidden path, and then gives it its own path unless that is taken.
 fn write_new<R: Files>(
     rt: &R,
     mut file: R::File,

@@ -28,9 +28,10 @@ use std::io::{self, ErrorKind, Read, Write};
 /// mailbox (RFC 4155), which is read in blocks.
 ///
 /// Each mail that is refused has a line with `error` and no `size`, and so does each refused mail
-/// inside a mail, and text before the first separator of a mailbox. The line of a file follows it at
-/// once and is flushed, and lines are flushed while the mailbox is read. Returns the worst outcome that the lines report. Allocates the bytes of a block
-/// and of the mail that is read, and its decoded files in turn.
+/// inside a mail, and text before the first separator of a mailbox. The line of a file follows it
+/// at once and is flushed, and lines are flushed while the mailbox is read. Returns the worst
+/// outcome that the lines report. Allocates the bytes of a block and of the mail that is read, and
+/// its decoded files in turn.
 ///
 /// # Errors
 ///

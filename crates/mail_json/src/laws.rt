@@ -85,9 +85,9 @@ pub fn range_is_found()
         AreRangeLines options format file from to bytes is_clean text }
 {}
 
-/// The offsets in the line of a mail of a mailbox are those of the mail in the input: its bytes from
-/// `start` to `end` are the mail. `mails_are_at_their_offsets` of `mail_data` says that each mail of
-/// a mailbox, and of each range of one, is there.
+/// The offsets in the line of a mail of a mailbox are those of the mail in the input: its bytes
+/// from `start` to `end` are the mail. `mails_are_at_their_offsets` of `mail_data` says that each
+/// mail of a mailbox, and of each range of one, is there.
 pub fn offsets_are_those_of_the_input()
     ensures { (file : Option (List ℕ)) (number : Option ℕ) (bytes : List ℕ) (mail : Placed) →
         length bytes < 2 ^ 64 → IsThere bytes mail →

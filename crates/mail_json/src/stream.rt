@@ -254,8 +254,9 @@ pub fn read_until<R: Read>(
     Err(Fault::Input(io::Error::from(ErrorKind::Interrupted)))
 }
 
-/// Returns the length at which the bytes are searched again, given the one at which they were: twice
-/// that, but at first at most the offset after which the text before a separator is not wanted.
+/// Returns the length at which the bytes are searched again, given the one at which they were:
+/// twice that, but at first at most the offset after which the text before a separator is not
+/// wanted.
 fn next_length(wanted: Wanted, length: usize) -> usize {
     let doubled = length.saturating_mul(2);
     match wanted {

@@ -46,8 +46,8 @@ pub fn write_title<W: Write>(alloc: Global, out: &mut W, name: &str) -> Result<(
     write_line(alloc, out, Prefix::Title, text.as_str())
 }
 
-/// Writes an input that is one mail, as `view_of` returns it, or a line that says why it is refused.
-/// Returns whether it was.
+/// Writes an input that is one mail, as `view_of` returns it, or a line that says why it is
+/// refused. Returns whether it was.
 ///
 /// Allocates the mail and its view.
 ///

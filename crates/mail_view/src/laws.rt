@@ -7,9 +7,9 @@ ghost use Rattle.mail_view.specs.Line.{AreSafeLines, Line, is_plain_byte, lines_
 ghost use Rattle.mail_view.specs.View.{view_text};
 
 /// Whatever the texts of lines are, what is written of them is safe: it consists of lines that end
-/// in their only LF, each line is empty or begins with the fixed text of its prefix, and it is UTF-8
-/// of characters that are not hidden. So is the view of each mail. No byte but LF is below the
-/// space, and none is DEL.
+/// in their only LF, each line is empty or begins with the fixed text of its prefix, and it is
+/// UTF-8 of characters that are not hidden. So is the view of each mail. No byte but LF is below
+/// the space, and none is DEL.
 pub fn lines_are_safe()
     ensures lines { (lines : List Line) → AreSafeLines (lines_text lines) }
     ensures bytes { (lines : List Line) → list_all is_plain_byte (lines_text lines) ≡ true }

@@ -6,8 +6,8 @@ ghost use Rattle.mail_view.specs.Row.{padded, row, size_text};
 use std::alloc::{AllocError, Global};
 use unicode_width::UnicodeWidthStr;
 
-/// Returns the description of a part as text, in columns: its path, its type, its size, and the name
-/// of its file.
+/// Returns the description of a part as text, in columns: its path, its type, its size, and the
+/// name of its file.
 pub(crate) fn row_of(
     alloc: Global,
     path: &str,

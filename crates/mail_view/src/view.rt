@@ -19,9 +19,9 @@ use std::io::Write;
 ///
 /// The mail is as it was parsed, in the charsets `known`. Each line is empty, begins with a fixed
 /// text such as `Subject:  `, or is one of the text of the mail, which begins with two spaces. A
-/// character that would move the cursor of a terminal, end a line or change the direction of text is
-/// shown as U+FFFD, and a tab as four spaces. Allocates the text, and the decoded bodies one after
-/// another.
+/// character that would move the cursor of a terminal, end a line or change the direction of text
+/// is shown as U+FFFD, and a tab as four spaces. Allocates the text, and the decoded bodies one
+/// after another.
 ///
 /// # Errors
 ///
