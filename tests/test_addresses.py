@@ -91,7 +91,7 @@ def angle_end(raw, at):
 
 
 class Text:
-    """Bytes as a word of letters, with the places of the tokens."""
+    """Bytes as a word of letters, with the offsets of the tokens."""
 
     def __init__(self, raw, word, places):
         self.raw, self.word, self.places = raw, word, places

@@ -91,7 +91,7 @@ static inline int bench(int count, char **arguments, const struct work *works)
     return 0;
 }
 
-/* Where a line of a mailbox begins that separates mails, from a place where a line begins; or its end. */
+/* The first line of a mailbox that separates mails, from the start of a line onwards; or its end. */
 static inline const char *bench_separator(const char *at, const char *end)
 {
     while (end - at >= 5 && memcmp(at, "From ", 5)) {
