@@ -141,6 +141,16 @@ def test_hostile(hostile):
         assert status in (0, 3) and is_safe(output)
 
 
+def test_html():
+    """A mail without plain text is shown by the text of its HTML, with the targets of links as footnotes."""
+    raw = b"Subject: Fish\nContent-Type: text/html\n\n<title>Menu</title><p>Fish &amp;\n<a href=' https://a.example/?x&amp;y'>chips</a>"
+    raw += b"<script>no text</script><p>\x1b[2Jtea &#60;b&#62;<a href='#'>\n-- mail 2 --</a>"
+    body = "  Menu\n\n  Fish & [1]chips\n\n  \ufffd[2Jtea <b>[2] -- mail 2 --\n\n  [1] https://a.example/?x&y\n  [2] #\n"
+    size = len(raw) - raw.index(b"<title>")
+    row = f"{'1':4}  {'text/html':24}  {size} bytes"
+    assert show("-", data=raw) == (0, f"Subject:  Fish\n\n{body}\nPart:     {row}\n")
+
+
 def test_refused():
     """Why a mail is refused is in the output, and the status says so."""
     assert show("-", data=b" x") == (3, f"Refused:  {SPACE}\n")

@@ -9,6 +9,7 @@ use Rattle.mailparse.specs.Refusal.{Reads}
 use Rattle.mail_data.specs.Mailbox.{Entry, front_length}
 use Rattle.mail_data.specs.MailboxFormats.{entries_in, mail_in}
 use Rattle.mail_data.specs.declared.mailbox.formats.Format.{Format}
+use Rattle.mail_html.specs.declared.references.References.{References}
 use Rattle.mail_program.specs.Fault.{IsEnd}
 use Rattle.mail_program.specs.Outcome.{worse}
 use Rattle.mail_program.specs.Refusal.{refusal_text}
@@ -54,40 +55,44 @@ front_outcome false = outcomes.Refused
 abbrev pub is_front_white : List ℕ → Bool
 is_front_white bytes = list_all is_ascii_whitespace (take (front_length bytes) bytes)
 
--- Under the charsets that are known.
-module _ (known : Charsets) where
+-- the outcome of the bytes of a mail, under the charsets that are known
+abbrev pub single_outcome : Charsets → List ℕ → Outcome
+single_outcome known bytes = reading_outcome (read_mail_in known 100 bytes)
+
+-- Under the references of HTML and the charsets that are known.
+module _ (references : References) (known : Charsets) where
   -- the lines of a mail that was read, or why it is refused
   abbrev pub reading_lines : Reads Tree → List Line
-  reading_lines (Ok mail) = view_lines known mail
+  reading_lines (Ok mail) = view_lines references known mail
   reading_lines (Err refusal) = line Refused (refusal_text refusal) ∷ []
 
-  -- the lines of the bytes of a mail, and the outcome
+  -- the lines of the bytes of a mail
   abbrev pub single_lines : List ℕ → List Line
   single_lines bytes = reading_lines (read_mail_in known 100 bytes)
 
-  abbrev pub single_outcome : List ℕ → Outcome
-  single_outcome bytes = reading_outcome (read_mail_in known 100 bytes)
-
 -- Of a mailbox in this format, under the charsets that are known.
 module _ (known : Charsets) (format : Format) where
+  -- the worst outcome of mails
+  abbrev pub mails_outcome : List Entry → Outcome
+  mails_outcome [] = outcomes.Clean
+  mails_outcome (entry ∷ entries) = worse (single_outcome known (mail_in format entry.mail)) (mails_outcome entries)
+
+  -- the outcome of a mailbox
+  abbrev pub mailbox_outcome : List ℕ → Outcome
+  mailbox_outcome bytes = worse (front_outcome (is_front_white bytes)) (mails_outcome (entries_in format bytes))
+
+-- The same, and under the references of HTML.
+module _ (references : References) (known : Charsets) (format : Format) where
   -- the lines of a mail with this number, between its title and an empty line
   abbrev pub numbered_lines : ℕ → Entry → List Line
   numbered_lines number entry =
-      title (codes "mail " ++ decimal number) ∷ (single_lines known (mail_in format entry.mail) ++ empty ∷ [])
+      title (codes "mail " ++ decimal number) ∷ (single_lines references known (mail_in format entry.mail) ++ empty ∷ [])
 
   -- the lines of mails, the first of which has this number
   abbrev pub mails_lines : ℕ → List Entry → List Line
   mails_lines number [] = []
   mails_lines number (entry ∷ entries) = numbered_lines number entry ++ mails_lines (next_number number) entries
 
-  -- the worst outcome of mails
-  abbrev pub mails_outcome : List Entry → Outcome
-  mails_outcome [] = outcomes.Clean
-  mails_outcome (entry ∷ entries) = worse (single_outcome known (mail_in format entry.mail)) (mails_outcome entries)
-
-  -- the lines of a mailbox, and the outcome
+  -- the lines of a mailbox
   abbrev pub mailbox_lines : List ℕ → List Line
   mailbox_lines bytes = front_lines (is_front_white bytes) ++ mails_lines 1 (entries_in format bytes)
-
-  abbrev pub mailbox_outcome : List ℕ → Outcome
-  mailbox_outcome bytes = worse (front_outcome (is_front_white bytes)) (mails_outcome (entries_in format bytes))

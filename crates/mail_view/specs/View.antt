@@ -7,9 +7,11 @@ use Rattle.mailparse.specs.Map.{all_values_in}
 use Rattle.mailparse.specs.Placement.{placements}
 use Rattle.mail_data.specs.Files.{file_name, is_leaf}
 use Rattle.mail_data.specs.PartPlaces.{Place, places}
-use Rattle.mail_data.specs.Texts.{text_part}
+use Rattle.mail_data.specs.Readable.{readable_text}
 use Rattle.mail_data.specs.lenient.Content.{message_content}
-use Rattle.mail_data.specs.lenient.Texts.{body_text}
+use Rattle.mail_data.specs.lenient.Texts.{BodyText}
+use Rattle.mail_html.specs.declared.links.Links.TheVariants.{Footnotes}
+use Rattle.mail_html.specs.declared.references.References.{References}
 use Rattle.mail_view.specs.Addresses.{address_lines}
 use Rattle.mail_view.specs.Line.{Line, empty, line, lines_text}
 use Rattle.mail_view.specs.Row.{row, size_text}
@@ -24,6 +26,11 @@ text_line (b ∷ bs) = line Text (b ∷ bs)
 -- the size of the decoded body of a part, and whether it is damaged
 abbrev pub part_size : Node → List ℕ
 part_size node = let content = message_content node in size_text (length content.bytes) (is_some content.fault)
+
+-- the lines of the text of a mail, after an empty line
+abbrev pub body_lines : Option BodyText → List Line
+body_lines None = []
+body_lines (Some read) = empty ∷ map text_line (lines read.text)
 
 -- Under the charsets that are known.
 module _ (known : Charsets) where
@@ -40,11 +47,6 @@ module _ (known : Charsets) where
       ++ (address_lines known Cc (codes "Cc") node
       ++ (value_lines Date (codes "Date") node ++ value_lines Subject (codes "Subject") node))))
 
-  -- the lines of the text in a part, after an empty line
-  abbrev pub body_lines : Option Tree → List Line
-  body_lines None = []
-  body_lines (Some part) = empty ∷ map text_line (lines (body_text known (root part)).text)
-
   -- the description of a part
   abbrev pub part_text : Place → List ℕ
   part_text place =
@@ -55,11 +57,13 @@ module _ (known : Charsets) where
   abbrev pub part_lines : Place → List Line
   part_lines place = if is_leaf place.part then line Part (part_text place) ∷ [] else []
 
-  -- the lines of a mail: its headers, its text, and its parts
+-- Under the references of HTML and the charsets that are known.
+module _ (references : References) (known : Charsets) where
+  -- the lines of a mail: its headers, its text with the targets of links, and its parts
   abbrev pub view_lines : Tree → List Line
   view_lines mail =
-      header_lines (root mail) ++ (body_lines (text_part known mail)
-      ++ (empty ∷ flat_map part_lines (places mail (placements 0 mail))))
+      header_lines known (root mail) ++ (body_lines (readable_text known Footnotes references mail)
+      ++ (empty ∷ flat_map (part_lines known) (places mail (placements 0 mail))))
 
   -- the text of a mail as it is shown
   unfoldable pub view_text : Tree → List ℕ

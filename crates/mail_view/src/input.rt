@@ -14,6 +14,7 @@ use crate::line::{Prefix, push_line};
 use crate::view::write_view;
 use mail_data::mailbox::quoted::unquoted;
 use mail_data::mailbox::{Format, Mailbox, MailboxEntry, read_mailbox};
+use mail_html::References;
 use mail_program::{Fault, Outcome, is_all_whitespace, refusal_of};
 use mailparse::{KnownCharsets, parse_mail_in};
 use std::alloc::Global;
@@ -59,29 +60,34 @@ pub fn write_title<W: Write>(alloc: Global, out: &mut W, name: &str) -> Result<(
 /// # Examples
 ///
 /// ```rust
+/// use mail_html::References;
 /// use mail_program::Outcome;
 /// use mail_view::write_single;
 ///
+/// let references = References::standard();
 /// let mut out = Vec::new(alloc);
-/// assert_eq!(rt; write_single(alloc, &mut out, b"Subject: Hi\n\n", &())?, Outcome::Clean);
+/// let outcome = write_single(alloc, &mut out, b"Subject: Hi\n\n", &references, &())?;
+/// assert_eq!(rt; outcome, Outcome::Clean);
 /// assert!(rt; out.as_slice().starts_with(b"Subject:  Hi\n"));
 /// let mut out = Vec::new(alloc);
-/// assert_eq!(rt; write_single(alloc, &mut out, b" Hi", &())?, Outcome::Refused);
+/// let outcome = write_single(alloc, &mut out, b" Hi", &references, &())?;
+/// assert_eq!(rt; outcome, Outcome::Refused);
 /// assert!(rt; out.as_slice().starts_with(b"Refused:  Header cannot start with a space"));
 /// ```
 pub fn write_single<W: Write, K: KnownCharsets>(
     alloc: Global,
     out: &mut W,
     input: &[u8],
+    references: &References<'_>,
     known: &K,
 ) -> Result<Outcome, Fault>
     ensures { WritesWith (W.contents out.old) (W.contents out.new) result
-        (lines_text (single_lines (K.known known.now) input.now))
+        (lines_text (single_lines references.now (K.known known.now) input.now))
         (single_outcome (K.known known.now) input.now) }
 {
     match parse_mail_in(alloc, input, known) {
         Ok(mail) => {
-            write_view(alloc, out, &mail, known)?;
+            write_view(alloc, out, &mail, references, known)?;
             Ok(Outcome::Clean)
         }
         Err(error) => {
@@ -109,12 +115,13 @@ pub fn write_single<W: Write, K: KnownCharsets>(
 ///
 /// ```rust
 /// use mail_data::mailbox::Format;
+/// use mail_html::References;
 /// use mail_program::Outcome;
 /// use mail_view::write_mailbox;
 ///
 /// let raw = b"From a Fri Jul  8 12:08:34 2011\nSubject: 1\n\none\n\n";
 /// let mut out = Vec::new(alloc);
-/// let outcome = write_mailbox(alloc, &mut out, raw, Format::Plain, &())?;
+/// let outcome = write_mailbox(alloc, &mut out, raw, Format::Plain, &References::standard(), &())?;
 /// assert_eq!(rt; outcome, Outcome::Clean);
 /// assert!(rt; out.as_slice().starts_with(b"-- mail 1 --\nSubject:  1\n\n  one\n\n"));
 /// ```
@@ -123,16 +130,17 @@ pub fn write_mailbox<W: Write, K: KnownCharsets>(
     out: &mut W,
     input: &[u8],
     format: Format,
+    references: &References<'_>,
     known: &K,
 ) -> Result<Outcome, Fault>
     ensures { WritesWith (W.contents out.old) (W.contents out.new) result
-        (lines_text (mailbox_lines (K.known known.now) format input.now))
+        (lines_text (mailbox_lines references.now (K.known known.now) format input.now))
         (mailbox_outcome (K.known known.now) format input.now) }
 {
     let mails = read_mailbox(input, format);
     let front = mails.front();
     let outcome = write_front(alloc, out, front)?;
-    Ok(outcome.and(write_mails(alloc, out, mails, format, known)?))
+    Ok(outcome.and(write_mails(alloc, out, mails, format, references, known)?))
 }
 
 /// Writes a line for the text before the first mail of a mailbox, unless it is whitespace.
@@ -156,17 +164,19 @@ fn write_mails<W: Write, K: KnownCharsets>(
     out: &mut W,
     mails: Mailbox<'_>,
     format: Format,
+    references: &References<'_>,
     known: &K,
 ) -> Result<Outcome, Fault>
     ensures { WritesWith (W.contents out.old) (W.contents out.new) result
-        (lines_text (mails_lines (K.known known.now) format 1 (entries_left mails.entry)))
+        (lines_text (mails_lines references.now (K.known known.now) format 1
+        (entries_left mails.entry)))
         (mails_outcome (K.known known.now) format (entries_left mails.entry)) }
 {
     let mut number = 1u64;
     let mut outcome = Outcome::Clean;
     for entry in mails {
         write_number(alloc, out, number)?;
-        outcome = outcome.and(write_entry(alloc, out, &entry, format, known)?);
+        outcome = outcome.and(write_entry(alloc, out, &entry, format, references, known)?);
         write_empty_line(out)?;
         number = number.saturating_add(1);
     }
@@ -188,17 +198,25 @@ fn write_entry<W: Write, K: KnownCharsets>(
     out: &mut W,
     entry: &MailboxEntry<'_>,
     format: Format,
+    references: &References<'_>,
     known: &K,
 ) -> Result<Outcome, Fault>
     ensures { WritesWith (W.contents out.old) (W.contents out.new) result
-        (lines_text (single_lines (K.known known.now) (mail_in format entry.now.mail)))
+        (lines_text (single_lines references.now (K.known known.now)
+        (mail_in format entry.now.mail)))
         (single_outcome (K.known known.now) (mail_in format entry.now.mail)) }
 {
     match format {
-        Format::Plain | Format::Counted => write_single(alloc, out, entry.mail(), known),
+        Format::Plain | Format::Counted => write_single(
+            alloc,
+            out,
+            entry.mail(),
+            references,
+            known,
+        ),
         Format::Quoted => {
             let mail = unquoted(alloc, entry.mail())?;
-            write_single(alloc, out, mail.as_slice(), known)
+            write_single(alloc, out, mail.as_slice(), references, known)
         }
     }
 }

@@ -3,6 +3,7 @@ ghost use Rattle.std.specs.Prelude.{◌≡◌, true, List};
 ghost use Rattle.std.specs.List.{list_all};
 ghost use Rattle.mail_codec.specs.Charset.{Charsets};
 ghost use Rattle.mailparse.specs.Mail.{Tree};
+ghost use Rattle.mail_html.specs.declared.references.References.{References};
 ghost use Rattle.mail_view.specs.Line.{AreSafeLines, Line, is_plain_byte, lines_text};
 ghost use Rattle.mail_view.specs.View.{view_text};
 
@@ -13,5 +14,6 @@ ghost use Rattle.mail_view.specs.View.{view_text};
 pub fn lines_are_safe()
     ensures lines { (lines : List Line) → AreSafeLines (lines_text lines) }
     ensures bytes { (lines : List Line) → list_all is_plain_byte (lines_text lines) ≡ true }
-    ensures view { (known : Charsets) (mail : Tree) → AreSafeLines (view_text known mail) }
+    ensures view { (references : References) (known : Charsets) (mail : Tree)
+        → AreSafeLines (view_text references known mail) }
 {}

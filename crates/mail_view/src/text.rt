@@ -3,13 +3,14 @@ ghost use Rattle.std.specs.Prelude.{◌≡◌, ◌++◌, map, string_bytes, IfEr
 ghost use Rattle.std.specs.Str.Lines.{lines};
 ghost use Rattle.mailparse.specs.Outcome.{IsMemory};
 ghost use Rattle.mailparse.specs.Views.{tree_of};
-ghost use Rattle.mail_data.specs.Texts.{text_part};
+ghost use Rattle.mail_data.specs.Readable.{readable_text};
+ghost use Rattle.mail_html.specs.declared.links.Links.TheVariants.{Footnotes};
 ghost use Rattle.mail_view.specs.Line.{line_text, lines_text};
 ghost use Rattle.mail_view.specs.View.{body_lines, text_line};
 
 use crate::line::{Prefix, push_empty_line, push_line};
-use mail_data::lenient::body_text;
-use mail_data::texts::text_part;
+use mail_data::readable::readable_text;
+use mail_html::{Links, References};
 use mailparse::{KnownCharsets, MailParseError, ParsedMail};
 use std::alloc::{AllocError, Global};
 
@@ -18,16 +19,17 @@ pub(crate) fn push_body<K: KnownCharsets>(
     alloc: Global,
     shown: &mut String,
     mail: &ParsedMail<'_>,
+    references: &References<'_>,
     known: &K,
 ) -> Result<(), MailParseError>
     ensures written { OnOk result (string_bytes shown.new ≡ string_bytes shown.old ++ lines_text
-        (body_lines (K.known known.now) (text_part (K.known known.now) (tree_of mail.now)))) }
+        (body_lines (readable_text (K.known known.now) Footnotes references.now
+        (tree_of mail.now)))) }
     ensures only_memory { IfErr result IsMemory }
 {
-    let Some(part) = text_part(alloc, mail, known)? else {
+    let Some(read) = readable_text(alloc, mail, Links::Footnotes, references, known)? else {
         return Ok(());
     };
-    let read = body_text(alloc, part, known)?;
     push_empty_line(shown)?;
     push_text(shown, read.text.as_str())?;
     Ok(())

@@ -9,19 +9,20 @@ ghost use Rattle.mail_view.specs.View.{view_text};
 use crate::headers::push_headers;
 use crate::parts::push_parts;
 use crate::text::push_body;
+use mail_html::References;
 use mail_program::Fault;
 use mailparse::{KnownCharsets, MailParseError, ParsedMail};
 use std::alloc::Global;
 use std::io::Write;
 
-/// Returns a mail as text for people: its addresses, its date and its subject, the text to be read,
-/// and its parts with their sizes and the names of their files.
+/// Returns a mail as text for people: its addresses, its date and its subject, the text to be read
+/// with the targets of links, and its parts with their sizes and the names of their files.
 ///
-/// The mail is as it was parsed, in the charsets `known`. Each line is empty, begins with a fixed
-/// text such as `Subject:  `, or is one of the text of the mail, which begins with two spaces. A
-/// character that would move the cursor of a terminal, end a line or change the direction of text
-/// is shown as U+FFFD, and a tab as four spaces. Allocates the text, and the decoded bodies one
-/// after another.
+/// The mail is as it was parsed, in the charsets `known`, and HTML under these references. Each
+/// line is empty, begins with a fixed text such as `Subject:  `, or is one of the text of the mail,
+/// which begins with two spaces. A character that would move the cursor of a terminal, end a line
+/// or change the direction of text is shown as U+FFFD, and a tab as four spaces. Allocates the
+/// text, and the decoded bodies one after another.
 ///
 /// # Errors
 ///
@@ -30,6 +31,7 @@ use std::io::Write;
 /// # Examples
 ///
 /// ```rust
+/// use mail_html::References;
 /// use mail_view::view_of;
 /// use mailparse::parse_mail;
 ///
@@ -37,20 +39,21 @@ use std::io::Write;
 /// let mail = parse_mail(alloc, raw)?;
 /// let text = "From:     Éva <eva@example.org>\nSubject:  Hi\u{fffd}[2J\n\n  From: me\n\n      yes\n\n\
 ///     Part:     1     text/plain                14 bytes\n";
-/// assert_eq!(rt; view_of(alloc, &mail, &())?.as_str(), text);
+/// assert_eq!(rt; view_of(alloc, &mail, &References::standard(), &())?.as_str(), text);
 /// ```
 #[tactic(auto, unfolding(crate::specs::View::view_text), using(crate::proofs::lemmas::Lines::lines_append))]
 pub fn view_of<K: KnownCharsets>(
     alloc: Global,
     mail: &ParsedMail<'_>,
+    references: &References<'_>,
     known: &K,
 ) -> Result<String, MailParseError>
     requires placed { placements_of mail.now ≡ placements 0 (tree_of mail.now) }
-    ensures { GivesText result (view_text (K.known known.now) (tree_of mail.now)) }
+    ensures { GivesText result (view_text references.now (K.known known.now) (tree_of mail.now)) }
 {
     let mut shown = String::new(alloc);
     push_headers(alloc, &mut shown, mail, known)?;
-    push_body(alloc, &mut shown, mail, known)?;
+    push_body(alloc, &mut shown, mail, references, known)?;
     push_parts(alloc, &mut shown, mail, known)?;
     Ok(shown)
 }
@@ -67,25 +70,27 @@ pub fn view_of<K: KnownCharsets>(
 /// # Examples
 ///
 /// ```rust
+/// use mail_html::References;
 /// use mail_view::write_view;
 /// use mailparse::parse_mail;
 ///
 /// let mail = parse_mail(alloc, b"Subject: Hi\n\nHello\n")?;
 /// let mut out = Vec::new(alloc);
-/// write_view(alloc, &mut out, &mail, &())?;
+/// write_view(alloc, &mut out, &mail, &References::standard(), &())?;
 /// assert!(rt; out.as_slice().starts_with(b"Subject:  Hi\n\n  Hello\n\nPart:     1"));
 /// ```
 pub fn write_view<W: Write, K: KnownCharsets>(
     alloc: Global,
     out: &mut W,
     mail: &ParsedMail<'_>,
+    references: &References<'_>,
     known: &K,
 ) -> Result<(), Fault>
     requires placed { placements_of mail.now ≡ placements 0 (tree_of mail.now) }
     ensures { Writes (W.contents out.old) (W.contents out.new) result
-        (view_text (K.known known.now) (tree_of mail.now)) }
+        (view_text references.now (K.known known.now) (tree_of mail.now)) }
 {
-    let text = view_of(alloc, mail, known)?;
+    let text = view_of(alloc, mail, references, known)?;
     out.write_all(text.as_bytes())?;
     Ok(())
 }

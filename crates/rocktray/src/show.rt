@@ -3,6 +3,7 @@
 use crate::inputs::{inputs_of, kind_of, known_kind};
 use clap::ArgMatches;
 use mail_charsets::AllCharsets;
+use mail_html::References;
 use mail_inputs::{Consumer, Content, Name, is_directory, read_inputs};
 use mail_json::{InputKind, is_mailbox};
 use mail_program::{Fault, Outcome, read_input};
@@ -44,10 +45,12 @@ impl<W: Write> Consumer for View<W> {
         }
         let kind = known_kind(self.kind, content);
         let known = &AllCharsets::standard();
+        let references = &References::standard();
         if is_mailbox(kind, input.as_slice()) {
-            write_mailbox(rt.alloc(), out, input.as_slice(), kind.format(), known)
+            let format = kind.format();
+            write_mailbox(rt.alloc(), out, input.as_slice(), format, references, known)
         } else {
-            write_single(rt.alloc(), out, input.as_slice(), known)
+            write_single(rt.alloc(), out, input.as_slice(), references, known)
         }
     }
 

@@ -12,4 +12,4 @@ returns-clause-bytes c = λ lines. safe_bytes (lines_text lines) (lines_safe lin
 
 pub returns-clause-view : goal.returns-clause-view
 unfolding view_text
-returns-clause-view c = λ known mail. lines_safe (view_lines known mail)
+returns-clause-view c = λ references known mail. lines_safe (view_lines references known mail)
