@@ -5,12 +5,13 @@ use Rattle.std.specs.Io.KnownBytes.{Appends, Consumes, IsAtEnd}
 use Rattle.std.specs.List.{list_all}
 use Rattle.json.specs.Json.{Json}
 use Rattle.mail_json.specs.Options.{Options}
-use Rattle.mailparse.specs.Mail.{Tree, read_mail_in}
+use Rattle.mailparse.specs.Mail.{Tree}
 use Rattle.mailparse.specs.Refusal.{Reads}
 use Rattle.mail_program.specs.declared.fault.Fault.{Fault}
 use Rattle.mail_data.specs.Mailbox.{Entry, front_length}
 use Rattle.mail_data.specs.MailboxFormats.{entries_in, mail_in}
 use Rattle.mail_data.specs.MailboxParts.{Placed, placed_from}
+use Rattle.mail_data.specs.Reading.{mail_reading}
 use Rattle.mail_data.specs.Separator.{is_separator}
 use Rattle.mail_data.specs.declared.mailbox.formats.Format.{Format}
 use Rattle.mail_data.specs.declared.mailbox.formats.Format.TheVariants.{Plain}
@@ -78,7 +79,7 @@ module _ (options : Options) where
 
   -- the line of the bytes of a mail with this origin
   abbrev pub IsLine : Origin → List ℕ → Lines
-  IsLine origin bytes = IsLineOf origin (read_mail_in options.known 100 bytes)
+  IsLine origin bytes = IsLineOf origin (mail_reading options.known options.limit bytes)
 
   -- the line of a file that is one mail
   abbrev pub IsMailLine : Option (List ℕ) → List ℕ → Lines

@@ -1,12 +1,13 @@
 -- How mails are read and shown; the program's own form.
-use Rattle.std.specs.Prelude.{Bool}
+use Rattle.std.specs.Prelude.{ℕ, Bool}
 use Rattle.mail_codec.specs.Charset.{Charsets}
 use Rattle.mail_json.specs.declared.options.LineOptions as code
 
--- the charsets that are known, whether bodies are decoded, whether files have their hashes, and whether each flowed
--- paragraph of a text is one line
+-- the charsets that are known, the limit on the messages, parts and headers of each mail, whether bodies are decoded,
+-- whether files have their hashes, and whether each flowed paragraph of a text is one line
 pub record Options : Type 0 where
   pub known : Charsets
+  pub limit : ℕ
   pub decodes_bodies : Bool
   pub hashes : Bool
   pub joins_flowed : Bool
@@ -14,7 +15,13 @@ pub record Options : Type 0 where
 -- the same of the program's options, under these charsets
 abbrev pub options_of : Charsets → code.LineOptions → Options
 options_of known options =
-    record { known = known; decodes_bodies = options.decodes_bodies; hashes = options.hashes; joins_flowed = options.joins_flowed }
+    record {
+      known = known;
+      limit = options.limit;
+      decodes_bodies = options.decodes_bodies;
+      hashes = options.hashes;
+      joins_flowed = options.joins_flowed;
+    }
 
 -- these options, under which bodies are decoded, or are not
 abbrev pub decoding : Bool → Options → Options

@@ -286,20 +286,20 @@ module _ (options : Options) where
   abbrev pub AreInsideValues : ℕ → List InnerMail → List Json → Type 0
   AreInsideValues start [] values = values ≡ []
   AreInsideValues start (inner ∷ mails) values =
-      (first : List Json) × (others : List Json) × AreValues (IsPartValue (Some inner.path) (place_in inner.start start)) (parts_inside options.known inner) first
+      (first : List Json) × (others : List Json) × AreValues (IsPartValue (Some inner.path) (place_in inner.start start)) (parts_inside options.known options.limit inner) first
       × AreInsideValues start mails others × (values ≡ first ++ others)
 
   -- values are the objects of the parts of a mail that begins at this offset, and then of those of the mails inside
   abbrev pub ArePartValues : ℕ → Tree → List Json → Type 0
   ArePartValues start mail values =
       (parts : List Json) × (others : List Json) × AreValues (IsPartValue None (Some start)) (places mail (placements 0 mail)) parts
-      × AreInsideValues start (mails_inside options.known mail) others × (values ≡ parts ++ others)
+      × AreInsideValues start (mails_inside options.known options.limit mail) others × (values ≡ parts ++ others)
 
   -- a value is the object of a mail with this origin
   abbrev pub IsMailValue : Origin → Tree → Json → Type 0
   IsMailValue origin mail value =
       (parts : List Json) × ArePartValues origin.start mail parts
-      × (value ≡ object_of (mail_members options.known options.decodes_bodies origin mail (mails_inside options.known mail) parts))
+      × (value ≡ object_of (mail_members options.known options.decodes_bodies origin mail (mails_inside options.known options.limit mail) parts))
 
   -- a value is that of the line of a mail with this origin, or of its refusal
   abbrev pub IsLineValue : Origin → Reads Tree → Json → Type 0

@@ -22,8 +22,9 @@ use crate::options::LineOptions;
 use crate::part::{Form, place_in, write_found};
 use mail_data::inner_mails::{forwarded_mail, places_under};
 use mail_data::places::{Place, places};
+use mail_data::reading::read_mail;
 use mail_program::{Fault, refusal_of};
-use mailparse::{KnownCharsets, MAX_LEVELS, MailParseError, ParsedMail, parse_mail_in};
+use mailparse::{KnownCharsets, MAX_LEVELS, MailParseError, ParsedMail};
 use std::alloc::{AllocError, Global};
 use std::io::Write;
 
@@ -66,7 +67,7 @@ pub(crate) fn write_parts<W: Write, K: KnownCharsets>(
         (ArePartValues (options_of (K.known known.now) options) origin (tree_of mail.now)) }
     ensures listed { OnOk result (map inside_view mails.new.items
         ≡ map inside_view mails.old.items
-        ++ map without_bytes (mails_inside (K.known known.now) (tree_of mail.now))) }
+        ++ map without_bytes (mails_inside (K.known known.now) options.limit (tree_of mail.now))) }
 {
     let form = Form {
         inside: None,
@@ -99,10 +100,12 @@ fn write_inside<W: Write, K: KnownCharsets>(
     ensures written { WritesOne (W.contents out.old) (W.contents out.new) result
         (after_commas text_of) (AreInsideValues
         (options_of (K.known known.now) options) within.origin
-        (mails_among (K.known known.now) within.most within.start (map place_view places.now))) }
+        (mails_among (K.known known.now) options.limit within.most within.start
+        (map place_view places.now))) }
     ensures listed { OnOk result (map inside_view mails.new.items
         ≡ map inside_view mails.old.items ++ map without_bytes
-        (mails_among (K.known known.now) within.most within.start (map place_view places.now))) }
+        (mails_among (K.known known.now) options.limit within.most within.start
+        (map place_view places.now))) }
 {
     if within.most == 0 {
         return Ok(());
@@ -133,16 +136,18 @@ fn write_forwarded<W: Write, K: KnownCharsets>(
     ensures written { WritesOne (W.contents out.old) (W.contents out.new) result
         (after_commas text_of) (AreInsideValues
         (options_of (K.known known.now) options) within.origin
-        (mails_in_place (K.known known.now) within.most within.start (place_view place.now))) }
+        (mails_in_place (K.known known.now) options.limit within.most within.start
+        (place_view place.now))) }
     ensures listed { OnOk result (map inside_view mails.new.items
         ≡ map inside_view mails.old.items ++ map without_bytes
-        (mails_in_place (K.known known.now) within.most within.start (place_view place.now))) }
+        (mails_in_place (K.known known.now) options.limit within.most within.start
+        (place_view place.now))) }
 {
     let Some(found) = forwarded_mail(alloc, place, within.start)? else {
         return Ok(());
     };
     let path = place.path.as_str();
-    match parse_mail_in(alloc, found.bytes.as_slice(), known) {
+    match read_mail(alloc, found.bytes.as_slice(), options.limit, known) {
         Ok(mail) => {
             push_inside(alloc, path, found.start, None, mails)?;
             let form = Form {

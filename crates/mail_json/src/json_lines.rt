@@ -17,8 +17,9 @@ use crate::selection::{NextMail, Selection};
 use crate::written::Written;
 use mail_data::mailbox::quoted::unquoted;
 use mail_data::mailbox::{Format, Mailbox, MailboxEntry, read_mailbox};
+use mail_data::reading::read_mail;
 use mail_program::{Fault, is_all_whitespace, refusal_of};
-use mailparse::{KnownCharsets, parse_mail_in};
+use mailparse::KnownCharsets;
 use std::alloc::Global;
 use std::io::Write;
 
@@ -196,7 +197,7 @@ fn write_line<W: Write, K: KnownCharsets>(
     ensures { WritesLines (W.contents out.old) (W.contents out.new) result
         (IsLine (options_of (K.known known.now) options) (origin_of origin.now) raw.now) }
 {
-    match parse_mail_in(alloc, raw, known) {
+    match read_mail(alloc, raw, options.limit, known) {
         Ok(mail) => {
             write_mail(alloc, out, &mail, origin, options, known)?;
             write_word(out, "\n")?;

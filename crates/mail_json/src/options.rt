@@ -3,6 +3,7 @@ ghost use Rattle.std.specs.Prelude.{◌≡◌, false, true};
 ghost use Rattle.mail_json.specs.JsonLines.{format_of};
 
 use mail_data::mailbox::Format;
+use mail_data::reading::DEFAULT_LIMIT;
 
 /// What an input is.
 #[derive(Clone, Copy, Debug, PartialEq, Eq)]
@@ -41,6 +42,9 @@ impl InputKind {
 /// How mails are read and shown.
 #[derive(Clone, Copy, Debug)]
 pub struct LineOptions {
+    /// The greatest number of messages, parts and headers in a mail that is not refused. Each mail
+    /// inside a mail has this limit for itself.
+    pub limit: usize,
     /// Whether bodies are decoded. If they are not, what needs that is `null` or absent: the texts,
     /// the decoded sizes, the hashes, the reports and the recipients.
     pub decodes_bodies: bool,
@@ -51,7 +55,8 @@ pub struct LineOptions {
 }
 
 impl LineOptions {
-    /// Returns options that decode bodies, show no hashes, and show texts as they are.
+    /// Returns options that read mails with the limit `DEFAULT_LIMIT`, decode bodies, show no
+    /// hashes, and show texts as they are.
     ///
     /// # Examples
     ///
@@ -61,11 +66,13 @@ impl LineOptions {
     /// assert!(rt; !LineOptions::new().hashes);
     /// ```
     pub fn new() -> LineOptions
+        ensures limit { result.limit ≡ 1000000 }
         ensures decodes_bodies { result.decodes_bodies ≡ true }
         ensures hashes { result.hashes ≡ false }
         ensures joins_flowed { result.joins_flowed ≡ false }
     {
         LineOptions {
+            limit: DEFAULT_LIMIT,
             decodes_bodies: true,
             hashes: false,
             joins_flowed: false,

@@ -69,7 +69,8 @@ pub(crate) struct Form<'f, K> {
 }
 
 /// Writes the objects of parts of a mail, the first one of which comes at this position of the list
-/// of all objects.
+/// of all objects. It is not inlined, so that mails inside one another need less stack.
+#[inline(never)]
 pub(crate) fn write_found<W: Write, K: KnownCharsets>(
     alloc: Global,
     out: &mut W,

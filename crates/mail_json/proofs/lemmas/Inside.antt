@@ -6,12 +6,13 @@ use Rattle.std.proofs.lemmas.Grind.{flat_map-append}
 use Rattle.std.specs.Prelude.{codes, flat_map, OnOk}
 use Rattle.std.specs.Io.KnownBytes.{Appends}
 use Rattle.json.specs.Json.{Json}
-use Rattle.mailparse.specs.Mail.{Tree, tree, no_parts, part_and, read_mail_in}
+use Rattle.mailparse.specs.Mail.{Tree, tree, no_parts, part_and}
 use Rattle.mailparse.specs.Refusal.{Reads, Refusal}
 use Rattle.mail_codec.specs.Charset.{Charsets}
-use Rattle.mail_data.specs.InnerMails.{Forwarded, InnerMail, forwarded, inner_mails, mails_in_place, path_within, places_under}
+use Rattle.mail_data.specs.InnerMails.{Forwarded, InnerMail, forwarded, inner_mails_within, mails_in_place, path_within, places_under}
 use Rattle.mail_data.specs.Files.{path_under, with_paths}
 use Rattle.mail_data.specs.PartPlaces.{Place, placed, places}
+use Rattle.mail_data.specs.Reading.{mail_reading}
 use Rattle.mail_data.proofs.lemmas.InnerMails.{forwarded_read, forwarded_with, inner_with, not_forwarded}
 use Rattle.mail_program.specs.declared.fault.Fault.{Fault}
 use Rattle.mailparse.specs.Placement.{placements}
@@ -40,63 +41,63 @@ abbrev pub listed_with : List ℕ → Option ℕ → Option Refusal → Listed
 listed_with path start refusal = record { path = path; start = start; refusal = refusal }
 
 -- the mails inside a mail are those among its parts
-below_among : (known : Charsets) (most : ℕ) (path : List ℕ) (at : Option ℕ) (mail : Tree)
-    → inner_mails known most path at mail (placements 0 mail) ≡ mails_among known most at (places_under path mail (placements 0 mail))
-below_among known zero path at mail = refl
-below_among known (suc most) path at mail = refl
+below_among : (known : Charsets) (limit most : ℕ) (path : List ℕ) (at : Option ℕ) (mail : Tree)
+    → inner_mails_within known limit most path at mail (placements 0 mail) ≡ mails_among known limit most at (places_under path mail (placements 0 mail))
+below_among known limit zero path at mail = refl
+below_among known limit (suc most) path at mail = refl
 
 -- the same of a mail that is read
-pub read_is : (known : Charsets) (most : ℕ) (start at : Option ℕ) (place : Place) (bytes : List ℕ) (mail : Tree)
-    → ◌≡◌ {A = Option Forwarded} (Some (forwarded_with bytes at)) (forwarded start place) → read_mail_in known 100 bytes ≡ Ok mail
-    → mails_in_place known most start place
-    ≡ inner_with place.path bytes at None ∷ mails_among known most at (places_under place.path mail (placements 0 mail))
-read_is known most start at place bytes mail h e =
-    forwarded_read known most start at place bytes (Ok mail) h e
-    ∙ ap (λ (mails : List InnerMail). inner_with place.path bytes at None ∷ mails) (below_among known most place.path at mail)
+pub read_is : (known : Charsets) (limit most : ℕ) (start at : Option ℕ) (place : Place) (bytes : List ℕ) (mail : Tree)
+    → ◌≡◌ {A = Option Forwarded} (Some (forwarded_with bytes at)) (forwarded start place) → mail_reading known limit bytes ≡ Ok mail
+    → mails_in_place known limit most start place
+    ≡ inner_with place.path bytes at None ∷ mails_among known limit most at (places_under place.path mail (placements 0 mail))
+read_is known limit most start at place bytes mail h e =
+    forwarded_read known limit most start at place bytes (Ok mail) h e
+    ∙ ap (λ (mails : List InnerMail). inner_with place.path bytes at None ∷ mails) (below_among known limit most place.path at mail)
 
 module _ (options : Options) (origin most : ℕ) (start : Option ℕ) (place : Place) where
   abbrev mails : List InnerMail
-  mails = mails_in_place options.known most start place
+  mails = mails_in_place options.known options.limit most start place
 
   -- a part that forwards none
   pub none_inside : ◌≡◌ {A = Option Forwarded} None (forwarded start place) → AreInsideValues options origin mails []
-  none_inside h = subst (λ (xs : List InnerMail). AreInsideValues options origin xs []) (sym (not_forwarded options.known most start place h)) refl
+  none_inside h = subst (λ (xs : List InnerMail). AreInsideValues options origin xs []) (sym (not_forwarded options.known options.limit most start place h)) refl
 
   pub none_listed : (old : List Listed) → ◌≡◌ {A = Option Forwarded} None (forwarded start place) → old ≡ old ++ map without_bytes mails
   none_listed old h =
-      sym (append-nil old) ∙ ap (λ (xs : List InnerMail). old ++ map without_bytes xs) (sym (not_forwarded options.known most start place h))
+      sym (append-nil old) ∙ ap (λ (xs : List InnerMail). old ++ map without_bytes xs) (sym (not_forwarded options.known options.limit most start place h))
 
   -- one whose mail is refused
   pub refused_inside : (at : Option ℕ) (bytes : List ℕ) (refusal : Refusal) → ◌≡◌ {A = Option Forwarded} (Some (forwarded_with bytes at)) (forwarded start place)
-      → read_mail_in options.known 100 bytes ≡ Err refusal → AreInsideValues options origin mails []
+      → mail_reading options.known options.limit bytes ≡ Err refusal → AreInsideValues options origin mails []
   refused_inside at bytes refusal h e =
       let Is = IsPartValue options (Some place.path) (place_in at origin) in
       let none = subst (λ (xs : List Place). AreValues Is xs []) (parts-refused place.path _ refusal e) refl in
-      subst (λ (xs : List InnerMail). AreInsideValues options origin xs []) (sym (forwarded_read options.known most start at place bytes (Err refusal) h e))
+      subst (λ (xs : List InnerMail). AreInsideValues options origin xs []) (sym (forwarded_read options.known options.limit most start at place bytes (Err refusal) h e))
       ([], [], none, refl, refl)
 
   pub refused_listed : (at : Option ℕ) (bytes : List ℕ) (refusal : Refusal) (given : Option Refusal) (old new : List Listed)
       → ◌≡◌ {A = Option Forwarded} (Some (forwarded_with bytes at)) (forwarded start place)
-      → read_mail_in options.known 100 bytes ≡ Err refusal → given ≡ Some refusal → new ≡ old ++ listed_with place.path at given ∷ []
+      → mail_reading options.known options.limit bytes ≡ Err refusal → given ≡ Some refusal → new ≡ old ++ listed_with place.path at given ∷ []
       → new ≡ old ++ map without_bytes mails
   refused_listed at bytes refusal given old new h e same is =
       is ∙ ap (λ (r : Option Refusal). old ++ listed_with place.path at r ∷ []) same
-      ∙ ap (λ (xs : List InnerMail). old ++ map without_bytes xs) (sym (forwarded_read options.known most start at place bytes (Err refusal) h e))
+      ∙ ap (λ (xs : List InnerMail). old ++ map without_bytes xs) (sym (forwarded_read options.known options.limit most start at place bytes (Err refusal) h e))
 
   -- one whose mail is read
   pub read_written : {T : Type 0} (at : Option ℕ) (bytes : List ℕ) (mail : Tree) (found again : List Place) (old mid new : Option (List ℕ)) (r : Result T Fault) (first : List Json)
       → ◌≡◌ {A = Option Forwarded} (Some (forwarded_with bytes at)) (forwarded start place)
-      → read_mail_in options.known 100 bytes ≡ Ok mail → found ≡ places_under place.path mail (placements 0 mail)
+      → mail_reading options.known options.limit bytes ≡ Ok mail → found ≡ places_under place.path mail (placements 0 mail)
       → again ≡ places_under place.path mail (placements 0 mail) → AreValues (IsPartValue options (Some place.path) (place_in at origin)) found first → Appends old mid (listed text_of (codes ",") first)
-      → WritesOne mid new r (after_commas text_of) (AreInsideValues options origin (mails_among options.known most at again))
+      → WritesOne mid new r (after_commas text_of) (AreInsideValues options origin (mails_among options.known options.limit most at again))
       → WritesOne old new r (after_commas text_of) (AreInsideValues options origin mails)
   read_written at bytes mail found again old mid new (Ok done) first h e same same_again is p rest =
       let Is = IsPartValue options (Some place.path) (place_in at origin) in
       let own = subst (λ (xs : List Place). AreValues Is xs first) (same ∙ parts-read place.path _ mail e) is in
-      let others = subst (λ (xs : List Place). AreInsideValues options origin (mails_among options.known most at xs) rest.0) same_again rest.1 in
+      let others = subst (λ (xs : List Place). AreInsideValues options origin (mails_among options.known options.limit most at xs) rest.0) same_again rest.1 in
       let text = ap (λ t. t ++ after_commas text_of rest.0) (listed-comma text_of first) ∙ sym (flat_map-append (λ (j : Json). codes "," ++ text_of j) first rest.0) in (
         first ++ rest.0,
-        subst (λ (xs : List InnerMail). AreInsideValues options origin xs (first ++ rest.0)) (sym (read_is options.known most start at place bytes mail h e))
+        subst (λ (xs : List InnerMail). AreInsideValues options origin xs (first ++ rest.0)) (sym (read_is options.known options.limit most start at place bytes mail h e))
             (first, rest.0, own, others, refl),
         appends_as old new _ _ text (Appends-trans old mid new _ _ p rest.2),
       )
@@ -104,14 +105,14 @@ module _ (options : Options) (origin most : ℕ) (start : Option ℕ) (place : P
 
   pub read_listed : {T E : Type 0} (at : Option ℕ) (bytes : List ℕ) (mail : Tree) (found : List Place) (old mid new : List Listed) (r : Result T E)
       → ◌≡◌ {A = Option Forwarded} (Some (forwarded_with bytes at)) (forwarded start place)
-      → read_mail_in options.known 100 bytes ≡ Ok mail → found ≡ places_under place.path mail (placements 0 mail)
-      → mid ≡ old ++ listed_with place.path at None ∷ [] → OnOk r (new ≡ mid ++ map without_bytes (mails_among options.known most at found))
+      → mail_reading options.known options.limit bytes ≡ Ok mail → found ≡ places_under place.path mail (placements 0 mail)
+      → mid ≡ old ++ listed_with place.path at None ∷ [] → OnOk r (new ≡ mid ++ map without_bytes (mails_among options.known options.limit most at found))
       → OnOk r (new ≡ old ++ map without_bytes mails)
   read_listed at bytes mail found old mid new (Ok done) h e same one rest =
-      rest ∙ ap (λ (l : List Listed). l ++ map without_bytes (mails_among options.known most at found)) one
-      ∙ append_assoc old (listed_with place.path at None ∷ []) (map without_bytes (mails_among options.known most at found))
-      ∙ ap (λ (xs : List Place). old ++ listed_with place.path at None ∷ map without_bytes (mails_among options.known most at xs)) same
-      ∙ ap (λ (xs : List InnerMail). old ++ map without_bytes xs) (sym (read_is options.known most start at place bytes mail h e))
+      rest ∙ ap (λ (l : List Listed). l ++ map without_bytes (mails_among options.known options.limit most at found)) one
+      ∙ append_assoc old (listed_with place.path at None ∷ []) (map without_bytes (mails_among options.known options.limit most at found))
+      ∙ ap (λ (xs : List Place). old ++ listed_with place.path at None ∷ map without_bytes (mails_among options.known options.limit most at xs)) same
+      ∙ ap (λ (xs : List InnerMail). old ++ map without_bytes xs) (sym (read_is options.known options.limit most start at place bytes mail h e))
   read_listed at bytes mail found old mid new (Err fault) h e same one rest = tt
 
 -- ---- the mails in parts
@@ -159,13 +160,13 @@ listed_more {A = A} step x left rest now new all e here is =
     ∙ ap (λ (xs : List A). now ++ map without_bytes (flat_map step xs)) (sym e) ∙ here
 
 -- the mails among parts, if mails are searched any deeper
-pub among_some : (known : Charsets) (most : ℕ) (start : Option ℕ) (found : List Place) → most ≢ 0
-    → mails_among known most start found ≡ flat_map (mails_in_place known (most - 1) start) found
-among_some known zero start found h = absurd (h refl)
-among_some known (suc most) start found h = let e : suc most - 1 ≡ most = omega arith in rw e refl
+pub among_some : (known : Charsets) (limit most : ℕ) (start : Option ℕ) (found : List Place) → most ≢ 0
+    → mails_among known limit most start found ≡ flat_map (mails_in_place known limit (most - 1) start) found
+among_some known limit zero start found h = absurd (h refl)
+among_some known limit (suc most) start found h = let e : suc most - 1 ≡ most = omega arith in rw e refl
 
-pub among_none : (known : Charsets) (most : ℕ) (start : Option ℕ) (found : List Place) → most ≡ 0 → mails_among known most start found ≡ []
-among_none known most start found e = rw e refl
+pub among_none : (known : Charsets) (limit most : ℕ) (start : Option ℕ) (found : List Place) → most ≡ 0 → mails_among known limit most start found ≡ []
+among_none known limit most start found e = rw e refl
 
 -- ---- the whole mail
 
@@ -176,17 +177,17 @@ places_whole (tree node no_parts) =
     ap (λ (path : List ℕ). placed (with_paths path (tree node no_parts)) (placements 0 (tree node no_parts))) (decimal_digit 1 (omega arith))
 places_whole (tree node (part_and first others)) = refl
 
-pub among_whole : (known : Charsets) (mail : Tree) → mails_among known 100 (Some 0) (places mail (placements 0 mail)) ≡ mails_inside known mail
-among_whole known mail =
-    ap (λ (xs : List Place). mails_among known 100 (Some 0) xs) (sym (places_whole mail)) ∙ sym (below_among known 100 [] (Some 0) mail)
+pub among_whole : (known : Charsets) (limit : ℕ) (mail : Tree) → mails_among known limit 100 (Some 0) (places mail (placements 0 mail)) ≡ mails_inside known limit mail
+among_whole known limit mail =
+    ap (λ (xs : List Place). mails_among known limit 100 (Some 0) xs) (sym (places_whole mail)) ∙ sym (below_among known limit 100 [] (Some 0) mail)
 
 pub parts_written : {T : Type 0} (options : Options) (origin : ℕ) (mail : Tree) (found again : List Place) (old mid new : Option (List ℕ)) (r : Result T Fault) (parts : List Json)
     → found ≡ places mail (placements 0 mail) → again ≡ places mail (placements 0 mail) → AreValues (IsPartValue options None (Some origin)) found parts → Appends old mid (listed text_of [] parts)
-    → WritesOne mid new r (after_commas text_of) (AreInsideValues options origin (mails_among options.known 100 (Some 0) again))
+    → WritesOne mid new r (after_commas text_of) (AreInsideValues options origin (mails_among options.known options.limit 100 (Some 0) again))
     → WritesOne old new r (listed text_of []) (ArePartValues options origin mail)
 parts_written options origin mail found again old mid new (Ok done) parts same same_again is p rest =
     let own = subst (λ (xs : List Place). AreValues (IsPartValue options None (Some origin)) xs parts) same is in
-    let mails = ap (λ (xs : List Place). mails_among options.known 100 (Some 0) xs) same_again ∙ among_whole options.known mail in
+    let mails = ap (λ (xs : List Place). mails_among options.known options.limit 100 (Some 0) xs) same_again ∙ among_whole options.known options.limit mail in
     let others = subst (λ (xs : List InnerMail). AreInsideValues options origin xs rest.0) mails rest.1 in (
       parts ++ rest.0,
       (parts, rest.0, own, others, refl),
@@ -194,9 +195,9 @@ parts_written options origin mail found again old mid new (Ok done) parts same s
     )
 parts_written options origin mail found again old mid new (Err fault) parts same same_again is p rest = rest
 
-pub whole_listed : {T E : Type 0} (known : Charsets) (mail : Tree) (found : List Place) (old new : List Listed) (r : Result T E) → found ≡ places mail (placements 0 mail)
-    → OnOk r (new ≡ old ++ map without_bytes (mails_among known 100 (Some 0) found)) → OnOk r (new ≡ old ++ map without_bytes (mails_inside known mail))
-whole_listed known mail found old new (Ok done) same h =
-    h ∙ ap (λ (xs : List Place). old ++ map without_bytes (mails_among known 100 (Some 0) xs)) same
-    ∙ ap (λ (xs : List InnerMail). old ++ map without_bytes xs) (among_whole known mail)
-whole_listed known mail found old new (Err fault) same h = tt
+pub whole_listed : {T E : Type 0} (known : Charsets) (limit : ℕ) (mail : Tree) (found : List Place) (old new : List Listed) (r : Result T E) → found ≡ places mail (placements 0 mail)
+    → OnOk r (new ≡ old ++ map without_bytes (mails_among known limit 100 (Some 0) found)) → OnOk r (new ≡ old ++ map without_bytes (mails_inside known limit mail))
+whole_listed known limit mail found old new (Ok done) same h =
+    h ∙ ap (λ (xs : List Place). old ++ map without_bytes (mails_among known limit 100 (Some 0) xs)) same
+    ∙ ap (λ (xs : List InnerMail). old ++ map without_bytes xs) (among_whole known limit mail)
+whole_listed known limit mail found old new (Err fault) same h = tt

@@ -11,7 +11,7 @@ use Rattle.json.specs.Strict.{keys}
 use Rattle.mail_codec.specs.Charset.{Charsets}
 use Rattle.mailparse.specs.ContentType.{ContentType}
 use Rattle.mailparse.specs.Header.{Header, key_text}
-use Rattle.mailparse.specs.Mail.{Node, Tree, root, shown_as_in, read_mail_in}
+use Rattle.mailparse.specs.Mail.{Node, Tree, root, shown_as_in}
 use Rattle.mailparse.specs.Placement.{placements}
 use Rattle.mailparse.specs.Refusal.{Reads, Refusal}
 use Rattle.mailparse.specs.Value.{lenient_value_in}
@@ -21,6 +21,7 @@ use Rattle.mail_data.specs.Mailbox.{front_length}
 use Rattle.mail_data.specs.MailboxFormats.{entries_in, mail_in}
 use Rattle.mail_data.specs.MailboxParts.{Placed, in_range, part_start, placed_from}
 use Rattle.mail_data.specs.PartPlaces.{Place, places}
+use Rattle.mail_data.specs.Reading.{mail_reading}
 use Rattle.mail_data.specs.declared.mailbox.formats.Format.{Format}
 use Rattle.mail_data.specs.lenient.Date.{Dated, Zoned, zoned_date_of}
 use Rattle.mail_data.specs.lenient.Content.{Content}
@@ -152,7 +153,7 @@ module _ (options : Options) where
   inside_good start [] values is = subst (AllByRecursion (IsGood 4)) (sym is) tt
   inside_good start (inner ∷ mails) values is =
       subst (AllByRecursion (IsGood 4)) (sym is.4)
-      (all_then (IsGood 4) is.0 is.1 (parts_good (Some inner.path) (place_in inner.start start) (parts_inside options.known inner) is.0 is.2) (inside_good start mails is.1 is.3))
+      (all_then (IsGood 4) is.0 is.1 (parts_good (Some inner.path) (place_in inner.start start) (parts_inside options.known options.limit inner) is.0 is.2) (inside_good start mails is.1 is.3))
 
 -- ---- the object of a mail
 
@@ -219,7 +220,7 @@ mail_good : (options : Options) (origin : Origin) (mail : Tree) (value : Json) �
 mail_good options origin mail value is =
     let known = options.known in
     let node = root mail in
-    let inside = list_of (map (inner_value origin.start) (mails_inside known mail)) in
+    let inside = list_of (map (inner_value origin.start) (mails_inside known options.limit mail)) in
     let found = is.1 in
     let parts = list_of is.0 in
     let date = date_members (option_map zoned_date_of (value_of known (codes "Date") node)) in
@@ -237,12 +238,12 @@ mail_good options origin mail value is =
     members_then 5 (own ++ one (codes "recipients") recipients) (one (codes "parts") parts) reported (
       list_good 4 is.0 (subst (AllByRecursion (IsGood 4)) (sym found.4)
           (all_then (IsGood 4) found.0 found.1 (parts_good options None (Some origin.start) (places mail (placements 0 mail)) found.0 found.2)
-          (inside_good options origin.start (mails_inside known mail) found.1 found.3))),
+          (inside_good options origin.start (mails_inside known options.limit mail) found.1 found.3))),
       tt,
     ) in
     let rest : AreGood 5 (own ++ one (codes "recipients") recipients ++ one (codes "parts") parts ++ one (codes "forwarded") inside) =
     members_then 5 (own ++ one (codes "recipients") recipients ++ one (codes "parts") parts) (one (codes "forwarded") inside) listed
-    (mapped_good 4 (inner_value origin.start) (inner_good 3 origin.start) (mails_inside known mail), tt) in
+    (mapped_good 4 (inner_value origin.start) (inner_good 3 origin.start) (mails_inside known options.limit mail), tt) in
     subst (IsGood 6) (sym is.2)
     (named_good (mail_distinct known origin node bounced recipients parts inside _) (number_good 5 5, (optional_good 5 origin.file, (number_or_null_good 5 origin.number, (number_good 5 origin.start, (number_good 5 origin.end, (optional_good 5 _, (address_list_good known (codes "From") node, (address_list_good known (codes "To") node, (address_list_good known (codes "Cc") node, (address_list_good known (codes "Bcc") node, (address_list_good known (codes "Reply-To") node, (address_list_good known (codes "Sender") node, (raw_good 4 node, rest))))))))))))))
 
@@ -298,7 +299,7 @@ module _ (options : Options) (format : Format) (file : Option (List ℕ)) where
   mails_are_lines (mail ∷ mails) number is_clean text is =
       lines_as text (is.2 ++ is.3) is.7
       (lines_then is.2 is.3
-      (mail_is_line options (origin_at file number mail.start mail.entry) (read_mail_in options.known 100 (mail_in format mail.entry.mail)) is.0 is.2 is.4)
+      (mail_is_line options (origin_at file number mail.start mail.entry) (mail_reading options.known options.limit (mail_in format mail.entry.mail)) is.0 is.2 is.4)
       (mails_are_lines mails _ is.1 is.3 is.5))
 
   front_is_line : (front : List ℕ) (is_all_whitespace : Bool) (text : List ℕ) → IsFront file front is_all_whitespace text → AreJsonLines text
@@ -321,7 +322,7 @@ first_is_lines options format true file to bytes is_clean text is =
     (lines_then is.2 is.3 (front_is_line options format file (take (front_length bytes) bytes) is.0 is.2 is.4) (mails_are_lines options format file (in_range 0 to (placed_in format bytes)) None is.1 is.3 is.5))
 first_is_lines options format false file to bytes is_clean text is =
     let origin : Origin = record { file = file; number = None; start = 0; end = length bytes } in
-    mail_is_line options origin (read_mail_in options.known 100 bytes) is_clean text is
+    mail_is_line options origin (mail_reading options.known options.limit bytes) is_clean text is
 
 -- mails that have lines, or none
 wanted_is_lines : (options : Options) (format : Format) (wanted : Bool) (file : Option (List ℕ)) (mails : List Placed) (is_clean : Bool) (text : List ℕ)

@@ -81,7 +81,7 @@ module _ (options : Options) where
       → (wholes : List Json) × AreInsideValues (decoding true options) start mails wholes × (values ≡ map object_without_text wholes)
   insides_whole start [] values is = ([], refl, is)
   insides_whole start (inner ∷ mails) values is =
-      let first = parts_whole (Some inner.path) (place_in inner.start start) (parts_inside options.known inner) is.0 is.2 in
+      let first = parts_whole (Some inner.path) (place_in inner.start start) (parts_inside options.known options.limit inner) is.0 is.2 in
       let rest = insides_whole start mails is.1 is.3 in (
         first.0 ++ rest.0,
         (first.0, rest.0, first.1, rest.1, refl),
@@ -118,17 +118,17 @@ module _ (options : Options) where
       let known = options.known in
       let found = is.1 in
       let parts = parts_whole None (Some origin.start) (places mail (placements 0 mail)) found.0 found.2 in
-      let others = insides_whole origin.start (mails_inside known mail) found.1 found.3 in
+      let others = insides_whole origin.start (mails_inside known options.limit mail) found.1 found.3 in
       let all = parts.0 ++ others.0 in
       let same : is.0 ≡ map object_without_text all =
       found.4 ∙ ap₂ (λ (a b : List Json). a ++ b) parts.2 others.2 ∙ map_then parts.0 others.0 in
       let date = option_map zoned_date_of (value_of known (codes "Date") (root mail)) in
       let bounced = string_or_null (original_message_id mail) in
       let recipients = recipients_value (recipients_if known true mail) in
-      let inside = list_of (map (inner_value origin.start) (mails_inside known mail)) in (
-        object_of (mail_members known true origin mail (mails_inside known mail) all),
+      let inside = list_of (map (inner_value origin.start) (mails_inside known options.limit mail)) in (
+        object_of (mail_members known true origin mail (mails_inside known options.limit mail) all),
         (all, (parts.0, others.0, parts.1, others.1, refl), refl),
-        is.2 ∙ ap (λ (js : List Json). object_of (mail_members known false origin mail (mails_inside known mail) js)) same
+        is.2 ∙ ap (λ (js : List Json). object_of (mail_members known false origin mail (mails_inside known options.limit mail) js)) same
             ∙ ap (λ items. object_of (line_members origin mail date bounced null (array items) inside)) (items_whole all)
             ∙ line_without origin mail date bounced recipients (list_of all) inside,
       )

@@ -3,7 +3,6 @@ use Rattle.std.proofs.KnownBytes.{Appends-nil, Appends-trans}
 use Rattle.std.proofs.lemmas.List.{append-nil, drop_all}
 use Rattle.std.specs.Cow.{cow_slice_items}
 use Rattle.std.specs.Prelude.{flat_map}
-use Rattle.mailparse.specs.Mail.{read_mail_in}
 use Rattle.mailparse.specs.Outcome.{IsRefusalOrMemory, refusal_of}
 use Rattle.mailparse.specs.Placement.{Placement}
 use Rattle.mailparse.specs.Views.{placements_of, tree_of}
@@ -11,6 +10,7 @@ use Rattle.mail_data.specs.InnerMailViews.{forwarded_view}
 use Rattle.mail_data.specs.InnerMails.{InnerMail, mails_in_place, places_under}
 use Rattle.mail_data.specs.PartPlaces.{Place}
 use Rattle.mail_data.specs.PlaceViews.{place_view}
+use Rattle.mail_data.specs.Reading.{mail_reading}
 use Rattle.mail_json.specs.Inside.{without_bytes}
 use Rattle.mail_json.specs.InsideViews.{inside_view}
 use Rattle.mail_json.specs.Options.{options_of}
@@ -30,7 +30,7 @@ pub write_inside-loop-place-preserved : goal.write_inside-loop-place-preserved
 write_inside-loop-place-preserved g t c =
     let options = options_of (g.K.KnownCharsets.known c.args.known.now) c.args.options in
     let origin = c.args.within.origin in
-    let step = mails_in_place options.known (c.args.within.most - 1) c.args.within.start in
+    let step = mails_in_place options.known options.limit (c.args.within.most - 1) c.args.within.start in
     let places = c.args.places.now in
     let here = c.loop-place.invariant in
     let place = place_view c.place-item.result in
@@ -50,13 +50,13 @@ pub write_inside-returns : goal.write_inside-returns
 write_inside-returns g t c =
     let options = options_of (g.K.KnownCharsets.known c.args.known.now) c.args.options in
     let origin = c.args.within.origin in
-    let step = mails_in_place options.known (c.args.within.most - 1) c.args.within.start in
+    let step = mails_in_place options.known options.limit (c.args.within.most - 1) c.args.within.start in
     let places = c.args.places.now in
     let here = c.loop-place.invariant in
     let most_some : c.args.within.most ≢ 0 = grind (arith) in
     let none = ap (map place_view) (drop_all c.loop-place.place-index places (omega arith)) in
     let all = insides_end step options origin (AreInsideValues options origin (flat_map step (map place_view places))) (after_commas text_of) _ here.0.0 none here.0.2 in
-    let some = among_some options.known c.args.within.most c.args.within.start (map place_view places) most_some in
+    let some = among_some options.known options.limit c.args.within.most c.args.within.start (map place_view places) most_some in
     record {
       written = (
         all.0,
@@ -88,7 +88,7 @@ write_forwarded-returns-in-Ok g t c =
     let bytes = cow_slice_items found.bytes in
     let some = ap (option_map forwarded_view) (sym c.in-Some.is) ∙ c.in_ok-found.ensures.read in
     let mail = c.in-Ok.mail in
-    let read = ap (λ (b : List ℕ). read_mail_in options.known 100 b) (sym c.as_slice.ensures.value) ∙ c.in-Ok.ensures.read in
+    let read = ap (λ (b : List ℕ). mail_reading options.known options.limit b) (sym c.as_slice.ensures.value) ∙ c.in-Ok.ensures.read in
     let path = c.as_str-path.ensures.value in
     let one =
     c.in_ok-push_inside-in-Ok.ensures ∙ ap (λ (p : List ℕ). map inside_view c.args.mails.now.items ++ listed_with p found.start None ∷ []) path in
@@ -118,8 +118,8 @@ write_forwarded-returns g t c =
     let bytes = cow_slice_items found.bytes in
     let some = ap (option_map forwarded_view) (sym c.in-Some.is) ∙ c.in_ok-found.ensures.read in
     let error = c.in-Err.error in
-    let read = subst (λ (b : List ℕ). IsRefusalOrMemory error (read_mail_in options.known 100 b)) c.as_slice.ensures.value c.in-Err.ensures.read in
-    let refusal = refused_or_memory error (read_mail_in options.known 100 bytes) c.in_ok-push_refused-in-Err.ensures.passed_on read in
+    let read = subst (λ (b : List ℕ). IsRefusalOrMemory error (mail_reading options.known options.limit b)) c.as_slice.ensures.value c.in-Err.ensures.read in
+    let refusal = refused_or_memory error (mail_reading options.known options.limit bytes) c.in_ok-push_refused-in-Err.ensures.passed_on read in
     let made =
     c.in_ok-push_refused-in-Err.ensures.listed
     ∙ ap (λ (p : List ℕ). map inside_view c.args.mails.now.items ++ listed_with p found.start (refusal_of error) ∷ []) c.as_str-path.ensures.value in

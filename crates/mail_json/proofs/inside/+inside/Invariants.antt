@@ -22,7 +22,7 @@ decreases-write_forwarded g l = 2 * l.within.most + 1
 abbrev pub invariant-write_inside-loop-place : goal.invariant-write_inside-loop-place
 invariant-write_inside-loop-place g l =
     let known = g.K.KnownCharsets.known l.known in
-    let step = mails_in_place known (l.within.most - 1) l.within.start in
+    let step = mails_in_place known l.options.limit (l.within.most - 1) l.within.start in
     let all = map place_view l.places in
     let left = map place_view (drop l.place-index l.places) in
     ((done : List ℕ) × Appends (g.W.Write.contents l.initial.out) (g.W.Write.contents l.out) done

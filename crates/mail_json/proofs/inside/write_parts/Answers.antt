@@ -18,5 +18,5 @@ returns g c =
     record {
       written = parts_written (options_of known c.args.options) c.args.origin mail _ _ _ _ _ c.write_inside.result parts.0 first again parts.1 parts.2
           c.write_inside.ensures.written;
-      listed = whole_listed known mail _ _ _ c.write_inside.result again c.write_inside.ensures.listed;
+      listed = whole_listed known c.args.options.limit mail _ _ _ c.write_inside.result again c.write_inside.ensures.listed;
     }

@@ -1,5 +1,4 @@
-use Rattle.std.proofs.Common.{ap, ◌∙◌, arith, length, take, drop, length-append, ◌++◌, ◌+◌, ◌-◌, ◌≡◌, ℕ}
-use Rattle.mail_data.specs.Mailbox.{entry_bytes}
+use Rattle.std.proofs.Common.{ap, ◌∙◌, arith, length, take, drop, length-append, ◌++◌, ◌-◌, ◌≡◌}
 use Rattle.mail_data.specs.MailboxOffsets.{mail_offset}
 use Rattle.mail_json.specs.JsonLines.{origin_at}
 use Rattle.mail_json.proofs.laws.offsets_are_those_of_the_input.Goals as goal

@@ -4,7 +4,6 @@ use Rattle.mailparse.specs.Mail.{root}
 use Rattle.mailparse.specs.Views.{tree_of}
 use Rattle.mail_data.specs.lenient.Content.{Content}
 use Rattle.mail_data.specs.lenient.ContentViews.{content_view}
-use Rattle.mail_data.specs.declared.lenient.content.Content as code
 use Rattle.mail_json.specs.Values.{body_members, shown_members}
 use Rattle.mail_json.specs.declared.json_text.Position.TheVariants.{Later}
 use Rattle.mail_json.proofs.lemmas.Members.{adds_as}
