@@ -6,6 +6,7 @@ downloads. The browser is Chromium without a window; screenshots go to the direc
 
 import base64
 import contextlib
+import json
 import os
 import re
 import signal
@@ -46,7 +47,8 @@ def database(tmp_path_factory):
     (directory / "mails.mbox").write_bytes(b"".join(FROM + mail.encode() + b"\n" for mail in MAILS))
     (directory / "index").mkdir()
     lines = subprocess.run([program("rocktray"), "json", str(directory / "mails.mbox")], stdout=subprocess.PIPE, check=True).stdout
-    (directory / "index/a.jsonl").write_bytes(lines)
+    refused = {"schema": json.loads(lines.partition(b"\n")[0])["schema"], "file": f"{EVIL}.mbox", "start": 0, "end": 9, "error": "Header cannot start"}
+    (directory / "index/a.jsonl").write_bytes(lines + json.dumps(refused).encode() + b"\n")
     (directory / "index/MANIFEST").write_bytes(b'{"shard": "a.jsonl"}\n')
     subprocess.run([sys.executable, os.path.join(EXAMPLES, "load_sqlite.py"), "index", "db"], cwd=directory, stderr=subprocess.PIPE, check=True)
     return directory / "db"
@@ -100,6 +102,8 @@ def test_pages(address):
     assert get(address, links(mail, "/raw/")[0])[2] == MAILS[0]
     thread = get(address, "/thread?id=2@small")[2]
     assert re.search(r'level-0.*Zebra crossing.*level-1.*Re: Zebra crossing', thread, re.DOTALL)
+    refused = get(address, "/refused")[2]
+    assert "<h1>1 refused mail</h1>" in refused and ".mbox, bytes 0 to 9" in refused and "Header cannot start" in refused
     plots = get(address, "/plots")[2]
     assert "<td>2025-03</td><td>3</td>" in plots and "<td>Ana Lima &lt;ana@example.net&gt;</td><td>1</td>" in plots
     for name in ("months", "senders"):
@@ -108,7 +112,7 @@ def test_pages(address):
 
 def test_safety(address):
     """No page has markup of a mail, each has a policy, and other hosts are refused."""
-    paths = ["/", "/?q=alert", f"/?q={urllib.parse.quote(EVIL)}", "/thread?id=2@small", "/plots", "/plots/senders.svg", "/none", "/mail/0/99", "/mail/99/1"]
+    paths = ["/", "/?q=alert", f"/?q={urllib.parse.quote(EVIL)}", "/thread?id=2@small", "/plots", "/refused", "/plots/senders.svg", "/none", "/mail/0/99", "/mail/99/1"]
     paths += [link for link in links(get(address, "/")[2], "/") if not link.startswith("/static")]
     for path in paths:
         _, headers, text = get(address, path)
@@ -166,7 +170,7 @@ def test_looks(address, tmp_path, scheme):
     """On a phone nothing is cut off, and texts have the contrast of WCAG 2.1 (AA), by day and by night."""
     with chromium(tmp_path) as browser:
         browser.execute_cdp_cmd("Emulation.setEmulatedMedia", {"features": [{"name": "prefers-color-scheme", "value": scheme}]})
-        for path in ("/?q=zebra", "/?q=alert", "/thread?id=2@small", "/plots", "/none", "/mail/0/1"):
+        for path in ("/?q=zebra", "/?q=alert", "/thread?id=2@small", "/plots", "/refused", "/none", "/mail/0/1"):
             browser.get(address + path)
             browser.save_screenshot(str(tmp_path / f"{re.sub('[^a-z]', '', path)}.png"))
             looks = browser.execute_script(LOOKS)
@@ -180,12 +184,12 @@ def test_keys(address, tmp_path):
     with chromium(tmp_path) as browser:
         browser.get(f"{address}/?q=zebra")
         reached = []
-        for _ in range(6):
+        for _ in range(7):
             browser.switch_to.active_element.send_keys(Keys.TAB)
             now = browser.switch_to.active_element
             reached.append(now.get_attribute("id") or now.text)
             assert now.is_displayed() and now.value_of_css_property("outline-style") == "solid", reached
-        assert reached == ["Skip to the content", "Search", "Plots", "q", "Search", "Re: Zebra crossing"]
+        assert reached == ["Skip to the content", "Search", "Plots", "Refused", "q", "Search", "Re: Zebra crossing"]
         browser.switch_to.active_element.send_keys(Keys.ENTER)
         assert browser.title == "Re: Zebra crossing"
 

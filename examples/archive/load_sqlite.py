@@ -232,6 +232,12 @@ def loaded(path):
         return {name for name, in db.execute("select name from shards")}
 
 
+def refused_in(path):
+    """Returns how many mails of a slice were refused."""
+    with contextlib.closing(sqlite3.connect(path)) as db:
+        return db.execute("select count(*) from refused").fetchone()[0]
+
+
 def load(path, stale, fresh):
     """Removes shards from a slice, and inserts others: names, each with the file of what the slice gets. Returns the number
     of copies that were inserted."""
@@ -367,8 +373,10 @@ def main():
     except KeyboardInterrupt:
         print("load_sqlite.py: interrupted; the next run goes on from here", file=sys.stderr)
         sys.exit(130)
-    seconds = time.monotonic() - begun
+    seconds, refused = time.monotonic() - begun, sum(map(refused_in, paths))
     print(f"{total} mails loaded in {seconds:.1f} s, {total / seconds:.0f} a second", file=sys.stderr)
+    if refused:
+        print(f"load_sqlite.py: {refused} of the mails were refused: the table `refused` and the pages name them", file=sys.stderr)
 
 
 if __name__ == "__main__":

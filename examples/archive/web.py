@@ -29,6 +29,8 @@ import search
 from program import rocktray
 
 PAGE = 25
+# the most refused mails that are listed
+REFUSED = 1000
 # the number of the latest mails that are counted beside a search
 COUNTED = 400
 POLICY = "default-src 'none'; style-src 'self'; img-src 'self'; form-action 'self'; base-uri 'none'; frame-ancestors 'none'"
@@ -250,6 +252,12 @@ def create_app(directory, program, hosts=None):
         if not mails:
             flask.abort(404)
         return flask.render_template("thread.html", mails=mails)
+
+    @app.get("/refused")
+    def refused():
+        with archive.slices() as slices:
+            rows = [tuple(row) for db in slices for row in db.execute('select file, start, "end", error from refused')]
+        return flask.render_template("refused.html", rows=sorted(rows)[:REFUSED], total=len(rows))
 
     @app.get("/favicon.ico")
     def icon():
