@@ -1,13 +1,42 @@
-"""The table of the named character references beside Python's html.entities, and its order."""
+"""The text of HTML: the table of references beside Python's html.entities, and the words of HTML beside other readers.
 
+The words are those of the HTML in samples/, of a made newsletter, of mails given by --real, and of mutations of all. The
+readers are w3m, lynx and Python's html.parser with a collector of text. Each gets the same document: what they read
+otherwise by a cause that DIFFERENCES.md names is taken out of it, such as images without an alternative text.
+"""
+
+import base64
+import collections
+import concurrent.futures
+import email
 import html.entities
+import html.parser
 import re
+import shutil
 
 import pytest
 
-from support import TOP, run
+from support import FROM, SAMPLES, TOP, command, missing, run
+
+from texts import html_of
 
 SOURCE = TOP / "crates" / "mail_html" / "src" / "named.rt"
+HIDDEN = {"script", "style", "template", "noscript", "svg", "math", "iframe", "noembed", "noframes"}
+SEPARATE = set(
+    "td th tr br p div table tbody thead tfoot center li ul ol h1 h2 h3 h4 h5 h6 hr blockquote pre address article aside body "
+    "caption dd details dialog dir dl dt fieldset figcaption figure footer form head header hgroup html legend listing main "
+    "menu nav optgroup option search section select summary textarea title xmp".split()
+)
+# what a mutation puts into a document
+PIECES = [
+    "<", ">", "&", "</", "<!--", "-->", "<script>", "</script>", "<style>", "</style>", "<b>", "</b>", "<p>", "<br>",
+    "<td>", "</td>", "<tr>", "<li>", "<div>", "</div>", "&amp;", "&lt;", "&nbsp;", "&eacute;", "&#65;", "&#x42;", "&#150;",
+    "&#0;", "<pre>", "</pre>", "<img alt='q r'>", "<!DOCTYPE html>", "<?x?>", '"', "'", "=", "/>", " ", "\n", "\t", "word",
+    "<a href='u'>", "</a>",
+]
+MUTATIONS, BATCH, MARK = 20_000, 500, "zqseparatorqz"
+# lynx reads one document in a run, so only these are also read by it
+BY_LYNX = 1_000
 
 
 def names():
@@ -33,3 +62,161 @@ def test_order():
     for group in names():
         for place, (name, _) in enumerate(group):
             assert not [later for later, _ in group[place + 1:] if later.startswith(name)], name
+
+
+class Collector(html.parser.HTMLParser):
+    """Collects the text that html.parser reads."""
+
+    def __init__(self):
+        super().__init__()
+        self.pieces, self.hidden = [], []
+
+    def handle_starttag(self, tag, attrs):
+        """An element that separates text, hides it, or is an image."""
+        self.pieces.append("\n" if tag in SEPARATE else "")
+        if tag in HIDDEN:
+            self.hidden.append(tag)
+        if tag == "img" and not self.hidden:
+            self.pieces.append(f"[{dict(reversed(attrs)).get('alt') or ''}]")
+
+    def handle_endtag(self, tag):
+        """The end of an element."""
+        self.pieces.append("\n" if tag in SEPARATE else "")
+        while tag in self.hidden:
+            self.hidden.pop()
+
+    def handle_data(self, data):
+        """Text."""
+        self.pieces.append("" if self.hidden else data)
+
+
+def by_parser(text):
+    """The text by html.parser, or None if it refuses the document."""
+    reader = Collector()
+    try:
+        reader.feed(text)
+        reader.close()
+    except AssertionError:
+        return None
+    return "".join(reader.pieces)
+
+
+def by_lynx(text):
+    """The text by lynx."""
+    options = "-dump -stdin -nolist -width=1000 -assume_charset=utf-8 -display_charset=utf-8".split()
+    return run(["lynx", *options], text.encode()).stdout.decode("utf-8", "replace")
+
+
+def by_w3m(texts, directory):
+    """The texts by one run of w3m, with a mark after each."""
+    files = []
+    (directory / "mark.html").write_text(f"<p>{MARK}</p>")
+    for number, text in enumerate(texts):
+        (directory / f"{number}.html").write_bytes(text.encode())
+        files += [f"{number}.html", "mark.html"]
+    options = "-dump -T text/html -I UTF-8 -O UTF-8 -cols 10000".split()
+    found = run(["w3m", *options, *files], cwd=directory).stdout.decode("utf-8", "replace").split(MARK)[:-1]
+    assert len(found) == len(texts)
+    return found
+
+
+def by_us(texts):
+    """The texts by rocktray show, as mails of a mailbox: the lines after two spaces."""
+    head = FROM + b"Content-Type: text/html; charset=utf-8\nContent-Transfer-Encoding: base64\n\n"
+    mails = b"".join(head + base64.encodebytes(text.encode()) + b"\n" for text in texts)
+    ended = run([*command("show"), "--mbox"], mails)
+    assert (ended.returncode, ended.stderr) == (0, b"")
+    views = re.split(r"(?m)^-- mail \d+ --\n", ended.stdout.decode())[1:]
+    return ["\n".join(line for line in view.split("\n") if line.startswith("  ")) for view in views]
+
+
+def words(text):
+    """How often a text has each word."""
+    return collections.Counter(re.findall(r"\w+", text))
+
+
+def prepared(text):
+    """A document without what the other readers read otherwise: DIFFERENCES.md has the causes."""
+    text = re.sub(r"(?i)<img\b(?![^>]*\balt\s*=)", "<img alt='' ", text)
+    text = re.sub(r"(?i)<(?:a|input|ol|button|textarea|select|isindex|embed|object|applet|frame)\b", "<u", text)
+    text = re.sub(r"<!--(?:>|->)", "<!-- -->", text).replace("--!>", "-->").replace("\0", "")
+    return text.encode("utf-8", "replace").decode()
+
+
+def html_parts(raw):
+    """The HTML of the parts of a mail."""
+    for part in email.message_from_bytes(raw).walk():
+        if part.get_content_type() == "text/html":
+            try:
+                yield part.get_payload(decode=True).decode(part.get_content_charset() or "utf-8", "replace")
+            except LookupError:
+                pass
+
+
+def compare(texts, others):
+    """How many words two of the other readers agree on, how many of them we have, and words that only we have."""
+    agreed, there, alone = 0, 0, []
+    for text, ours, found in zip(texts, by_us(texts), others, strict=True):
+        ours, found = words(ours), [words(other) for other in found if other is not None]
+        if len(found) < 2:
+            continue
+        for word in set().union(*found):
+            count = sorted(other[word] for other in found)[-2]
+            agreed += count
+            there += min(count, ours[word])
+        alone += [(word, text) for word in ours if not any(other[word] for other in found)]
+    return agreed, there, alone
+
+
+@pytest.fixture(scope="module")
+def documents(request):
+    """HTML documents: those of the samples, a made newsletter, and those of the mails given by --real."""
+    for name in ("w3m", "lynx"):
+        shutil.which(name) or missing(f"{name} is missing: run tools/install_needs.sh")
+    paths = [*SAMPLES, *(path for given in request.config.getoption("--real") for path in TOP.joinpath(given).rglob("*"))]
+    found = [text for path in paths if path.is_file() for text in html_parts(path.read_bytes())]
+    found.append(html_of(10_000).decode())
+    return [text for text in dict.fromkeys(map(prepared, found)) if text.strip()]
+
+
+def mutated(chance, text):
+    """A document with one to four changes."""
+    for _ in range(chance.randrange(1, 5)):
+        at, end = sorted(chance.randrange(len(text) + 1) for _ in range(2))
+        kind = chance.randrange(4)
+        if kind == 0:
+            text = text[:at] + chance.choice(PIECES) + text[at:]
+        elif kind == 1:
+            text = text[:at] + text[at + chance.randrange(1, 6):]
+        elif kind == 2:
+            text = text[:at] + text[end : end + 40] + text[at:]
+        else:
+            text = text[:at] + chance.choice("<>&\"'/=-! ;#x1a\n") + text[at + 1:]
+    return prepared(text)
+
+
+def test_words(documents, tmp_path):
+    """The words of real HTML: at least 99.5 % of those that two other readers agree on, and none that no other has."""
+    with concurrent.futures.ThreadPoolExecutor(4) as pool:
+        lynx = list(pool.map(by_lynx, documents))
+    others = zip(by_w3m(documents, tmp_path), lynx, map(by_parser, documents))
+    agreed, there, alone = compare(documents, others)
+    assert alone == []
+    assert agreed and there >= 0.995 * agreed, (there, agreed)
+
+
+def test_words_of_mutations(documents, chance, tmp_path):
+    """The same of mutations, of which lynx reads only some: w3m and html.parser read all."""
+    texts = []
+    while len(texts) < MUTATIONS:
+        text = chance.choice(documents)
+        at = chance.randrange(max(1, len(text) - 600))
+        texts.append(mutated(chance, text[at : at + 600]))
+    by_browser = []
+    for at in range(0, MUTATIONS, BATCH):
+        by_browser += by_w3m(texts[at : at + BATCH], tmp_path)
+    with concurrent.futures.ThreadPoolExecutor(4) as pool:
+        lynx = [*pool.map(by_lynx, texts[:BY_LYNX]), *[None] * (MUTATIONS - BY_LYNX)]
+    agreed, there, alone = compare(texts, zip(by_browser, lynx, map(by_parser, texts)))
+    assert there >= 0.995 * agreed, (there, agreed)
+    assert alone == []

@@ -32,6 +32,8 @@ python3-selenium module selenium
 cargo command cargo
 librust-encoding-rs-dev file /usr/share/cargo/registry/encoding_rs-*/Cargo.toml
 help2man command help2man
+w3m command w3m
+lynx command lynx
 debhelper command dh
 dh-python command dh_python3
 END
