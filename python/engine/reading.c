@@ -640,6 +640,15 @@ static uint32_t call_addresses(struct request *it, void *buffer, size_t capacity
                               found->capacity, &found->length);
 }
 
+static uint32_t call_report(struct request *it, void *buffer, size_t capacity, size_t *needed)
+{
+    struct found *found = buffer;
+    (void)capacity;
+    (void)needed;
+    return rocktray_report(INPUT, found->records, found->record_capacity, &found->record_count, found->buffer,
+                           found->capacity, &found->length);
+}
+
 CALL(file_name, OTHER, INPUT)
 
 /* The k-th string of a type. */
@@ -794,6 +803,53 @@ static PyObject *reading_addresses(PyObject *self, PyObject *const *arguments, P
     return list;
 }
 
+/* Reports. */
+
+/* The block of a report with this number in a list of them, which grows up to it. A borrowed reference, or NULL. */
+static PyObject *block_at(PyObject *blocks, uint64_t number)
+{
+    while ((uint64_t)PyList_Size(blocks) <= number)
+        if (append(blocks, PyList_New(0)) < 0)
+            return NULL;
+    return PyList_GetItem(blocks, (Py_ssize_t)number);
+}
+
+/* The blocks of a report: lists of the names and values of their fields. */
+static PyObject *blocks_of(const struct found *found)
+{
+    const struct rocktray_field *field = found->records, *end = field + found->record_count;
+    PyObject *blocks = PyList_New(0), *block, *pair;
+    for (; blocks && field < end; field++) {
+        block = block_at(blocks, field->block);
+        pair = Py_BuildValue("s#s#", found->buffer + field->name_start,
+                             (Py_ssize_t)(field->name_end - field->name_start), found->buffer + field->value_start,
+                             (Py_ssize_t)(field->value_end - field->value_start));
+        if (!block)
+            Py_CLEAR(pair);
+        if (append(block, pair) < 0)
+            Py_CLEAR(blocks);
+    }
+    return blocks;
+}
+
+/* report(part): the blocks of the report that a part is, or None. Blocks without fields at the end are left out. */
+static PyObject *reading_report(PyObject *self, PyObject *index)
+{
+    struct request it = { .call = call_report };
+    const struct rocktray_part *part = part_at(self, index);
+    struct found found;
+    PyObject *blocks;
+    uint32_t code;
+    if (!part || take_mail(&it.input, self) < 0)
+        return NULL;
+    point(&it.input, part->start, part->end);
+    code = find(&it, &found, sizeof(struct rocktray_field));
+    give_back(&it.input);
+    blocks = code == ROCKTRAY_DONE ? blocks_of(&found) : no_result(code);
+    forget(&found);
+    return blocks;
+}
+
 /* Bodies. */
 
 static uint32_t call_body(struct request *it, void *buffer, size_t capacity, size_t *needed)
@@ -900,6 +956,7 @@ static PyMethodDef methods[] = {
     { "disposition", reading_disposition, METH_O, NULL },
     { "file_name", reading_file_name, METH_O, NULL },
     { "addresses", FAST(reading_addresses), METH_FASTCALL, NULL },
+    { "report", reading_report, METH_O, NULL },
     { "body", FAST(reading_body), METH_FASTCALL, NULL },
     { "body_size", reading_body_size, METH_O, NULL },
     { "text", reading_text, METH_O, NULL },

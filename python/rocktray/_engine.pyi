@@ -65,6 +65,9 @@ class Reading:
     def disposition(self, part: int, /) -> Optional[str]: ...
     def file_name(self, part: int, /) -> Optional[str]: ...
     def addresses(self, part: int, name: bytes, /) -> List[Tuple[str, str]]: ...
+    def report(self, part: int, /) -> Optional[List[List[Tuple[str, str]]]]:
+        """The blocks of the report that a part is, but for those at the end that have no fields."""
+
     def body(self, part: int, size: int, /) -> Tuple[bytes, bool]:
         """What can be read of the decoded body, and whether it is damaged; so are the next two. The size is the number
         of these bytes, or 0 if it is not known.

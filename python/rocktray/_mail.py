@@ -6,7 +6,7 @@ import email.message
 import email.policy
 import json
 from datetime import datetime
-from typing import TYPE_CHECKING, Any, Callable, Dict, Iterator, List, NamedTuple, Optional, Tuple, TypeVar, Union
+from typing import TYPE_CHECKING, Any, Callable, Dict, Iterator, List, Optional, Tuple, TypeVar, Union
 from typing import cast, overload
 
 from . import _engine, _library
@@ -21,13 +21,6 @@ if TYPE_CHECKING:
 
 Default = TypeVar("Default")
 Value = TypeVar("Value")
-
-
-class Rest(NamedTuple):
-    """What only the JSON has of a part."""
-
-    error: str
-    report: Optional[List[List[Tuple[str, str]]]]
 
 
 def _checked(raw: Any) -> "Bytes":
@@ -174,15 +167,6 @@ class Mail:
         """
         self._reading
         return cast("Dict[str, Any]", json.loads(_engine.json(self._data)))
-
-    @property
-    def _rest(self) -> List[Rest]:
-        """Of each part what only the JSON has."""
-
-        def found() -> List[Rest]:
-            return [Rest(part.get("error"), part["report"]) for part in self.json["parts"]]
-
-        return self._remember("rest", found)
 
     @property
     def subject(self) -> Optional[str]:

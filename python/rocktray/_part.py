@@ -2,17 +2,23 @@
 
 from __future__ import annotations
 
-from typing import TYPE_CHECKING, Any, Dict, List, Optional, Tuple, Union
+import re
+from typing import TYPE_CHECKING, Any, Dict, List, Optional, Tuple
 
 from . import _engine, _library
 from ._library import Refused
-from ._node import ENCODINGS, IS_ATTACHMENT, IS_EXTRACTED, IS_TEXT, Node
+from ._node import ENCODINGS, IS_ATTACHMENT, IS_EXTRACTED, IS_TEXT, Node, bytes_of
 
 if TYPE_CHECKING:
     from ._mail import Mail
 
 # the types of the parts with a report
 _REPORTS = ("delivery-status", "global-delivery-status", "feedback-report", "disposition-notification")
+# an empty line between the blocks of a report
+_EMPTY_LINE = re.compile(rb"^\r?\n", re.MULTILINE)
+# a byte that is no letter of Base64, and a group with padding
+_NO_LETTER = re.compile(rb"[^A-Za-z0-9+/]")
+_PADDED = re.compile(rb"[A-Za-z0-9+/]{2}(?:[A-Za-z0-9+/]=|==)")
 
 
 class Header(_engine.Header):
@@ -186,8 +192,19 @@ class Part:
         """
         content, is_damaged = self._node.body()
         if is_damaged:
-            raise Refused(self._mail._rest[self._node.index].error, _library.NOT_BASE64)
+            raise Refused(f"Base64 decode error: group {self._bad_group()} is no Base64 group", _library.NOT_BASE64)
         return content
+
+    def _bad_group(self) -> int:
+        """The number of the first group of four bytes that is not Base64, without ASCII whitespace."""
+        body = bytes_of(self._node.data, self._node.body_start, self._node.body_end).translate(None, b"\t\n\f\r ")
+        at = 0
+        while other := _NO_LETTER.search(body, at):
+            at = other.start() // 4 * 4
+            if not _PADDED.match(body, at):
+                return at // 4
+            at += 4
+        return len(body) // 4
 
     def extracted_content(self) -> bytes:
         """The bytes that `rocktray extract` saves: the content, or of damaged Base64 the bytes that can be read. If the
@@ -203,15 +220,18 @@ class Part:
     @property
     def report(self) -> Optional[List[List[Tuple[str, str]]]]:
         """The blocks of a delivery status (RFC 3464), feedback report (RFC 5965) or disposition notification (RFC 8098),
-        as the names and values of their fields. `None` for any other part.
+        as the names and values of their fields. `None` for any other part. A block that is refused has no fields.
 
         >>> part = next(parse(b"Content-Type: message/feedback-report\\n\\nFeedback-Type: abuse\\nVersion: 1\\n").walk())
         >>> [dict(block) for block in part.report]
         [{'Feedback-Type': 'abuse', 'Version': '1'}]
         """
         kind, _, name = self.content_type.partition("/")
-        blocks = self._mail._rest[self._node.index].report if kind == "message" and name in _REPORTS else None
-        return None if blocks is None else [[(name, value) for name, value in block] for block in blocks]
+        blocks = self._node.reading.report(self._node.number) if kind == "message" and name in _REPORTS else None
+        if blocks is not None:
+            count = sum(1 for block in _EMPTY_LINE.split(self._node.body()[0]) if block)
+            blocks += [[] for _ in range(len(blocks), count)]
+        return blocks
 
     @property
     def text(self) -> Optional[str]:

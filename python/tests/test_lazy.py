@@ -76,6 +76,7 @@ def test_nothing_but_the_json_is_json(samples, monkeypatch):
         for part in [*mail.walk(), *mail.files(), *mail.attachments()]:
             found += [part.content_type, part.params, part.file_name, part.safe_name, part.disposition, part.content_id]
             found += [part.headers, part.text, part.size, part.decoded_size, part.extracted_content(), part.children]
+            found += [part.report, part.is_damaged and part._bad_group()]
         assert found
 
 
