@@ -5,14 +5,15 @@ use Rattle.std.specs.Io.KnownBytes.{Appends, Consumes, IsAtEnd}
 use Rattle.std.specs.List.{All, list_all}
 use Rattle.std.specs.Option.{option_map_or}
 use Rattle.mail_codec.specs.Charset.{Charsets}
-use Rattle.mailparse.specs.Mail.{Tree, read_mail_in}
+use Rattle.mailparse.specs.Mail.{Tree}
 use Rattle.mailparse.specs.Placement.{placements}
 use Rattle.mailparse.specs.Refusal.{Reads}
 use Rattle.mail_data.specs.FileNames.{IsSafeName}
-use Rattle.mail_data.specs.InnerMails.{InnerMail, inner_mails}
+use Rattle.mail_data.specs.InnerMails.{InnerMail, inner_mails_within}
 use Rattle.mail_data.specs.Mailbox.{Entry, front_length}
 use Rattle.mail_data.specs.MailboxFormats.{entries_in, mail_in}
 use Rattle.mail_data.specs.PartPlaces.{places}
+use Rattle.mail_data.specs.Reading.{mail_reading}
 use Rattle.mail_data.specs.declared.mailbox.formats.Format.{Format}
 use Rattle.mail_json.specs.FileLine.{FileLine}
 use Rattle.mail_json.specs.JsonLines.{format_of, is_mailbox}
@@ -94,7 +95,7 @@ module _ (file : Option (List ℕ)) where
     module _ (known : Charsets) where
       -- the chosen files of a mail inside a mail are saved and have lines, or it has a line, if it is refused
       abbrev pub IsInside : Option ℕ → InnerMail → Saves
-      IsInside number inner = Then (AreFiles number (chosen options.choice (wanted_inside known inner))) (Only (inner_lines number inner))
+      IsInside number inner = Then (AreFiles number (chosen options.choice (wanted_inside known options.limit inner))) (Only (inner_lines number inner))
 
       -- mails inside a mail, one after another
       abbrev pub AreInside : Option ℕ → List InnerMail → Saves
@@ -104,12 +105,12 @@ module _ (file : Option (List ℕ)) where
       abbrev pub IsMailOf : Option ℕ → Reads Tree → Saves
       IsMailOf number (Ok t) =
           Then (AreFiles number (chosen options.choice (wanted_among known Own (places t (placements 0 t)))))
-          (AreInside number (inner_mails known 100 [] (Some 0) t (placements 0 t)))
+          (AreInside number (inner_mails_within known options.limit 100 [] (Some 0) t (placements 0 t)))
       IsMailOf number (Err refusal) = Only (refused_line number None (refusal_text refusal) ∷ [])
 
       -- the same of the bytes of a mail
       abbrev pub IsMail : Option ℕ → List ℕ → Saves
-      IsMail number bytes = IsMailOf number (read_mail_in known 100 bytes)
+      IsMail number bytes = IsMailOf number (mail_reading known options.limit bytes)
 
       -- mails of a mailbox in a format, one after another; the first has this number
       abbrev pub AreMails : Format → ℕ → List Entry → Saves

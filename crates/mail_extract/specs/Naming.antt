@@ -7,8 +7,9 @@ use Rattle.mail_extract.specs.declared.options.Naming.{Naming}
 use Rattle.mail_extract.specs.declared.options.Naming.TheVariants.{BySender, ByHash}
 use Rattle.mail_program.specs.Hash.{hash_text}
 
--- whether files are hashed, what names them, and which are saved
+-- the limit on the messages, parts and headers of each mail, whether files are hashed, what names them, and which are saved
 pub record Options : Type 0 where
+  pub limit : ℕ
   pub hashing : Hashing
   pub naming : Naming
   pub choice : Choice

@@ -2,10 +2,11 @@
 use Rattle.std.specs.Prelude.{◌≡◌, ◌<◌, ℕ, Bool, true, false, List, [], ◌∷◌, length, flat_map, Option, is_some, Result, Ok, Err}
 use Rattle.std.specs.Io.KnownBytes.{Appends, Consumes, IsAtEnd}
 use Rattle.mail_codec.specs.Charset.{Charsets}
-use Rattle.mailparse.specs.Mail.{Tree, read_mail_in}
+use Rattle.mailparse.specs.Mail.{Tree}
 use Rattle.mailparse.specs.Placement.{placements}
 use Rattle.mailparse.specs.Refusal.{Reads}
 use Rattle.mail_data.specs.MailboxFormats.{entries_in, mail_in}
+use Rattle.mail_data.specs.Reading.{mail_reading}
 use Rattle.mail_data.specs.declared.mailbox.formats.Format.{Format}
 use Rattle.mail_json.specs.JsonLines.{format_of, is_mailbox}
 use Rattle.mail_program.specs.Fault.{IsFault}
@@ -23,15 +24,15 @@ abbrev pub fails_if_full : List File → Bool
 fails_if_full [] = false
 fails_if_full (file ∷ files) = true
 
--- Under the known charsets, and a choice.
-module _ (known : Charsets) (choice : Choice) where
+-- Under the known charsets, a limit on the messages, parts and headers of each mail, and a choice.
+module _ (known : Charsets) (limit : ℕ) (choice : Choice) where
   -- the files of a mail that the choice keeps, with those of the mails inside it; a refused mail has none
   abbrev pub read_files : Reads Tree → List Wanted
-  read_files (Ok t) = chosen choice (wanted_files known t (placements 0 t))
+  read_files (Ok t) = chosen choice (wanted_files known limit t (placements 0 t))
   read_files (Err refusal) = []
 
   abbrev pub mail_files : List ℕ → List Wanted
-  mail_files bytes = read_files (read_mail_in known 100 bytes)
+  mail_files bytes = read_files (mail_reading known limit bytes)
 
   -- those of an input that is a mailbox in a format, or one mail
   abbrev pub input_files_of : Format → Bool → List ℕ → List Wanted

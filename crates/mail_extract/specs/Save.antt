@@ -3,11 +3,12 @@ use Rattle.std.specs.Prelude.{◌≡◌, ℕ, ◌+◌, ◌-◌, ◌^◌, ◌<◌
 use Rattle.std.specs.Option.{option_map_or}
 use Rattle.std.specs.Result.{result_ok}
 use Rattle.mail_codec.specs.Charset.{Charsets}
-use Rattle.mailparse.specs.Mail.{Node, Tree, read_mail_in, root}
+use Rattle.mailparse.specs.Mail.{Node, Tree, root}
 use Rattle.mailparse.specs.Placement.{Placement, placements}
 use Rattle.mail_data.specs.Files.{file_name, is_extracted}
-use Rattle.mail_data.specs.InnerMails.{InnerMail, forwards, inner_mails, places_under}
+use Rattle.mail_data.specs.InnerMails.{InnerMail, forwards, inner_mails_within, places_under}
 use Rattle.mail_data.specs.PartPlaces.{Place, places}
+use Rattle.mail_data.specs.Reading.{mail_reading}
 use Rattle.mail_data.specs.lenient.Content.{Content}
 use Rattle.mail_extract.specs.Choice.{Choice, keeps}
 use Rattle.mail_extract.specs.Content.{content}
@@ -99,14 +100,15 @@ module _ (known : Charsets) where
   abbrev pub wanted_among : Level → List Place → List Wanted
   wanted_among level found = map (wanted level) (filter (λ place. is_extracted known place.part) found)
 
-  -- the files of a mail inside a mail, if it is not refused
-  abbrev pub wanted_inside : InnerMail → List Wanted
-  wanted_inside inner =
-      option_map_or (λ t. wanted_among Inside (places_under inner.path t (placements 0 t))) (result_ok (read_mail_in known 100 inner.bytes)) []
+  -- the files of a mail inside a mail, if it is not refused, also for this limit
+  abbrev pub wanted_inside : ℕ → InnerMail → List Wanted
+  wanted_inside limit inner =
+      option_map_or (λ t. wanted_among Inside (places_under inner.path t (placements 0 t))) (result_ok (mail_reading known limit inner.bytes)) []
 
-  -- the files of a mail whose parts have these placements, and then those of the mails inside it
-  abbrev pub wanted_files : Tree → List Placement → List Wanted
-  wanted_files t found = wanted_among Own (places t found) ++ flat_map wanted_inside (inner_mails known 100 [] (Some 0) t found)
+  -- the files of a mail whose parts have these placements, and then those of the mails inside it, each with this limit
+  abbrev pub wanted_files : ℕ → Tree → List Placement → List Wanted
+  wanted_files limit t found =
+      wanted_among Own (places t found) ++ flat_map (wanted_inside limit) (inner_mails_within known limit 100 [] (Some 0) t found)
 
 -- the choice keeps a file: what the file of a forwarded mail contains is kept only if the choice names its path
 abbrev pub is_chosen : Choice → Wanted → Bool

@@ -18,9 +18,10 @@ use crate::options::{Source, Target};
 use crate::report::{flush, report_refused};
 use mail_data::mailbox::quoted::unquoted;
 use mail_data::mailbox::{Format, Mailbox, MailboxEntry, read_mailbox, settled_entry};
+use mail_data::reading::read_mail;
 use mail_json::{Wanted, first_wanted, is_mailbox, read_until};
 use mail_program::{Fault, Outcome, is_all_whitespace, refusal_of};
-use mailparse::{KnownCharsets, parse_mail_in};
+use mailparse::KnownCharsets;
 use std::alloc::Global;
 use std::io::{self, ErrorKind, Read, Write};
 
@@ -41,6 +42,7 @@ use std::io::{self, ErrorKind, Read, Write};
 /// # Examples
 ///
 /// ```rust
+/// use mail_data::reading::DEFAULT_LIMIT;
 /// use mail_extract::{Choice, Disk, Hashing, Naming, SaveOptions, Source, Target, extract_input};
 /// use mail_json::InputKind;
 /// use mail_program::Outcome;
@@ -49,6 +51,7 @@ use std::io::{self, ErrorKind, Read, Write};
 /// let mut out = Vec::new(alloc);
 /// let mut target = Target { directory: Disk { rt: &rt, path: "." }, number: 2 };
 /// let options = SaveOptions {
+///     limit: DEFAULT_LIMIT,
 ///     hashing: Hashing::Off,
 ///     naming: Naming::BySender,
 ///     choice: Choice { path: None, mimetype: None, name: None },
@@ -319,7 +322,7 @@ fn extract_one<W: Write, D: Directory, K: KnownCharsets>(
         (IsMail (option_map (λ name. name.now) source.entry.file) D.can_fail
         (options_view source.entry.options) (K.known source.entry.known.now) number raw.now) }
 {
-    match parse_mail_in(alloc, raw, source.known) {
+    match read_mail(alloc, raw, source.options.limit, source.known) {
         Ok(mail) => extract_mail(alloc, out, target, &mail, number, source),
         Err(error) => {
             let Some(text) = refusal_of(alloc, &error)? else {

@@ -15,8 +15,9 @@ use crate::parts::extract_places;
 use crate::report::report_refused;
 use mail_data::inner_mails::{forwarded_mail, places_under};
 use mail_data::places::{Place, places};
+use mail_data::reading::read_mail;
 use mail_program::{Fault, Outcome, refusal_of};
-use mailparse::{KnownCharsets, MAX_LEVELS, ParsedMail, parse_mail_in};
+use mailparse::{KnownCharsets, MAX_LEVELS, ParsedMail};
 use std::alloc::Global;
 use std::io::Write;
 
@@ -66,7 +67,7 @@ fn extract_inside<W: Write, D: Directory, K: KnownCharsets>(
         (W.contents out.old) (W.contents out.new) target.old.number target.new.number result
         (AreInside (option_map (λ name. name.now) source.entry.file) D.can_fail
         (options_view source.entry.options) (K.known source.entry.known.now) within.number
-        (mails_among (K.known source.entry.known.now) within.most within.start
+        (mails_among (K.known source.entry.known.now) source.entry.options.limit within.most within.start
         (map place_view places.now))) }
 {
     let mut outcome = Outcome::Clean;
@@ -99,14 +100,19 @@ fn extract_forwarded<W: Write, D: Directory, K: KnownCharsets>(
         (W.contents out.old) (W.contents out.new) target.old.number target.new.number result
         (AreInside (option_map (λ name. name.now) source.entry.file) D.can_fail
         (options_view source.entry.options) (K.known source.entry.known.now) within.number
-        (mails_in_place (K.known source.entry.known.now) within.most within.start
+        (mails_in_place (K.known source.entry.known.now) source.entry.options.limit within.most within.start
         (place_view place.now))) }
 {
     let Some(found) = forwarded_mail(alloc, place, within.start)? else {
         return Ok(Outcome::Clean);
     };
     let path = place.path.as_str();
-    match parse_mail_in(alloc, found.bytes.as_slice(), source.known) {
+    match read_mail(
+        alloc,
+        found.bytes.as_slice(),
+        source.options.limit,
+        source.known,
+    ) {
         Ok(mail) => {
             let saving = Saving {
                 number: within.number,

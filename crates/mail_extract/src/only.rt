@@ -78,6 +78,7 @@ impl Directory for OneFile {
 /// # Examples
 ///
 /// ```rust
+/// use mail_data::reading::DEFAULT_LIMIT;
 /// use mail_extract::{Choice, Hashing, Naming, OnlyFile, SaveOptions, Source, write_only_file};
 /// use mail_json::InputKind;
 /// use mail_program::Outcome;
@@ -85,6 +86,7 @@ impl Directory for OneFile {
 /// let mut reader = b"Content-Type: text/csv\n\n1,2\n".as_slice();
 /// let (mut out, mut lines) = (Vec::new(alloc), Vec::new(alloc));
 /// let options = SaveOptions {
+///     limit: DEFAULT_LIMIT,
 ///     hashing: Hashing::Off,
 ///     naming: Naming::BySender,
 ///     choice: Choice { path: Some("1"), mimetype: None, name: None },
@@ -103,9 +105,10 @@ pub fn write_only_file<R: Read, W: Write, L: Write, K: KnownCharsets>(
 ) -> Result<OnlyFile, Fault>
     ensures { WritesOnly (W.contents out.old) (W.contents out.new) (R.remaining reader.old)
         (R.remaining reader.new) result (input_files (K.known source.entry.known.now)
-        (choice_view source.entry.options.choice) source.entry.kind) }
+        source.entry.options.limit (choice_view source.entry.options.choice) source.entry.kind) }
 {
     let options = SaveOptions {
+        limit: source.options.limit,
         hashing: Hashing::Off,
         naming: Naming::BySender,
         choice: source.options.choice,

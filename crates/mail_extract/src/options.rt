@@ -22,6 +22,9 @@ pub enum Naming {
 /// How files are saved, and which.
 #[derive(Clone, Copy, Debug)]
 pub struct SaveOptions<'c> {
+    /// The greatest number of messages, parts and headers in a mail that is not refused. Each mail
+    /// inside a mail has this limit for itself.
+    pub limit: usize,
     /// Whether saved files are hashed.
     pub hashing: Hashing,
     /// What names them.

@@ -10,7 +10,7 @@ use Rattle.std.specs.Io.KnownBytes.{Appends, Consumes, IsAtEnd}
 use Rattle.std.specs.Prelude.{codes}
 use Rattle.mail_codec.specs.Charset.{Charsets}
 use Rattle.std.specs.Cow.{cow_str_bytes}
-use Rattle.mailparse.specs.Mail.{Tree, read_mail_in}
+use Rattle.mailparse.specs.Mail.{Tree}
 use Rattle.mailparse.specs.Outcome.{IsRefusalOrMemory, refusal_of}
 use Rattle.mailparse.specs.Refusal.{Reads, Refusal, base64_fault, encoding, generic}
 use Rattle.mailparse.specs.declared.error.MailParseError.{MailParseError}
@@ -20,6 +20,7 @@ use Rattle.mail_json.specs.FileLine.{FileLine}
 use Rattle.mail_program.specs.Refusal.{refusal_text}
 use Rattle.mail_data.specs.Mailbox.{Entry, front_length, has_front}
 use Rattle.mail_data.specs.MailboxFormats.{entries_in, mail_in}
+use Rattle.mail_data.specs.Reading.{mail_reading}
 use Rattle.mail_data.specs.declared.mailbox.formats.Format.{Format}
 use Rattle.mail_data.proofs.lemmas.MailboxFormats.{front_in-stays}
 use Rattle.mail_data.proofs.lemmas.MailboxFound.{front-stays}
@@ -200,7 +201,7 @@ refused_read (Memory m) given text e h = absurd (none-some text e)
 
 -- a mail that is read so
 pub read_ends : (file : Option (List ℕ)) (can_fail : List File → Bool) (options : Options) (known : Charsets) (number : Option ℕ) (raw : List ℕ) (held_old held_new : Option (List File)) (old new : Option (List ℕ)) (from next : ℕ)
-    (r : Result Outcome Fault) (t : Tree) → ◌≡◌ {A = Reads Tree} (read_mail_in known 100 raw) (Ok t) → Ends held_old held_new old new from next r (IsMailOf file can_fail options known number (Ok t))
+    (r : Result Outcome Fault) (t : Tree) → ◌≡◌ {A = Reads Tree} (mail_reading known options.limit raw) (Ok t) → Ends held_old held_new old new from next r (IsMailOf file can_fail options known number (Ok t))
     → Ends held_old held_new old new from next r (IsMail file can_fail options known number raw)
 read_ends file can_fail options known number raw held_old held_new old new from next (Ok outcome) t e h =
     saved_as held_old held_new old new from next outcome (IsMailOf file can_fail options known number (Ok t)) (IsMail file can_fail options known number raw)
@@ -209,7 +210,7 @@ read_ends file can_fail options known number raw held_old held_new old new from 
 
 -- the line of a refused mail
 pub refused_ends : (file : Option (List ℕ)) (can_fail : List File → Bool) (options : Options) (known : Charsets) (number : Option ℕ) (raw : List ℕ) (held : Option (List File)) (old new : Option (List ℕ)) (from : ℕ)
-    (r : Result Outcome Fault) (refusal : Refusal) (text : List ℕ) → ◌≡◌ {A = Reads Tree} (read_mail_in known 100 raw) (Err refusal) → text ≡ refusal_text refusal
+    (r : Result Outcome Fault) (refusal : Refusal) (text : List ℕ) → ◌≡◌ {A = Reads Tree} (mail_reading known options.limit raw) (Err refusal) → text ≡ refusal_text refusal
     → WritesAll old new r (refused_line file number None text ∷ []) → Ends held held old new from from r (IsMail file can_fail options known number raw)
 refused_ends file can_fail options known number raw held old new from (Ok outcome) refusal text read is_text h =
     let line = refused_line file number None text in

@@ -9,11 +9,12 @@ use Rattle.std.specs.List.{list_all}
 use Rattle.std.proofs.lemmas.List.{append-nil, length-append}
 use Rattle.std.proofs.lemmas.List.Concat.{flat_map-cons}
 use Rattle.mail_codec.specs.Charset.{Charsets}
-use Rattle.mailparse.specs.Mail.{Tree, read_mail_in}
+use Rattle.mailparse.specs.Mail.{Tree}
 use Rattle.mailparse.specs.Placement.{placements}
 use Rattle.mailparse.specs.Refusal.{Reads, Refusal}
-use Rattle.mail_data.specs.InnerMails.{InnerMail, inner_mails}
+use Rattle.mail_data.specs.InnerMails.{InnerMail, inner_mails_within}
 use Rattle.mail_data.specs.PartPlaces.{places}
+use Rattle.mail_data.specs.Reading.{mail_reading}
 use Rattle.mail_data.specs.Mailbox.{Entry, front_length}
 use Rattle.mail_data.specs.MailboxFormats.{entries_in, mail_in}
 use Rattle.mail_data.specs.declared.mailbox.formats.Format.{Format}
@@ -290,42 +291,42 @@ module _ (file : Option (List ℕ)) (options : Options) (by_sender : options.nam
   inner_fine number (Some refusal) path = refl
 
   keeps_inner : (number : Option ℕ) (inner : InnerMail) (files now : List File) (from next : ℕ) (lines : List FileLine)
-      → IsInside file fails_if_full options known number inner files from lines next now → Keeps files (chosen options.choice (wanted_inside known inner)) lines now
+      → IsInside file fails_if_full options known number inner files from lines next now → Keeps files (chosen options.choice (wanted_inside known options.limit inner)) lines now
   keeps_inner number inner files now from next lines h =
-      subst (λ (ls : List FileLine). Keeps files (chosen options.choice (wanted_inside known inner)) ls now) (sym h.6)
+      subst (λ (ls : List FileLine). Keeps files (chosen options.choice (wanted_inside known options.limit inner)) ls now) (sym h.6)
       (keeps_lines files now _ h.2 h.3 (ap failures h.5.0 ∙ inner_fine number inner.refusal inner.path)
-      (subst (λ (fs : List File). Keeps files (chosen options.choice (wanted_inside known inner)) h.2 fs) (sym h.5.2) (keeps_files number files h.0 _ from h.2 h.1 h.4)))
+      (subst (λ (fs : List File). Keeps files (chosen options.choice (wanted_inside known options.limit inner)) h.2 fs) (sym h.5.2) (keeps_files number files h.0 _ from h.2 h.1 h.4)))
 
   keeps_inside : (number : Option ℕ) (mails : List InnerMail) (files now : List File) (from next : ℕ) (lines : List FileLine)
-      → AreInside file fails_if_full options known number mails files from lines next now → Keeps files (chosen_inside known options.choice mails) lines now
+      → AreInside file fails_if_full options known number mails files from lines next now → Keeps files (chosen_inside known options.limit options.choice mails) lines now
   keeps_inside number [] files now from next lines h = subst (λ (fs : List File). Keeps files [] lines fs) (sym h.2) (keeps_only files lines (ap failures h.0))
   keeps_inside number (inner ∷ mails) files now from next lines h =
-      let files_of = λ (i : InnerMail). chosen options.choice (wanted_inside known i) in
-      subst (λ (ls : List FileLine). Keeps files (chosen_inside known options.choice (inner ∷ mails)) ls now) (sym h.6)
+      let files_of = λ (i : InnerMail). chosen options.choice (wanted_inside known options.limit i) in
+      subst (λ (ls : List FileLine). Keeps files (chosen_inside known options.limit options.choice (inner ∷ mails)) ls now) (sym h.6)
       (subst (λ (ws : List Wanted). Keeps files ws (h.2 ++ h.3) now) (sym (flat_map-cons files_of inner mails))
-      (keeps_then files h.0 now (files_of inner) (chosen_inside known options.choice mails) h.2 h.3 (keeps_inner number inner files h.0 from h.1 h.2 h.4) (keeps_inside number mails h.0 now h.1 next h.3 h.5)))
+      (keeps_then files h.0 now (files_of inner) (chosen_inside known options.limit options.choice mails) h.2 h.3 (keeps_inner number inner files h.0 from h.1 h.2 h.4) (keeps_inside number mails h.0 now h.1 next h.3 h.5)))
 
   keeps_mail : (number : Option ℕ) (read : Reads Tree) (files now : List File) (from next : ℕ) (lines : List FileLine)
-      → IsMailOf file fails_if_full options known number read files from lines next now → Keeps files (read_files known options.choice read) lines now
+      → IsMailOf file fails_if_full options known number read files from lines next now → Keeps files (read_files known options.limit options.choice read) lines now
   keeps_mail number (Ok t) files now from next lines h =
       let own = wanted_among known Own (places t (placements 0 t)) in
-      let mails = inner_mails known 100 [] (Some 0) t (placements 0 t) in
-      subst (λ (ls : List FileLine). Keeps files (chosen options.choice (wanted_files known t (placements 0 t))) ls now) (sym h.6)
-      (subst (λ (ws : List Wanted). Keeps files ws (h.2 ++ h.3) now) (chosen_all known options.choice own mails)
-      (keeps_then files h.0 now (chosen options.choice own) (chosen_inside known options.choice mails) h.2 h.3 (keeps_files number files h.0 _ from h.2 h.1 h.4) (keeps_inside number mails h.0 now h.1 next h.3 h.5)))
+      let mails = inner_mails_within known options.limit 100 [] (Some 0) t (placements 0 t) in
+      subst (λ (ls : List FileLine). Keeps files (chosen options.choice (wanted_files known options.limit t (placements 0 t))) ls now) (sym h.6)
+      (subst (λ (ws : List Wanted). Keeps files ws (h.2 ++ h.3) now) (chosen_all known options.limit options.choice own mails)
+      (keeps_then files h.0 now (chosen options.choice own) (chosen_inside known options.limit options.choice mails) h.2 h.3 (keeps_files number files h.0 _ from h.2 h.1 h.4) (keeps_inside number mails h.0 now h.1 next h.3 h.5)))
   keeps_mail number (Err refusal) files now from next lines h =
       subst (λ (fs : List File). Keeps files [] lines fs) (sym h.2) (keeps_only files lines (ap failures h.0))
 
   keeps_mails : (format : Format) (number : ℕ) (entries : List Entry) (files now : List File) (from next : ℕ) (lines : List FileLine)
       → AreMails file fails_if_full options known format number entries files from lines next now
-      → Keeps files (flat_map (λ entry. mail_files known options.choice (mail_in format entry.mail)) entries) lines now
+      → Keeps files (flat_map (λ entry. mail_files known options.limit options.choice (mail_in format entry.mail)) entries) lines now
   keeps_mails format number [] files now from next lines h = subst (λ (fs : List File). Keeps files [] lines fs) (sym h.2) (keeps_only files lines (ap failures h.0))
   keeps_mails format number (entry ∷ entries) files now from next lines h =
-      let files_of = λ (e : Entry). mail_files known options.choice (mail_in format e.mail) in
+      let files_of = λ (e : Entry). mail_files known options.limit options.choice (mail_in format e.mail) in
       subst (λ (ls : List FileLine). Keeps files (flat_map files_of (entry ∷ entries)) ls now) (sym h.6)
       (subst (λ (ws : List Wanted). Keeps files ws (h.2 ++ h.3) now) (sym (flat_map-cons files_of entry entries))
       (keeps_then files h.0 now (files_of entry) (flat_map files_of entries) h.2 h.3
-      (keeps_mail (Some number) (read_mail_in known 100 (mail_in format entry.mail)) files h.0 from h.1 h.2 h.4)
+      (keeps_mail (Some number) (mail_reading known options.limit (mail_in format entry.mail)) files h.0 from h.1 h.2 h.4)
       (keeps_mails format (saturating_add number 1) entries h.0 now h.1 next h.3 h.5)))
 
   front_fine : (front : List ℕ) (is : Bool) → failures (cond is [] (refused_line file None None front ∷ [])) ≡ 0
@@ -333,17 +334,17 @@ module _ (file : Option (List ℕ)) (options : Options) (by_sender : options.nam
   front_fine front false = refl
 
   keeps_input_of : (format : Format) (is : Bool) (bytes : List ℕ) (files now : List File) (from next : ℕ) (lines : List FileLine)
-      → IsInputOf file fails_if_full options known format is bytes files from lines next now → Keeps files (input_files_of known options.choice format is bytes) lines now
+      → IsInputOf file fails_if_full options known format is bytes files from lines next now → Keeps files (input_files_of known options.limit options.choice format is bytes) lines now
   keeps_input_of format true bytes files now from next lines h =
-      subst (λ (ls : List FileLine). Keeps files (input_files_of known options.choice format true bytes) ls now) (sym h.6)
-      (keeps_then files h.0 now [] (input_files_of known options.choice format true bytes) h.2 h.3
+      subst (λ (ls : List FileLine). Keeps files (input_files_of known options.limit options.choice format true bytes) ls now) (sym h.6)
+      (keeps_then files h.0 now [] (input_files_of known options.limit options.choice format true bytes) h.2 h.3
       (subst (λ (fs : List File). Keeps files [] h.2 fs) (sym h.4.2)
       (keeps_only files h.2 (ap failures h.4.0 ∙ front_fine _ (list_all is_ascii_whitespace (take (front_length bytes) bytes)))))
       (keeps_mails format 1 (entries_in format bytes) h.0 now h.1 next h.3 h.5))
-  keeps_input_of format false bytes files now from next lines h = keeps_mail None (read_mail_in known 100 bytes) files now from next lines h
+  keeps_input_of format false bytes files now from next lines h = keeps_mail None (mail_reading known options.limit bytes) files now from next lines h
 
   pub keeps_input : (kind : InputKind) (bytes : List ℕ) (files now : List File) (from next : ℕ) (lines : List FileLine)
-      → IsInput file fails_if_full options known kind bytes files from lines next now → Keeps files (input_files known options.choice kind bytes) lines now
+      → IsInput file fails_if_full options known kind bytes files from lines next now → Keeps files (input_files known options.limit options.choice kind bytes) lines now
   keeps_input kind bytes files now from next lines h = keeps_input_of (format_of kind) (is_mailbox kind bytes) bytes files now from next lines h
 
 -- ---- at the end, given the only file of the directory
@@ -392,7 +393,7 @@ module _ (file : Option (List ℕ)) (options : Options) (known : Charsets) (kind
     (old_lines new_lines left_before left : Option (List ℕ)) (from next : ℕ) (outcome : program.Outcome)
     (h : EndsInput (Some []) (Some (files_held directory)) old_lines new_lines from next left_before left (Ok outcome) (IsInput file fails_if_full options known kind)) where
   kept_all : (all : List ℕ) × Consumes left_before left all × IsAtEnd left × (lines : List FileLine) × (outcome ≡ worst lines)
-      × Keeps [] (input_files known options.choice kind all) lines (files_held directory)
+      × Keeps [] (input_files known options.limit options.choice kind all) lines (files_held directory)
   kept_all =
       let saved = h.3 in
       let after = saved.4 [] refl in (
@@ -401,20 +402,20 @@ module _ (file : Option (List ℕ)) (options : Options) (known : Charsets) (kind
         h.2,
         saved.0,
         saved.2,
-        subst (λ (fs : List File). Keeps [] (input_files known options.choice kind h.0) saved.0 fs) (sym (files_is (files_held directory) after.0 after.1))
+        subst (λ (fs : List File). Keeps [] (input_files known options.limit options.choice kind h.0) saved.0 fs) (sym (files_is (files_held directory) after.0 after.1))
             (keeps_input file options by_sender known kind h.0 [] after.0 from next saved.0 after.2),
       )
 
   held : (found : Option HeldFile) → directory.file ≡ found → files_held directory ≡ option_map_or (λ (f : HeldFile). (string_bytes f.name, f.bytes.items) ∷ []) found []
   held found e = ap (λ (o : Option HeldFile). option_map_or (λ (f : HeldFile). (string_bytes f.name, f.bytes.items) ∷ []) o []) e
 
-  pub missing_only : (old : Option (List ℕ)) → directory.file ≡ None → WritesOnly old old left_before left (Ok Missing) (input_files known options.choice kind)
+  pub missing_only : (old : Option (List ℕ)) → directory.file ≡ None → WritesOnly old old left_before left (Ok Missing) (input_files known options.limit options.choice kind)
   missing_only old e =
       let k = kept_all in
-      (k.0, k.1, k.2, (none_kept _ k.3 (subst (λ (fs : List File). Keeps [] (input_files known options.choice kind k.0) k.3 fs) (held None e) k.5), Appends-nil old))
+      (k.0, k.1, k.2, (none_kept _ k.3 (subst (λ (fs : List File). Keeps [] (input_files known options.limit options.choice kind k.0) k.3 fs) (held None e) k.5), Appends-nil old))
 
   pub several_only : (old : Option (List ℕ)) (found : HeldFile) → directory.file ≡ Some found → outcome ≡ Failed
-      → WritesOnly old old left_before left (Ok Several) (input_files known options.choice kind)
+      → WritesOnly old old left_before left (Ok Several) (input_files known options.limit options.choice kind)
   several_only old found e failed =
       let k = kept_all in (
         k.0,
@@ -422,19 +423,19 @@ module _ (file : Option (List ℕ)) (options : Options) (known : Charsets) (kind
         k.2,
         (
           several_kept _ k.3 (string_bytes found.name, found.bytes.items) (sym failed ∙ k.4)
-              (subst (λ (fs : List File). Keeps [] (input_files known options.choice kind k.0) k.3 fs) (held (Some found) e) k.5),
+              (subst (λ (fs : List File). Keeps [] (input_files known options.limit options.choice kind k.0) k.3 fs) (held (Some found) e) k.5),
           Appends-nil old,
         ),
       )
 
   pub written_only : (old new : Option (List ℕ)) (found : HeldFile) (bytes : List ℕ) → directory.file ≡ Some found → (outcome ≡ Failed → ⊥) → bytes ≡ found.bytes.items
-      → Appends old new bytes → WritesOnly old new left_before left (Ok (Written outcome)) (input_files known options.choice kind)
+      → Appends old new bytes → WritesOnly old new left_before left (Ok (Written outcome)) (input_files known options.limit options.choice kind)
   written_only old new found bytes e fine_is is_bytes p =
       let k = kept_all in
       let fine = not_failing outcome fine_is in
       let one =
       one_kept _ k.3 (string_bytes found.name, found.bytes.items) (ap failing (sym k.4) ∙ fine)
-      (subst (λ (fs : List File). Keeps [] (input_files known options.choice kind k.0) k.3 fs) (held (Some found) e) k.5) in (
+      (subst (λ (fs : List File). Keeps [] (input_files known options.limit options.choice kind k.0) k.3 fs) (held (Some found) e) k.5) in (
         k.0,
         k.1,
         k.2,

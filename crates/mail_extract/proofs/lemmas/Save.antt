@@ -9,11 +9,12 @@ use Rattle.std.specs.List.{list_any}
 use Rattle.std.specs.Option.{option_map_or}
 use Rattle.std.specs.Result.{result_ok}
 use Rattle.mail_codec.specs.Charset.{Charsets}
-use Rattle.mailparse.specs.Mail.{Tree, read_mail_in}
+use Rattle.mailparse.specs.Mail.{Tree}
 use Rattle.mailparse.specs.Placement.{placements}
 use Rattle.mailparse.specs.Refusal.{Reads, Refusal}
 use Rattle.mail_data.specs.InnerMails.{InnerMail, places_under}
 use Rattle.mail_data.specs.PartPlaces.{Place}
+use Rattle.mail_data.specs.Reading.{mail_reading}
 use Rattle.mail_data.specs.lenient.Content.{Content}
 use Rattle.mail_extract.specs.Choice.{Choice}
 use Rattle.mail_data.specs.Files.{is_extracted}
@@ -107,34 +108,34 @@ module _ (known : Charsets) (choice : Choice) (level : Level) where
       ∙ filter-append (is_chosen choice) (wanted_among known level (place ∷ [])) _
 
 -- the chosen files of the mails inside a mail
-abbrev pub chosen_inside : Charsets → Choice → List InnerMail → List Wanted
-chosen_inside known choice mails = flat_map (λ inner. chosen choice (wanted_inside known inner)) mails
+abbrev pub chosen_inside : Charsets → ℕ → Choice → List InnerMail → List Wanted
+chosen_inside known limit choice mails = flat_map (λ inner. chosen choice (wanted_inside known limit inner)) mails
 
-chosen-inside : (known : Charsets) (choice : Choice) (mails : List InnerMail)
-    → chosen choice (flat_map (wanted_inside known) mails) ≡ chosen_inside known choice mails
-chosen-inside known choice [] = refl
-chosen-inside known choice (inner ∷ mails) =
-    ap (chosen choice) (flat_map-cons (wanted_inside known) inner mails)
-    ∙ filter-append (is_chosen choice) (wanted_inside known inner) _
-    ∙ ap (λ (files : List Wanted). chosen choice (wanted_inside known inner) ++ files) (chosen-inside known choice mails)
-    ∙ sym (flat_map-cons (λ i. chosen choice (wanted_inside known i)) inner mails)
+chosen-inside : (known : Charsets) (limit : ℕ) (choice : Choice) (mails : List InnerMail)
+    → chosen choice (flat_map (wanted_inside known limit) mails) ≡ chosen_inside known limit choice mails
+chosen-inside known limit choice [] = refl
+chosen-inside known limit choice (inner ∷ mails) =
+    ap (chosen choice) (flat_map-cons (wanted_inside known limit) inner mails)
+    ∙ filter-append (is_chosen choice) (wanted_inside known limit inner) _
+    ∙ ap (λ (files : List Wanted). chosen choice (wanted_inside known limit inner) ++ files) (chosen-inside known limit choice mails)
+    ∙ sym (flat_map-cons (λ i. chosen choice (wanted_inside known limit i)) inner mails)
 
 -- the chosen files of a mail, and of those inside it
-pub chosen_all : (known : Charsets) (choice : Choice) (own : List Wanted) (mails : List InnerMail)
-    → chosen choice own ++ chosen_inside known choice mails ≡ chosen choice (own ++ flat_map (wanted_inside known) mails)
-chosen_all known choice own mails =
-    ap (λ (files : List Wanted). chosen choice own ++ files) (sym (chosen-inside known choice mails))
+pub chosen_all : (known : Charsets) (limit : ℕ) (choice : Choice) (own : List Wanted) (mails : List InnerMail)
+    → chosen choice own ++ chosen_inside known limit choice mails ≡ chosen choice (own ++ flat_map (wanted_inside known limit) mails)
+chosen_all known limit choice own mails =
+    ap (λ (files : List Wanted). chosen choice own ++ files) (sym (chosen-inside known limit choice mails))
     ∙ sym (filter-append (is_chosen choice) own _)
 
 -- the files of a mail inside a mail that was read so
-pub inside_read : (known : Charsets) (inner : InnerMail) (t : Tree) → read_mail_in known 100 inner.bytes ≡ Ok t
-    → wanted_inside known inner ≡ wanted_among known Inside (places_under inner.path t (placements 0 t))
-inside_read known inner t e =
+pub inside_read : (known : Charsets) (limit : ℕ) (inner : InnerMail) (t : Tree) → mail_reading known limit inner.bytes ≡ Ok t
+    → wanted_inside known limit inner ≡ wanted_among known Inside (places_under inner.path t (placements 0 t))
+inside_read known limit inner t e =
     ap (λ (r : Reads Tree). option_map_or (λ u. wanted_among known Inside (places_under inner.path u (placements 0 u))) (result_ok r) []) e
 
 -- a refused mail has none
-pub inside_refused : (known : Charsets) (inner : InnerMail) (refusal : Refusal) → read_mail_in known 100 inner.bytes ≡ Err refusal → wanted_inside known inner ≡ []
-inside_refused known inner refusal e =
+pub inside_refused : (known : Charsets) (limit : ℕ) (inner : InnerMail) (refusal : Refusal) → mail_reading known limit inner.bytes ≡ Err refusal → wanted_inside known limit inner ≡ []
+inside_refused known limit inner refusal e =
     ap (λ (r : Reads Tree). option_map_or (λ u. wanted_among known Inside (places_under inner.path u (placements 0 u))) (result_ok r) []) e
 
 -- no number is below the first

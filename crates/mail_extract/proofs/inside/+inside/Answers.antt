@@ -2,7 +2,6 @@ use Rattle.std.proofs.Common.{◌≡◌, ◌≢◌, ◌+◌, ◌-◌, ℕ, List,
 use Rattle.std.proofs.lemmas.List.{drop_all}
 use Rattle.std.specs.Cow.{cow_slice_items}
 use Rattle.std.specs.Prelude.{flat_map}
-use Rattle.mailparse.specs.Mail.{read_mail_in}
 use Rattle.mailparse.specs.Map.{text_found}
 use Rattle.mailparse.specs.Outcome.{IsRefusalOrMemory}
 use Rattle.mailparse.specs.Placement.{Placement}
@@ -10,6 +9,7 @@ use Rattle.mailparse.specs.Views.{placements_of, tree_of}
 use Rattle.mail_data.specs.InnerMailViews.{forwarded_view}
 use Rattle.mail_data.specs.InnerMails.{mails_in_place, places_under}
 use Rattle.mail_data.specs.PlaceViews.{place_view}
+use Rattle.mail_data.specs.Reading.{mail_reading}
 use Rattle.mail_data.proofs.lemmas.InnerMails.{drop_next, not_forwarded}
 use Rattle.mail_json.proofs.lemmas.Inside.{among_none, among_some}
 use Rattle.mail_extract.specs.ChoiceViews.{options_view}
@@ -24,12 +24,12 @@ extract_inside-returns-then-within-eq0 g t c =
     let known = g.K.KnownCharsets.known c.args.source.known.now in
     let most_none : c.args.within.most ≡ 0 = grind (arith) in
     inside_none (option_map (λ name. name.now) c.args.source.file) g.D.Directory.can_fail (options_view c.args.source.options) known c.args.within.number _ _ _ _
-    (among_none known c.args.within.most c.args.within.start (map place_view c.args.places.now) most_none)
+    (among_none known c.args.source.options.limit c.args.within.most c.args.within.start (map place_view c.args.places.now) most_none)
 
 pub extract_inside-loop-place-init : goal.extract_inside-loop-place-init
 extract_inside-loop-place-init g t c =
     let known = g.K.KnownCharsets.known c.args.source.known.now in
-    let step = mails_in_place known (c.args.within.most - 1) c.args.within.start in
+    let step = mails_in_place known c.args.source.options.limit (c.args.within.most - 1) c.args.within.start in
     let Inside = AreInside (option_map (λ name. name.now) c.args.source.file) g.D.Directory.can_fail (options_view c.args.source.options) known c.args.within.number in
     let mails = flat_map step (map place_view c.args.places.now) in
     before_start _ _ _ (λ later. Inside mails) (λ later. Inside mails) (λ later files from lines next now h. h)
@@ -40,7 +40,7 @@ extract_inside-loop-place-preserved g t c =
     let file = option_map (λ name. name.now) c.args.source.file in
     let options = options_view c.args.source.options in
     let number = c.args.within.number in
-    let step = mails_in_place known (c.args.within.most - 1) c.args.within.start in
+    let step = mails_in_place known c.args.source.options.limit (c.args.within.most - 1) c.args.within.start in
     let places = c.args.places.now in
     let i = c.loop-place.place-index in
     let place = place_view c.place-item.result in
@@ -57,12 +57,12 @@ extract_inside-returns g t c =
     let file = option_map (λ name. name.now) c.args.source.file in
     let options = options_view c.args.source.options in
     let number = c.args.within.number in
-    let step = mails_in_place known (c.args.within.most - 1) c.args.within.start in
+    let step = mails_in_place known c.args.source.options.limit (c.args.within.most - 1) c.args.within.start in
     let places = c.args.places.now in
     let i = c.loop-place.place-index in
     let most_some : c.args.within.most ≢ 0 = grind (arith) in
     let none = ap (map place_view) (drop_all i places (omega arith)) in
-    let some = among_some known c.args.within.most c.args.within.start (map place_view places) most_some in
+    let some = among_some known c.args.source.options.limit c.args.within.most c.args.within.start (map place_view places) most_some in
     let Inside = AreInside file g.D.Directory.can_fail options known number in
     inside_same file g.D.Directory.can_fail options known number _ _ _ _ _ _ _ _ _ some
     (before_end _ _ _ _ _ _ _ (λ later. Inside (flat_map step (map place_view places))) (λ later. Inside (flat_map step (map place_view (drop i places)))) []
@@ -74,7 +74,7 @@ extract_forwarded-returns-in_default g t c =
     let within = c.args.within in
     let place = place_view c.args.place.now in
     let none = ap (option_map forwarded_view) (sym c.in_default.is) ∙ c.in_ok-found.ensures.read in
-    inside_none (option_map (λ name. name.now) c.args.source.file) g.D.Directory.can_fail (options_view c.args.source.options) known within.number _ _ _ _ (not_forwarded known within.most within.start place none)
+    inside_none (option_map (λ name. name.now) c.args.source.file) g.D.Directory.can_fail (options_view c.args.source.options) known within.number _ _ _ _ (not_forwarded known c.args.source.options.limit within.most within.start place none)
 
 pub extract_forwarded-returns-in-Ok : goal.extract_forwarded-returns-in-Ok
 extract_forwarded-returns-in-Ok g t c =
@@ -85,7 +85,7 @@ extract_forwarded-returns-in-Ok g t c =
     let bytes = cow_slice_items found.bytes in
     let some = ap (option_map forwarded_view) (sym c.in-Some.is) ∙ c.in_ok-found.ensures.read in
     let mail = c.in-Ok.mail in
-    let read = ap (λ (b : List ℕ). read_mail_in known 100 b) (sym c.as_slice.ensures.value) ∙ c.in-Ok.ensures.read in
+    let read = ap (λ (b : List ℕ). mail_reading known c.args.source.options.limit b) (sym c.as_slice.ensures.value) ∙ c.in-Ok.ensures.read in
     let parts =
     c.in_ok-parts-in-Ok.ensures ∙ ap (λ (p : List ℕ). places_under p (tree_of mail) (placements_of mail)) c.as_str-path.ensures.value
     ∙ ap (λ (ps : List Placement). places_under place.path (tree_of mail) ps) c.in-Ok.ensures.places in
@@ -104,7 +104,7 @@ extract_forwarded-returns g t c =
     let some = ap (option_map forwarded_view) (sym c.in-Some.is) ∙ c.in_ok-found.ensures.read in
     let error = c.in-Err.error in
     let text = ap text_found (sym c.in-Some-2.is) ∙ c.in_ok-text-in-Err.ensures.read in
-    let refused = subst (λ (b : List ℕ). IsRefusalOrMemory error (read_mail_in known 100 b)) c.as_slice.ensures.value c.in-Err.ensures.read in
-    let read = refused_read error (read_mail_in known 100 bytes) (string_bytes c.in-Some-2.text) text refused in
+    let refused = subst (λ (b : List ℕ). IsRefusalOrMemory error (mail_reading known c.args.source.options.limit b)) c.as_slice.ensures.value c.in-Err.ensures.read in
+    let read = refused_read error (mail_reading known c.args.source.options.limit bytes) (string_bytes c.in-Some-2.text) text refused in
     inside_line (option_map (λ name. name.now) c.args.source.file) g.D.Directory.can_fail (options_view c.args.source.options) known within.number within.most within.start found.start place bytes some
     _ _ _ _ c.report_refused.result read.0 c.as_str.result.now c.as_str-path.result.now read.1 (c.as_str.ensures.value ∙ read.2) c.as_str-path.ensures.value c.report_refused.ensures

@@ -17,7 +17,7 @@ decreases-extract_forwarded g l = 2 * l.within.most + 1
 abbrev pub invariant-extract_inside-loop-place : goal.invariant-extract_inside-loop-place
 invariant-extract_inside-loop-place g l =
     let known = g.K.KnownCharsets.known l.source.known.now in
-    let step = mails_in_place known (l.within.most - 1) l.within.start in
+    let step = mails_in_place known l.source.options.limit (l.within.most - 1) l.within.start in
     let Inside = AreInside (option_map (λ name. name.now) l.initial.source.file) g.D.Directory.can_fail (options_view l.initial.source.options) known l.within.number in
     Saved (g.D.Directory.held l.initial.target.directory) (g.D.Directory.held l.target.directory) (g.W.Write.contents l.initial.out) (g.W.Write.contents l.out) l.initial.target.number l.target.number l.outcome
     (Before (λ later. Inside (flat_map step (map place_view l.places))) (λ later. Inside (flat_map step (map place_view (drop l.place-index l.places)))))
