@@ -622,33 +622,20 @@ static uint32_t find(struct request *it, struct found *found, size_t record_size
     return code;
 }
 
-static uint32_t call_type(struct request *it, void *buffer, size_t capacity, size_t *needed)
-{
-    struct found *found = buffer;
-    (void)capacity;
-    (void)needed;
-    return rocktray_type(INPUT, found->records, found->record_capacity, &found->record_count, found->buffer,
-                         found->capacity, &found->length);
-}
+/* defines call_NAME, which makes the call rocktray_NAME, whose results are records and strings */
+#define CALL_FOR_RECORDS(name)                                                                                         \
+    static uint32_t call_##name(struct request *it, void *buffer, size_t capacity, size_t *needed)                     \
+    {                                                                                                                  \
+        struct found *found = buffer;                                                                                  \
+        (void)capacity;                                                                                                \
+        (void)needed;                                                                                                  \
+        return rocktray_##name(INPUT, found->records, found->record_capacity, &found->record_count, found->buffer,     \
+                               found->capacity, &found->length);                                                       \
+    }
 
-static uint32_t call_addresses(struct request *it, void *buffer, size_t capacity, size_t *needed)
-{
-    struct found *found = buffer;
-    (void)capacity;
-    (void)needed;
-    return rocktray_addresses(INPUT, found->records, found->record_capacity, &found->record_count, found->buffer,
-                              found->capacity, &found->length);
-}
-
-static uint32_t call_report(struct request *it, void *buffer, size_t capacity, size_t *needed)
-{
-    struct found *found = buffer;
-    (void)capacity;
-    (void)needed;
-    return rocktray_report(INPUT, found->records, found->record_capacity, &found->record_count, found->buffer,
-                           found->capacity, &found->length);
-}
-
+CALL_FOR_RECORDS(type)
+CALL_FOR_RECORDS(addresses)
+CALL_FOR_RECORDS(report)
 CALL(file_name, OTHER, INPUT)
 
 /* The k-th string of a type. */
