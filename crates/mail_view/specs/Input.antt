@@ -4,10 +4,11 @@ use Rattle.std.specs.Char.{is_ascii_whitespace}
 use Rattle.std.specs.Io.KnownBytes.{Appends}
 use Rattle.std.specs.List.{list_all}
 use Rattle.mail_codec.specs.Charset.{Charsets}
-use Rattle.mailparse.specs.Mail.{Tree, read_mail_in}
+use Rattle.mailparse.specs.Mail.{Tree}
 use Rattle.mailparse.specs.Refusal.{Reads}
 use Rattle.mail_data.specs.Mailbox.{Entry, front_length}
 use Rattle.mail_data.specs.MailboxFormats.{entries_in, mail_in}
+use Rattle.mail_data.specs.Reading.{mail_reading}
 use Rattle.mail_data.specs.declared.mailbox.formats.Format.{Format}
 use Rattle.mail_html.specs.declared.references.References.{References}
 use Rattle.mail_program.specs.Fault.{IsEnd}
@@ -55,12 +56,12 @@ front_outcome false = outcomes.Refused
 abbrev pub is_front_white : List ℕ → Bool
 is_front_white bytes = list_all is_ascii_whitespace (take (front_length bytes) bytes)
 
--- the outcome of the bytes of a mail, under the charsets that are known
-abbrev pub single_outcome : Charsets → List ℕ → Outcome
-single_outcome known bytes = reading_outcome (read_mail_in known 100 bytes)
+-- the outcome of the bytes of a mail, under the charsets that are known, and this limit on its messages, parts and headers
+abbrev pub single_outcome : Charsets → ℕ → List ℕ → Outcome
+single_outcome known limit bytes = reading_outcome (mail_reading known limit bytes)
 
--- Under the references of HTML and the charsets that are known.
-module _ (references : References) (known : Charsets) where
+-- Under the references of HTML, the charsets that are known, and this limit.
+module _ (references : References) (known : Charsets) (limit : ℕ) where
   -- the lines of a mail that was read, or why it is refused
   abbrev pub reading_lines : Reads Tree → List Line
   reading_lines (Ok mail) = view_lines references known mail
@@ -68,25 +69,25 @@ module _ (references : References) (known : Charsets) where
 
   -- the lines of the bytes of a mail
   abbrev pub single_lines : List ℕ → List Line
-  single_lines bytes = reading_lines (read_mail_in known 100 bytes)
+  single_lines bytes = reading_lines (mail_reading known limit bytes)
 
--- Of a mailbox in this format, under the charsets that are known.
-module _ (known : Charsets) (format : Format) where
+-- Of a mailbox in this format, under the charsets that are known, and this limit.
+module _ (known : Charsets) (limit : ℕ) (format : Format) where
   -- the worst outcome of mails
   abbrev pub mails_outcome : List Entry → Outcome
   mails_outcome [] = outcomes.Clean
-  mails_outcome (entry ∷ entries) = worse (single_outcome known (mail_in format entry.mail)) (mails_outcome entries)
+  mails_outcome (entry ∷ entries) = worse (single_outcome known limit (mail_in format entry.mail)) (mails_outcome entries)
 
   -- the outcome of a mailbox
   abbrev pub mailbox_outcome : List ℕ → Outcome
   mailbox_outcome bytes = worse (front_outcome (is_front_white bytes)) (mails_outcome (entries_in format bytes))
 
 -- The same, and under the references of HTML.
-module _ (references : References) (known : Charsets) (format : Format) where
+module _ (references : References) (known : Charsets) (limit : ℕ) (format : Format) where
   -- the lines of a mail with this number, between its title and an empty line
   abbrev pub numbered_lines : ℕ → Entry → List Line
   numbered_lines number entry =
-      title (codes "mail " ++ decimal number) ∷ (single_lines references known (mail_in format entry.mail) ++ empty ∷ [])
+      title (codes "mail " ++ decimal number) ∷ (single_lines references known limit (mail_in format entry.mail) ++ empty ∷ [])
 
   -- the lines of mails, the first of which has this number
   abbrev pub mails_lines : ℕ → List Entry → List Line

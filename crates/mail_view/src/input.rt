@@ -14,9 +14,10 @@ use crate::line::{Prefix, push_line};
 use crate::view::write_view;
 use mail_data::mailbox::quoted::unquoted;
 use mail_data::mailbox::{Format, Mailbox, MailboxEntry, read_mailbox};
+use mail_data::reading::read_mail;
 use mail_html::References;
 use mail_program::{Fault, Outcome, is_all_whitespace, refusal_of};
-use mailparse::{KnownCharsets, parse_mail_in};
+use mailparse::KnownCharsets;
 use std::alloc::Global;
 use std::io::Write;
 
@@ -48,7 +49,7 @@ pub fn write_title<W: Write>(alloc: Global, out: &mut W, name: &str) -> Result<(
 }
 
 /// Writes an input that is one mail, as `view_of` returns it, or a line that says why it is
-/// refused. Returns whether it was.
+/// refused: a mail with more than `limit` messages, parts and headers is. Returns whether it was.
 ///
 /// Allocates the mail and its view.
 ///
@@ -60,17 +61,19 @@ pub fn write_title<W: Write>(alloc: Global, out: &mut W, name: &str) -> Result<(
 /// # Examples
 ///
 /// ```rust
+/// use mail_data::reading::DEFAULT_LIMIT;
 /// use mail_html::References;
 /// use mail_program::Outcome;
 /// use mail_view::write_single;
 ///
 /// let references = References::standard();
 /// let mut out = Vec::new(alloc);
-/// let outcome = write_single(alloc, &mut out, b"Subject: Hi\n\n", &references, &())?;
+/// let mail = b"Subject: Hi\n\n";
+/// let outcome = write_single(alloc, &mut out, mail, DEFAULT_LIMIT, &references, &())?;
 /// assert_eq!(rt; outcome, Outcome::Clean);
 /// assert!(rt; out.as_slice().starts_with(b"Subject:  Hi\n"));
 /// let mut out = Vec::new(alloc);
-/// let outcome = write_single(alloc, &mut out, b" Hi", &references, &())?;
+/// let outcome = write_single(alloc, &mut out, b" Hi", DEFAULT_LIMIT, &references, &())?;
 /// assert_eq!(rt; outcome, Outcome::Refused);
 /// assert!(rt; out.as_slice().starts_with(b"Refused:  Header cannot start with a space"));
 /// ```
@@ -78,14 +81,15 @@ pub fn write_single<W: Write, K: KnownCharsets>(
     alloc: Global,
     out: &mut W,
     input: &[u8],
+    limit: usize,
     references: &References<'_>,
     known: &K,
 ) -> Result<Outcome, Fault>
     ensures { WritesWith (W.contents out.old) (W.contents out.new) result
-        (lines_text (single_lines references.now (K.known known.now) input.now))
-        (single_outcome (K.known known.now) input.now) }
+        (lines_text (single_lines references.now (K.known known.now) limit input.now))
+        (single_outcome (K.known known.now) limit input.now) }
 {
-    match parse_mail_in(alloc, input, known) {
+    match read_mail(alloc, input, limit, known) {
         Ok(mail) => {
             write_view(alloc, out, &mail, references, known)?;
             Ok(Outcome::Clean)
@@ -115,13 +119,15 @@ pub fn write_single<W: Write, K: KnownCharsets>(
 ///
 /// ```rust
 /// use mail_data::mailbox::Format;
+/// use mail_data::reading::DEFAULT_LIMIT;
 /// use mail_html::References;
 /// use mail_program::Outcome;
 /// use mail_view::write_mailbox;
 ///
 /// let raw = b"From a Fri Jul  8 12:08:34 2011\nSubject: 1\n\none\n\n";
 /// let mut out = Vec::new(alloc);
-/// let outcome = write_mailbox(alloc, &mut out, raw, Format::Plain, &References::standard(), &())?;
+/// let (format, references) = (Format::Plain, References::standard());
+/// let outcome = write_mailbox(alloc, &mut out, raw, format, DEFAULT_LIMIT, &references, &())?;
 /// assert_eq!(rt; outcome, Outcome::Clean);
 /// assert!(rt; out.as_slice().starts_with(b"-- mail 1 --\nSubject:  1\n\n  one\n\n"));
 /// ```
@@ -130,17 +136,18 @@ pub fn write_mailbox<W: Write, K: KnownCharsets>(
     out: &mut W,
     input: &[u8],
     format: Format,
+    limit: usize,
     references: &References<'_>,
     known: &K,
 ) -> Result<Outcome, Fault>
     ensures { WritesWith (W.contents out.old) (W.contents out.new) result
-        (lines_text (mailbox_lines references.now (K.known known.now) format input.now))
-        (mailbox_outcome (K.known known.now) format input.now) }
+        (lines_text (mailbox_lines references.now (K.known known.now) limit format input.now))
+        (mailbox_outcome (K.known known.now) limit format input.now) }
 {
     let mails = read_mailbox(input, format);
     let front = mails.front();
     let outcome = write_front(alloc, out, front)?;
-    Ok(outcome.and(write_mails(alloc, out, mails, format, references, known)?))
+    Ok(outcome.and(write_mails(alloc, out, mails, format, limit, references, known)?))
 }
 
 /// Writes a line for the text before the first mail of a mailbox, unless it is whitespace.
@@ -164,19 +171,20 @@ fn write_mails<W: Write, K: KnownCharsets>(
     out: &mut W,
     mails: Mailbox<'_>,
     format: Format,
+    limit: usize,
     references: &References<'_>,
     known: &K,
 ) -> Result<Outcome, Fault>
     ensures { WritesWith (W.contents out.old) (W.contents out.new) result
-        (lines_text (mails_lines references.now (K.known known.now) format 1
+        (lines_text (mails_lines references.now (K.known known.now) limit format 1
         (entries_left mails.entry)))
-        (mails_outcome (K.known known.now) format (entries_left mails.entry)) }
+        (mails_outcome (K.known known.now) limit format (entries_left mails.entry)) }
 {
     let mut number = 1u64;
     let mut outcome = Outcome::Clean;
     for entry in mails {
         write_number(alloc, out, number)?;
-        outcome = outcome.and(write_entry(alloc, out, &entry, format, references, known)?);
+        outcome = outcome.and(write_entry(alloc, out, &entry, format, limit, references, known)?);
         write_empty_line(out)?;
         number = number.saturating_add(1);
     }
@@ -198,25 +206,27 @@ fn write_entry<W: Write, K: KnownCharsets>(
     out: &mut W,
     entry: &MailboxEntry<'_>,
     format: Format,
+    limit: usize,
     references: &References<'_>,
     known: &K,
 ) -> Result<Outcome, Fault>
     ensures { WritesWith (W.contents out.old) (W.contents out.new) result
-        (lines_text (single_lines references.now (K.known known.now)
+        (lines_text (single_lines references.now (K.known known.now) limit
         (mail_in format entry.now.mail)))
-        (single_outcome (K.known known.now) (mail_in format entry.now.mail)) }
+        (single_outcome (K.known known.now) limit (mail_in format entry.now.mail)) }
 {
     match format {
         Format::Plain | Format::Counted => write_single(
             alloc,
             out,
             entry.mail(),
+            limit,
             references,
             known,
         ),
         Format::Quoted => {
             let mail = unquoted(alloc, entry.mail())?;
-            write_single(alloc, out, mail.as_slice(), references, known)
+            write_single(alloc, out, mail.as_slice(), limit, references, known)
         }
     }
 }

@@ -6,10 +6,11 @@ use Rattle.std.specs.Char.{is_ascii_whitespace}
 use Rattle.std.specs.Io.KnownBytes.{Appends}
 use Rattle.std.specs.List.{list_all}
 use Rattle.mail_codec.specs.Charset.{Charsets}
-use Rattle.mailparse.specs.Mail.{Tree, read_mail_in}
+use Rattle.mailparse.specs.Mail.{Tree}
 use Rattle.mailparse.specs.Refusal.{Reads}
 use Rattle.mail_data.specs.Mailbox.{Entry, front_length}
 use Rattle.mail_data.specs.MailboxFormats.{entries_in, mail_in}
+use Rattle.mail_data.specs.Reading.{mail_reading}
 use Rattle.mail_data.specs.declared.mailbox.formats.Format.{Format}
 use Rattle.mail_html.specs.declared.references.References.{References}
 use Rattle.mail_program.specs.Outcome.{worse}
@@ -46,73 +47,73 @@ front_written old mid new is_white e p q =
     (refl, subst (λ t. Appends old new (reason ++ t)) (sym (append-nil (line_text empty))) (Appends-trans old mid new reason (line_text empty) p q))
 
 -- a mail that was read
-pub read_written : (references : References) (known : Charsets) (old new : Option (List ℕ)) (bytes : List ℕ) (mail : Tree) → read_mail_in known 100 bytes ≡ Ok mail
-    → Appends old new (view_text references known mail) → (Clean ≡ single_outcome known bytes) × Appends old new (lines_text (single_lines references known bytes))
+pub read_written : (references : References) (known : Charsets) (limit : ℕ) (old new : Option (List ℕ)) (bytes : List ℕ) (mail : Tree) → mail_reading known limit bytes ≡ Ok mail
+    → Appends old new (view_text references known mail) → (Clean ≡ single_outcome known limit bytes) × Appends old new (lines_text (single_lines references known limit bytes))
 unfolding view_text
-read_written references known old new bytes mail e p =
-    subst (λ (r : Reads Tree). (Clean ≡ reading_outcome r) × Appends old new (lines_text (reading_lines references known r))) (sym e) (refl, p)
+read_written references known limit old new bytes mail e p =
+    subst (λ (r : Reads Tree). (Clean ≡ reading_outcome r) × Appends old new (lines_text (reading_lines references known limit r))) (sym e) (refl, p)
 
 -- the front of a mailbox, and then its mails
-pub mailbox_written : (references : References) (known : Charsets) (format : Format) (old mid new : Option (List ℕ)) (bytes front : List ℕ) (left : List Entry) (one two both : Outcome)
+pub mailbox_written : (references : References) (known : Charsets) (limit : ℕ) (format : Format) (old mid new : Option (List ℕ)) (bytes front : List ℕ) (left : List Entry) (one two both : Outcome)
     → both ≡ worse one two → front ≡ take (front_length bytes) bytes → left ≡ entries_in format bytes
     → (one ≡ front_outcome (list_all is_ascii_whitespace front)) × Appends old mid (lines_text (front_lines (list_all is_ascii_whitespace front)))
-    → (two ≡ mails_outcome known format left) × Appends mid new (lines_text (mails_lines references known format 1 left))
-    → (both ≡ mailbox_outcome known format bytes) × Appends old new (lines_text (mailbox_lines references known format bytes))
-mailbox_written references known format old mid new bytes front left one two both e front_is left_is p q =
+    → (two ≡ mails_outcome known limit format left) × Appends mid new (lines_text (mails_lines references known limit format 1 left))
+    → (both ≡ mailbox_outcome known limit format bytes) × Appends old new (lines_text (mailbox_lines references known limit format bytes))
+mailbox_written references known limit format old mid new bytes front left one two both e front_is left_is p q =
     let white = λ (f : List ℕ). list_all is_ascii_whitespace f in
     let outcome =
     e ∙ ap (λ o. worse o two) p.0 ∙ ap (λ o. worse (front_outcome (white front)) o) q.0
-    ∙ ap (λ (f : List ℕ). worse (front_outcome (white f)) (mails_outcome known format left)) front_is
-    ∙ ap (λ (es : List Entry). worse (front_outcome (is_front_white bytes)) (mails_outcome known format es)) left_is in
+    ∙ ap (λ (f : List ℕ). worse (front_outcome (white f)) (mails_outcome known limit format left)) front_is
+    ∙ ap (λ (es : List Entry). worse (front_outcome (is_front_white bytes)) (mails_outcome known limit format es)) left_is in
     let text =
-    sym (lines_append (front_lines (white front)) (mails_lines references known format 1 left))
-    ∙ ap (λ (f : List ℕ). lines_text (front_lines (white f) ++ mails_lines references known format 1 left)) front_is
-    ∙ ap (λ (es : List Entry). lines_text (front_lines (is_front_white bytes) ++ mails_lines references known format 1 es)) left_is in
+    sym (lines_append (front_lines (white front)) (mails_lines references known limit format 1 left))
+    ∙ ap (λ (f : List ℕ). lines_text (front_lines (white f) ++ mails_lines references known limit format 1 left)) front_is
+    ∙ ap (λ (es : List Entry). lines_text (front_lines (is_front_white bytes) ++ mails_lines references known limit format 1 es)) left_is in
     (outcome, subst (λ t. Appends old new t) text (Appends-trans old mid new _ _ p.1 q.1))
 
 -- Under the charsets that are known, of a mailbox in this format.
-module _ (references : References) (known : Charsets) (format : Format) where
+module _ (references : References) (known : Charsets) (limit : ℕ) (format : Format) where
   -- the text of the first mail, and then of the others
   pub mails_first : (number : ℕ) (entry : Entry) (rest : List Entry)
-      → lines_text (mails_lines references known format number (entry ∷ rest))
-      ≡ (line_text (title (codes "mail " ++ decimal number)) ++ (lines_text (single_lines references known (mail_in format entry.mail)) ++ line_text empty))
-      ++ lines_text (mails_lines references known format (next_number number) rest)
+      → lines_text (mails_lines references known limit format number (entry ∷ rest))
+      ≡ (line_text (title (codes "mail " ++ decimal number)) ++ (lines_text (single_lines references known limit (mail_in format entry.mail)) ++ line_text empty))
+      ++ lines_text (mails_lines references known limit format (next_number number) rest)
   mails_first number entry rest =
-      let mail = single_lines references known (mail_in format entry.mail) in
+      let mail = single_lines references known limit (mail_in format entry.mail) in
       let head = line_text (title (codes "mail " ++ decimal number)) in
       let inner : lines_text (mail ++ empty ∷ []) ≡ lines_text mail ++ line_text empty =
       lines_append mail (empty ∷ []) ∙ ap (λ t. lines_text mail ++ t) (append-nil (line_text empty)) in
-      lines_append (title (codes "mail " ++ decimal number) ∷ (mail ++ empty ∷ [])) (mails_lines references known format (next_number number) rest)
-      ∙ ap (λ t. (head ++ t) ++ lines_text (mails_lines references known format (next_number number) rest)) inner
+      lines_append (title (codes "mail " ++ decimal number) ∷ (mail ++ empty ∷ [])) (mails_lines references known limit format (next_number number) rest)
+      ∙ ap (λ t. (head ++ t) ++ lines_text (mails_lines references known limit format (next_number number) rest)) inner
 
   -- what was written with one more mail, and then the others
   pub mails_next : (done next : List ℕ) (number after : ℕ) (entry : Entry) (left rest : List Entry) (all : List ℕ) → after ≡ next_number number → left ≡ entry ∷ rest
-      → next ≡ done ++ (line_text (title (codes "mail " ++ decimal number)) ++ (lines_text (single_lines references known (mail_in format entry.mail)) ++ line_text empty))
-      → done ++ lines_text (mails_lines references known format number left) ≡ all → next ++ lines_text (mails_lines references known format after rest) ≡ all
+      → next ≡ done ++ (line_text (title (codes "mail " ++ decimal number)) ++ (lines_text (single_lines references known limit (mail_in format entry.mail)) ++ line_text empty))
+      → done ++ lines_text (mails_lines references known limit format number left) ≡ all → next ++ lines_text (mails_lines references known limit format after rest) ≡ all
   mails_next done next number after entry left rest all is e made here =
-      let others = lines_text (mails_lines references known format (next_number number) rest) in
-      ap (λ n. next ++ lines_text (mails_lines references known format n rest)) is
+      let others = lines_text (mails_lines references known limit format (next_number number) rest) in
+      ap (λ n. next ++ lines_text (mails_lines references known limit format n rest)) is
       ∙ ap (λ t. t ++ others) made
       ∙ append_assoc done _ others
       ∙ ap (λ t. done ++ t) (sym (mails_first number entry rest))
-      ∙ ap (λ es. done ++ lines_text (mails_lines references known format number es)) (sym e)
+      ∙ ap (λ es. done ++ lines_text (mails_lines references known limit format number es)) (sym e)
       ∙ here
 
   -- the outcome with one more mail
   pub outcome_next : (before one after : Outcome) (entry : Entry) (left rest : List Entry) (all : Outcome) → left ≡ entry ∷ rest
-      → one ≡ single_outcome known (mail_in format entry.mail) → after ≡ worse before one
-      → worse before (mails_outcome known format left) ≡ all → worse after (mails_outcome known format rest) ≡ all
+      → one ≡ single_outcome known limit (mail_in format entry.mail) → after ≡ worse before one
+      → worse before (mails_outcome known limit format left) ≡ all → worse after (mails_outcome known limit format rest) ≡ all
   outcome_next before one after entry left rest all e is made here =
-      ap (λ o. worse o (mails_outcome known format rest)) made
-      ∙ worse_assoc before one (mails_outcome known format rest)
-      ∙ ap (λ o. worse before (worse o (mails_outcome known format rest))) is
-      ∙ ap (λ es. worse before (mails_outcome known format es)) (sym e)
+      ap (λ o. worse o (mails_outcome known limit format rest)) made
+      ∙ worse_assoc before one (mails_outcome known limit format rest)
+      ∙ ap (λ o. worse before (worse o (mails_outcome known limit format rest))) is
+      ∙ ap (λ es. worse before (mails_outcome known limit format es)) (sym e)
       ∙ here
 
-  pub mails_end : (done : List ℕ) (number : ℕ) (left : List Entry) (all : List ℕ) → left ≡ [] → done ++ lines_text (mails_lines references known format number left) ≡ all
+  pub mails_end : (done : List ℕ) (number : ℕ) (left : List Entry) (all : List ℕ) → left ≡ [] → done ++ lines_text (mails_lines references known limit format number left) ≡ all
       → done ≡ all
   mails_end done number left all e here =
-      sym (append-nil done) ∙ ap (λ es. done ++ lines_text (mails_lines references known format number es)) (sym e) ∙ here
+      sym (append-nil done) ∙ ap (λ es. done ++ lines_text (mails_lines references known limit format number es)) (sym e) ∙ here
 
-  pub outcome_end : (before : Outcome) (left : List Entry) (all : Outcome) → left ≡ [] → worse before (mails_outcome known format left) ≡ all → before ≡ all
-  outcome_end before left all e here = sym (worse_clean before) ∙ ap (λ es. worse before (mails_outcome known format es)) (sym e) ∙ here
+  pub outcome_end : (before : Outcome) (left : List Entry) (all : Outcome) → left ≡ [] → worse before (mails_outcome known limit format left) ≡ all → before ≡ all
+  outcome_end before left all e here = sym (worse_clean before) ∙ ap (λ es. worse before (mails_outcome known limit format es)) (sym e) ∙ here

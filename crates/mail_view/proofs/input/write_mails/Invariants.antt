@@ -13,5 +13,5 @@ invariant-loop-entry g l =
     let left = entries_left l.entry-iterator in
     let all = entries_left l.fn.mails in
     (done : List ℕ) × Appends (g.W.Write.contents l.fn.out) (g.W.Write.contents l.out) done
-    × (done ++ lines_text (mails_lines l.references known l.format l.number left) ≡ lines_text (mails_lines l.references known l.format 1 all))
-    × (worse l.outcome (mails_outcome known l.format left) ≡ mails_outcome known l.format all)
+    × (done ++ lines_text (mails_lines l.references known l.limit l.format l.number left) ≡ lines_text (mails_lines l.references known l.limit l.format 1 all))
+    × (worse l.outcome (mails_outcome known l.limit l.format left) ≡ mails_outcome known l.limit l.format all)
