@@ -357,8 +357,18 @@ def test_content_ids():
     for head, wanted in (
         (b"", None), (b"Content-ID: <a@b>", "a@b"), (b"content-id: (x) <one> <a@b>", "one"), (b"Content-ID: a@b", None),
         (b"Content-ID: a@b\nContent-ID: <a@b>", None), (b"Content-ID:\n <a@b>", "a@b"), (b"Content-ID: <>", None),
+        (b"Content-ID: <=?utf-8?Q?a=40b?=>", "=?utf-8?Q?a=40b?="),
     ):
         assert objects([], head + b"\n\n", 0, repr(head))[0]["parts"][0]["content_id"] == wanted, repr(head)
+
+
+def test_ids_without_encoded_words():
+    """An id is the raw text between the brackets: no encoded word occurs there (RFC 2047, section 5)."""
+    word = b"=?utf-8?Q?a=40b?="
+    data = b"Message-ID: <%b>\nIn-Reply-To: <%b@c>\nReferences: <%b> <d@e>\n <%b@c>\n\n" % (word, word, word, word)
+    line = objects([], data, 0, repr(data))[0]
+    found = [line[name] for name in ("message_id", "in_reply_to", "references")]
+    assert found == [[word.decode()], [f"{word.decode()}@c"], ["d@e", f"{word.decode()}@c"]]
 
 
 def test_extracted():

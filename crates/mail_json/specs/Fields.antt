@@ -1,14 +1,12 @@
 -- Values of headers, under the charsets that are known, and faults of dates; the program's own form.
-use Rattle.std.specs.Prelude.{ℕ, Bool, false, List, [], Option, option_map, codes}
-use Rattle.std.specs.Option.{option_map_or}
+use Rattle.std.specs.Prelude.{ℕ, false, List, Option, option_map, codes}
 use Rattle.mail_codec.specs.Charset.{Charsets}
 use Rattle.mailparse.specs.Disposition.{Disposition, Kind, inline, attachment, form_data, extension}
 use Rattle.mailparse.specs.Mail.{Node}
 use Rattle.mailparse.specs.Map.{first_value_in, first_with_key}
 use Rattle.mail_data.specs.declared.lenient.date.error.DateError.{DateError}
 use Rattle.mail_data.specs.declared.lenient.date.error.DateError.TheVariants.{Day, Month, Year, Time, Zone, TrailingText}
-use Rattle.mail_data.specs.Archive.{first_id}
-use Rattle.mail_data.specs.lenient.Ids.{found_ids}
+use Rattle.mail_data.specs.Archive.{first_id, ids_of}
 
 -- the name of a disposition
 abbrev pub kind_text : Kind → List ℕ
@@ -20,6 +18,10 @@ kind_text (extension name) = name
 -- the name of a part's disposition, or none if the part has no such header
 abbrev pub disposition_name : Disposition → Node → Option (List ℕ)
 disposition_name disposition node = option_map (λ header. kind_text disposition.kind) (first_with_key (codes "Content-Disposition") node.headers)
+
+-- the id of a part's content (RFC 2045, section 7): the first one in its header `Content-ID`
+abbrev pub content_id : Node → Option (List ℕ)
+content_id node = first_id (ids_of false (codes "Content-ID") node.headers)
 
 -- what is missing or wrong in a date
 abbrev pub date_fault_text : DateError → List ℕ
@@ -35,11 +37,3 @@ module _ (known : Charsets) where
   -- the value of the first header with a name
   abbrev pub value_of : List ℕ → Node → Option (List ℕ)
   value_of key node = first_value_in known key node.headers
-
-  -- the ids in it; only those with an `@`, if one is needed
-  abbrev pub ids_of : Bool → List ℕ → Node → List (List ℕ)
-  ids_of needs_at key node = option_map_or (found_ids needs_at) (value_of key node) []
-
-  -- the id of a part's content (RFC 2045, section 7): the first one in its header `Content-ID`
-  abbrev pub content_id : Node → Option (List ℕ)
-  content_id node = first_id (ids_of false (codes "Content-ID") node)

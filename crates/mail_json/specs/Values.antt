@@ -14,6 +14,7 @@ use Rattle.mailparse.specs.Map.{first_with_key}
 use Rattle.mailparse.specs.Placement.{placements}
 use Rattle.mailparse.specs.Refusal.{Reads, Refusal}
 use Rattle.mailparse.specs.Value.{lenient_value_in}
+use Rattle.mail_data.specs.Archive.{ids_of}
 use Rattle.mail_data.specs.Bounce.{Delivery, original_message_id}
 use Rattle.mail_data.specs.Files.{file_name, is_extracted}
 use Rattle.mail_data.specs.PartPlaces.{Place, places}
@@ -27,7 +28,7 @@ use Rattle.mail_address.specs.Mailbox.{Parts}
 use Rattle.mail_address.specs.Tokens.{delete}
 use Rattle.mail_json.specs.Addresses.{canonical, name_of, unless_empty}
 use Rattle.mail_json.specs.Body.{encoding_text}
-use Rattle.mail_json.specs.Fields.{content_id, date_fault_text, disposition_name, value_of, ids_of}
+use Rattle.mail_json.specs.Fields.{content_id, date_fault_text, disposition_name, value_of}
 use Rattle.mail_data.specs.InnerMails.{InnerMail}
 use Rattle.mail_json.specs.Inside.{Listed, mails_inside, parts_inside, without_bytes}
 use Rattle.mail_json.specs.Origin.{Origin}
@@ -160,6 +161,16 @@ raw_values node =
     ++ one (codes "cc") (raw_value (codes "Cc") node) ++ one (codes "bcc") (raw_value (codes "Bcc") node)
     ++ one (codes "reply_to") (raw_value (codes "Reply-To") node) ++ one (codes "sender") (raw_value (codes "Sender") node))
 
+-- the ids in the first header with a name
+abbrev pub id_list : Bool → List ℕ → Node → Json
+id_list needs_at key node = strings (ids_of needs_at key node.headers)
+
+-- the members that are ids of headers
+abbrev pub ids_members : Node → List Member
+ids_members node =
+    one (codes "message_id") (id_list false (codes "Message-ID") node) ++ one (codes "in_reply_to") (id_list true (codes "In-Reply-To") node)
+    ++ one (codes "references") (id_list true (codes "References") node)
+
 -- each value is that of the item at its position
 abbrev pub AreValues : {A : Type 0} → (A → Json → Type 0) → List A → List Json → Type 0
 AreValues Is [] values = values ≡ []
@@ -176,7 +187,7 @@ module _ (known : Charsets) where
   disposition_members disposition node =
       one (codes "disposition") (string_or_null (disposition_name disposition node))
       ++ one (codes "file_name") (string_or_null (file_name known node))
-      ++ one (codes "content_id") (string_or_null (content_id known node))
+      ++ one (codes "content_id") (string_or_null (content_id node))
 
   -- the members of the text of a body that is shown or not
   abbrev pub shown_members : Bool → Bool → ContentType → Content → List Member
@@ -189,12 +200,9 @@ module _ (known : Charsets) where
   body_members joins shows ctype (Some content) = shown_members joins shows ctype content
   body_members joins shows ctype None = one (codes "text") null
 
-  -- the value of the first header with a name; the ids in it
+  -- the value of the first header with a name
   abbrev pub value_or_null : List ℕ → Node → Json
   value_or_null key node = string_or_null (value_of known key node)
-
-  abbrev pub id_list : Bool → List ℕ → Node → Json
-  id_list needs_at key node = strings (ids_of known needs_at key node)
 
   -- the object of a mailbox; of an element without members; of a group; of an element of a list
   abbrev pub mailbox_value : Parts → Json
@@ -227,14 +235,9 @@ module _ (known : Charsets) where
       ++ one (codes "cc") (address_list (codes "Cc") node) ++ one (codes "bcc") (address_list (codes "Bcc") node)
       ++ one (codes "reply_to") (address_list (codes "Reply-To") node) ++ one (codes "sender") (address_list (codes "Sender") node)
 
-  -- the members that are values of headers; that are ids of headers
+  -- the members that are values of headers
   abbrev pub values_members : Node → List Member
   values_members node = one (codes "subject") (value_or_null (codes "Subject") node) ++ addresses_members node
-
-  abbrev pub ids_members : Node → List Member
-  ids_members node =
-      one (codes "message_id") (id_list false (codes "Message-ID") node) ++ one (codes "in_reply_to") (id_list true (codes "In-Reply-To") node)
-      ++ one (codes "references") (id_list true (codes "References") node)
 
   -- the members of a mail with this origin before those of its parts
   abbrev pub head_members : Bool → Origin → Tree → List Member

@@ -2,14 +2,13 @@
 ghost use Rattle.std.specs.Prelude.{◌≡◌, option_map, Ok};
 ghost use Rattle.mailparse.specs.Mail.{root};
 ghost use Rattle.mailparse.specs.Map.{text_found};
-ghost use Rattle.mailparse.specs.Outcome.{AnswersOrMemory, GivesTexts};
+ghost use Rattle.mailparse.specs.Outcome.{AnswersOrMemory};
 ghost use Rattle.mailparse.specs.Views as views;
 ghost use Rattle.mailparse.specs.Views.{kind, tree_of};
-ghost use Rattle.mail_data.specs.lenient.IdViews.{needs_at};
-ghost use Rattle.mail_json.specs.Fields.{content_id, disposition_name, ids_of, kind_text};
-ghost use Rattle.mail_json.specs.Fields.{value_of};
+ghost use Rattle.mail_json.specs.Fields.{content_id, disposition_name, kind_text, value_of};
 
-use mail_data::lenient::{IdRule, find_ids};
+use mail_data::archive::ids_of;
+use mail_data::lenient::IdRule;
 use mailparse::{
     DispositionType, KnownCharsets, MailHeaderMap, MailParseError, ParsedContentDisposition,
     ParsedMail,
@@ -29,34 +28,15 @@ pub(crate) fn value_of<K: KnownCharsets>(
     mail.headers.get_first_value_in(alloc, key, known)
 }
 
-/// Returns the message ids by this rule in the value of the first header with this name.
-pub(crate) fn ids_of<K: KnownCharsets>(
-    alloc: Global,
-    mail: &ParsedMail<'_>,
-    key: &str,
-    rule: IdRule,
-    known: &K,
-) -> Result<Vec<String>, MailParseError>
-    ensures { GivesTexts result
-        (ids_of (K.known known.now) (needs_at rule) key.now (root (tree_of mail.now))) }
-{
-    match value_of(alloc, mail, key, known)? {
-        Some(value) => Ok(find_ids(alloc, value.as_str(), rule)?),
-        None => Ok(Vec::new(alloc)),
-    }
-}
-
 /// Returns the id of the content of a part: the first one in its header `Content-ID` (RFC 2045,
 /// section 7).
-pub(crate) fn content_id<K: KnownCharsets>(
+pub(crate) fn content_id(
     alloc: Global,
     part: &ParsedMail<'_>,
-    known: &K,
 ) -> Result<Option<String>, MailParseError>
-    ensures { AnswersOrMemory text_found result
-        (Ok (content_id (K.known known.now) (root (tree_of part.now)))) }
+    ensures { AnswersOrMemory text_found result (Ok (content_id (root (tree_of part.now)))) }
 {
-    let ids = ids_of(alloc, part, "Content-ID", IdRule::Any, known)?;
+    let ids = ids_of(alloc, &part.headers, "Content-ID", IdRule::Any)?;
     Ok(ids.into_iter().next())
 }
 

@@ -18,7 +18,7 @@ ghost use Rattle.mail_program.specs.Streams.{Writes};
 ghost use Rattle.mail_json.specs.Written.{WritesOne};
 
 use crate::addresses::write_addresses;
-use crate::fields::{ids_of, value_of};
+use crate::fields::value_of;
 use crate::inside::{write_mails, write_parts};
 use crate::json_text::write_word;
 use crate::line_buffer::{LineBuffer, memory_fault};
@@ -29,6 +29,7 @@ use crate::options::LineOptions;
 use crate::origin::{Origin, write_origin};
 use crate::reports::write_reported;
 use mail_codec::charset::decode_latin1;
+use mail_data::archive::ids_of;
 use mail_data::bounce::original_message_id;
 use mail_data::lenient::{DateError, IdRule, zoned_date_of};
 use mail_program::Fault;
@@ -116,7 +117,7 @@ fn write_head<W: Write, K: KnownCharsets>(
     write_word(out, key!("raw"))?;
     write_raw(alloc, out, mail)?;
     write_date(alloc, out, mail, known)?;
-    write_ids(alloc, out, mail, known)?;
+    write_ids(alloc, out, mail)?;
     let bounced = original_message_id(alloc, mail)?;
     add_optional(out, key!("bounced_id"), bounced.as_deref())?;
     write_word(out, key!("recipients"))?;
@@ -193,20 +194,15 @@ fn add_raw<W: Write>(
 }
 
 /// Writes the members that are ids of headers.
-fn write_ids<W: Write, K: KnownCharsets>(
-    alloc: Global,
-    out: &mut W,
-    mail: &ParsedMail<'_>,
-    known: &K,
-) -> Result<(), Fault>
+fn write_ids<W: Write>(alloc: Global, out: &mut W, mail: &ParsedMail<'_>) -> Result<(), Fault>
     ensures { AddsMembers (W.contents out.old) (W.contents out.new) result
-        (ids_members (K.known known.now) (root (tree_of mail.now))) }
+        (ids_members (root (tree_of mail.now))) }
 {
-    let any = ids_of(alloc, mail, "Message-ID", IdRule::Any, known)?;
+    let any = ids_of(alloc, &mail.headers, "Message-ID", IdRule::Any)?;
     add_texts(out, key!("message_id"), any.as_slice())?;
-    let answered = ids_of(alloc, mail, "In-Reply-To", IdRule::WithAt, known)?;
+    let answered = ids_of(alloc, &mail.headers, "In-Reply-To", IdRule::WithAt)?;
     add_texts(out, key!("in_reply_to"), answered.as_slice())?;
-    let references = ids_of(alloc, mail, "References", IdRule::WithAt, known)?;
+    let references = ids_of(alloc, &mail.headers, "References", IdRule::WithAt)?;
     add_texts(out, key!("references"), references.as_slice())?;
     Ok(())
 }

@@ -328,7 +328,7 @@ fn write_disposition<W: Write, K: KnownCharsets>(
         (root (tree_of part.now))) }
 {
     let name = file_name(alloc, part, known)?;
-    let id = content_id(alloc, part, known)?;
+    let id = content_id(alloc, part)?;
     add_optional(
         out,
         key!("disposition"),

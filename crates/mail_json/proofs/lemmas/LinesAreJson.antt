@@ -15,6 +15,7 @@ use Rattle.mailparse.specs.Mail.{Node, Tree, root, shown_as_in}
 use Rattle.mailparse.specs.Placement.{placements}
 use Rattle.mailparse.specs.Refusal.{Reads, Refusal}
 use Rattle.mailparse.specs.Value.{lenient_value_in}
+use Rattle.mail_data.specs.Archive.{ids_of}
 use Rattle.mail_data.specs.Bounce.{Delivery, original_message_id}
 use Rattle.mail_data.specs.Files.{is_extracted}
 use Rattle.mail_data.specs.Mailbox.{front_length}
@@ -29,7 +30,7 @@ use Rattle.mail_data.specs.lenient.Texts.{text_read}
 use Rattle.mail_address.specs.Addresses.{Element, single, group}
 use Rattle.mail_address.specs.Headers.{addresses_of}
 use Rattle.mail_address.specs.Mailbox.{Parts}
-use Rattle.mail_json.specs.Fields.{value_of, ids_of}
+use Rattle.mail_json.specs.Fields.{value_of}
 use Rattle.mail_json.specs.FileLine.{FileLine, file_line_value}
 use Rattle.mail_data.specs.InnerMails.{InnerMail}
 use Rattle.mail_json.specs.Selection.{AreChosenOf, OnlyIf}
@@ -157,6 +158,9 @@ module _ (options : Options) where
 
 -- ---- the object of a mail
 
+id_list_good : (needs_at : Bool) (key : List ℕ) (node : Node) → IsGood 5 (id_list needs_at key node)
+id_list_good needs_at key node = mapped_good 4 (λ text. string text) (string_good 4) (ids_of needs_at key node.headers)
+
 module _ (known : Charsets) where
   mailbox_good : (d : ℕ) (parts : Option Parts) (text : List ℕ) → IsGood (suc d) (single_or_unknown_value known parts text)
   mailbox_good d (Some parts) text = named_good refl (optional_good d _, (string_good d _, tt))
@@ -171,13 +175,10 @@ module _ (known : Charsets) where
   address_list_good : (key : List ℕ) (node : Node) → IsGood 5 (address_list known key node)
   address_list_good key node = mapped_good 4 (element_value known) (element_good 1) (addresses_of key node.headers)
 
-  id_list_good : (needs_at : Bool) (key : List ℕ) (node : Node) → IsGood 5 (id_list known needs_at key node)
-  id_list_good needs_at key node = mapped_good 4 (λ text. string text) (string_good 4) (ids_of known needs_at key node)
-
   -- no name occurs twice, whether the zone of a date is known or not
   zone_distinct : (origin : Origin) (node : Node) (bounced recipients parts inside : Json) (seconds : ℤ) (is_known : Bool)
       → all_distinct (keys (members_of (origin_members origin ++ values_members known node ++ one (codes "raw") (raw_values node)
-      ++ (one (codes "date") (seconds_value seconds) ++ zone_members is_known) ++ ids_members known node ++ one (codes "bounced_id") bounced
+      ++ (one (codes "date") (seconds_value seconds) ++ zone_members is_known) ++ ids_members node ++ one (codes "bounced_id") bounced
       ++ one (codes "recipients") recipients ++ one (codes "parts") parts ++ one (codes "forwarded") inside))) ≡ true
   zone_distinct origin node bounced recipients parts inside seconds true = refl
   zone_distinct origin node bounced recipients parts inside seconds false = refl
@@ -185,7 +186,7 @@ module _ (known : Charsets) where
   -- nor whether there is a date or not
   mail_distinct : (origin : Origin) (node : Node) (bounced recipients parts inside : Json) (date : Option (Dated Zoned))
       → all_distinct (keys (members_of (origin_members origin ++ values_members known node ++ one (codes "raw") (raw_values node) ++ date_members date
-      ++ ids_members known node ++ one (codes "bounced_id") bounced
+      ++ ids_members node ++ one (codes "bounced_id") bounced
       ++ one (codes "recipients") recipients ++ one (codes "parts") parts ++ one (codes "forwarded") inside))) ≡ true
   mail_distinct origin node bounced recipients parts inside None = refl
   mail_distinct origin node bounced recipients parts inside (Some (Ok date)) = zone_distinct origin node bounced recipients parts inside date.0 date.1
@@ -224,10 +225,10 @@ mail_good options origin mail value is =
     let found = is.1 in
     let parts = list_of is.0 in
     let date = date_members (option_map zoned_date_of (value_of known (codes "Date") node)) in
-    let ids = ids_members known node in
+    let ids = ids_members node in
     let dated : AreGood 5 (date ++ ids) =
     members_then 5 date ids (date_good 5 _)
-    (id_list_good known false (codes "Message-ID") node, (id_list_good known true (codes "In-Reply-To") node, (id_list_good known true (codes "References") node, tt))) in
+    (id_list_good false (codes "Message-ID") node, (id_list_good true (codes "In-Reply-To") node, (id_list_good true (codes "References") node, tt))) in
     let bounced = string_or_null (original_message_id mail) in
     let recipients = recipients_value (recipients_if known options.decodes_bodies mail) in
     let own = date ++ ids ++ one (codes "bounced_id") bounced in

@@ -96,7 +96,7 @@ module _ (options : Options) where
   abbrev line_members : Origin → Tree → Option (Dated Zoned) → Json → Json → Json → Json → List Member
   line_members origin mail date bounced recipients parts inside =
       origin_members origin ++ values_members options.known (root mail) ++ one (codes "raw") (raw_values (root mail)) ++ date_members date
-      ++ ids_members options.known (root mail) ++ one (codes "bounced_id") bounced ++ one (codes "recipients") recipients ++ one (codes "parts") parts
+      ++ ids_members (root mail) ++ one (codes "bounced_id") bounced ++ one (codes "recipients") recipients ++ one (codes "parts") parts
       ++ one (codes "forwarded") inside
 
   zoned_without : (origin : Origin) (mail : Tree) (seconds : ℤ) (is_known : Bool) (bounced recipients parts inside : Json)
