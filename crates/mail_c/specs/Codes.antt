@@ -81,7 +81,7 @@ texts =
     ∷ (16, codes "Header cannot start with a space; it is likely an overhanging line from a previous header")
     ∷ (17, codes "Headers were followed by an unexpected lone CR character!") ∷ (18, codes "Recursion limit reached")
     ∷ (19, codes "Base64 decode error") ∷ (20, codes "The text is not UTF-8") ∷ (21, codes "The input is refused")
-    ∷ (22, codes "The mail has too many parts and headers") ∷ (23, codes "The bytes are not a mailbox")
+    ∷ (22, codes "Too many parts and headers") ∷ (23, codes "The bytes are not a mailbox")
     ∷ (32, codes "no day of the month") ∷ (33, codes "no month") ∷ (34, codes "no year") ∷ (35, codes "no time of day") ∷ (36, codes "no zone")
     ∷ (37, codes "text after the zone") ∷ []
 

@@ -1,22 +1,21 @@
 -- What is read of ranges of a mail: of raw values, of names and of bodies; the crate's own form.
-use Rattle.std.specs.Prelude.{◌≡◌, ◌⊎◌, ℕ, ◌+◌, Bool, ◌==◌, List, [], ◌∷◌, ◌++◌, length, flat_map, Option, Some, is_some, option_and_then, Result, Ok, Err, if◌then◌else◌}
-use Rattle.std.specs.Global.{Vec}
+use Rattle.std.specs.Prelude.{◌≡◌, ◌⊎◌, ℕ, Bool, ◌==◌, List, Option, Some, is_some, option_and_then, Result, Ok, Err, if◌then◌else◌}
 use Rattle.mail_codec.specs.Charset.{Charsets}
 use Rattle.mailparse.specs.Body.{BodyKind, in_base64, in_quoted_printable, in_7bit}
 use Rattle.mailparse.specs.ContentType.{ContentType, content_type_in}
 use Rattle.mailparse.specs.Disposition.{disposition_in}
-use Rattle.mailparse.specs.Mail.{read_mail_in}
-use Rattle.mailparse.specs.Refusal.{◌>>=◌, Reads}
+use Rattle.mailparse.specs.Refusal.{◌>>=◌}
 use Rattle.mailparse.specs.Value.{lenient_value_in}
 use Rattle.mail_data.specs.Bounce.{original_message_id}
 use Rattle.mail_data.specs.FileNames as names
 use Rattle.mail_data.specs.Files.{filled, name_in, no_charsets}
 use Rattle.mail_data.specs.QuotedLines as quoted
-use Rattle.mail_data.specs.lenient.Content.{Content, lenient_content}
-use Rattle.mail_data.specs.lenient.Texts.{BodyText, text_read}
+use Rattle.mail_data.specs.Reading.{mail_reading}
+use Rattle.mail_data.specs.lenient.Content.{lenient_content}
+use Rattle.mail_data.specs.lenient.Texts.{text_read}
 use Rattle.mail_c.specs.Buffer.{Found, IsFilled, IsKept, Output, fits, written_code}
 use Rattle.mail_c.specs.Codes.{no_memory}
-use Rattle.mail_c.specs.Results.{text_in}
+use Rattle.mail_c.specs.Results.{no_limit, text_in}
 use Rattle.mail_c.specs.declared.ranges.Decoded as made
 
 -- the transfer encoding with a number; any other number than these two is that of a body that is not encoded
@@ -82,7 +81,7 @@ module _ (known : Charsets) where
   -- the id of the mail that a delivery report is about
   unfoldable pub bounced_id : List ℕ → Found
   bounced_id raw = do
-    mail ← read_mail_in known 100 raw
+    mail ← mail_reading known no_limit raw
     Ok (original_message_id mail)
 
 -- a flag of C

@@ -1,5 +1,5 @@
 -- The records of a mail, of its parts and of their headers; the crate's own form.
-use Rattle.std.specs.Prelude.{ℕ, suc, ◌+◌, Bool, true, false, not, ◌&&◌, ◌||◌, ◌==◌, nat_le, List, [], ◌∷◌, ◌++◌, length, drop, flat_map, Option, Some, None, Result, Ok, Err, codes, if◌then◌else◌}
+use Rattle.std.specs.Prelude.{ℕ, suc, ◌+◌, Bool, not, ◌&&◌, ◌||◌, nat_le, List, [], ◌∷◌, ◌++◌, length, drop, flat_map, Result, Ok, Err, codes, if◌then◌else◌}
 use Rattle.std.specs.Option.{option_map_or}
 use Rattle.mail_codec.specs.Charset.{Charsets}
 use Rattle.mail_codec.specs.Places.{values_below}
@@ -7,12 +7,12 @@ use Rattle.mailparse.specs.Block.{HeaderList, header_place, read_headers}
 use Rattle.mailparse.specs.Body.{BodyKind, in_base64, in_quoted_printable, in_7bit, in_8bit, in_binary}
 use Rattle.mailparse.specs.Disposition.{Disposition, Kind, inline, attachment, form_data, extension}
 use Rattle.mailparse.specs.Header.{header_length, key_end, value_end, value_start}
-use Rattle.mailparse.specs.Mail.{Forest, Node, Tree, no_parts, part_and, root, shown_as_in, strict, tree, trees_within}
-use Rattle.mailparse.specs.Limit.{read_mail_within}
+use Rattle.mailparse.specs.Mail.{Forest, Node, Tree, no_parts, part_and, root, shown_as_in, tree, trees_within}
 use Rattle.mailparse.specs.Map.{first_with_key}
 use Rattle.mailparse.specs.Placement.{Placement, placements}
 use Rattle.mail_data.specs.Files.{is_leaf, is_shown}
 use Rattle.mail_data.specs.InnerMails.{forwards}
+use Rattle.mail_data.specs.Reading.{mail_reading}
 use Rattle.mail_data.specs.lenient.Encoding.{lenient_body_kind}
 use Rattle.mail_json.specs.Part.{is_attachment, is_read}
 use Rattle.mail_c.specs.Codes.{coded, too_many}
@@ -157,4 +157,4 @@ module _ (known : Charsets) where
   -- the records of a mail and of its parts, each before its own parts, and of all their headers; or the code of the refusal, as
   -- that of a mail with more than `limit` of them
   unfoldable pub records : ℕ → List ℕ → Result (List Part × List HeaderRecord) ℕ
-  records limit raw = mail_records (coded (read_mail_within (strict known) 100 limit raw))
+  records limit raw = mail_records (coded (mail_reading known limit raw))

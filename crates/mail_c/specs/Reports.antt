@@ -1,9 +1,11 @@
 -- The records of the fields of a report, and their strings; the crate's own form.
 use Rattle.std.specs.Prelude.{◌≡◌, ℕ, suc, ◌+◌, List, [], ◌∷◌, ◌++◌, length, map, flat_map, option_map, ok_or, Result, Ok, Err}
 use Rattle.mail_codec.specs.Charset.{Charsets}
-use Rattle.mailparse.specs.Mail.{Tree, read_mail_in, root}
+use Rattle.mailparse.specs.Mail.{Tree, root}
+use Rattle.mail_data.specs.Reading.{mail_reading}
 use Rattle.mail_data.specs.Reports.{report_blocks}
 use Rattle.mail_c.specs.Codes.{absent, coded}
+use Rattle.mail_c.specs.Results.{no_limit}
 use Rattle.mail_c.specs.Rows.{rows_from}
 use Rattle.mail_c.specs.declared.reports.FieldRecord.{FieldRecord}
 use Rattle.mail_c.specs.declared.reports.FieldRecords.{FieldRecords}
@@ -64,4 +66,4 @@ module _ (known : Charsets) where
 
   -- the records of the report that the part with these bytes is, or the code of the refusal
   unfoldable pub report : List ℕ → Result (List FieldRecord × List ℕ) ℕ
-  report raw = part_report (coded (read_mail_in known 100 raw))
+  report raw = part_report (coded (mail_reading known no_limit raw))

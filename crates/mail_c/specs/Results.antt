@@ -1,15 +1,16 @@
 -- The calls whose results are bytes; the crate's own form.
-use Rattle.std.specs.Prelude.{◌≡◌, ℕ, Bool, true, false, List, ◌++◌, codes, flat_map, slice_get, Option, Some, None, option_map, Ok, Err, if◌then◌else◌}
+use Rattle.std.specs.Prelude.{◌≡◌, ◌^◌, ◌-◌, ℕ, Bool, true, false, List, ◌++◌, codes, flat_map, slice_get, Option, Some, None, option_map, Ok, Err, if◌then◌else◌}
 use Rattle.std.specs.Str.{is_utf8}
-use Rattle.mail_codec.specs.Charset.{Charsets}
+use Rattle.mail_codec.specs.Charset.{Charsets, four_charsets}
 use Rattle.mailparse.specs.Block.{read_headers}
 use Rattle.mailparse.specs.Body.{decoded}
 use Rattle.mailparse.specs.Header.{Header}
-use Rattle.mailparse.specs.Mail.{read_mail, read_mail_in, root}
+use Rattle.mailparse.specs.Mail.{root}
 use Rattle.mailparse.specs.Map.{all_with_key}
 use Rattle.mailparse.specs.Refusal.{◌>>=◌, Reads, encoding}
 use Rattle.mailparse.specs.Value.{lenient_value_in}
 use Rattle.mail_data.specs.Bounce as report
+use Rattle.mail_data.specs.Reading.{mail_reading}
 use Rattle.mail_data.specs.lenient.Encoding.{lenient_body_kind}
 use Rattle.mail_data.specs.lenient.Ids.{found_ids}
 use Rattle.mail_data.specs.lenient.Texts.{body_text}
@@ -22,10 +23,14 @@ use Rattle.mail_c.specs.Buffer.{Found}
 abbrev pub text_in : List ℕ → Reads (List ℕ)
 text_in bytes = if is_utf8 bytes then Ok bytes else Err (encoding (codes "The text is not UTF-8"))
 
+-- the limit of the calls that have none: no mail has more messages, parts and headers
+abbrev pub no_limit : ℕ
+no_limit = 2 ^ 64 - 1
+
 -- the decoded bytes of the body of a message
 unfoldable pub content : List ℕ → Found
 content raw = do
-  mail ← read_mail raw
+  mail ← mail_reading four_charsets no_limit raw
   let node = root mail
   bytes ← decoded (lenient_body_kind node) node.body
   Ok (Some bytes)
@@ -45,24 +50,24 @@ raw_value raw name number = do
 module _ (known : Charsets) where
   -- bodies decoded, no hashes, and texts as they are
   abbrev pub plain_options : Options
-  plain_options = record { known = known; decodes_bodies = true; hashes = false; joins_flowed = false }
+  plain_options = record { known = known; limit = no_limit; decodes_bodies = true; hashes = false; joins_flowed = false }
 
   -- the line of JSON of a mail
   abbrev pub IsJson : List ℕ → Found → Type 0
   IsJson raw (Ok (Some line)) = IsMailLine plain_options None raw true line
   IsJson raw (Ok None) = ⊥
-  IsJson raw (Err refusal) = read_mail_in known 100 raw ≡ Err refusal
+  IsJson raw (Err refusal) = mail_reading known no_limit raw ≡ Err refusal
 
   -- the recipients of a delivery report, as JSON
   unfoldable pub recipients : List ℕ → Found
   recipients raw = do
-    mail ← read_mail_in known 100 raw
+    mail ← mail_reading known no_limit raw
     Ok (Some (deliveries_text (report.recipients known mail)))
 
   -- the text of the body of a message
   unfoldable pub text : List ℕ → Found
   text raw = do
-    mail ← read_mail_in known 100 raw
+    mail ← mail_reading known no_limit raw
     Ok (Some (body_text known (root mail)).text)
 
   -- the decoded value of that header

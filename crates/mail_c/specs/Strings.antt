@@ -1,5 +1,5 @@
 -- Lists of strings, one after another, with the end of each; and the strings of a type.
-use Rattle.std.specs.Prelude.{◌≡◌, ◌⊎◌, ℕ, ◌+◌, List, [], ◌∷◌, ◌++◌, length, flat_map, Result, Ok, Err}
+use Rattle.std.specs.Prelude.{◌≡◌, ◌⊎◌, ℕ, ◌+◌, List, [], ◌∷◌, length, flat_map, Result, Ok, Err}
 use Rattle.mailparse.specs.ContentType.{ContentType}
 use Rattle.mail_json.specs.Part.{Lists}
 use Rattle.mail_c.specs.Buffer.{IsKept, Output, WritesBoth}

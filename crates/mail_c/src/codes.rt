@@ -87,7 +87,7 @@ pub(crate) fn reason(code: u32) -> &'static str
         19 => "Base64 decode error",
         20 => "The text is not UTF-8",
         21 => "The input is refused",
-        22 => "The mail has too many parts and headers",
+        22 => "Too many parts and headers",
         23 => "The bytes are not a mailbox",
         32 => "no day of the month",
         33 => "no month",

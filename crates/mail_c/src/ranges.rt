@@ -14,16 +14,17 @@ ghost use Rattle.mail_c.specs.Ranges.{undecoded_name, unquoted, value};
 
 use crate::buffer::write_items;
 use crate::codes::NO_MEMORY;
-use crate::results::text_in;
+use crate::results::{NO_LIMIT, text_in};
 use mail_codec::charset::Charset;
 use mail_data::bounce::original_message_id;
 use mail_data::files::{named_file, safe_file_name};
 use mail_data::lenient::{charset_used, lenient_content, lenient_text};
 use mail_data::mailbox::quoted;
+use mail_data::reading::read_mail;
 use mailparse::body::Body;
 use mailparse::{
     KnownCharsets, MailParseError, ParsedContentType, parse_content_disposition_in,
-    parse_content_type_in, parse_mail_in, value_text_in,
+    parse_content_type_in, value_text_in,
 };
 use std::alloc::{AllocError, Global};
 
@@ -143,7 +144,7 @@ pub(crate) fn bounced_id<K: KnownCharsets>(
 ) -> Result<Option<Vec<u8>>, MailParseError>
     ensures { AnswersOrMemory bytes_found result (bounced_id (K.known known.now) raw.now) }
 {
-    let mail = parse_mail_in(alloc, raw, known)?;
+    let mail = read_mail(alloc, raw, NO_LIMIT, known)?;
     match original_message_id(alloc, &mail)? {
         Some(id) => Ok(Some(id.into_bytes())),
         None => Ok(None),

@@ -18,12 +18,12 @@ use crate::codes::{NO_MEMORY, TOO_MANY, code_of};
 use mail_data::files::{describes_attachment, is_attachment_disposition, is_leaf, is_shown};
 use mail_data::inner_mails::forwards;
 use mail_data::lenient::lenient_body;
+use mail_data::reading::read_mail;
 use mail_data::texts::text_type;
 use mailparse::body::Body;
 use mailparse::{
-    DispositionType, KnownCharsets, MAX_LEVELS, MailHeaderMap, MailParseError,
-    ParsedContentDisposition, ParsedMail, Strict, count_headers, header_places, parse_headers,
-    parse_mail_within,
+    DispositionType, KnownCharsets, MailHeaderMap, MailParseError, ParsedContentDisposition,
+    ParsedMail, count_headers, header_places, parse_headers,
 };
 use std::alloc::{AllocError, Global};
 
@@ -99,7 +99,7 @@ pub(crate) fn mail_records<K: KnownCharsets>(
 ) -> Result<Records, u32>
     ensures { IsCoded lists result (records (K.known known.now) limit raw.now) }
 {
-    match parse_mail_within(alloc, raw, MAX_LEVELS, limit, &Strict(known)) {
+    match read_mail(alloc, raw, limit, known) {
         Ok(mail) => tree_records(alloc, &mail, known),
         Err(error) => Err(code_of(&error)),
     }
@@ -126,8 +126,8 @@ pub(crate) fn headers(alloc: Global, raw: &[u8], limit: usize) -> Result<Vec<Hea
     ensures { IsCoded (λ found. found.items) result (header_block limit raw.now) }
 {
     let count = count_headers(raw);
-    if limit < count {
-        return Err(TOO_MANY);
+    if 0 < count {
+        return first_headers(alloc, raw, count, limit);
     }
     match parse_headers(alloc, raw) {
         Ok((headers, _)) => first_headers(alloc, raw, headers.len(), limit),

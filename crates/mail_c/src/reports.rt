@@ -11,8 +11,10 @@ ghost use Rattle.mail_c.specs.Reports.{entries_from, fields_view, report};
 
 use crate::buffer::write_both;
 use crate::codes::{ABSENT, NO_MEMORY, code_of};
+use crate::results::NO_LIMIT;
+use mail_data::reading::read_mail;
 use mail_data::reports::{Block, Field, report_blocks};
-use mailparse::{KnownCharsets, MailParseError, ParsedMail, parse_mail_in};
+use mailparse::{KnownCharsets, MailParseError, ParsedMail};
 use std::alloc::{AllocError, Global};
 
 /// A field of a report, as `struct rocktray_field`.
@@ -47,7 +49,7 @@ pub(crate) fn report<K: KnownCharsets>(
 ) -> Result<FieldRecords, u32>
     ensures { IsCoded fields_view result (report (K.known known.now) raw.now) }
 {
-    let part = match parse_mail_in(alloc, raw, known) {
+    let part = match read_mail(alloc, raw, NO_LIMIT, known) {
         Ok(part) => part,
         Err(error) => return Err(code_of(&error)),
     };

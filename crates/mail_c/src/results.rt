@@ -7,12 +7,14 @@ ghost use Rattle.mail_c.specs.Results.{IsJson, bracketed, content, ids, raw_valu
 ghost use Rattle.mail_c.specs.Results.{text, text_in, value};
 
 use mail_data::lenient::{IdRule, body_text, find_ids, lenient_body};
+use mail_data::reading::read_mail;
 use mail_json::{LineOptions, Origin, write_mail, write_recipients};
-use mailparse::{
-    KnownCharsets, MailHeaderMap, MailParseError, parse_headers, parse_mail, parse_mail_in,
-};
+use mailparse::{KnownCharsets, MailHeaderMap, MailParseError, parse_headers};
 use std::alloc::{AllocError, Global};
 use std::borrow::CowStr;
+
+/// The limit of the calls that have none: no mail has more messages, parts and headers.
+pub(crate) const NO_LIMIT: usize = usize::MAX;
 
 /// Returns the line of JSON of a mail.
 pub(crate) fn json<K: KnownCharsets>(
@@ -22,7 +24,7 @@ pub(crate) fn json<K: KnownCharsets>(
 ) -> Result<Option<Vec<u8>>, MailParseError>
     ensures { Gives (IsJson (K.known known.now) raw.now) result }
 {
-    let mail = parse_mail_in(alloc, raw, known)?;
+    let mail = read_mail(alloc, raw, NO_LIMIT, known)?;
     let origin = Origin {
         file: None,
         number: None,
@@ -30,6 +32,7 @@ pub(crate) fn json<K: KnownCharsets>(
         end: raw.len(),
     };
     let options = LineOptions {
+        limit: NO_LIMIT,
         decodes_bodies: true,
         hashes: false,
         joins_flowed: false,
@@ -53,7 +56,7 @@ pub(crate) fn recipients<K: KnownCharsets>(
 ) -> Result<Option<Vec<u8>>, MailParseError>
     ensures { AnswersOrMemory bytes_found result (recipients (K.known known.now) raw.now) }
 {
-    let mail = parse_mail_in(alloc, raw, known)?;
+    let mail = read_mail(alloc, raw, NO_LIMIT, known)?;
     let mut line = Vec::new(alloc);
     match write_recipients(alloc, &mut line, &mail, known) {
         Ok(()) => Ok(Some(line)),
@@ -66,7 +69,7 @@ pub(crate) fn recipients<K: KnownCharsets>(
 pub(crate) fn content(alloc: Global, raw: &[u8]) -> Result<Option<Vec<u8>>, MailParseError>
     ensures { AnswersOrMemory bytes_found result (content raw.now) }
 {
-    let mail = parse_mail(alloc, raw)?;
+    let mail = read_mail(alloc, raw, NO_LIMIT, &())?;
     let body = lenient_body(alloc, &mail)?;
     Ok(Some(body.decoded(alloc)?.into_owned(alloc)?))
 }
@@ -80,7 +83,7 @@ pub(crate) fn text<K: KnownCharsets>(
 ) -> Result<Option<Vec<u8>>, MailParseError>
     ensures { AnswersOrMemory bytes_found result (text (K.known known.now) raw.now) }
 {
-    let mail = parse_mail_in(alloc, raw, known)?;
+    let mail = read_mail(alloc, raw, NO_LIMIT, known)?;
     let read = body_text(alloc, &mail, known)?;
     Ok(Some(read.text.into_bytes()))
 }

@@ -1,5 +1,5 @@
 -- Lemmas on what is read of ranges.
-use Rattle.std.proofs.Common.{◌≡◌, ℕ, Bool, List, Some, Result, Ok, Err, inl, inr, is_some, refl, sym, ap, subst, ◌∙◌}
+use Rattle.std.proofs.Common.{◌≡◌, ℕ, Bool, List, Some, Result, Ok, Err, inl, inr, is_some, sym, ap, subst, ◌∙◌}
 use Rattle.mail_codec.specs.Charset.{Charsets}
 use Rattle.mailparse.specs.Outcome.{AnswersOrMemory}
 use Rattle.mailparse.specs.declared.error.MailParseError.{MailParseError}

@@ -1,12 +1,12 @@
 -- Lemmas on records.
-use Rattle.std.proofs.Common.{◌≡◌, ℕ, zero, suc, ◌+◌, ◌<◌, ◌≤◌, ◌⊎◌, Bool, cond, List, [], ◌∷◌, ◌++◌, length, drop, map, Result, Ok, Err, inl, inr, ⊎_elim, refl, sym, ap, subst, ◌∙◌, append_assoc, add-one, arith}
-use Rattle.std.proofs.lemmas.Bool.{lt-leb}
+use Rattle.std.proofs.Common.{◌≡◌, ℕ, zero, suc, ◌+◌, ◌<◌, ◌⊎◌, List, [], ◌∷◌, ◌++◌, length, drop, map, Result, Ok, Err, inl, inr, ⊎_elim, refl, sym, ap, subst, ◌∙◌, append_assoc, add-one, arith}
 use Rattle.std.proofs.lemmas.List.{append-nil}
 use Rattle.std.specs.List.{flat_map}
-use Rattle.mailparse.specs.Mail.{Tree, strict, trees_within}
-use Rattle.mailparse.specs.Limit.{headers_met, read_mail_within}
+use Rattle.mailparse.specs.Mail.{Tree, trees_within}
+use Rattle.mailparse.specs.Limit.{headers_met}
 use Rattle.mailparse.specs.Placement.{Placement}
 use Rattle.mailparse.specs.Ranges.{Range}
+use Rattle.mail_data.specs.Reading.{mail_reading}
 use Rattle.mail_data.specs.lenient.Encoding.{lenient_body_kind}
 use Rattle.mailparse.specs.Views.{placement_of, tree_of}
 use Rattle.mail_codec.specs.Charset.{Charsets}
@@ -17,8 +17,8 @@ use Rattle.mailparse.specs.Placement.{placements}
 use Rattle.mailparse.specs.Refusal.{Reads}
 use Rattle.mailparse.specs.declared.error.MailParseError.{MailParseError}
 use Rattle.mailparse.specs.declared.error.MailParseError.TheVariants.{QuotedPrintableDecodeError, Base64DecodeError, EncodingError, Generic, Memory}
-use Rattle.mail_c.specs.Codes.{IsCoded, coded, error_code, no_memory, too_many}
-use Rattle.mail_c.specs.RecordViews.{family_view, item_view, lists}
+use Rattle.mail_c.specs.Codes.{IsCoded, coded, error_code, no_memory}
+use Rattle.mail_c.specs.RecordViews.{family_view, item_view}
 use Rattle.mail_codec.specs.Places.{values_below}
 use Rattle.mailparse.specs.Block.{header_place}
 use Rattle.mailparse.specs.Header.{header_length, key_end, value_end, value_start}
@@ -61,14 +61,14 @@ refused_code (Memory e) given code h is = inl is
 
 -- the records of a mail that was read
 pub records_are : (known : Charsets) (limit : ℕ) (raw : List ℕ) (t : Tree) (ranges : List Placement) (found : List Part × List HeaderRecord)
-    → read_mail_within (strict known) 100 limit raw ≡ Ok t → ranges ≡ placements 0 t → found ≡ records_in known (items_of (trees_within t) ranges (families 0 none 0 t))
+    → mail_reading known limit raw ≡ Ok t → ranges ≡ placements 0 t → found ≡ records_in known (items_of (trees_within t) ranges (families 0 none 0 t))
     → ◌≡◌ {A = Result (List Part × List HeaderRecord) ℕ} (Ok found) (records known limit raw)
 unfolding records
 records_are known limit raw t ranges found read at is =
     ap Ok (is ∙ ap (λ (p : List Placement). records_in known (items_of (trees_within t) p (families 0 none 0 t))) at)
     ∙ ap (λ (r : Reads Tree). mail_records known (coded r)) (sym read)
 
-pub records_refused : (known : Charsets) (limit : ℕ) (raw : List ℕ) (code : ℕ) → coded (read_mail_within (strict known) 100 limit raw) ≡ Err code → records known limit raw ≡ Err code
+pub records_refused : (known : Charsets) (limit : ℕ) (raw : List ℕ) (code : ℕ) → coded (mail_reading known limit raw) ≡ Err code → records known limit raw ≡ Err code
 unfolding records
 records_refused known limit raw code e = ap (mail_records known) e
 
@@ -82,15 +82,17 @@ pub headers_refused : (limit : ℕ) (raw : List ℕ) (code : ℕ) → coded (rea
 unfolding header_block
 headers_refused limit raw code e = ap (block_records limit raw) e
 
--- a block with more headers than the limit
-pub headers_over : (limit : ℕ) (raw : List ℕ) → limit < headers_met (read_headers raw) → header_block limit raw ≡ Err too_many
+-- a block with headers, which were counted
+pub headers_counted : (limit : ℕ) (raw : List ℕ) (count : ℕ) → 0 < count → count ≡ headers_met (read_headers raw)
+    → limited limit count (header_records 0 raw count) ≡ header_block limit raw
 unfolding header_block
-headers_over limit raw high = by_block (read_headers raw) high
+headers_counted limit raw count some is =
+    ap (λ n. limited limit n (header_records 0 raw n)) is ∙ by_block (read_headers raw) (subst (λ n. 0 < n) is some)
   where
-    by_block : (block : Reads HeaderList) → limit < headers_met block → block_records limit raw (coded block) ≡ Err too_many
-    by_block (Ok block) h =
-        ap (λ (t : Bool). cond {A = Result (List HeaderRecord) ℕ} t (Ok (header_records 0 raw (length block.headers))) (Err too_many)) (lt-leb (length block.headers) limit h)
-    by_block (Err refusal) h = let none : limit < 0 = h in absurd (omega (arith, none))
+    by_block : (block : Reads HeaderList) → 0 < headers_met block
+        → limited limit (headers_met block) (header_records 0 raw (headers_met block)) ≡ block_records limit raw (coded block)
+    by_block (Ok block) h = refl
+    by_block (Err refusal) h = let none : 0 < 0 = h in absurd (omega (arith, none))
 
 -- ---- the messages of a mail
 

@@ -6,11 +6,13 @@ use Rattle.std.specs.Prelude.{ok_or, option_map}
 use Rattle.mail_data.specs.ReportViews.{field_view}
 use Rattle.mail_data.specs.declared.reports.Field.{Field}
 use Rattle.mail_codec.specs.Charset.{Charsets}
-use Rattle.mailparse.specs.Mail.{Tree, read_mail_in, root}
+use Rattle.mailparse.specs.Mail.{Tree, root}
 use Rattle.mailparse.specs.Refusal.{Reads}
+use Rattle.mail_data.specs.Reading.{mail_reading}
 use Rattle.mail_data.specs.Reports.{report_blocks}
 use Rattle.mail_c.specs.Codes.{absent, coded}
 use Rattle.mail_c.specs.Reports.{AreFields, Entry, block_entries, block_entry, blocks_read, entry_record, entry_text, part_report, report}
+use Rattle.mail_c.specs.Results.{no_limit}
 use Rattle.mail_c.specs.Rows.{rows_from}
 use Rattle.mail_c.specs.declared.reports.FieldRecord.{FieldRecord}
 use Rattle.mail_c.specs.declared.reports.FieldRecords.{FieldRecords}
@@ -61,13 +63,13 @@ field_appended block fields i d name value low is first old new done here before
 -- ---- the report that a part is
 
 -- a part that was read
-pub report_is : (known : Charsets) (raw : List ℕ) (t : Tree) (found : Option (List FieldRecord × List ℕ)) → read_mail_in known 100 raw ≡ Ok t
+pub report_is : (known : Charsets) (raw : List ℕ) (t : Tree) (found : Option (List FieldRecord × List ℕ)) → mail_reading known no_limit raw ≡ Ok t
     → found ≡ option_map blocks_read (report_blocks known (root t)) → report known raw ≡ ok_or found absent
 unfolding report
 report_is known raw t found read are =
     ap (λ (r : Reads Tree). part_report known (coded r)) read ∙ ap (λ (o : Option (List FieldRecord × List ℕ)). ok_or o absent) (sym are)
 
 -- a part that is refused
-pub report_refused : (known : Charsets) (raw : List ℕ) (code : ℕ) → coded (read_mail_in known 100 raw) ≡ Err code → report known raw ≡ Err code
+pub report_refused : (known : Charsets) (raw : List ℕ) (code : ℕ) → coded (mail_reading known no_limit raw) ≡ Err code → report known raw ≡ Err code
 unfolding report
 report_refused known raw code refused = ap (part_report known) refused

@@ -1,4 +1,4 @@
-use Rattle.std.proofs.Common.{◌≡◌, ℕ, List, length, map, sym, ap, ◌∙◌, arith}
+use Rattle.std.proofs.Common.{◌≡◌, length, map, sym, ap, ◌∙◌, arith}
 use Rattle.mail_address.specs.AddressViews.{member_view}
 use Rattle.mail_json.proofs.lemmas.Fields.{ok_same}
 use Rattle.mail_c.proofs.lemmas.AddressRecords.{group_appended, number-of, on_ok}

@@ -1,8 +1,4 @@
-use Rattle.std.proofs.Common.{ℕ, ◌+◌, List, [], ◌∷◌, ◌++◌, map, drop, sym, ap, ◌∙◌, arith, append_assoc, add-one}
-use Rattle.std.proofs.Math.Seq.{drop-cons}
-use Rattle.mail_address.specs.AddressViews.{member_view}
-use Rattle.mail_address.specs.declared.list.Member.{Member}
-use Rattle.mail_c.specs.AddressRecords.{single_entry}
+use Rattle.std.proofs.Common.{arith}
 use Rattle.mail_c.proofs.lemmas.AddressRecords.{member_appended}
 use Rattle.mail_c.proofs.addresses.push_members.Goals as goal
 

@@ -1,4 +1,4 @@
-use Rattle.std.proofs.Common.{◌≡◌, Ok, rules, sym, ap, ◌∙◌}
+use Rattle.std.proofs.Common.{◌≡◌, Ok, rules, ap, ◌∙◌}
 use Rattle.std.specs.Cow.{cow_slice_items}
 use Rattle.mailparse.specs.Body.{BodyKind}
 use Rattle.mail_data.specs.lenient.Content.{lenient_content}

@@ -1,7 +1,6 @@
 use Rattle.std.proofs.Common.{ℕ, List, Result, inl, inr, ⊎_elim, refl, subst}
-use Rattle.mailparse.specs.Limit.{read_mail_within}
-use Rattle.mailparse.specs.Mail.{strict}
 use Rattle.mailparse.specs.Views.{placements_of, tree_of}
+use Rattle.mail_data.specs.Reading.{mail_reading}
 use Rattle.mail_c.specs.Codes.{IsCoded}
 use Rattle.mail_c.specs.RecordViews.{lists}
 use Rattle.mail_c.specs.declared.records.HeaderRecord.{HeaderRecord}
@@ -21,4 +20,4 @@ returns-in-Err g c =
     let known = g.K.KnownCharsets.known c.args.known.now in
     let raw = c.args.raw.now in
     ⊎_elim (λ memory. inl memory) (λ refused. inr (records_refused known c.args.limit raw _ refused))
-    (refused_code c.in-Err.error (read_mail_within (strict known) 100 c.args.limit raw) _ c.in-Err.ensures.read c.code_of.ensures)
+    (refused_code c.in-Err.error (mail_reading known c.args.limit raw) _ c.in-Err.ensures.read c.code_of.ensures)

@@ -1,6 +1,6 @@
 use Rattle.std.proofs.Common.{ℕ, List, length, ap, ◌∙◌, arith, length-drop}
 use Rattle.std.proofs.lemmas.List.{append-nil, take_rest}
-use Rattle.std.proofs.Common.{sym, refl}
+use Rattle.std.proofs.Common.{sym}
 use Rattle.mailparse.specs.Header.{header_length, key_end, value_end, value_start}
 use Rattle.mailparse.proofs.lemmas.Block.{header_place-first}
 use Rattle.mail_c.proofs.lemmas.Records.{next_header, next_place}

@@ -1,5 +1,5 @@
-use Rattle.std.proofs.Common.{◌≡◌, ℕ, ◌+◌, List, length, map, drop, sym, ap, ◌∙◌, arith, length-append}
-use Rattle.std.proofs.lemmas.List.{append-nil, drop_all}
+use Rattle.std.proofs.Common.{◌≡◌, ◌+◌, List, length, map, drop, ap, ◌∙◌, arith, length-append}
+use Rattle.std.proofs.lemmas.List.{drop_all}
 use Rattle.mail_json.proofs.lemmas.JsonText.{drop_next}
 use Rattle.std.specs.Prelude.{vec_len}
 use Rattle.mailparse.specs.Mail.{root}

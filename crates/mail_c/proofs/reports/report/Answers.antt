@@ -1,8 +1,10 @@
 use Rattle.std.proofs.Common.{◌≡◌, None, Some, option_map, rules, inl, inr, ⊎_elim}
-use Rattle.mailparse.specs.Mail.{read_mail_in, root}
+use Rattle.mailparse.specs.Mail.{root}
 use Rattle.mailparse.specs.Views.{tree_of}
+use Rattle.mail_data.specs.Reading.{mail_reading}
 use Rattle.mail_data.specs.Reports.{report_blocks}
 use Rattle.mail_c.specs.Reports.{blocks_read, fields_view}
+use Rattle.mail_c.specs.Results.{no_limit}
 use Rattle.mail_c.proofs.lemmas.Records.{refused_code}
 use Rattle.mail_c.proofs.lemmas.Reports.{report_is, report_refused}
 use Rattle.mail_c.proofs.reports.report.Goals as goal
@@ -12,7 +14,7 @@ returns-in-Err g c =
     let known = g.K.KnownCharsets.known c.args.known.now in
     let raw = c.args.raw.now in
     ⊎_elim (λ memory. inl memory) (λ refused. inr (report_refused known raw _ refused))
-    (refused_code c.in-Err.error (read_mail_in known 100 raw) _ c.in-Err.ensures.read c.code_of.ensures)
+    (refused_code c.in-Err.error (mail_reading known no_limit raw) _ c.in-Err.ensures.read c.code_of.ensures)
 
 pub returns-in-Ok-Some : goal.returns-in-Ok-Some
 returns-in-Ok-Some g c =
