@@ -9,6 +9,7 @@ pub mod Objects
 pub mod Members
 pub mod Values
 pub mod Fields
+pub mod Decoded
 pub mod Part
 pub mod Inside
 pub mod Mail

@@ -20,3 +20,4 @@ pub mod Range
 pub mod Values
 pub mod WithoutText
 pub mod Reports
+pub mod DecodedViews

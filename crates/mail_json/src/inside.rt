@@ -1,30 +1,33 @@
 //! The mails inside a mail, and the objects of their parts.
 ghost use Rattle.std.specs.Prelude.{◌≡◌, ◌++◌, [], ◌∷◌, map, option_and_then, option_map, true};
-ghost use Rattle.std.specs.Prelude.{IfOk, OnOk};
+ghost use Rattle.std.specs.List.{AllByRecursion};
+ghost use Rattle.std.specs.Prelude.{IfErr, IfOk, OnOk};
+ghost use Rattle.mailparse.specs.Mail.{Tree};
 ghost use Rattle.mailparse.specs.Outcome.{IsMemory, refusal_of};
 ghost use Rattle.mailparse.specs.Placement.{placements};
-ghost use Rattle.mailparse.specs.Views.{placements_of, tree_of};
 ghost use Rattle.mail_data.specs.InnerMails.{mails_in_place};
-ghost use Rattle.mail_data.specs.PlaceViews.{place_view};
+ghost use Rattle.mail_data.specs.PartPlaces.{places};
 ghost use Rattle.mail_json.specs.Inside.{mails_among, mails_inside, without_bytes};
 ghost use Rattle.mail_json.specs.InsideViews.{inside_view};
 ghost use Rattle.mail_json.specs.Members.{AddsMember, is_key};
 ghost use Rattle.mail_json.specs.Options.{options_of};
+ghost use Rattle.mail_json.specs.DecodedViews.{IsDecoded, decoded_place};
 ghost use Rattle.mail_json.specs.Printed.{after_commas, list_of, listed, string_or_null, text_of};
 ghost use Rattle.mail_json.specs.Values.{AreInsideValues, ArePartValues, inside_value};
-ghost use Rattle.mail_json.specs.Written.{WritesOne};
+ghost use Rattle.mail_json.specs.Written.{WritesOne, WroteOne};
+ghost use Rattle.mail_program.specs.Fault.{IsEnd};
 ghost use Rattle.mail_program.specs.Refusal.{refusal_text};
 ghost use Rattle.mail_program.specs.Streams.{Writes};
 
+use crate::decoded::{Decoded, decoded_parts, mail_in};
 use crate::json_text::{Position, write_comma, write_word};
 use crate::members::{add_number_or_null, add_optional, add_text, first_key, key};
 use crate::options::LineOptions;
 use crate::part::{Form, place_in, write_found};
-use mail_data::inner_mails::{forwarded_mail, places_under};
-use mail_data::places::{Place, places};
+use mail_data::inner_mails::{holds_mail, mail_start, places_under};
 use mail_data::reading::read_mail;
 use mail_program::{Fault, refusal_of};
-use mailparse::{KnownCharsets, MAX_LEVELS, MailParseError, ParsedMail};
+use mailparse::{KnownCharsets, MAX_LEVELS, MailParseError};
 use std::alloc::{AllocError, Global};
 use std::io::Write;
 
@@ -50,24 +53,24 @@ struct Within {
     most: u8,
 }
 
-/// Writes the objects of a mail and of its parts, and then those of the mails inside it, separated
-/// by commas, and adds the mails inside to a list. The mail begins at the offset `origin` of the
-/// input.
+/// Writes the objects of all parts of a mail, and then those of the mails inside it, separated by
+/// commas, and adds the mails inside to a list. The mail begins at the offset `origin` of the input.
 pub(crate) fn write_parts<W: Write, K: KnownCharsets>(
     alloc: Global,
     out: &mut W,
-    mail: &ParsedMail<'_>,
+    parts: &[Decoded<'_, '_, '_>],
     origin: usize,
     options: LineOptions,
     known: &K,
     mails: &mut Vec<Inside>,
 ) -> Result<(), Fault>
-    requires placed { placements_of mail.now ≡ placements 0 (tree_of mail.now) }
-    ensures written { WritesOne (W.contents out.old) (W.contents out.new) result (listed text_of [])
-        (ArePartValues (options_of (K.known known.now) options) origin (tree_of mail.now)) }
-    ensures listed { OnOk result (map inside_view mails.new.items
-        ≡ map inside_view mails.old.items
-        ++ map without_bytes (mails_inside (K.known known.now) options.limit (tree_of mail.now))) }
+    requires { AllByRecursion (IsDecoded options.decodes_bodies) parts.now }
+    ensures written { (mail : Tree) → map decoded_place parts.now ≡ places mail (placements 0 mail) →
+        WritesOne (W.contents out.old) (W.contents out.new) result (listed text_of [])
+        (ArePartValues (options_of (K.known known.now) options) origin mail) }
+    ensures listed { (mail : Tree) → map decoded_place parts.now ≡ places mail (placements 0 mail) →
+        OnOk result (map inside_view mails.new.items ≡ map inside_view mails.old.items
+        ++ map without_bytes (mails_inside (K.known known.now) options.limit mail)) }
 {
     let form = Form {
         inside: None,
@@ -75,14 +78,13 @@ pub(crate) fn write_parts<W: Write, K: KnownCharsets>(
         options,
         known,
     };
-    let found = places(alloc, mail)?;
-    write_found(alloc, out, found.as_slice(), Position::First, form)?;
+    write_found(alloc, out, parts, Position::First, form)?;
     let within = Within {
         origin,
         start: Some(0),
         most: MAX_LEVELS,
     };
-    write_inside(alloc, out, found.as_slice(), within, options, known, mails)
+    write_inside(alloc, out, parts, within, options, known, mails)
 }
 
 /// Writes the objects of the parts of the mails that these parts of a mail contain, each after a
@@ -91,32 +93,34 @@ pub(crate) fn write_parts<W: Write, K: KnownCharsets>(
 fn write_inside<W: Write, K: KnownCharsets>(
     alloc: Global,
     out: &mut W,
-    places: &[Place<'_, '_>],
+    parts: &[Decoded<'_, '_, '_>],
     within: Within,
     options: LineOptions,
     known: &K,
     mails: &mut Vec<Inside>,
 ) -> Result<(), Fault>
-    ensures written { WritesOne (W.contents out.old) (W.contents out.new) result
-        (after_commas text_of) (AreInsideValues
-        (options_of (K.known known.now) options) within.origin
+    ensures written { AllByRecursion (IsDecoded options.decodes_bodies) parts.now →
+        WroteOne (W.contents out.old) (W.contents out.new) result (after_commas text_of)
+        (AreInsideValues (options_of (K.known known.now) options) within.origin
         (mails_among (K.known known.now) options.limit within.most within.start
-        (map place_view places.now))) }
-    ensures listed { OnOk result (map inside_view mails.new.items
+        (map decoded_place parts.now))) }
+    ensures listed { AllByRecursion (IsDecoded options.decodes_bodies) parts.now →
+        OnOk result (map inside_view mails.new.items
         ≡ map inside_view mails.old.items ++ map without_bytes
         (mails_among (K.known known.now) options.limit within.most within.start
-        (map place_view places.now))) }
+        (map decoded_place parts.now))) }
+    ensures failed { IfErr result IsEnd }
 {
     if within.most == 0 {
         return Ok(());
     }
-    for place in places {
+    for part in parts {
         let deeper = Within {
             origin: within.origin,
             start: within.start,
             most: within.most - 1,
         };
-        write_forwarded(alloc, out, place, deeper, options, known, mails)?;
+        write_forwarded(alloc, out, part, deeper, options, known, mails)?;
     }
     Ok(())
 }
@@ -127,46 +131,50 @@ fn write_inside<W: Write, K: KnownCharsets>(
 fn write_forwarded<W: Write, K: KnownCharsets>(
     alloc: Global,
     out: &mut W,
-    place: &Place<'_, '_>,
+    part: &Decoded<'_, '_, '_>,
     within: Within,
     options: LineOptions,
     known: &K,
     mails: &mut Vec<Inside>,
 ) -> Result<(), Fault>
-    ensures written { WritesOne (W.contents out.old) (W.contents out.new) result
-        (after_commas text_of) (AreInsideValues
-        (options_of (K.known known.now) options) within.origin
+    ensures written { IsDecoded options.decodes_bodies part.now →
+        WroteOne (W.contents out.old) (W.contents out.new) result (after_commas text_of)
+        (AreInsideValues (options_of (K.known known.now) options) within.origin
         (mails_in_place (K.known known.now) options.limit within.most within.start
-        (place_view place.now))) }
-    ensures listed { OnOk result (map inside_view mails.new.items
+        (decoded_place part.now))) }
+    ensures listed { IsDecoded options.decodes_bodies part.now →
+        OnOk result (map inside_view mails.new.items
         ≡ map inside_view mails.old.items ++ map without_bytes
         (mails_in_place (K.known known.now) options.limit within.most within.start
-        (place_view place.now))) }
+        (decoded_place part.now))) }
+    ensures failed { IfErr result IsEnd }
 {
-    let Some(found) = forwarded_mail(alloc, place, within.start)? else {
+    if !holds_mail(part.place) {
         return Ok(());
-    };
-    let path = place.path.as_str();
-    match read_mail(alloc, found.bytes.as_slice(), options.limit, known) {
+    }
+    let start = mail_start(within.start, part.place, &part.body);
+    let path = part.place.path.as_str();
+    match read_mail(alloc, mail_in(part), options.limit, known) {
         Ok(mail) => {
-            push_inside(alloc, path, found.start, None, mails)?;
+            push_inside(alloc, path, start, None, mails)?;
             let form = Form {
                 inside: Some(path),
-                start: place_in(found.start, within.origin),
+                start: place_in(start, within.origin),
                 options,
                 known,
             };
-            let parts = places_under(alloc, &mail, path)?;
+            let found = places_under(alloc, &mail, path)?;
+            let parts = decoded_parts(alloc, found.as_slice(), options)?;
             write_found(alloc, out, parts.as_slice(), Position::Later, form)?;
             let inside = Within {
                 origin: within.origin,
-                start: found.start,
+                start,
                 most: within.most,
             };
             write_inside(alloc, out, parts.as_slice(), inside, options, known, mails)
         }
         Err(error) => {
-            push_refused(alloc, path, found.start, error, mails)?;
+            push_refused(alloc, path, start, error, mails)?;
             Ok(())
         }
     }

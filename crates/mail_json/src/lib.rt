@@ -3,6 +3,7 @@
 
 mod addresses;
 mod body;
+mod decoded;
 mod escapes;
 mod fields;
 mod file_line;
@@ -23,6 +24,7 @@ mod selection;
 mod stream;
 mod written;
 
+pub use decoded::{Decoded, decoded_parts, mail_in};
 pub use file_line::{FileLine, write_file_line};
 pub use json_lines::write_single;
 pub use mail::write_mail;

@@ -1,11 +1,13 @@
 //! The object of a mail.
-ghost use Rattle.std.specs.Prelude.{◌≡◌, codes, option_map, true, IfErr, IfOk};
-ghost use Rattle.mailparse.specs.Mail.{root};
+ghost use Rattle.std.specs.List.{AllByRecursion};
+ghost use Rattle.std.specs.Prelude.{◌≡◌, codes, map, option_map, true, IfErr, IfOk};
+ghost use Rattle.mailparse.specs.Mail.{root, trees_within};
 ghost use Rattle.mailparse.specs.Placement.{placements};
 ghost use Rattle.mailparse.specs.Views.{placements_of, tree_of};
 ghost use Rattle.mail_data.specs.lenient.Date.{zoned_date_of};
 ghost use Rattle.mail_json.specs.Fields.{date_fault_text, value_of};
 ghost use Rattle.mail_json.specs.Origin.{origin_of};
+ghost use Rattle.mail_json.specs.DecodedViews.{IsDecoded, decoded_tree};
 ghost use Rattle.mail_json.specs.Options.{options_of};
 ghost use Rattle.mail_json.specs.Members.{AddsMember, AddsMembers, BeginsMembers, is_key};
 ghost use Rattle.mail_json.specs.Printed.{begun, text_of};
@@ -18,6 +20,7 @@ ghost use Rattle.mail_program.specs.Streams.{Writes};
 ghost use Rattle.mail_json.specs.Written.{WritesOne};
 
 use crate::addresses::write_addresses;
+use crate::decoded::{Decoded, decoded_parts};
 use crate::fields::value_of;
 use crate::inside::{write_mails, write_parts};
 use crate::json_text::write_word;
@@ -32,6 +35,7 @@ use mail_codec::charset::decode_latin1;
 use mail_data::archive::ids_of;
 use mail_data::bounce::original_message_id;
 use mail_data::lenient::{DateError, IdRule, zoned_date_of};
+use mail_data::places::places;
 use mail_program::Fault;
 use mailparse::{KnownCharsets, MailHeaderMap, ParsedMail};
 use std::alloc::Global;
@@ -69,12 +73,15 @@ pub fn write_mail<W: Write, K: KnownCharsets>(
         (IsMailValue (options_of (K.known known.now) options) (origin_of origin.now)
         (tree_of mail.now)) }
 {
-    let head = head_of(alloc, mail, origin, options, known)?;
+    let found = places(alloc, mail)?;
+    let decoded = decoded_parts(alloc, found.as_slice(), options)?;
+    let parts = decoded.as_slice();
+    let head = head_of(alloc, mail, parts, origin, options, known)?;
     out.write_all(head.as_slice())?;
     let mut inside = Vec::new(alloc);
     write_word(out, key!("parts"))?;
     write_word(out, "[")?;
-    write_parts(alloc, out, mail, origin.start, options, known, &mut inside)?;
+    write_parts(alloc, out, parts, origin.start, options, known, &mut inside)?;
     write_word(out, "]")?;
     write_word(out, key!("forwarded"))?;
     write_mails(alloc, out, inside.as_slice(), origin.start)?;
@@ -85,16 +92,19 @@ pub fn write_mail<W: Write, K: KnownCharsets>(
 fn head_of<K: KnownCharsets>(
     alloc: Global,
     mail: &ParsedMail<'_>,
+    parts: &[Decoded<'_, '_, '_>],
     origin: &Origin<'_>,
     options: LineOptions,
     known: &K,
 ) -> Result<LineBuffer, Fault>
+    requires decoded { AllByRecursion (IsDecoded options.decodes_bodies) parts.now }
+    requires whole { map decoded_tree parts.now ≡ trees_within (tree_of mail.now) }
     ensures written { IfOk result (λ line. line_bytes line ≡ begun (head_members
         (K.known known.now) options.decodes_bodies (origin_of origin.now) (tree_of mail.now))) }
     ensures failed { IfErr result IsEnd }
 {
     let mut line = LineBuffer::new(alloc)?;
-    match write_head(alloc, &mut line, mail, origin, options, known) {
+    match write_head(alloc, &mut line, mail, parts, origin, options, known) {
         Ok(()) => Ok(line),
         Err(fault) => Err(memory_fault(fault)),
     }
@@ -105,10 +115,13 @@ fn write_head<W: Write, K: KnownCharsets>(
     alloc: Global,
     out: &mut W,
     mail: &ParsedMail<'_>,
+    parts: &[Decoded<'_, '_, '_>],
     origin: &Origin<'_>,
     options: LineOptions,
     known: &K,
 ) -> Result<(), Fault>
+    requires decoded { AllByRecursion (IsDecoded options.decodes_bodies) parts.now }
+    requires whole { map decoded_tree parts.now ≡ trees_within (tree_of mail.now) }
     ensures { BeginsMembers (W.contents out.old) (W.contents out.new) result (head_members
         (K.known known.now) options.decodes_bodies (origin_of origin.now) (tree_of mail.now)) }
 {
@@ -121,7 +134,7 @@ fn write_head<W: Write, K: KnownCharsets>(
     let bounced = original_message_id(alloc, mail)?;
     add_optional(out, key!("bounced_id"), bounced.as_deref())?;
     write_word(out, key!("recipients"))?;
-    write_reported(alloc, out, mail, options.decodes_bodies, known)?;
+    write_reported(alloc, out, mail, parts, options.decodes_bodies, known)?;
     Ok(())
 }
 

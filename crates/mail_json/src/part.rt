@@ -1,21 +1,21 @@
 //! The objects of the parts.
 ghost use Rattle.std.specs.Prelude.{◌&&◌, ◌≡◌, codes, length, IfErr, IfOk, map, option_map};
-ghost use Rattle.std.specs.Prelude.{◌||◌, not, string_bytes, true, false, Ok};
+ghost use Rattle.std.specs.Prelude.{◌||◌, not, string_bytes, true, false, Bool};
+ghost use Rattle.std.specs.List.{AllByRecursion};
 ghost use Rattle.json.specs.Json.{Json, string};
 ghost use Rattle.mailparse.specs.Map.{text_found};
-ghost use Rattle.mailparse.specs.BodyViews.{IsBody, content_of};
-ghost use Rattle.mailparse.specs.Mail.{Tree, root};
-ghost use Rattle.mailparse.specs.Outcome.{AnswersOrMemory, IsMemory};
+ghost use Rattle.mailparse.specs.Mail.{root};
+ghost use Rattle.mailparse.specs.Outcome.{IsMemory};
 ghost use Rattle.mailparse.specs.Views as views;
 ghost use Rattle.mailparse.specs.Views.{content_type, tree_of};
 ghost use Rattle.mail_data.specs.lenient.ContentViews.{content_view};
-ghost use Rattle.mail_data.specs.lenient.Encoding.{lenient_body_kind};
 ghost use Rattle.mail_data.specs.PlaceViews.{place_view};
 ghost use Rattle.mail_data.specs.Files.{is_leaf, is_shown};
 ghost use Rattle.mail_data.specs.ReportViews.{block_view};
 ghost use Rattle.mail_json.specs.Part.{Lists, content_if, hash_of, is_attachment, is_read};
 ghost use Rattle.mail_json.specs.Part.{path_shown, place_in, report_if, text_shown};
 ghost use Rattle.mail_json.specs.Options.{options_of};
+ghost use Rattle.mail_json.specs.DecodedViews.{IsDecoded, decoded_place};
 ghost use Rattle.mail_json.specs.LineViews.{line_bytes};
 ghost use Rattle.mail_json.specs.Members.{AddsMembers, BeginsMembers};
 ghost use Rattle.mail_program.specs.Fault.{IsEnd};
@@ -28,6 +28,7 @@ ghost use Rattle.mail_program.specs.Streams.{Writes};
 ghost use Rattle.mail_json.specs.Written.{WritesOne};
 
 use crate::body::encoding_name;
+use crate::decoded::Decoded;
 use crate::fields::{content_id, disposition_name};
 use crate::json_text::{Position, write_comma, write_text, write_word};
 use crate::line_buffer::{LineBuffer, memory_fault};
@@ -42,12 +43,11 @@ use mail_data::files::{
     describes_attachment, file_name, is_attachment_disposition, is_leaf, is_shown,
 };
 use mail_data::flowed::unflowed_of;
-use mail_data::lenient::{Content, charset_used, lenient_body, lenient_content, lenient_text};
+use mail_data::lenient::{Content, charset_used, lenient_text};
 use mail_data::places::Place;
-use mail_data::reports::{Block, report_blocks};
+use mail_data::reports::{Block, has_report, read_blocks};
 use mail_data::texts::text_type;
 use mail_program::{Fault, refusal_of, sha256_text};
-use mailparse::body::Body;
 use mailparse::{
     KnownCharsets, MailHeader, MailParseError, ParsedContentDisposition, ParsedContentType,
     ParsedMail,
@@ -74,20 +74,21 @@ pub(crate) struct Form<'f, K> {
 pub(crate) fn write_found<W: Write, K: KnownCharsets>(
     alloc: Global,
     out: &mut W,
-    found: &[Place<'_, '_>],
+    parts: &[Decoded<'_, '_, '_>],
     first: Position,
     form: Form<'_, K>,
 ) -> Result<(), Fault>
+    requires { AllByRecursion (IsDecoded form.options.decodes_bodies) parts.now }
     ensures { WritesOne (W.contents out.old) (W.contents out.new) result
         (listed text_of (comma first)) (AreValues
         (IsPartValue (options_of (K.known form.entry.known.now) form.entry.options)
         (option_map (λ path. path.now) form.entry.inside) form.entry.start)
-        (map place_view found.now)) }
+        (map decoded_place parts.now)) }
 {
     let mut position = first;
-    for place in found {
+    for part in parts {
         write_comma(out, position)?;
-        write_part(alloc, out, place, form)?;
+        write_part(alloc, out, part, form)?;
         position = Position::Later;
     }
     Ok(())
@@ -97,15 +98,16 @@ pub(crate) fn write_found<W: Write, K: KnownCharsets>(
 pub(crate) fn write_part<W: Write, K: KnownCharsets>(
     alloc: Global,
     out: &mut W,
-    place: &Place<'_, '_>,
+    part: &Decoded<'_, '_, '_>,
     form: Form<'_, K>,
 ) -> Result<(), Fault>
+    requires { IsDecoded form.options.decodes_bodies part.now }
     ensures { WritesOne (W.contents out.old) (W.contents out.new) result text_of
         (IsPartValue (options_of (K.known form.entry.known.now) form.entry.options)
         (option_map (λ path. path.now) form.entry.inside) form.entry.start
-        (place_view place.now)) }
+        (decoded_place part.now)) }
 {
-    let object = object_of(alloc, place, form)?;
+    let object = object_of(alloc, part, form)?;
     out.write_all(object.as_slice())?;
     Ok(())
 }
@@ -113,17 +115,18 @@ pub(crate) fn write_part<W: Write, K: KnownCharsets>(
 /// Returns the object of a part, without its parts.
 fn object_of<K: KnownCharsets>(
     alloc: Global,
-    place: &Place<'_, '_>,
+    part: &Decoded<'_, '_, '_>,
     form: Form<'_, K>,
 ) -> Result<LineBuffer, Fault>
+    requires { IsDecoded form.options.decodes_bodies part.now }
     ensures written { IfOk result (λ line. (value : Json) × IsPartValue
         (options_of (K.known form.entry.known.now) form.entry.options)
-        (option_map (λ path. path.now) form.entry.inside) form.entry.start (place_view place.now)
+        (option_map (λ path. path.now) form.entry.inside) form.entry.start (decoded_place part.now)
         value × (line_bytes line ≡ text_of value)) }
     ensures failed { IfErr result IsEnd }
 {
     let mut line = LineBuffer::new(alloc)?;
-    match write_object(alloc, &mut line, place, form) {
+    match write_object(alloc, &mut line, part, form) {
         Ok(()) => Ok(line),
         Err(fault) => Err(memory_fault(fault)),
     }
@@ -133,14 +136,16 @@ fn object_of<K: KnownCharsets>(
 fn write_object<W: Write, K: KnownCharsets>(
     alloc: Global,
     out: &mut W,
-    place: &Place<'_, '_>,
+    decoded: &Decoded<'_, '_, '_>,
     form: Form<'_, K>,
 ) -> Result<(), Fault>
+    requires { IsDecoded form.options.decodes_bodies decoded.now }
     ensures { WritesOne (W.contents out.old) (W.contents out.new) result text_of
         (IsPartValue (options_of (K.known form.entry.known.now) form.entry.options)
         (option_map (λ path. path.now) form.entry.inside) form.entry.start
-        (place_view place.now)) }
+        (decoded_place decoded.now)) }
 {
+    let (place, content) = (decoded.place, &decoded.content);
     let part = place.part;
     let (options, known) = (form.options, form.known);
     add_path(alloc, out, form.inside, place.path.as_str())?;
@@ -155,21 +160,19 @@ fn write_object<W: Write, K: KnownCharsets>(
     write_disposition(alloc, out, part, &disposition, known)?;
     add_flag(out, key!("attachment"), attached)?;
     add_flag(out, key!("extracted"), extracted)?;
-    let body = lenient_body(alloc, part)?;
-    add_text(out, key!("encoding"), encoding_name(&body))?;
+    add_text(out, key!("encoding"), encoding_name(&decoded.body))?;
     write_bounds(out, place, form.start)?;
-    add_number(out, key!("size"), body.get_raw().len())?;
-    let content = content_if(alloc, &body, options.decodes_bodies)?;
-    write_decoded_size(alloc, out, &content)?;
-    let hash = hash_of(alloc, &content, is_hashed(options.hashes, extracted))?;
+    add_number(out, key!("size"), decoded.body.get_raw().len())?;
+    write_decoded_size(alloc, out, content)?;
+    let hash = hash_of(alloc, content, is_hashed(options.hashes, extracted))?;
     add_optional(out, key!("sha256"), hash.as_deref())?;
-    let report = report_if(alloc, part, options.decodes_bodies, known)?;
+    let report = report_if(alloc, part, content, known)?;
     write_word(out, key!("report"))?;
     write_report(alloc, out, &report, known)?;
     write_word(out, key!("headers"))?;
     write_list(alloc, out, part.headers.as_slice(), known)?;
     let shown = is_read(part, &disposition);
-    write_part_text(alloc, out, &content, part, shown, options, known)?;
+    write_part_text(alloc, out, content, part, shown, options, known)?;
     write_word(out, "}")
 }
 
@@ -208,23 +211,6 @@ fn write_bounds<W: Write>(
     Ok(())
 }
 
-/// Returns the content of a body, or `None` if bodies are not decoded.
-fn content_if<'b>(
-    alloc: Global,
-    body: &Body<'b>,
-    decodes_bodies: bool,
-) -> Result<Option<Content<'b>>, MailParseError>
-    ensures read { (part : Tree) → IsBody (lenient_body_kind (root part)) (content_of (root part))
-        body.now → IfOk result (λ content.
-        option_map content_view content ≡ content_if decodes_bodies (root part)) }
-    ensures only_memory { IfErr result IsMemory }
-{
-    if !decodes_bodies {
-        return Ok(None);
-    }
-    Ok(Some(lenient_content(alloc, body)?))
-}
-
 /// Returns whether a part is saved when the files of a mail are extracted.
 fn is_extracted(part: &ParsedMail<'_>, is_attachment: bool) -> bool
     ensures { let tree = tree_of part.now in
@@ -240,20 +226,27 @@ fn is_hashed(hashes: bool, is_extracted: bool) -> bool
     hashes && is_extracted
 }
 
-/// Returns the blocks of a report that a part is, or `None` if bodies are not decoded.
+/// Returns the blocks of a report that a part with this content is, or `None` if bodies are not
+/// decoded.
 fn report_if<K: KnownCharsets>(
     alloc: Global,
     part: &ParsedMail<'_>,
-    decodes_bodies: bool,
+    content: &Option<Content<'_>>,
     known: &K,
 ) -> Result<Option<Vec<Block>>, MailParseError>
-    ensures { AnswersOrMemory (λ found. option_map (λ blocks. map block_view blocks.items) found)
-        result (Ok (report_if (K.known known.now) decodes_bodies (root (tree_of part.now)))) }
+    ensures read { let node = root (tree_of part.now) in
+        (decodes : Bool) → option_map content_view content.now ≡ content_if decodes node →
+        IfOk result (λ found. option_map (λ blocks. map block_view blocks.items) found
+        ≡ report_if (K.known known.now) decodes node) }
+    ensures only_memory { IfErr result IsMemory }
 {
-    if !decodes_bodies {
+    let Some(content) = content else {
+        return Ok(None);
+    };
+    if !has_report(part) {
         return Ok(None);
     }
-    report_blocks(alloc, part, known)
+    Ok(Some(read_blocks(alloc, content.bytes.as_slice(), known)?))
 }
 
 /// Returns an offset in the input by the offset `at` in a mail that begins at `start`, or `None` if
@@ -479,7 +472,7 @@ impl ListItem for MailHeader<'_> {
         known: &K,
     ) -> Result<(), Fault> {
         let key = decode_latin1(alloc, self.get_key_raw())?;
-        let value = self.get_value_in(alloc, known)?;
+        let value = self.get_value_ref_in(alloc, known)?;
         write_pair(out, key.as_str(), value.as_str())
     }
 }

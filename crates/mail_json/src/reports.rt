@@ -1,22 +1,27 @@
 //! Reports as JSON.
-ghost use Rattle.std.specs.Prelude.{map, option_map};
+ghost use Rattle.std.specs.List.{AllByRecursion};
+ghost use Rattle.std.specs.Prelude.{◌≡◌, ◌++◌, map, option_map, true, IfErr, Ok, OnOk};
+ghost use Rattle.mailparse.specs.Mail.{root, trees_within};
+ghost use Rattle.mailparse.specs.Outcome.{AnswersOrMemory, IsMemory};
 ghost use Rattle.mailparse.specs.Views.{tree_of};
-ghost use Rattle.mail_data.specs.Bounce.{recipients};
+ghost use Rattle.mail_data.specs.Bounce.{deliveries, recipients};
 ghost use Rattle.mail_data.specs.BounceViews.{delivery};
 ghost use Rattle.mail_data.specs.ReportViews.{block_view, field_view};
 ghost use Rattle.mail_json.specs.Reports.{deliveries_text, delivery_value};
 ghost use Rattle.mail_json.specs.Part.{recipients_if};
 ghost use Rattle.mail_json.specs.Printed.{text_of};
+ghost use Rattle.mail_json.specs.DecodedViews.{IsDecoded, decoded_tree};
 ghost use Rattle.mail_json.specs.Values.{block_value, pair_value, recipients_value, report_value};
 ghost use Rattle.mail_program.specs.Streams.{Writes};
 
+use crate::decoded::Decoded;
 use crate::json_text::{write_text, write_word};
 use crate::lists::{ListItem, write_list};
 use crate::members::{add_optional, first_key, key};
-use mail_data::bounce::{Recipient, recipients};
-use mail_data::reports::{Block, Field};
+use mail_data::bounce::{Recipient, add_failed, add_reported, recipients};
+use mail_data::reports::{Block, Field, has_status};
 use mail_program::Fault;
-use mailparse::{KnownCharsets, ParsedMail};
+use mailparse::{KnownCharsets, MailParseError, ParsedMail};
 use std::alloc::Global;
 use std::io::Write;
 
@@ -127,22 +132,66 @@ pub(crate) fn write_report<W: Write, K: KnownCharsets>(
     }
 }
 
-/// Writes the recipients that a mail reports, or `null` if bodies are not decoded.
+/// Writes the recipients that a mail with these parts reports, or `null` if bodies are not decoded.
 pub(crate) fn write_reported<W: Write, K: KnownCharsets>(
     alloc: Global,
     out: &mut W,
     mail: &ParsedMail<'_>,
+    parts: &[Decoded<'_, '_, '_>],
     decodes_bodies: bool,
     known: &K,
 ) -> Result<(), Fault>
+    requires decoded { AllByRecursion (IsDecoded decodes_bodies) parts.now }
+    requires whole { map decoded_tree parts.now ≡ trees_within (tree_of mail.now) }
     ensures { Writes (W.contents out.old) (W.contents out.new) result (text_of
         (recipients_value (recipients_if (K.known known.now) decodes_bodies (tree_of mail.now)))) }
 {
     if !decodes_bodies {
         return write_word(out, "null");
     }
-    let found = recipients(alloc, mail, known)?;
+    let found = recipients_in(alloc, mail, parts, known)?;
     write_list(alloc, out, found.as_slice(), known)
+}
+
+/// Returns the recipients that a mail with these parts reports, in whose contents they are read.
+fn recipients_in<K: KnownCharsets>(
+    alloc: Global,
+    mail: &ParsedMail<'_>,
+    parts: &[Decoded<'_, '_, '_>],
+    known: &K,
+) -> Result<Vec<Recipient>, MailParseError>
+    requires decoded { AllByRecursion (IsDecoded true) parts.now }
+    requires whole { map decoded_tree parts.now ≡ trees_within (tree_of mail.now) }
+    ensures { AnswersOrMemory (λ found. map delivery found.items) result
+        (Ok (recipients (K.known known.now) (tree_of mail.now))) }
+{
+    let mut found = Vec::new(alloc);
+    for part in parts {
+        add_recipients(alloc, &mut found, part, known)?;
+    }
+    add_failed(alloc, &mut found, mail, known)?;
+    Ok(found)
+}
+
+/// Adds the recipients in the status of deliveries, if the part has one.
+fn add_recipients<K: KnownCharsets>(
+    alloc: Global,
+    found: &mut Vec<Recipient>,
+    part: &Decoded<'_, '_, '_>,
+    known: &K,
+) -> Result<(), MailParseError>
+    requires { IsDecoded true part.now }
+    ensures written { OnOk result (map delivery found.new.items ≡ map delivery found.old.items
+        ++ deliveries (K.known known.now) (root (decoded_tree part.now))) }
+    ensures only_memory { IfErr result IsMemory }
+{
+    if !has_status(part.place.part) {
+        return Ok(());
+    }
+    match &part.content {
+        Some(content) => add_reported(alloc, found, content.bytes.as_slice(), known),
+        None => Ok(()),
+    }
 }
 
 /// Writes a pair of strings.

@@ -3,7 +3,7 @@ use Rattle.std.proofs.Common.{◌≡◌, ◌≢◌, ℕ, zero, suc, ◌-◌, Lis
 use Rattle.std.proofs.KnownBytes.{Appends-trans}
 use Rattle.std.proofs.lemmas.Fmt.{decimal_digit}
 use Rattle.std.proofs.lemmas.Grind.{flat_map-append}
-use Rattle.std.specs.Prelude.{codes, flat_map, OnOk}
+use Rattle.std.specs.Prelude.{codes, flat_map, IfErr, OnOk}
 use Rattle.std.specs.Io.KnownBytes.{Appends}
 use Rattle.json.specs.Json.{Json}
 use Rattle.mailparse.specs.Mail.{Tree, tree, no_parts, part_and}
@@ -20,7 +20,8 @@ use Rattle.mail_json.specs.Inside.{Listed, mails_among, mails_inside, parts_of_r
 use Rattle.mail_json.specs.Part.{place_in}
 use Rattle.mail_json.specs.Printed.{after_commas, listed, text_of}
 use Rattle.mail_json.specs.Values.{AreInsideValues, ArePartValues, AreValues, IsPartValue}
-use Rattle.mail_json.specs.Written.{WritesOne}
+use Rattle.mail_json.specs.Written.{WritesOne, WroteOne}
+use Rattle.mail_program.specs.Fault.{IsEnd}
 use Rattle.mail_json.specs.Options.{Options}
 use Rattle.mail_json.proofs.lemmas.JsonText.{listed-comma}
 use Rattle.mail_json.proofs.lemmas.Mail.{parts_first}
@@ -89,8 +90,8 @@ module _ (options : Options) (origin most : ℕ) (start : Option ℕ) (place : P
       → ◌≡◌ {A = Option Forwarded} (Some (forwarded_with bytes at)) (forwarded start place)
       → mail_reading options.known options.limit bytes ≡ Ok mail → found ≡ places_under place.path mail (placements 0 mail)
       → again ≡ places_under place.path mail (placements 0 mail) → AreValues (IsPartValue options (Some place.path) (place_in at origin)) found first → Appends old mid (listed text_of (codes ",") first)
-      → WritesOne mid new r (after_commas text_of) (AreInsideValues options origin (mails_among options.known options.limit most at again))
-      → WritesOne old new r (after_commas text_of) (AreInsideValues options origin mails)
+      → WroteOne mid new r (after_commas text_of) (AreInsideValues options origin (mails_among options.known options.limit most at again))
+      → WroteOne old new r (after_commas text_of) (AreInsideValues options origin mails)
   read_written at bytes mail found again old mid new (Ok done) first h e same same_again is p rest =
       let Is = IsPartValue options (Some place.path) (place_in at origin) in
       let own = subst (λ (xs : List Place). AreValues Is xs first) (same ∙ parts-read place.path _ mail e) is in
@@ -183,9 +184,9 @@ among_whole known limit mail =
 
 pub parts_written : {T : Type 0} (options : Options) (origin : ℕ) (mail : Tree) (found again : List Place) (old mid new : Option (List ℕ)) (r : Result T Fault) (parts : List Json)
     → found ≡ places mail (placements 0 mail) → again ≡ places mail (placements 0 mail) → AreValues (IsPartValue options None (Some origin)) found parts → Appends old mid (listed text_of [] parts)
-    → WritesOne mid new r (after_commas text_of) (AreInsideValues options origin (mails_among options.known options.limit 100 (Some 0) again))
+    → WroteOne mid new r (after_commas text_of) (AreInsideValues options origin (mails_among options.known options.limit 100 (Some 0) again)) → IfErr r IsEnd
     → WritesOne old new r (listed text_of []) (ArePartValues options origin mail)
-parts_written options origin mail found again old mid new (Ok done) parts same same_again is p rest =
+parts_written options origin mail found again old mid new (Ok done) parts same same_again is p rest failed =
     let own = subst (λ (xs : List Place). AreValues (IsPartValue options None (Some origin)) xs parts) same is in
     let mails = ap (λ (xs : List Place). mails_among options.known options.limit 100 (Some 0) xs) same_again ∙ among_whole options.known options.limit mail in
     let others = subst (λ (xs : List InnerMail). AreInsideValues options origin xs rest.0) mails rest.1 in (
@@ -193,7 +194,7 @@ parts_written options origin mail found again old mid new (Ok done) parts same s
       (parts, rest.0, own, others, refl),
       appends_as old new _ _ (parts_first options None (Some origin) mail parts rest.0 own) (Appends-trans old mid new _ _ p rest.2),
     )
-parts_written options origin mail found again old mid new (Err fault) parts same same_again is p rest = rest
+parts_written options origin mail found again old mid new (Err fault) parts same same_again is p rest failed = failed
 
 pub whole_listed : {T E : Type 0} (known : Charsets) (limit : ℕ) (mail : Tree) (found : List Place) (old new : List Listed) (r : Result T E) → found ≡ places mail (placements 0 mail)
     → OnOk r (new ≡ old ++ map without_bytes (mails_among known limit 100 (Some 0) found)) → OnOk r (new ≡ old ++ map without_bytes (mails_inside known limit mail))

@@ -4,7 +4,8 @@ use Rattle.std.proofs.Common.{◌≡◌, ◌++◌, ◌+◌, ◌-◌, ◌*◌, Li
 use Rattle.std.specs.Prelude.{flat_map}
 use Rattle.std.specs.Io.KnownBytes.{Appends}
 use Rattle.mail_data.specs.InnerMails.{mails_in_place}
-use Rattle.mail_data.specs.PlaceViews.{place_view}
+use Rattle.mail_json.specs.DecodedViews.{IsDecoded, decoded_place}
+use Rattle.std.specs.List.{AllByRecursion}
 use Rattle.mail_json.specs.Inside.{without_bytes}
 use Rattle.mail_json.specs.InsideViews.{inside_view}
 use Rattle.mail_json.specs.Options.{options_of}
@@ -19,13 +20,13 @@ decreases-write_inside g l = 2 * l.within.most
 abbrev pub decreases-write_forwarded : goal.decreases-write_forwarded
 decreases-write_forwarded g l = 2 * l.within.most + 1
 
-abbrev pub invariant-write_inside-loop-place : goal.invariant-write_inside-loop-place
-invariant-write_inside-loop-place g l =
+abbrev pub invariant-write_inside-loop-part : goal.invariant-write_inside-loop-part
+invariant-write_inside-loop-part g l =
     let known = g.K.KnownCharsets.known l.known in
     let step = mails_in_place known l.options.limit (l.within.most - 1) l.within.start in
-    let all = map place_view l.places in
-    let left = map place_view (drop l.place-index l.places) in
-    ((done : List ℕ) × Appends (g.W.Write.contents l.initial.out) (g.W.Write.contents l.out) done
+    let all = map decoded_place l.parts in
+    let left = map decoded_place (drop l.part-index l.parts) in
+    AllByRecursion (IsDecoded l.options.decodes_bodies) l.parts → ((done : List ℕ) × Appends (g.W.Write.contents l.initial.out) (g.W.Write.contents l.out) done
     × Completes (AreInsideValues (options_of known l.options) l.within.origin (flat_map step left)) (after_commas text_of)
     (AreInsideValues (options_of known l.options) l.within.origin (flat_map step all)) (after_commas text_of) done)
     × (map inside_view l.mails.items ++ map without_bytes (flat_map step left) ≡ map inside_view l.initial.mails.items ++ map without_bytes (flat_map step all))

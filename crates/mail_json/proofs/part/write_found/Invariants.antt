@@ -4,13 +4,13 @@ use Rattle.std.specs.Io.KnownBytes.{Appends}
 use Rattle.mail_json.specs.Options.{options_of}
 use Rattle.mail_json.specs.Printed.{comma, listed, text_of}
 use Rattle.mail_json.specs.Values.{AreValues, IsPartValue}
-use Rattle.mail_data.specs.PlaceViews.{place_view}
+use Rattle.mail_json.specs.DecodedViews.{decoded_place}
 use Rattle.mail_json.proofs.lemmas.Part.{Completes}
 use Rattle.mail_json.proofs.part.write_found.Given as goal
 
-abbrev pub invariant-loop-place : goal.invariant-loop-place
-invariant-loop-place g l =
+abbrev pub invariant-loop-part : goal.invariant-loop-part
+invariant-loop-part g l =
     (done : List ℕ) × Appends (g.W.Write.contents l.initial.out) (g.W.Write.contents l.out) done
-    × Completes (AreValues (IsPartValue (options_of (g.K.KnownCharsets.known l.form.known.now) l.fn.form.options) (option_map (λ path. path.now) l.fn.form.inside) l.fn.form.start) (map place_view (drop l.place-index l.found)))
+    × Completes (AreValues (IsPartValue (options_of (g.K.KnownCharsets.known l.form.known.now) l.fn.form.options) (option_map (λ path. path.now) l.fn.form.inside) l.fn.form.start) (map decoded_place (drop l.part-index l.parts)))
     (listed text_of (comma l.position))
-    (AreValues (IsPartValue (options_of (g.K.KnownCharsets.known l.form.known.now) l.fn.form.options) (option_map (λ path. path.now) l.fn.form.inside) l.fn.form.start) (map place_view l.found)) (listed text_of (comma l.fn.first)) done
+    (AreValues (IsPartValue (options_of (g.K.KnownCharsets.known l.form.known.now) l.fn.form.options) (option_map (λ path. path.now) l.fn.form.inside) l.fn.form.start) (map decoded_place l.parts)) (listed text_of (comma l.fn.first)) done

@@ -16,7 +16,7 @@ use Rattle.mail_data.specs.lenient.Encoding.{lenient_body_kind}
 use Rattle.mail_json.specs.Part.{Lists, content_if, hash_of, is_attachment, is_read, path_shown}
 use Rattle.mail_json.specs.Printed.{list_of, number_value, object_of, string_or_null, text_of}
 use Rattle.mail_json.specs.Values.{IsPartValue, body_members, disposition_members, decoded_members, header_value, part_members, report_value}
-use Rattle.mail_data.specs.PlaceViews.{place_view}
+use Rattle.mail_json.specs.DecodedViews.{decoded_place}
 use Rattle.mail_json.proofs.lemmas.Fields.{ok_same}
 use Rattle.mail_json.proofs.lemmas.Members.{◌⨾◌, closed, renamed, valued, value_renamed}
 use Rattle.mail_json.proofs.lemmas.Objects.{value_as}
@@ -29,14 +29,14 @@ returns g c =
     let options = options_of (g.K.KnownCharsets.known c.args.form.known.now) c.args.form.options in
     let known = options.known in
     let inside = option_map (λ path. path.now) c.args.form.inside in
-    let m = c.args.place.now.part.now in
+    let m = c.args.decoded.now.place.now.part.now in
     let node = root (tree_of m) in
     let kind = lenient_body_kind node in
     let given = content_of node in
-    let place = place_view c.args.place.now in
+    let place = decoded_place c.args.decoded.now in
     let params = c.in_ok-write_params.ensures in
-    let is_body = c.in_ok-body.ensures.read in
-    let read = c.in_ok-content.ensures.read (tree_of m) is_body in
+    let is_body = c.requires.body in
+    let read = c.requires.content in
     let same : shown_as_in known node ≡ disposition c.in_ok-disposition.disposition = ok_same _ _ c.in_ok-disposition.ensures in
     let attached = c.in_ok-attached.ensures ∙ ap (is_attachment (tree_of m)) (sym same) in
     let list = value_as (λ (hs : List Header). list_of (map (header_value known) hs)) _ _ _ _ (c.as_slice.ensures.value ∙ headers-out m) c.in_ok-write_list.ensures in
@@ -49,13 +49,13 @@ returns g c =
     let disposition-is = renamed c.in_ok-write_disposition.ensures (ap (λ (d : Disposition). disposition_members known d node) (sym same)) in
     let attachment-is = value_renamed boolean _ _ c.in_ok-add_flag.ensures attached in
     let extracted-is = value_renamed boolean _ _ c.in_ok-add_flag-2.ensures extracted in
-    let report-is = valued _ _ _ _ _ refl c.in_ok-write_word-2.ensures (value_as report_value _ _ _ _ (sym (ok_same _ _ c.in_ok-report.ensures)) c.in_ok-write_report.ensures) in
+    let report-is = valued _ _ _ _ _ refl c.in_ok-write_word-2.ensures (value_as report_value _ _ _ _ (c.in_ok-report.ensures.read options.decodes_bodies read) c.in_ok-write_report.ensures) in
     let encoding-is = value_renamed (λ t. string t) _ _ c.in_ok-add_text-3.ensures (c.encoding_name.ensures kind given is_body) in
     let size-is = value_renamed number_value _ _ c.in_ok-add_number.ensures (ap (λ (raw : List ℕ). length raw) (c.get_raw.ensures.made kind given is_body)) in
     let decoded-is = renamed c.in_ok-write_decoded_size.ensures (ap decoded_members read) in
     let hashed =
-    c.as_deref.ensures.value ∙ c.in_ok-hash.ensures ∙ ap (λ is. hash_of is (option_map content_view c.in_ok-content.content)) c.is_hashed.ensures
-    ∙ ap (λ is. hash_of (c.args.form.options.hashes && is) (option_map content_view c.in_ok-content.content)) extracted
+    c.as_deref.ensures.value ∙ c.in_ok-hash.ensures ∙ ap (λ is. hash_of is (option_map content_view c.args.decoded.now.content)) c.is_hashed.ensures
+    ∙ ap (λ is. hash_of (c.args.form.options.hashes && is) (option_map content_view c.args.decoded.now.content)) extracted
     ∙ ap (hash_of (c.args.form.options.hashes && is_extracted known (tree_of m))) read in
     let hash-is = value_renamed string_or_null _ _ c.in_ok-add_optional-2.ensures hashed in
     let headers-are = valued _ _ _ _ _ refl c.in_ok-write_word-3.ensures list in
@@ -68,6 +68,5 @@ returns g c =
 
 pub returns-in_err-write_part_text : goal.returns-in_err-write_part_text
 returns-in_err-write_part_text g c =
-    let node = root (tree_of c.args.place.now.part.now) in
     let p = err_from_is_err_and c.from_residual-in_err-write_part_text.result c.from_residual-in_err-write_part_text.ensures.1 in
-    rw (p.1, p.2) (c.in_err-write_part_text.ensures (c.in_ok-content.ensures.read (tree_of c.args.place.now.part.now) c.in_ok-body.ensures.read))
+    rw (p.1, p.2) (c.in_err-write_part_text.ensures c.requires.content)

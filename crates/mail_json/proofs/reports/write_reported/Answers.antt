@@ -1,6 +1,8 @@
-use Rattle.std.proofs.Common.{map, sym, ap, ◌∙◌}
+use Rattle.std.proofs.Common.{map, sym, ap, subst, ◌∙◌}
+use Rattle.std.specs.List.{AllByRecursion}
 use Rattle.mailparse.specs.Views.{tree_of}
 use Rattle.mail_data.specs.BounceViews.{delivery}
+use Rattle.mail_json.specs.DecodedViews.{IsDecoded}
 use Rattle.mail_json.specs.Part.{recipients_if}
 use Rattle.mail_json.specs.Printed.{list_of, text_of}
 use Rattle.mail_json.specs.Reports.{delivery_value}
@@ -9,6 +11,10 @@ use Rattle.mail_json.proofs.lemmas.Fields.{ok_same}
 use Rattle.mail_json.proofs.lemmas.JsonText.{map_twice}
 use Rattle.mail_json.proofs.lemmas.Written.{writes_as}
 use Rattle.mail_json.proofs.reports.write_reported.Goals as goal
+
+pub recipients_in-requires-clause-decoded : goal.recipients_in-requires-clause-decoded
+recipients_in-requires-clause-decoded g c =
+    subst (λ decodes. AllByRecursion (IsDecoded decodes) c.args.parts.now) c.if-not-decodes_bodies.false c.requires.decoded
 
 pub returns : goal.returns
 returns g c =

@@ -3,7 +3,7 @@ use Rattle.mailparse.specs.BodyViews.{content_of}
 use Rattle.mailparse.specs.Mail.{root}
 use Rattle.mail_data.specs.lenient.Encoding.{lenient_body_kind}
 use Rattle.mail_json.specs.Part.{content_if}
-use Rattle.mail_json.proofs.part.content_if.Goals as goal
+use Rattle.mail_json.proofs.decoded.content_if.Goals as goal
 
 pub returns-clause-read : goal.returns-clause-read
 returns-clause-read c = λ part is.
