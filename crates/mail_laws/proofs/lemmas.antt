@@ -24,3 +24,4 @@ pub mod RenderParts
 pub mod RenderTypes
 pub mod RenderReadings
 pub mod Limits
+pub mod InnerMails

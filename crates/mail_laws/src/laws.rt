@@ -2,6 +2,7 @@
 mod dates;
 mod headers;
 mod ids;
+mod inside;
 mod mails;
 mod manners;
 mod parameters;
@@ -11,6 +12,7 @@ mod writing;
 pub use dates::{days_follow_each_other, leap_days_are_counted};
 pub use headers::{block_covers, header_consumes, keys_and_values_are_disjoint, least_is_least};
 pub use ids::{message_ids_have_a_form, message_ids_read_back};
+pub use inside::{inner_mails_are_at_their_offsets, parts_are_at_their_offsets};
 pub use mails::{
     levels_agree, nodes_bounded, one_list_of_delimiters_fits, parts_apart, placements_are_exact,
     ranges_apart, ranges_give_tree,

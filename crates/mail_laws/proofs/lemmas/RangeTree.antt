@@ -35,7 +35,7 @@ slice-of_front mail place size from to order within =
     ∙ ap (λ n. take n (drop (place + from) mail)) same
 
 -- the bytes of a range of a slice are those of the moved range of the mail
-slice-moved : (mail : List ℕ) (whole r : Range) → r.start ≤ r.end → r.end ≤ length (slice mail whole) → slice (slice mail whole) r ≡ slice mail (moved whole.start r)
+pub slice-moved : (mail : List ℕ) (whole r : Range) → r.start ≤ r.end → r.end ≤ length (slice mail whole) → slice (slice mail whole) r ≡ slice mail (moved whole.start r)
 slice-moved mail whole r order within =
     let size = slice-length mail whole in
     slice-of_front mail whole.start (whole.end - whole.start) r.start r.end order (omega arith)
