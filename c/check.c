@@ -142,6 +142,7 @@ static const struct test tests[] = {
     { OWN_IDS, BYTES("<1234> <>"), NOTHING, 0, ROCKTRAY_DONE, BYTES("<1234>") },
     { IDS, NOTHING, NOTHING, 0, ROCKTRAY_DONE, BYTES("") },
     { IDS, BYTES("<a@b\xff>"), NOTHING, 0, ROCKTRAY_NOT_UTF8, NOTHING },
+    { IDS, BYTES("<=?utf-8?Q?a=40b?=> <c@d>"), NOTHING, 0, ROCKTRAY_DONE, BYTES("<c@d>") },
     /* RFC 3464, section 2 */
     { RECIPIENTS, BYTES(REPORT "Reporting-MTA: dns; mx\n\nFinal-Recipient: rfc822; \"a\"@b\nAction: failed\n\n--b--\n"),
       NOTHING, 0, ROCKTRAY_DONE,

@@ -268,8 +268,9 @@ uint32_t rocktray_header(const void *part, size_t part_length, const void *name,
 uint32_t rocktray_raw_header(const void *part, size_t part_length, const void *name, size_t name_length,
                              size_t number, void *buffer, size_t capacity, size_t *needed);
 
-/* Writes the message ids in a text, each between `<` and `>`, without separators. With needs_at, only those with an `@`
- * are ids, as in References; a mail's own Message-ID may have none. Refuses with ROCKTRAY_NOT_UTF8. */
+/* Writes the message ids in a text, each between `<` and `>`, without separators. Of a header give the raw value: no
+ * encoded word occurs in an id (RFC 2047, section 5). With needs_at, only those with an `@` are ids, as in References; a
+ * mail's own Message-ID may have none. Refuses with ROCKTRAY_NOT_UTF8. */
 uint32_t rocktray_ids(const void *text, size_t text_length, bool needs_at, void *buffer, size_t capacity,
                       size_t *needed);
 

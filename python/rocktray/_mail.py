@@ -139,10 +139,10 @@ class Mail:
             known[name] = [new_address(pair) for pair in found]
         return known[name].copy()  # type: ignore[no-any-return]
 
-    def _ids(self, name: bytes, needs_at: bool) -> List[str]:
+    def _ids(self, name: str, needs_at: bool) -> List[str]:
         """The ids in the first header with this name."""
-        value = self._value(name)
-        return [] if value is None else _library.ids(value, needs_at)
+        self._reading
+        return _library.ids_in(_library.raw_header(self._data, name), needs_at)
 
     @property
     def error(self) -> Optional[str]:
@@ -245,18 +245,18 @@ class Mail:
     @property
     def message_id(self) -> Optional[str]:
         """The mail's own id, without angle brackets, or `None`."""
-        found = self._ids(b"message-id", False)
+        found = self._ids("message-id", False)
         return found[0] if found else None
 
     @property
     def in_reply_to(self) -> List[str]:
         """The ids in In-Reply-To."""
-        return self._ids(b"in-reply-to", True)
+        return self._ids("in-reply-to", True)
 
     @property
     def references(self) -> List[str]:
         """The ids in References, in order."""
-        return self._ids(b"references", True)
+        return self._ids("references", True)
 
     @property
     def bounced_id(self) -> Optional[str]:

@@ -127,8 +127,8 @@ class Part:
     @property
     def content_id(self) -> Optional[str]:
         """The id in the first Content-ID, without angle brackets, or `None`. HTML refers to it by `cid:`."""
-        value = self.header("Content-ID")
-        found = [] if value is None else _library.ids(value, False)
+        values = (it.raw for it in self.headers if it.name.lower() == "content-id")
+        found = _library.ids_in(next(values, None), False)
         return found[0] if found else None
 
     @property

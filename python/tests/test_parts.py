@@ -121,6 +121,14 @@ def test_content_ids(mails):
     assert rocktray.parse(IMAGE).files()[0].content_id == "logo@example.org"
 
 
+def test_ids_without_encoded_words():
+    word = "=?utf-8?Q?a=40b?="
+    mail = rocktray.parse(f"Message-ID: <{word}>\nIn-Reply-To: <{word}@c>\nReferences: <{word}>\n <d@e>\nContent-ID: <{word}>\n\n".encode())
+    assert (mail.message_id, mail.in_reply_to, mail.references) == (word, [f"{word}@c"], ["d@e"])
+    assert next(mail.walk()).content_id == word
+    assert rocktray.read_ids(f"<{word}>", needs_at=False) == [word]
+
+
 def test_headers_of_parts(mails):
     for raw in mails:
         for part, (_, message) in zip(rocktray.parse(raw).walk(), by_email.parts_of(email.message_from_bytes(raw))):
