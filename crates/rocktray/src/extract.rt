@@ -1,6 +1,6 @@
 //! The subcommand that saves the files in mails.
 
-use crate::inputs::{inputs_of, kind_of, known_kind};
+use crate::inputs::{inputs_of, kind_of, known_kind, limit_of};
 use crate::only;
 use crate::options::ids;
 use clap::ArgMatches;
@@ -148,6 +148,7 @@ fn check_directory(rt: &impl Files, path: &str) -> io::Result<()> {
 /// Returns how files are saved, and which.
 fn options_of<'a>(matches: &ArgMatches<'a>) -> SaveOptions<'a> {
     SaveOptions {
+        limit: limit_of(matches),
         hashing: if matches.get_flag(ids::HASH) {
             Hashing::On
         } else {

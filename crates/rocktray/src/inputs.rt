@@ -4,6 +4,7 @@ use crate::Terminals;
 use crate::options::ids;
 use clap::ArgMatches;
 use mail_data::mailbox::Format;
+use mail_data::reading::DEFAULT_LIMIT;
 use mail_inputs::{Content, Inputs, Name, Progress, Subdirectories};
 use mail_json::InputKind;
 use std::alloc::{AllocError, Global};
@@ -39,6 +40,11 @@ pub fn kind_of(matches: &ArgMatches<'_>) -> InputKind {
         None if matches.get_flag(ids::MAIL) => InputKind::Mail,
         None => InputKind::Either,
     }
+}
+
+/// Returns the greatest number of messages, parts and headers in a mail that is not refused.
+pub fn limit_of(matches: &ArgMatches<'_>) -> usize {
+    matches.get_one(ids::MAX_ITEMS).unwrap_or(DEFAULT_LIMIT)
 }
 
 /// Returns what an input is, given what the options say and what is known of it.

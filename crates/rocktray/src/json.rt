@@ -1,6 +1,6 @@
 //! The subcommand that writes mails as lines of JSON.
 
-use crate::inputs::{inputs_of, kind_of, known_kind, progress_of};
+use crate::inputs::{inputs_of, kind_of, known_kind, limit_of, progress_of};
 use crate::options::ids;
 use crate::{Terminals, wrong};
 use clap::ArgMatches;
@@ -127,6 +127,7 @@ pub fn run<'a, R: Files + Input + Print + Eprint + AllocGlobal>(
 /// Returns how the options say that inputs are read.
 fn how_of(matches: &ArgMatches<'_>, terminals: Terminals) -> How {
     let mut options = LineOptions::new();
+    options.limit = limit_of(matches);
     options.hashes = matches.get_flag(ids::HASH);
     options.joins_flowed = matches.get_flag(ids::FLOWED);
     options.decodes_bodies = !matches.get_flag(ids::NO_TEXT);

@@ -1,7 +1,7 @@
 //! The subcommand that saves files, where it writes the only one to standard output.
 
 use crate::extract::{choice_of, source_of};
-use crate::inputs::{inputs_of, kind_of};
+use crate::inputs::{inputs_of, kind_of, limit_of};
 use crate::wrong;
 use clap::ArgMatches;
 use mail_charsets::AllCharsets;
@@ -61,6 +61,7 @@ pub fn run<'a, R: Files + Input + Print + Eprint + AllocGlobal>(
         out: BufWriter::new(rt.alloc(), io::writer(rt))?,
         kind: kind_of(matches),
         options: SaveOptions {
+            limit: limit_of(matches),
             hashing: Hashing::Off,
             naming: Naming::BySender,
             choice: choice_of(matches),

@@ -31,6 +31,8 @@ pub mod ids {
 
     pub const MAIL: &str = "mail";
 
+    pub const MAX_ITEMS: &str = "max-items";
+
     pub const MBOX: &str = "mbox";
 
     pub const NAME: &str = "name";
@@ -252,6 +254,7 @@ fn reading<'a>(alloc: Global, command: Command<'a>) -> Result<Command<'a>, Alloc
         .arg(inputs(alloc))?
         .arg(flag(alloc, ids::MAIL, "Each input is one mail"))?
         .arg(format(alloc)?)?
+        .arg(limit(alloc))?
         .arg(flag(
             alloc,
             ids::RECURSIVE,
@@ -276,6 +279,17 @@ fn flag<'a>(alloc: Global, id: &'a str, help: &'a str) -> Arg<'a> {
 /// Returns an option with a value.
 fn value<'a>(alloc: Global, id: &'a str, name: &'a str, help: &'a str) -> Arg<'a> {
     Arg::new(alloc, id).long(id).value_name(name).help(help)
+}
+
+/// Returns the option that limits the messages, parts and headers of a mail.
+fn limit<'a>(alloc: Global) -> Arg<'a> {
+    value(
+        alloc,
+        ids::MAX_ITEMS,
+        "N",
+        "Refuse a mail with more than N parts and headers; 1000000 by default",
+    )
+    .value_parser(ValueParser::Unsigned(1, u64::MAX))
 }
 
 /// Returns the option that says that each input is a mailbox.

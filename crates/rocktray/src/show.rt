@@ -1,6 +1,6 @@
 //! The subcommand that shows mails to people.
 
-use crate::inputs::{inputs_of, kind_of, known_kind};
+use crate::inputs::{inputs_of, kind_of, known_kind, limit_of};
 use clap::ArgMatches;
 use mail_charsets::AllCharsets;
 use mail_html::References;
@@ -27,6 +27,8 @@ enum Titles {
 struct View<W> {
     out: W,
     kind: InputKind,
+    /// The greatest number of messages, parts and headers in a mail that is not refused.
+    limit: usize,
     titles: Titles,
 }
 
@@ -46,11 +48,20 @@ impl<W: Write> Consumer for View<W> {
         let kind = known_kind(self.kind, content);
         let known = &AllCharsets::standard();
         let references = &References::standard();
+        let limit = self.limit;
         if is_mailbox(kind, input.as_slice()) {
             let format = kind.format();
-            write_mailbox(rt.alloc(), out, input.as_slice(), format, references, known)
+            write_mailbox(
+                rt.alloc(),
+                out,
+                input.as_slice(),
+                format,
+                limit,
+                references,
+                known,
+            )
         } else {
-            write_single(rt.alloc(), out, input.as_slice(), references, known)
+            write_single(rt.alloc(), out, input.as_slice(), limit, references, known)
         }
     }
 
@@ -73,6 +84,7 @@ pub fn run<'a, R: Files + Input + Print + Eprint + AllocGlobal>(
     let mut view = View {
         out: BufWriter::new(rt.alloc(), io::writer(rt))?,
         kind: kind_of(matches),
+        limit: limit_of(matches),
         titles: titles_of(rt, names),
     };
     let outcome = read_inputs(rt, &mut view, inputs_of(matches, names))?;
