@@ -12,6 +12,8 @@ import real_mail
 
 TOP = os.path.dirname(os.path.dirname(os.path.abspath(__file__)))
 WORKS = {"mailbox-parse": "parts and headers", "mailbox-values": "with five values and all file names"}
+# the calls of this library alone, on mails that were found before
+ALONE = {"mails-parse": "parts and headers, the mails being found before"}
 # real mails are of this size at most: a few large attachments would be most of the bytes
 LARGEST = 200_000
 CASES = ("c-real", "c-mailbox")
@@ -47,4 +49,9 @@ def table(names, real, readers, timed, turns, work, is_read_by):
         for it, title in WORKS.items():
             figures |= {f"{reader.title} {it}": least[reader.title, it] * size / 1000 for reader in readers}
             print(f"| {title} | " + " | ".join(f"{figures[f'{reader.title} {it}']:.2f}" for reader in readers) + " |", flush=True)
+        ours = readers[0].title
+        least, _ = timed(readers[:1], ALONE, data, turns)
+        for it, title in ALONE.items():
+            figures[f"{ours} {it}"] = least[ours, it] * size / 1000
+            print(f"| {title} | {figures[f'{ours} {it}']:.2f} |" + " |" * (len(readers) - 1), flush=True)
         yield name, figures

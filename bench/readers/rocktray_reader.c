@@ -130,10 +130,26 @@ static size_t mailbox_values(const char *bytes, size_t length)
     return read_mailbox(bytes, length, values);
 }
 
+/* Reads the records of each mail of a mailbox; its mails are found in the first round. */
+static size_t mails_parse(const char *bytes, size_t length)
+{
+    static size_t count, at, places[MANY][2];
+    size_t made = 0, start, end, next, k;
+    while (count < MANY && rocktray_next_mail(bytes + at, length - at, false, &start, &end, &next) == ROCKTRAY_DONE) {
+        places[count][0] = at + start;
+        places[count++][1] = end - start;
+        at += next;
+    }
+    for (k = 0; k < count; k++)
+        made += parse(bytes + places[k][0], places[k][1]);
+    return made;
+}
+
 static const struct work works[] = {
     { "parse", parse },
     { "mailbox-parse", mailbox_parse },
     { "mailbox-values", mailbox_values },
+    { "mails-parse", mails_parse },
     { NULL, NULL },
 };
 

@@ -105,7 +105,7 @@ def test_too_many(tmp_path, mail):
 try:
     rocktray.parse(data, limit=10_000)
 except rocktray.TooMany as error:
-    assert error.text == "The mail has too many parts and headers"
+    assert error.text == "Too many parts and headers"
 else:
     raise AssertionError("not refused")
 assert own() < 60 << 20, own()
