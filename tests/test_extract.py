@@ -9,6 +9,7 @@ import email.policy
 import hashlib
 import json
 import mimetypes
+import ntpath
 import quopri
 import re
 import resource
@@ -222,6 +223,15 @@ def test_names_by_hash(tmp_path):
             assert line["saved"] == (name if name != taken else f"{name}-{number}")
             assert (into / line["saved"]).read_bytes() == bodies[line["path"]]
     assert (into / taken).read_bytes() == b"other bytes"
+
+
+@pytest.mark.parametrize("path", ["C:\\Users\\x\\a.pdf", "z:\\r\u00e9sum\u00e9.pdf", "\\\\server\\share\\dir\\a.pdf"])
+def test_windows_paths(path, tmp_path):
+    """Of a path with a drive, or of one on a share, the name of the file is saved, as `ntpath` gives it."""
+    quoted = "".join(f"%{byte:02X}" for byte in path.encode())
+    mail = b"Content-Disposition: attachment; filename*=utf-8''%b\n\nx" % quoted.encode()
+    ended = run([*command("extract"), "--into", tmp_path, "--mail"], mail)
+    assert (ended.returncode, [file.name for file in tmp_path.iterdir()]) == (0, [ntpath.basename(path)])
 
 
 def nested(levels, innermost):
