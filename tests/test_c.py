@@ -5,6 +5,7 @@ import json
 import os
 import re
 import subprocess
+import sys
 
 import pytest
 
@@ -220,6 +221,31 @@ def test_stack(c_library, hostile, tmp_path):
     assert len(used) == 3 and used[0] <= ranges and max(used[1:]) <= mails, said
     page = (TOP / "docs" / "C.md").read_text()
     assert [1024 * int(number) for number in re.findall(r"up to (\d+) KB", page)] == [ranges, mails]
+
+
+# reads a mail of many parts, or of many headers, and prints how many bytes of memory each of them took
+ITEMS = """
+import ctypes, resource, sys
+library = ctypes.CDLL(sys.argv[1])
+head = b"Content-Type: multipart/mixed; boundary=b\\n\\n"
+mail = head + b"--b\\n\\n" * 1_000_000 if sys.argv[2] == "parts" else b"A: b\\n" * 1_000_000 + b"\\n"
+counts = [ctypes.c_size_t(), ctypes.c_size_t()]
+before = resource.getrusage(resource.RUSAGE_SELF).ru_maxrss
+size = ctypes.c_size_t(len(mail))
+code = library.rocktray_parts(mail, size, ctypes.c_size_t(2**64 - 1), None, ctypes.c_size_t(0), ctypes.byref(counts[0]),
+                              None, ctypes.c_size_t(0), ctypes.byref(counts[1]))
+assert code == 1 and max(counts[0].value, counts[1].value) >= 1_000_000
+print(1024 * (resource.getrusage(resource.RUSAGE_SELF).ru_maxrss - before) // 1_000_000)
+"""
+
+
+@pytest.mark.parametrize("kind, place", [("parts", 0), ("headers", 1)])
+def test_memory(c_library, kind, place):
+    """rocktray_parts takes no more memory than docs/C.md says."""
+    page = (TOP / "docs" / "C.md").read_text()
+    wanted = re.search(r"at most (\d+)\s+bytes for\s+each\s+part\s+and\s+(\d+)\s+for\s+each\s+header", page).groups()[place]
+    ended = run([sys.executable, "-c", ITEMS, c_library / "lib" / "librocktray.so", kind])
+    assert int(wanted) // 2 < int(ended.stdout) <= int(wanted), ended
 
 
 @pytest.mark.quick

@@ -17,7 +17,7 @@ import subprocess
 
 import pytest
 
-from support import FROM, SAMPLES, TOP, command, multipart, program
+from support import FROM, SAMPLES, TOP, command, multipart, program, text_of
 
 from suite import rows_in
 
@@ -269,3 +269,44 @@ def test_mails_inside_one_another(tmp_path):
     for arguments, count in ((["json"], 1), (["extract", "--into", "."], 2)):
         ended = run_limited([*command(arguments[0]), *arguments[1:], tmp_path / "mail"], b"", tmp_path, 40_000)
         assert (ended.returncode, ended.stderr, ended.stdout.count(b"\n")) == (0, b"", count), arguments
+
+
+# the bytes of memory for the mail, each part and each header, beside 5 times the mail: docs/RULES.md has them
+BYTES_PER_ITEM = int(re.search(r"5 times the mail and (\d+)\s+bytes for each of its items", text_of("docs/RULES.md"))[1])
+# what a program takes for an empty mail
+START = 8_000_000
+
+
+def peak(arguments, raw, directory):
+    """The exit status of a run on a mail, and its greatest memory in bytes."""
+    (directory / "mail").write_bytes(raw)
+    with open(directory / "mail", "rb") as file:
+        process = subprocess.Popen(arguments, stdin=file, stdout=subprocess.DEVNULL, stderr=subprocess.DEVNULL, cwd=directory)
+        _pid, status, used = os.wait4(process.pid, 0)
+    return os.waitstatus_to_exitcode(status), 1024 * used.ru_maxrss
+
+
+HEAD = b"Content-Type: multipart/mixed; boundary=b\n\n"
+# mails of many parts or headers, and how many each has
+HOSTILE = {
+    "parts": (HEAD + b"--b\n\n" * 2_000_000 + b"--b--\n", 2_000_002),
+    "parts_with_headers": (HEAD + b"--b\nContent-Type: text/plain\n\nx\n" * 300_000 + b"--b--\n", 600_002),
+    "headers": (b"A: b\n" * 2_000_000 + b"\nx", 2_000_001),
+    "inside": (b"Content-Type: message/rfc822\n\n" * 1_000_000, 200),
+    "parts_inside": (HEAD + b"--b\nContent-Type: message/rfc822\n\n" + HEAD.replace(b"=b", b"=c") + b"--c\n\n" * 600_000
+                     + b"--c--\n--b--\n", 600_005),
+}
+
+
+@pytest.mark.parametrize("name", ["json", "show", "extract"])
+@pytest.mark.parametrize("mail", HOSTILE)
+def test_memory_of_items(name, mail, tmp_path):
+    """The memory is bounded by the mail and the number of its parts and headers; a mail over the limit takes less."""
+    raw, items = HOSTILE[mail]
+    arguments = [*command(name), *ARGUMENTS.get(name, [])]
+    status, used = peak([*arguments, "--max-items", str(items)], raw, tmp_path)
+    assert status in (0, 3) and used <= START + 5 * len(raw) + BYTES_PER_ITEM * items, used / items
+    status, used = peak([*arguments, "--max-items", "1000"], raw, tmp_path)
+    is_refused = mail != "inside" and (mail != "parts_inside" or name == "extract")
+    assert status == (3 if is_refused else 0)
+    assert used <= START + 5 * len(raw) + BYTES_PER_ITEM * 1000, used

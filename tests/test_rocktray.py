@@ -4,6 +4,7 @@ The compressed inputs are made by Python's gzip, bz2, lzma and zipfile; the firs
 those of RFC 8878, MS-CFB and MS-PST.
 """
 
+import base64
 import bz2
 import gzip
 import io
@@ -66,6 +67,9 @@ def refused(arguments, *wanted, data=b""):
     (["extract", "--stdout", "a", "b"], ("--stdout reads one input",)),
     (["extract", "--stdout", "/"], ("--stdout reads no directories",)),
     (["extract", "--mail", "--mbox=rd"], ("cannot be used with",)),
+    (["json", "--max-items", "0", "a"], ("invalid value '0' for '--max-items <N>'",)),
+    (["show", "--max-items=-1", "a"], ("invalid value '-1' for '--max-items <N>'",)),
+    (["extract", "--max-items", "many", "a"], ("invalid value 'many' for '--max-items <N>'",)),
     (["json", ""], ("INPUT",)),
     (["json", "--x\x1b[2J\x9b\nforged"], ("unexpected argument",)),
 ])
@@ -259,6 +263,40 @@ def test_start_of_the_script():
     """./rocktray starts the built program without other programs before it."""
     script = (TOP / "rocktray").read_text()
     assert 'exec "$program" "$@"' in script and "find" not in script
+
+
+MANY = "Too many parts and headers"
+
+
+def test_max_items(tmp_path):
+    """The mail and each part count, and so does each of their headers; a mail inside a mail counts for itself."""
+    many = multipart(b"b", b"A: 1\nB: 2\n\n")
+    inside = multipart(b"m", b"Content-Type: message/rfc822\n\n" + many)
+    encoded = b"Content-Type: message/rfc822\nContent-Transfer-Encoding: base64\n\n" + base64.encodebytes(many)
+    for words in (["json"], ["show", "-"], ["extract", "--into", str(tmp_path)], ["extract", "--stdout", "--only", "1"]):
+        allowed = run([*command(words[0]), *words[1:], "--max-items", "5"], many)
+        refused = run([*command(words[0]), *words[1:], "--max-items", "4"], many)
+        assert allowed.returncode != 3 and MANY.encode() not in allowed.stdout + allowed.stderr, words
+        assert refused.returncode in (1, 3) and MANY.encode() in refused.stdout + refused.stderr, words
+    for raw in (inside, encoded):
+        for most, why in ((5, None), (4, MANY)):
+            ended = run([*command("json"), "--max-items", str(most)], raw)
+            (mail,) = lines(ended)
+            assert [one["error"] for one in mail["forwarded"]] == [why]
+            ended = run([*command("extract"), "--into", tmp_path, "--max-items", str(most)], raw)
+            assert [line["error"] for line in lines(ended)] == [None] + [why] * bool(why)
+            assert ended.returncode == (3 if why else 0)
+    box = b"".join(FROM + mail + b"\n" for mail in (many, b"Subject: 2\n\n"))
+    ended = run([*command("json"), "--max-items", "4"], box)
+    assert (ended.returncode, [line.get("error") for line in lines(ended)]) == (3, [MANY, None])
+
+
+def test_max_items_by_default():
+    """A million: 999,998 parts without headers, the mail and its header."""
+    for count, status in ((999_998, 0), (999_999, 3)):
+        raw = b"Content-Type: multipart/mixed; boundary=b\n\n" + b"--b\n\n" * count + b"--b--\n"
+        ended = run([*command("show"), "-"], raw, timeout=120)
+        assert (ended.returncode, MANY.encode() in ended.stdout) == (status, status == 3)
 
 
 def test_statuses():
