@@ -7,3 +7,4 @@ pub mod Parts
 pub mod Names
 pub mod Save
 pub mod Saves
+pub mod Content

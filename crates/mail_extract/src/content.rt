@@ -1,12 +1,14 @@
 //! The bytes of a file that can be read.
-ghost use Rattle.std.specs.Prelude.{◌≡◌, IfErr, IfOk};
+ghost use Rattle.std.specs.Prelude.{◌≡◌, false, IfErr, IfOk};
 ghost use Rattle.mailparse.specs.Mail.{root};
 ghost use Rattle.mailparse.specs.Outcome.{IsMemory};
 ghost use Rattle.mailparse.specs.Views.{tree_of};
 ghost use Rattle.mail_data.specs.lenient.ContentViews.{content_view};
+ghost use Rattle.mail_json.specs.DecodedViews.{IsDecoded, decoded_tree};
 ghost use Rattle.mail_extract.specs.Content.{after_headers, content};
 
 use mail_data::lenient::{Content, lenient_body, lenient_content};
+use mail_json::Decoded;
 use mailparse::{MailParseError, ParsedMail};
 use std::alloc::Global;
 use std::borrow::CowSlice;
@@ -29,6 +31,30 @@ pub fn content_of<'m>(
         });
     }
     lenient_content(alloc, &body)
+}
+
+/// What can be read of a part, as `content_of` returns it, where the mail that a part contains was
+/// decoded already.
+pub(crate) fn saved_content<'c>(
+    alloc: Global,
+    part: &'c Decoded<'_, '_, '_>,
+) -> Result<Content<'c>, MailParseError>
+    requires { IsDecoded false part.now }
+    ensures read { IfOk result (λ read.
+        content_view read ≡ content (root (decoded_tree part.now))) }
+    ensures only_memory { IfErr result IsMemory }
+{
+    if part.body.get_raw().is_empty() {
+        return content_of(alloc, part.place.part);
+    }
+    match &part.mail {
+        Some(mail) => Ok(Content {
+            bytes: CowSlice::Borrowed(mail.bytes.as_slice()),
+            fault: mail.fault,
+            ignored: mail.ignored,
+        }),
+        None => content_of(alloc, part.place.part),
+    }
 }
 
 /// The bytes of a part that follow its headers.

@@ -32,7 +32,7 @@ use std::io::{self, ErrorKind, Read, Write};
 /// inside a mail, and text before the first separator of a mailbox. The line of a file follows it
 /// at once and is flushed, and lines are flushed while the mailbox is read. Returns the worst
 /// outcome that the lines report. Allocates the bytes of a block and of the mail that is read, and
-/// its decoded files in turn.
+/// the encoded mails inside it, and its other files in turn.
 ///
 /// # Errors
 ///

@@ -1,11 +1,13 @@
 //! Saving the files of a mail and of the mails inside it, each of which is read in its place.
-ghost use Rattle.std.specs.Prelude.{◌≡◌, Ok, map, option_map};
+ghost use Rattle.std.specs.List.{AllByRecursion};
+ghost use Rattle.std.specs.Prelude.{◌≡◌, IfErr, IfOk, Ok, false, map, option_map};
 ghost use Rattle.mailparse.specs.Placement.{placements};
 ghost use Rattle.mailparse.specs.Views.{placements_of, tree_of};
 ghost use Rattle.mail_data.specs.InnerMails.{mails_in_place};
-ghost use Rattle.mail_data.specs.PlaceViews.{place_view};
+ghost use Rattle.mail_json.specs.DecodedViews.{IsDecoded, decoded_place};
 ghost use Rattle.mail_extract.specs.ChoiceViews.{options_view};
-ghost use Rattle.mail_extract.specs.Input.{AreInside, Ends, IsMailOf};
+ghost use Rattle.mail_extract.specs.Input.{AreInside, Ends, IsMailOf, Saved};
+ghost use Rattle.mail_program.specs.Fault.{IsEnd};
 ghost use Rattle.mail_json.specs.Inside.{mails_among};
 
 use crate::directory::Directory;
@@ -13,13 +15,23 @@ use crate::level::{Level, Saving, Within};
 use crate::options::{Source, Target};
 use crate::parts::extract_places;
 use crate::report::report_refused;
-use mail_data::inner_mails::{forwarded_mail, places_under};
-use mail_data::places::{Place, places};
-use mail_data::reading::read_mail;
+use mail_data::inner_mails::{holds_mail, mail_start, places_under};
+use mail_data::places::places;
+use mail_data::reading::{DEFAULT_LIMIT, read_mail};
+use mail_json::{Decoded, LineOptions, decoded_parts, mail_in};
 use mail_program::{Fault, Outcome, refusal_of};
 use mailparse::{KnownCharsets, MAX_LEVELS, ParsedMail};
 use std::alloc::Global;
 use std::io::Write;
+
+/// How the parts of a mail are read: of their bodies, only those that are mails are decoded, since
+/// the others are decoded when they are saved.
+const MAILS: LineOptions = LineOptions {
+    limit: DEFAULT_LIMIT,
+    decodes_bodies: false,
+    hashes: false,
+    joins_flowed: false,
+};
 
 /// Saves the chosen files of a mail with this number in its mailbox and of the mails inside it, and
 /// writes the line of each after it. The mail is as it was parsed.
@@ -43,13 +55,14 @@ pub(crate) fn extract_mail<W: Write, D: Directory, K: KnownCharsets>(
         level: Level::Own,
     };
     let found = places(alloc, mail)?;
-    let own = extract_places(alloc, out, target, found.as_slice(), saving, source)?;
+    let parts = decoded_parts(alloc, found.as_slice(), MAILS)?;
+    let own = extract_places(alloc, out, target, parts.as_slice(), saving, source)?;
     let within = Within {
         number,
         start: Some(0),
         most: MAX_LEVELS,
     };
-    Ok(own.and(extract_inside(alloc, out, target, found.as_slice(), within, source)?))
+    Ok(own.and(extract_inside(alloc, out, target, parts.as_slice(), within, source)?))
 }
 
 /// Saves the chosen files of the mails that these parts of a mail contain, and of those inside
@@ -59,28 +72,30 @@ fn extract_inside<W: Write, D: Directory, K: KnownCharsets>(
     alloc: Global,
     out: &mut W,
     target: &mut Target<D>,
-    places: &[Place<'_, '_>],
+    parts: &[Decoded<'_, '_, '_>],
     within: Within,
     source: Source<'_, K>,
 ) -> Result<Outcome, Fault>
-    ensures { Ends (D.held target.old.directory) (D.held target.new.directory)
-        (W.contents out.old) (W.contents out.new) target.old.number target.new.number result
+    ensures saved { AllByRecursion (IsDecoded false) parts.now → IfOk result (λ outcome.
+        Saved (D.held target.old.directory) (D.held target.new.directory)
+        (W.contents out.old) (W.contents out.new) target.old.number target.new.number outcome
         (AreInside (option_map (λ name. name.now) source.entry.file) D.can_fail
         (options_view source.entry.options) (K.known source.entry.known.now) within.number
         (mails_among (K.known source.entry.known.now) source.entry.options.limit within.most within.start
-        (map place_view places.now))) }
+        (map decoded_place parts.now)))) }
+    ensures failed { IfErr result IsEnd }
 {
     let mut outcome = Outcome::Clean;
     if within.most == 0 {
         return Ok(outcome);
     }
-    for place in places {
+    for part in parts {
         let deeper = Within {
             number: within.number,
             start: within.start,
             most: within.most - 1,
         };
-        outcome = outcome.and(extract_forwarded(alloc, out, target, place, deeper, source)?);
+        outcome = outcome.and(extract_forwarded(alloc, out, target, part, deeper, source)?);
     }
     Ok(outcome)
 }
@@ -92,37 +107,36 @@ fn extract_forwarded<W: Write, D: Directory, K: KnownCharsets>(
     alloc: Global,
     out: &mut W,
     target: &mut Target<D>,
-    place: &Place<'_, '_>,
+    part: &Decoded<'_, '_, '_>,
     within: Within,
     source: Source<'_, K>,
 ) -> Result<Outcome, Fault>
-    ensures { Ends (D.held target.old.directory) (D.held target.new.directory)
-        (W.contents out.old) (W.contents out.new) target.old.number target.new.number result
+    ensures saved { IsDecoded false part.now → IfOk result (λ outcome.
+        Saved (D.held target.old.directory) (D.held target.new.directory)
+        (W.contents out.old) (W.contents out.new) target.old.number target.new.number outcome
         (AreInside (option_map (λ name. name.now) source.entry.file) D.can_fail
         (options_view source.entry.options) (K.known source.entry.known.now) within.number
         (mails_in_place (K.known source.entry.known.now) source.entry.options.limit within.most within.start
-        (place_view place.now))) }
+        (decoded_place part.now)))) }
+    ensures failed { IfErr result IsEnd }
 {
-    let Some(found) = forwarded_mail(alloc, place, within.start)? else {
+    if !holds_mail(part.place) {
         return Ok(Outcome::Clean);
-    };
-    let path = place.path.as_str();
-    match read_mail(
-        alloc,
-        found.bytes.as_slice(),
-        source.options.limit,
-        source.known,
-    ) {
+    }
+    let start = mail_start(within.start, part.place, &part.body);
+    let path = part.place.path.as_str();
+    match read_mail(alloc, mail_in(part), source.options.limit, source.known) {
         Ok(mail) => {
             let saving = Saving {
                 number: within.number,
                 level: Level::Inside,
             };
-            let parts = places_under(alloc, &mail, path)?;
+            let found = places_under(alloc, &mail, path)?;
+            let parts = decoded_parts(alloc, found.as_slice(), MAILS)?;
             let own = extract_places(alloc, out, target, parts.as_slice(), saving, source)?;
             let inside = Within {
                 number: within.number,
-                start: found.start,
+                start,
                 most: within.most,
             };
             Ok(own.and(extract_inside(alloc, out, target, parts.as_slice(), inside, source)?))

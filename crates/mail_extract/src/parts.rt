@@ -1,5 +1,6 @@
 //! Saving the files among the parts of a mail.
-ghost use Rattle.std.specs.Prelude.{◌≡◌, ◌∷◌, [], map, option_map, string_bytes};
+ghost use Rattle.std.specs.List.{AllByRecursion};
+ghost use Rattle.std.specs.Prelude.{◌≡◌, ◌∷◌, [], false, map, option_map, string_bytes};
 ghost use Rattle.std.specs.Prelude.{IfErr, IfOk};
 ghost use Rattle.mailparse.specs.Mail.{root};
 ghost use Rattle.mailparse.specs.Outcome.{IsMemory};
@@ -7,6 +8,7 @@ ghost use Rattle.mailparse.specs.Views.{tree_of};
 ghost use Rattle.mail_data.specs.FileNames.{IsSafeName};
 ghost use Rattle.mail_data.specs.Files.{file_name};
 ghost use Rattle.mail_data.specs.PlaceViews.{place_view};
+ghost use Rattle.mail_json.specs.DecodedViews.{IsDecoded, decoded_place};
 ghost use Rattle.mail_extract.specs.ChoiceViews.{choice_view, options_view};
 ghost use Rattle.mail_extract.specs.Endings.{ending_of};
 ghost use Rattle.mail_extract.specs.Input.{AreFiles, Ends};
@@ -23,6 +25,7 @@ use crate::report::report_saved;
 use crate::save::save_file;
 use mail_data::files::{file_name, is_extracted};
 use mail_data::places::Place;
+use mail_json::Decoded;
 use mail_program::{Fault, Outcome};
 use mailparse::{KnownCharsets, MailParseError, ParsedMail};
 use std::alloc::{AllocError, Global};
@@ -33,20 +36,21 @@ pub(crate) fn extract_places<W: Write, D: Directory, K: KnownCharsets>(
     alloc: Global,
     out: &mut W,
     target: &mut Target<D>,
-    places: &[Place<'_, '_>],
+    parts: &[Decoded<'_, '_, '_>],
     saving: Saving,
     source: Source<'_, K>,
 ) -> Result<Outcome, Fault>
+    requires { AllByRecursion (IsDecoded false) parts.now }
     ensures { Ends (D.held target.old.directory) (D.held target.new.directory)
         (W.contents out.old) (W.contents out.new) target.old.number target.new.number result
         (AreFiles (option_map (λ name. name.now) source.entry.file) D.can_fail
         (options_view source.entry.options) saving.number
         (chosen (options_view source.entry.options).choice
-        (wanted_among (K.known source.entry.known.now) saving.level (map place_view places.now)))) }
+        (wanted_among (K.known source.entry.known.now) saving.level (map decoded_place parts.now)))) }
 {
     let mut outcome = Outcome::Clean;
-    for place in places {
-        outcome = outcome.and(extract_place(alloc, out, target, place, saving, source)?);
+    for part in parts {
+        outcome = outcome.and(extract_place(alloc, out, target, part, saving, source)?);
     }
     Ok(outcome)
 }
@@ -56,18 +60,20 @@ fn extract_place<W: Write, D: Directory, K: KnownCharsets>(
     alloc: Global,
     out: &mut W,
     target: &mut Target<D>,
-    place: &Place<'_, '_>,
+    part: &Decoded<'_, '_, '_>,
     saving: Saving,
     source: Source<'_, K>,
 ) -> Result<Outcome, Fault>
+    requires { IsDecoded false part.now }
     ensures { Ends (D.held target.old.directory) (D.held target.new.directory)
         (W.contents out.old) (W.contents out.new) target.old.number target.new.number result
         (AreFiles (option_map (λ name. name.now) source.entry.file) D.can_fail
         (options_view source.entry.options) saving.number
         (chosen (options_view source.entry.options).choice
         (wanted_among (K.known source.entry.known.now) saving.level
-        (place_view place.now ∷ [])))) }
+        (decoded_place part.now ∷ [])))) }
 {
+    let place = part.place;
     if !is_extracted(alloc, place.part, source.known)? {
         return Ok(Outcome::Clean);
     }
@@ -81,7 +87,7 @@ fn extract_place<W: Write, D: Directory, K: KnownCharsets>(
     )? {
         return Ok(Outcome::Clean);
     }
-    let saved = save_file(alloc, target, place, name, source.options)?;
+    let saved = save_file(alloc, target, part, name, source.options)?;
     report_saved(out, &saved, source.file, saving.number)
 }
 

@@ -1,22 +1,22 @@
 //! Saving a file in a directory.
-ghost use Rattle.std.specs.Prelude.{◌≡◌, List, Some, is_some, string_bytes};
+ghost use Rattle.std.specs.Prelude.{◌≡◌, List, Some, false, is_some, string_bytes};
 ghost use Rattle.std.specs.Prelude.{IfErr, IfOk, IfSome};
 ghost use Rattle.mailparse.specs.Outcome.{IsMemory};
 ghost use Rattle.mail_data.specs.FileNames.{IsSafeName};
-ghost use Rattle.mail_data.specs.PlaceViews.{place_view};
+ghost use Rattle.mail_json.specs.DecodedViews.{IsDecoded, decoded_place};
 ghost use Rattle.mail_extract.specs.ChoiceViews.{options_view};
 ghost use Rattle.mail_extract.specs.Directory.{File};
 ghost use Rattle.mail_extract.specs.Save.{IsKept, IsKeptNumbered, IsPut, IsSaved, wanted_as};
 ghost use Rattle.mail_extract.specs.SaveViews.{kept_name, outcome};
 ghost use Rattle.mail_extract.specs.declared.level.Level.{Level};
 
-use crate::content::content_of;
+use crate::content::saved_content;
 use crate::directory::{Created, Directory};
 use crate::hash::wanted_hash;
 use crate::names::numbered;
 use crate::options::{Naming, SaveOptions, Target, target_name};
 use mail_data::lenient::ContentFault;
-use mail_data::places::Place;
+use mail_json::Decoded;
 use mailparse::MailParseError;
 use std::alloc::{AllocError, Global};
 use std::io::{self, ErrorKind};
@@ -50,26 +50,27 @@ enum Kept {
 pub(crate) fn save_file<D: Directory>(
     alloc: Global,
     target: &mut Target<D>,
-    place: &Place<'_, '_>,
+    part: &Decoded<'_, '_, '_>,
     name: String,
     options: SaveOptions<'_>,
 ) -> Result<Saved, MailParseError>
-    requires { IsSafeName (string_bytes name) }
+    requires safe { IsSafeName (string_bytes name) }
+    requires decoded { IsDecoded false part.now }
     ensures saved { IfOk result (λ saved. (level : Level) (files : List File)
         → D.held target.old.directory ≡ Some files
         → (now : List File) × (D.held target.new.directory ≡ Some now)
         × IsSaved D.can_fail (options_view options.entry) files
-        (wanted_as level (place_view place.now) (string_bytes name))
+        (wanted_as level (decoded_place part.now) (string_bytes name))
         target.old.number (outcome saved) target.new.number now) }
     ensures safe { IfOk result (λ saved. IfSome (outcome saved).saved IsSafeName) }
     ensures only_memory { IfErr result IsMemory }
 {
-    let content = content_of(alloc, place.part)?;
+    let content = saved_content(alloc, part)?;
     let bytes = content.bytes.as_slice();
     let name = target_name(alloc, name, bytes, options.naming)?;
     let sha256 = wanted_hash(alloc, bytes, options.hashing)?;
     let damage = text_of(alloc, content.fault, content.ignored)?;
-    let path = String::from_str(alloc, place.path.as_str())?;
+    let path = String::from_str(alloc, part.place.path.as_str())?;
     let size = bytes.len();
     let (directory, number) = (&mut target.directory, &mut target.number);
     match put(alloc, directory, number, name, bytes, options.naming)? {

@@ -1,17 +1,19 @@
 -- Lemmas on what is saved one after another, with the lines that are written.
-use Rattle.std.proofs.Common.{◌≡◌, ℕ, List, [], ◌∷◌, ◌++◌, Option, Ok, IfSome, refl, sym, ap, subst, ◌∙◌, append_assoc}
+use Rattle.std.proofs.Common.{◌≡◌, ℕ, List, [], ◌∷◌, ◌++◌, Option, Result, Ok, Err, IfSome, refl, sym, ap, subst, ◌∙◌, append_assoc}
 use Rattle.std.proofs.KnownBytes.{Appends-nil, Appends-trans}
 use Rattle.std.proofs.lemmas.Grind.{flat_map-append}
 use Rattle.std.proofs.lemmas.List.{append-nil}
 use Rattle.std.proofs.lemmas.List.Elements.{All-append, All-nil}
 use Rattle.std.specs.Io.KnownBytes.{Appends}
+use Rattle.std.specs.Prelude.{IfOk}
+use Rattle.mail_program.specs.declared.fault.Fault.{Fault}
 use Rattle.mail_data.specs.FileNames.{IsSafeName}
 use Rattle.mail_json.specs.FileLine.{FileLine}
 use Rattle.mail_program.specs.Outcome.{worse}
 use Rattle.mail_program.specs.declared.outcome.Outcome.{Outcome}
 use Rattle.mail_program.specs.declared.outcome.Outcome.TheVariants.{Clean, Refused, Failed}
 use Rattle.mail_extract.specs.Directory.{File}
-use Rattle.mail_extract.specs.Input.{AreSafe, Each, Only, Saved, Saves, Then}
+use Rattle.mail_extract.specs.Input.{AreSafe, Each, Ends, Only, Saved, Saves, Then}
 use Rattle.mail_extract.specs.Report.{WritesAll, judged, line_text, lines_text, worst}
 use Rattle.mail_extract.specs.private.Blocks.{Before}
 
@@ -101,6 +103,12 @@ saved_none held old from = ([], Appends-nil old, refl, (All-nil (λ (line : File
 pub saved_lines : (held : Option (List File)) (old new : Option (List ℕ)) (from : ℕ) (outcome : Outcome) (lines : List FileLine) → AreSafe lines
     → WritesAll old new (Ok outcome) lines → Saved held held old new from from outcome (Only lines)
 saved_lines held old new from outcome lines safe h = (lines, h.0, h.1, safe, λ files e. (files, e, (refl, refl, refl)))
+
+-- what was saved, if nothing failed
+pub ends_saved : (held_old held_new : Option (List File)) (old new : Option (List ℕ)) (from next : ℕ) (r : Result Outcome Fault) (Are : Saves) → Ends held_old held_new old new from next r Are
+    → IfOk r (λ outcome. Saved held_old held_new old new from next outcome Are)
+ends_saved held_old held_new old new from next (Ok outcome) Are h = h
+ends_saved held_old held_new old new from next (Err fault) Are h = tt
 
 -- with other words
 pub saved_as : (held_old held_new : Option (List File)) (old new : Option (List ℕ)) (from next : ℕ) (outcome : Outcome) (Are Those : Saves) → Implies Are Those

@@ -1,6 +1,6 @@
 use Rattle.std.proofs.Common.{◌≡◌, List, ℕ, false, true, option_map, string_bytes, sym, ap, ◌∙◌}
 use Rattle.mail_data.specs.Files.{is_extracted}
-use Rattle.mail_data.specs.PlaceViews.{place_view}
+use Rattle.mail_json.specs.DecodedViews.{decoded_place}
 use Rattle.mail_extract.specs.ChoiceViews.{options_view}
 use Rattle.mail_extract.specs.Save.{is_chosen, wanted_as}
 use Rattle.mail_extract.specs.SaveViews.{outcome}
@@ -12,7 +12,7 @@ pub returns-then-not-branch : goal.returns-then-not-branch
 returns-then-not-branch g c =
     let options = options_view c.args.source.options in
     let known = g.K.KnownCharsets.known c.args.source.known.now in
-    let place = place_view c.args.place.now in
+    let place = decoded_place c.args.part.now in
     let is : is_extracted known place.part ≡ false = read_value _ _ c.in_ok-is_extracted.ensures ∙ c.if-not-branch.true in
     files_none (option_map (λ name. name.now) c.args.source.file) g.D.Directory.can_fail options c.args.saving.number _ (among-none known options.choice c.args.saving.level place is) _ _ _
 
@@ -20,7 +20,7 @@ pub returns-then-not-branch-2 : goal.returns-then-not-branch-2
 returns-then-not-branch-2 g c =
     let options = options_view c.args.source.options in
     let known = g.K.KnownCharsets.known c.args.source.known.now in
-    let place = place_view c.args.place.now in
+    let place = decoded_place c.args.part.now in
     let level = c.args.saving.level in
     let is : is_extracted known place.part ≡ true = read_value _ _ c.in_ok-is_extracted.ensures ∙ c.if-not-branch.false in
     let kept = sym c.if-not-branch-2.true ∙ c.in_ok-is_kept.ensures ∙ ap (λ (n : List ℕ). is_chosen options.choice (wanted_as level place n)) c.as_str.ensures.value in
@@ -31,7 +31,7 @@ pub returns : goal.returns
 returns g c =
     let options = options_view c.args.source.options in
     let known = g.K.KnownCharsets.known c.args.source.known.now in
-    let place = place_view c.args.place.now in
+    let place = decoded_place c.args.part.now in
     let level = c.args.saving.level in
     let saved = c.in_ok-saved.ensures in
     let is : is_extracted known place.part ≡ true = read_value _ _ c.in_ok-is_extracted.ensures ∙ c.if-not-branch.false in
