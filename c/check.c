@@ -66,8 +66,8 @@ void __wrap_free(void *block)
 /* Cases. */
 
 enum kind {
-    JSON, CONTENT, TEXT, HEADER, RAW_HEADER, IDS, OWN_IDS, RECIPIENTS, BOUNCED_ID, UNQUOTED, VALUE, FILE_NAME,
-    SAFE_NAME, BODY, DAMAGED_BODY, BODY_TEXT, BODY_CHARSET, REASON
+    JSON, CONTENT, TEXT, HEADER, RAW_HEADER, IDS, OWN_IDS, HTML_TEXT, HTML_LINKS, READABLE, RECIPIENTS, BOUNCED_ID,
+    UNQUOTED, VALUE, FILE_NAME, SAFE_NAME, BODY, DAMAGED_BODY, BODY_TEXT, BODY_CHARSET, REASON
 };
 
 struct bytes {
@@ -143,6 +143,16 @@ static const struct test tests[] = {
     { IDS, NOTHING, NOTHING, 0, ROCKTRAY_DONE, BYTES("") },
     { IDS, BYTES("<a@b\xff>"), NOTHING, 0, ROCKTRAY_NOT_UTF8, NOTHING },
     { IDS, BYTES("<=?utf-8?Q?a=40b?=> <c@d>"), NOTHING, 0, ROCKTRAY_DONE, BYTES("<c@d>") },
+    /* the HTML Standard, section 13.2.5 */
+    { HTML_TEXT, BYTES("<p>1 &lt; 2<script>x</script><p><a href=y>z</a>"), NOTHING, 0, ROCKTRAY_DONE,
+      BYTES("1 < 2\n\nz") },
+    { HTML_LINKS, BYTES("<a href=y>z</a>"), NOTHING, 0, ROCKTRAY_DONE, BYTES("[1]z\n\n[1] y") },
+    { HTML_TEXT, NOTHING, NOTHING, 0, ROCKTRAY_DONE, BYTES("") },
+    { HTML_TEXT, BYTES("\xff"), NOTHING, 0, ROCKTRAY_NOT_UTF8, NOTHING },
+    { READABLE, BYTES("Content-Type: text/html\n\n<p>a<br>b"), NOTHING, 0, ROCKTRAY_DONE, BYTES("a\nb") },
+    { READABLE, BYTES("Subject: plain\n\n<p>"), NOTHING, 0, ROCKTRAY_DONE, BYTES("<p>") },
+    { READABLE, BYTES("Content-Type: image/png\n\n<p>"), NOTHING, 0, ROCKTRAY_ABSENT, NOTHING },
+    { READABLE, BYTES(" x"), NOTHING, 0, ROCKTRAY_LEADING_SPACE, NOTHING },
     /* RFC 3464, section 2 */
     { RECIPIENTS, BYTES(REPORT "Reporting-MTA: dns; mx\n\nFinal-Recipient: rfc822; \"a\"@b\nAction: failed\n\n--b--\n"),
       NOTHING, 0, ROCKTRAY_DONE,
@@ -226,6 +236,9 @@ static uint32_t call(const struct test *test, uint8_t *buffer, size_t capacity, 
         break;
     case IDS: code = rocktray_ids(in.at, in.length, true, buffer, capacity, needed); break;
     case OWN_IDS: code = rocktray_ids(in.at, in.length, false, buffer, capacity, needed); break;
+    case HTML_TEXT: code = rocktray_html_text(in.at, in.length, false, buffer, capacity, needed); break;
+    case HTML_LINKS: code = rocktray_html_text(in.at, in.length, true, buffer, capacity, needed); break;
+    case READABLE: code = rocktray_readable_text(in.at, in.length, false, buffer, capacity, needed); break;
     case RECIPIENTS: code = rocktray_recipients(in.at, in.length, buffer, capacity, needed); break;
     case BOUNCED_ID: code = rocktray_bounced_id(in.at, in.length, buffer, capacity, needed); break;
     case UNQUOTED: code = rocktray_unquoted(in.at, in.length, buffer, capacity, needed); break;

@@ -293,6 +293,18 @@ uint32_t rocktray_date_and_offset(const void *text, size_t text_length, int64_t 
 uint32_t rocktray_next_mail(const void *mailbox, size_t mailbox_length, bool is_counted, size_t *start, size_t *end,
                             size_t *next);
 
+/* Writes the text of HTML in UTF-8, for search and for reading: without tags, comments and scripts, with its character
+ * references resolved. With shows_links, each link has a number, and the targets follow the text as footnotes. Nothing
+ * here makes HTML safe. Refuses with ROCKTRAY_NOT_UTF8. */
+uint32_t rocktray_html_text(const void *html, size_t html_length, bool shows_links, void *buffer, size_t capacity,
+                            size_t *needed);
+
+/* Writes the text to be read of a mail in UTF-8: its plain text, or the text of its HTML as rocktray_html_text writes
+ * it. Text is decoded as rocktray_text does. Returns ROCKTRAY_ABSENT if the mail has no text. Refuses as rocktray_json
+ * does. */
+uint32_t rocktray_readable_text(const void *mail, size_t mail_length, bool shows_links, void *buffer, size_t capacity,
+                                size_t *needed);
+
 /* Writes the recipients of a delivery report (RFC 3464) as one line of JSON, LF included: a list of objects with the
  * members final_recipient, original_recipient, action, status and diagnostic_code, each a string or null. The list is
  * empty if the mail is no such report. Refuses as rocktray_json does. */

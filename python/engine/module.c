@@ -250,6 +250,8 @@ CALL(recipients, INPUT)
 CALL(header, INPUT, OTHER, it->number)
 CALL(raw_header, INPUT, OTHER, it->number)
 CALL(ids, INPUT, it->choice)
+CALL(html_text, INPUT, it->choice)
+CALL(readable_text, INPUT, it->choice)
 CALL(reason, (uint32_t)it->number)
 
 static PyObject *version(PyObject *module, PyObject *none)
@@ -311,6 +313,26 @@ static PyObject *ids(PyObject *module, PyObject *const *arguments, Py_ssize_t co
         return NULL;
     it.choice = arguments[1] == Py_True;
     return text_of(&it, it.input.length);
+}
+
+static PyObject *html_text(PyObject *module, PyObject *const *arguments, Py_ssize_t count)
+{
+    struct request it = { .call = call_html_text };
+    (void)module;
+    if (!is_count(count, 2) || take_text(&it.input, arguments[0]) < 0)
+        return NULL;
+    it.choice = arguments[1] == Py_True;
+    return text_of(&it, it.input.length);
+}
+
+static PyObject *readable_text(PyObject *module, PyObject *const *arguments, Py_ssize_t count)
+{
+    struct request it = { .call = call_readable_text };
+    (void)module;
+    if (!is_count(count, 2) || take(&it.input, arguments[0]) < 0)
+        return NULL;
+    it.choice = arguments[1] == Py_True;
+    return text_and_back(&it, it.input.length);
 }
 
 static PyObject *date(PyObject *module, PyObject *text)
@@ -434,6 +456,8 @@ static PyMethodDef functions[] = {
     { "header", FAST(header), METH_FASTCALL, NULL },
     { "raw_header", FAST(raw_header), METH_FASTCALL, NULL },
     { "ids", FAST(ids), METH_FASTCALL, NULL },
+    { "html_text", FAST(html_text), METH_FASTCALL, NULL },
+    { "readable_text", FAST(readable_text), METH_FASTCALL, NULL },
     { "date", date, METH_O, NULL },
     { "mails", FAST(mails), METH_FASTCALL, NULL },
     { "unquoted", unquoted, METH_O, NULL },

@@ -392,6 +392,16 @@ class Mail:
         """The HTML of the mail, or `None`."""
         return self._text_of("text/html")
 
+    def text_or_html(self, links: bool = False) -> Optional[str]:
+        """The text to be read: the plain text of the mail, or the text of its HTML, or `None`. With `links`, each link of
+        HTML has a number, and the targets follow as footnotes.
+
+        >>> parse(b"Content-Type: text/html\\n\\n<p>Fish &amp; <b>chips</b>").text_or_html()
+        'Fish & chips'
+        """
+        self._reading
+        return _engine.readable_text(self._data, bool(links))
+
     def forwarded(self) -> List["Mail"]:
         """The mails that are forwarded in parts of this mail. Each is read when it is first used.
 

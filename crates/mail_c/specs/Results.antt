@@ -14,6 +14,11 @@ use Rattle.mail_data.specs.Reading.{mail_reading}
 use Rattle.mail_data.specs.lenient.Encoding.{lenient_body_kind}
 use Rattle.mail_data.specs.lenient.Ids.{found_ids}
 use Rattle.mail_data.specs.lenient.Texts.{body_text}
+use Rattle.mail_data.specs.Readable.{readable_text}
+use Rattle.mail_html.specs.Text.{html_text}
+use Rattle.mail_html.specs.declared.links.Links.{Links}
+use Rattle.mail_html.specs.declared.links.Links.TheVariants.{Omitted, Footnotes}
+use Rattle.mail_html.specs.declared.references.References.{References}
 use Rattle.mail_json.specs.JsonLines.{IsMailLine}
 use Rattle.mail_json.specs.Options.{Options}
 use Rattle.mail_json.specs.Reports.{deliveries_text}
@@ -46,11 +51,28 @@ raw_value raw name number = do
   block ← read_headers raw
   Ok (option_map (λ header. header.value) (header_at key number block.headers))
 
+-- what becomes of the targets of links
+abbrev pub links_if : Bool → Links
+links_if true = Footnotes
+links_if false = Omitted
+
+-- the text of HTML
+unfoldable pub text_of_html : Bool → References → List ℕ → Found
+text_of_html shows_links references bytes = do
+  html ← text_in bytes
+  Ok (Some (html_text (links_if shows_links) references html))
+
 -- Under the charsets that are known.
 module _ (known : Charsets) where
   -- bodies decoded, no hashes, and texts as they are
   abbrev pub plain_options : Options
-  plain_options = record { known = known; limit = no_limit; decodes_bodies = true; hashes = false; joins_flowed = false }
+  plain_options = record {
+    known = known;
+    limit = no_limit;
+    decodes_bodies = true;
+    hashes = false;
+    joins_flowed = false;
+  }
 
   -- the line of JSON of a mail
   abbrev pub IsJson : List ℕ → Found → Type 0
@@ -69,6 +91,12 @@ module _ (known : Charsets) where
   text raw = do
     mail ← mail_reading known no_limit raw
     Ok (Some (body_text known (root mail)).text)
+
+  -- the text to be read of a mail
+  unfoldable pub readable : Bool → References → List ℕ → Found
+  readable shows_links references raw = do
+    mail ← mail_reading known no_limit raw
+    Ok (option_map (λ read. read.text) (readable_text known (links_if shows_links) references mail))
 
   -- the decoded value of that header
   unfoldable pub value : List ℕ → List ℕ → ℕ → Found

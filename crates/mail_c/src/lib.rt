@@ -22,7 +22,9 @@ ghost use Rattle.mail_c.specs.Ranges.{EndsDecoded};
 ghost use Rattle.mail_c.specs.Records.{header_block, records};
 ghost use Rattle.mail_c.specs.Reports.{report};
 ghost use Rattle.mail_c.specs.Strings.{AreTypeStrings, EndsStrings};
-ghost use Rattle.mail_c.specs.Results.{IsJson, content, ids, raw_value, recipients, text, value};
+ghost use Rattle.mail_c.specs.Results.{IsJson, content, ids, raw_value, readable, recipients};
+ghost use Rattle.mail_c.specs.Results.{text, text_of_html, value};
+ghost use Rattle.mail_html.specs.declared.references.References.{References};
 
 mod addresses;
 mod buffer;
@@ -39,6 +41,7 @@ use addresses::{AddressRecord, write_addresses};
 use buffer::{write_headers, write_items, write_records, write_result};
 use codes::reason;
 use mail_charsets::AllCharsets;
+use mail_html::References;
 use mail_version::VERSION_NUMBER;
 use ranges::write_decoded;
 use records::{HeaderRecord, Part};
@@ -372,6 +375,41 @@ pub extern "C" fn rocktray_raw_header(
         needed,
         results::raw_value(alloc, part, name, number),
     )
+}
+
+/// Writes the text of HTML; with footnotes for the targets of its links if `shows_links`.
+#[unsafe(no_mangle)]
+pub extern "C" fn rocktray_html_text(
+    alloc: Global,
+    html: &[u8],
+    shows_links: bool,
+    buffer: &mut [u8],
+    needed: &mut usize,
+) -> u32
+    ensures { (references : References) × Ends buffer.old buffer.new needed.old needed.new result
+        (λ found. text_of_html shows_links references html.now ≡ found) }
+{
+    let references = References::standard();
+    let found = results::text_of_html(alloc, html, shows_links, &references);
+    write_result(buffer, needed, found)
+}
+
+/// Writes the text to be read of a mail: its plain text, or the text of its HTML.
+#[unsafe(no_mangle)]
+pub extern "C" fn rocktray_readable_text(
+    alloc: Global,
+    mail: &[u8],
+    shows_links: bool,
+    buffer: &mut [u8],
+    needed: &mut usize,
+) -> u32
+    ensures { (all : all_charsets.AllCharsets) × (references : References) ×
+        Ends buffer.old buffer.new needed.old needed.new result
+        (λ found. readable (all_known all) shows_links references mail.now ≡ found) }
+{
+    let references = References::standard();
+    let found = results::readable(alloc, mail, shows_links, &references, &charsets());
+    write_result(buffer, needed, found)
 }
 
 /// Writes the recipients of a delivery report, as a line of JSON with one list.

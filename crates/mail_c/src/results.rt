@@ -4,10 +4,12 @@ ghost use Rattle.mailparse.specs.Outcome.{Answers, AnswersOrMemory, IsMemory};
 ghost use Rattle.mail_data.specs.lenient.IdViews as ids_seen;
 ghost use Rattle.mail_c.specs.Buffer.{Gives, bytes_found};
 ghost use Rattle.mail_c.specs.Results.{IsJson, bracketed, content, ids, raw_value, recipients};
-ghost use Rattle.mail_c.specs.Results.{text, text_in, value};
+ghost use Rattle.mail_c.specs.Results.{links_if, readable, text, text_in, text_of_html, value};
 
 use mail_data::lenient::{IdRule, body_text, find_ids, lenient_body};
+use mail_data::readable::readable_text;
 use mail_data::reading::read_mail;
+use mail_html::{Links, References, html_text};
 use mail_json::{LineOptions, Origin, write_mail, write_recipients};
 use mailparse::{KnownCharsets, MailHeaderMap, MailParseError, parse_headers};
 use std::alloc::{AllocError, Global};
@@ -86,6 +88,52 @@ pub(crate) fn text<K: KnownCharsets>(
     let mail = read_mail(alloc, raw, NO_LIMIT, known)?;
     let read = body_text(alloc, &mail, known)?;
     Ok(Some(read.text.into_bytes()))
+}
+
+/// Returns what becomes of the targets of links.
+fn links_if(shows_links: bool) -> Links
+    ensures { result ≡ links_if shows_links }
+{
+    if shows_links {
+        Links::Footnotes
+    } else {
+        Links::Omitted
+    }
+}
+
+/// Returns the text of HTML.
+#[tactic(auto, unfolding(crate::specs::Results::text_of_html))]
+pub(crate) fn text_of_html(
+    alloc: Global,
+    html: &[u8],
+    shows_links: bool,
+    references: &References<'_>,
+) -> Result<Option<Vec<u8>>, MailParseError>
+    ensures { AnswersOrMemory bytes_found result
+        (text_of_html shows_links references.now html.now) }
+{
+    let html = text_in(html)?;
+    let text = html_text(alloc, html, links_if(shows_links), references)?;
+    Ok(Some(text.into_bytes()))
+}
+
+/// Returns the text to be read of a mail, or `None` if it has none.
+#[tactic(auto, unfolding(crate::specs::Results::readable))]
+pub(crate) fn readable<K: KnownCharsets>(
+    alloc: Global,
+    raw: &[u8],
+    shows_links: bool,
+    references: &References<'_>,
+    known: &K,
+) -> Result<Option<Vec<u8>>, MailParseError>
+    ensures { AnswersOrMemory bytes_found result
+        (readable (K.known known.now) shows_links references.now raw.now) }
+{
+    let mail = read_mail(alloc, raw, NO_LIMIT, known)?;
+    match readable_text(alloc, &mail, links_if(shows_links), references, known)? {
+        Some(read) => Ok(Some(read.text.into_bytes())),
+        None => Ok(None),
+    }
 }
 
 /// Returns the raw value of the `number`-th header with this name, counting from 0, or `None` if
