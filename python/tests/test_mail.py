@@ -29,6 +29,7 @@ def read_all(mail):
     return (mail.subject, mail.from_, mail.to, mail.cc, mail.reply_to, mail.date, mail.message_id, mail.references, parts) + (
         mail.text,
         mail.html,
+        mail.text_or_html(),
         [one.raw for one in forwarded(mail)],
         mail.bounces(),
         len(mail.attachments()),
@@ -65,6 +66,20 @@ def test_addresses():
     assert mail.to == [("", "a@b"), ("C, D", "c@d"), ("", "e@f")]
     assert mail.cc == [("nobody", ""), ("", "g@h")]
     assert mail.bcc == mail.sender == mail.reply_to == []
+
+
+def test_text_of_html():
+    """A mail without plain text is read by the text of its HTML; plain text comes first, and some mails have neither."""
+    html = b"Content-Type: text/html; charset=iso-8859-1\n\n<p>caf\xe9 &amp;<br><a href='x'>b</a><script>no</script>"
+    mail = rocktray.parse(html)
+    assert (mail.text, mail.text_or_html(), mail.text_or_html(links=True)) == (None, "café &\nb", "café &\n[1]b\n\n[1] x")
+    assert [(part.text_of_html(), part.text_of_html(links=True)) for part in mail.walk()] == [("café &\nb", "café &\n[1]b\n\n[1] x")]
+    both = b"Content-Type: multipart/alternative; boundary=b\n\n--b\n" + html + b"\n--b\n\n<p>plain\n--b--\n"
+    mail = rocktray.parse(both)
+    assert mail.text_or_html() == "<p>plain" and [part.text_of_html() for part in mail.walk()] == [None, "café &\nb", None]
+    assert rocktray.parse(b"Content-Type: image/png\n\n<p>").text_or_html() is None
+    with pytest.raises(rocktray.Refused):
+        rocktray.Mail(b" x").text_or_html()
 
 
 def test_forwarded():
