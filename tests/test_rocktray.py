@@ -13,11 +13,12 @@ import lzma
 import os
 import pty
 import subprocess
+import tempfile
 import zipfile
 
 import pytest
 
-from support import FROM, LOGIC, SAMPLES, TOP, VERSION, command, program, run, text_of
+from support import FROM, LOGIC, SAMPLES, TOP, VERSION, command, multipart, program, run, text_of
 
 MAIL = b"Subject: %b\n\none\n"
 HELP = "For more information, try '--help'."
@@ -256,6 +257,31 @@ def test_names_that_are_not_utf8(tmp_path):
     assert [line["file"] for line in lines(ended)] == [bad, f"{tmp_path}/mails/b.eml"] and ended.returncode == 1
     ended = run([program("rocktray"), b"json", b"--caf\xe9", top])
     assert ended.returncode == 2 and b"\\xE9" in ended.stderr and b"\0" not in ended.stderr
+
+
+@pytest.mark.parametrize("name, shows", [
+    ("json", b'"subject":"%b"'), ("show", b"Subject:  %b\n"), ("extract", b'"saved":"%b.png"'),
+])
+def test_inputs_of_each(name, shows, tmp_path):
+    """Each subcommand names what it cannot read, reads everything else, and has the same statuses."""
+    top = f"{tmp_path}/mails"
+    for number, data in enumerate(FOREIGN.values()):
+        write(f"{top}/{number}.eml", data)
+    write(os.fsencode(top) + b"/caf\xe9.eml")
+    os.symlink("nowhere", f"{top}/lost.eml")
+    mail = b"Content-Type: image/png; name=%b.png\nSubject: %b\n\nx"
+    for file, word in (("b.eml", b"one"), ("below/c.eml", b"two")):
+        write(f"{top}/{file}", mail % (word, word))
+    for recursive, read_ in (([], [b"one"]), (["--recursive"], [b"one", b"two"])):
+        ended = run([*command(name), *recursive, top], cwd=tempfile.mkdtemp(dir=tmp_path))
+        said = ended.stderr.decode()
+        assert ended.returncode == 1 and [word for word in (b"one", b"two") if shows % word in ended.stdout] == read_, said
+        assert all(f"rocktray: {top}/{number}.eml: the input is " in said for number in range(len(FOREIGN))), said
+        assert f"{top}/caf\\xE9.eml: the name is not UTF-8" in said and f"{top}/lost.eml: No such file" in said
+        assert ("1 subdirectory was skipped" in said) == (not recursive)
+    for data, status in ((mail % (b"a", b"b"), 0), (b" refused", 3)):
+        assert run(command(name), data, cwd=tmp_path).returncode == status
+    assert run([*command(name), "no/such", f"{top}/b.eml"], cwd=tmp_path).returncode == 1
 
 
 @pytest.mark.quick
