@@ -52,6 +52,7 @@ pub fn parse_header(raw: &[u8]) -> Result<(MailHeader<'_>, usize), MailParseErro
 }
 
 /// Returns the header at the front of the bytes, and its length.
+#[inline(always)]
 fn cut_header(raw: &[u8]) -> (MailHeader<'_>, usize)
     ensures { result ≡ (header_of raw.now, header_length raw.now) }
 {
