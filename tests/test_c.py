@@ -225,17 +225,20 @@ def test_stack(c_library, hostile, tmp_path):
 
 # reads a mail of many parts, or of many headers, and prints how many bytes of memory each of them took
 ITEMS = """
-import ctypes, resource, sys
+import ctypes, re, sys
+def peak():
+    # that of this program alone: ru_maxrss begins with the peak of the process that started it
+    return 1024 * int(re.search(r"VmHWM:\\s+(\\d+)", open("/proc/self/status").read())[1])
 library = ctypes.CDLL(sys.argv[1])
 head = b"Content-Type: multipart/mixed; boundary=b\\n\\n"
 mail = head + b"--b\\n\\n" * 1_000_000 if sys.argv[2] == "parts" else b"A: b\\n" * 1_000_000 + b"\\n"
 counts = [ctypes.c_size_t(), ctypes.c_size_t()]
-before = resource.getrusage(resource.RUSAGE_SELF).ru_maxrss
+before = peak()
 size = ctypes.c_size_t(len(mail))
 code = library.rocktray_parts(mail, size, ctypes.c_size_t(2**64 - 1), None, ctypes.c_size_t(0), ctypes.byref(counts[0]),
                               None, ctypes.c_size_t(0), ctypes.byref(counts[1]))
 assert code == 1 and max(counts[0].value, counts[1].value) >= 1_000_000
-print(1024 * (resource.getrusage(resource.RUSAGE_SELF).ru_maxrss - before) // 1_000_000)
+print((peak() - before) // 1_000_000)
 """
 
 

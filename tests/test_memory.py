@@ -14,6 +14,7 @@ import os
 import re
 import resource
 import subprocess
+import sys
 
 import pytest
 
@@ -277,13 +278,22 @@ BYTES_PER_ITEM = int(re.search(r"5 times the mail and (\d+)\s+bytes for each of 
 START = 8_000_000
 
 
+# runs a command, and prints its exit status and its greatest memory in bytes. A process begins with the peak of the one
+# that starts it, so this is a small one.
+PEAK = """
+import resource, subprocess, sys
+ended = subprocess.run(sys.argv[1:], stdout=subprocess.DEVNULL, stderr=subprocess.DEVNULL)
+print(ended.returncode, 1024 * resource.getrusage(resource.RUSAGE_CHILDREN).ru_maxrss)
+"""
+
+
 def peak(arguments, raw, directory):
     """The exit status of a run on a mail, and its greatest memory in bytes."""
     (directory / "mail").write_bytes(raw)
     with open(directory / "mail", "rb") as file:
-        process = subprocess.Popen(arguments, stdin=file, stdout=subprocess.DEVNULL, stderr=subprocess.DEVNULL, cwd=directory)
-        _pid, status, used = os.wait4(process.pid, 0)
-    return os.waitstatus_to_exitcode(status), 1024 * used.ru_maxrss
+        ended = subprocess.run([sys.executable, "-c", PEAK, *arguments], stdin=file, stdout=subprocess.PIPE, cwd=directory, check=True)
+    status, used = ended.stdout.split()
+    return int(status), int(used)
 
 
 HEAD = b"Content-Type: multipart/mixed; boundary=b\n\n"
