@@ -8,31 +8,33 @@ use Rattle.mail_html.specs.declared.layout.Gap.TheVariants.{Nothing, Tab, LineEn
 use Rattle.mail_html.specs.declared.elements.Kind.{Kind}
 use Rattle.mail_html.specs.declared.elements.Kind.TheVariants.{Inline, Cell, Block, Paragraph, Break, Preformatted, Image, Hidden, Foreign}
 
--- the names of elements that are not inline, each with its kind
+-- the names of elements, each with its kind; those that are not here are inline
 abbrev pub elements : List (List ℕ × Kind)
 elements =
-    (codes "td", Cell) ∷ (codes "tr", Block) ∷ (codes "br", Break) ∷ (codes "p", Paragraph)
-    ∷ (codes "a", Inline) ∷ (codes "span", Inline) ∷ (codes "img", Image) ∷ (codes "div", Block)
-    ∷ (codes "table", Block) ∷ (codes "tbody", Block) ∷ (codes "b", Inline) ∷ (codes "font", Inline)
-    ∷ (codes "strong", Inline) ∷ (codes "center", Block) ∷ (codes "th", Cell) ∷ (codes "li", Block)
-    ∷ (codes "ul", Block) ∷ (codes "ol", Block) ∷ (codes "style", Hidden) ∷ (codes "script", Hidden)
+    (codes "p", Paragraph) ∷ (codes "td", Cell) ∷ (codes "br", Break) ∷ (codes "div", Block)
+    ∷ (codes "a", Inline) ∷ (codes "tr", Block) ∷ (codes "span", Inline) ∷ (codes "font", Inline)
+    ∷ (codes "b", Inline) ∷ (codes "img", Image) ∷ (codes "html", Block) ∷ (codes "body", Block)
+    ∷ (codes "head", Block) ∷ (codes "table", Block) ∷ (codes "meta", Inline)
+    ∷ (codes "style", Hidden) ∷ (codes "strong", Inline) ∷ (codes "title", Paragraph)
+    ∷ (codes "tbody", Block) ∷ (codes "center", Block) ∷ (codes "i", Inline)
+    ∷ (codes "u", Inline) ∷ (codes "em", Inline) ∷ (codes "li", Block) ∷ (codes "ul", Block)
+    ∷ (codes "link", Inline) ∷ (codes "pre", Preformatted) ∷ (codes "hr", Paragraph)
     ∷ (codes "h1", Paragraph) ∷ (codes "h2", Paragraph) ∷ (codes "h3", Paragraph)
+    ∷ (codes "th", Cell) ∷ (codes "script", Hidden) ∷ (codes "ol", Block)
     ∷ (codes "h4", Paragraph) ∷ (codes "h5", Paragraph) ∷ (codes "h6", Paragraph)
-    ∷ (codes "hr", Paragraph) ∷ (codes "blockquote", Paragraph) ∷ (codes "pre", Preformatted)
-    ∷ (codes "address", Block) ∷ (codes "article", Block) ∷ (codes "aside", Block)
-    ∷ (codes "body", Block) ∷ (codes "caption", Block) ∷ (codes "dd", Block)
+    ∷ (codes "blockquote", Paragraph) ∷ (codes "address", Block) ∷ (codes "article", Block)
+    ∷ (codes "aside", Block) ∷ (codes "caption", Block) ∷ (codes "dd", Block)
     ∷ (codes "details", Block) ∷ (codes "dialog", Block) ∷ (codes "dir", Block)
     ∷ (codes "dl", Block) ∷ (codes "dt", Block) ∷ (codes "fieldset", Block)
     ∷ (codes "figcaption", Block) ∷ (codes "figure", Block) ∷ (codes "footer", Block)
-    ∷ (codes "form", Block) ∷ (codes "head", Block) ∷ (codes "header", Block)
-    ∷ (codes "hgroup", Block) ∷ (codes "html", Block) ∷ (codes "iframe", Hidden)
-    ∷ (codes "legend", Block) ∷ (codes "listing", Preformatted) ∷ (codes "main", Block)
-    ∷ (codes "math", Foreign) ∷ (codes "menu", Block) ∷ (codes "nav", Block)
-    ∷ (codes "noembed", Hidden) ∷ (codes "noframes", Hidden) ∷ (codes "noscript", Hidden)
-    ∷ (codes "optgroup", Block) ∷ (codes "option", Block) ∷ (codes "search", Block)
-    ∷ (codes "section", Block) ∷ (codes "select", Block) ∷ (codes "summary", Block)
-    ∷ (codes "svg", Foreign) ∷ (codes "template", Hidden) ∷ (codes "textarea", Block)
-    ∷ (codes "tfoot", Block) ∷ (codes "thead", Block) ∷ (codes "title", Paragraph)
+    ∷ (codes "form", Block) ∷ (codes "header", Block) ∷ (codes "hgroup", Block)
+    ∷ (codes "iframe", Hidden) ∷ (codes "legend", Block) ∷ (codes "listing", Preformatted)
+    ∷ (codes "main", Block) ∷ (codes "math", Foreign) ∷ (codes "menu", Block)
+    ∷ (codes "nav", Block) ∷ (codes "noembed", Hidden) ∷ (codes "noframes", Hidden)
+    ∷ (codes "noscript", Hidden) ∷ (codes "optgroup", Block) ∷ (codes "option", Block)
+    ∷ (codes "search", Block) ∷ (codes "section", Block) ∷ (codes "select", Block)
+    ∷ (codes "summary", Block) ∷ (codes "svg", Foreign) ∷ (codes "template", Hidden)
+    ∷ (codes "textarea", Block) ∷ (codes "tfoot", Block) ∷ (codes "thead", Block)
     ∷ (codes "xmp", Preformatted) ∷ []
 
 -- the kind of the element with a name, ignoring ASCII case

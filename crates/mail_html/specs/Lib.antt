@@ -7,3 +7,4 @@ pub mod Html
 pub mod Links
 pub mod Text
 pub mod Plain
+pub mod private

@@ -187,10 +187,11 @@ fn push_end(text: &mut Vec<u8>, layout: Layout, bytes: &[u8]) -> Result<Step, Al
     ensures bounds { IfOk result (λ step. step.taken ≤ 2 + length bytes.now) }
 {
     if begins_letter(bytes) {
-        let kind = kind_of(&bytes[..name_length(bytes)]);
+        let name = name_length(bytes);
+        let kind = kind_of(&bytes[..name]);
         return Ok(Step {
             layout: add_tag(false, kind, layout),
-            taken: 2 + tag_length(bytes),
+            taken: 2 + tag_length(bytes, name),
         });
     }
     if bytes.is_empty() {
@@ -217,7 +218,7 @@ fn push_start(
     ensures bounds { IfOk result (λ step. step.taken ≤ 1 + length bytes.now) }
 {
     let name = name_length(bytes);
-    let end = tag_length(bytes);
+    let end = tag_length(bytes, name);
     let kind = kind_of(&bytes[..name]);
     let after = add_tag(true, kind, layout);
     let gap = push_shown(alloc, text, after, kind, &bytes[name..end], references)?;

@@ -143,7 +143,7 @@ struct Run {
     taken: usize,
 }
 
-/// Appends the whitespace, or the bytes before the first whitespace, at the front of bytes.
+/// Appends the first whitespace of a gap, or all bytes before the next gap, at the front of bytes.
 fn push_run(text: &mut Vec<u8>, before: Gap, bytes: &[u8]) -> Result<Run, AllocError>
     requires { 0 < length bytes.now }
     ensures pushed { IfOk result (λ run.

@@ -1,8 +1,9 @@
 //! Tests of the front of bytes, and the length of a run of bytes of one kind there.
-ghost use Rattle.std.specs.Prelude.{◌≡◌, true, ◌<◌, ◌≤◌, ◌==◌, ◌||◌, length, drop};
+ghost use Rattle.std.specs.Prelude.{◌≡◌, true, ◌<◌, ◌≤◌, ◌==◌, ◌||◌, not, length, drop};
 ghost use Rattle.std.specs.Char.{is_ascii_alphabetic, is_ascii_whitespace};
 ghost use Rattle.std.specs.Str.{str_eq_ignore_ascii_case};
 ghost use Rattle.mail_codec.specs.Places.{begins, first_place};
+ghost use Rattle.mail_html.specs.private.Runs.{begins_gap};
 ghost use Rattle.mail_html.specs.Tags.{ends_attribute, ends_name, ends_value, is_quote, is_separator, name_length, white_length};
 
 /// Returns whether bytes begin with a byte.
@@ -139,15 +140,40 @@ pub(crate) fn value_length(bytes: &[u8]) -> usize
         .unwrap_or(bytes.len())
 }
 
-/// Returns the number of bytes before the first whitespace.
+/// Returns whether bytes begin with one that is no whitespace.
+fn begins_other(bytes: &[u8]) -> bool
+    ensures { result ≡ begins (λ b. not (is_ascii_whitespace b)) bytes.now }
+{
+    let Some((first, _)) = bytes.split_first() else {
+        return false;
+    };
+    !first.is_ascii_whitespace()
+}
+
+/// Returns whether bytes begin with whitespace other than a single space between other bytes.
+fn begins_gap(bytes: &[u8]) -> bool
+    ensures { result ≡ begins_gap bytes.now }
+{
+    let Some((first, rest)) = bytes.split_first() else {
+        return false;
+    };
+    first.is_ascii_whitespace() && !(*first == b' ' && begins_other(rest))
+}
+
+/// Returns the number of bytes before the first whitespace other than a single space between other
+/// bytes.
 pub(crate) fn run_length(bytes: &[u8]) -> usize
-    ensures value { result ≡ first_place (begins is_ascii_whitespace) bytes.now }
+    ensures value { result ≡ first_place begins_gap bytes.now }
     ensures bounds { result ≤ length bytes.now }
 {
-    bytes
-        .iter()
-        .position(|byte| byte.is_ascii_whitespace())
-        .unwrap_or(bytes.len())
+    let mut at = 0;
+    'bytes: while at < bytes.len() {
+        if begins_gap(&bytes[at..]) {
+            return at;
+        }
+        at += 1;
+    }
+    bytes.len()
 }
 
 /// Returns the number of whitespace bytes at the front.

@@ -5,7 +5,7 @@ ghost use Rattle.mail_html.specs.Tags.{assigned, attribute, close_length, closes
 
 use crate::scans::{
     attribute_length, begins_name_end, begins_quote, begins_separator, begins_with, is_same_name,
-    name_length, value_length, white_length,
+    value_length, white_length,
 };
 use mail_codec::bytescan::find_byte;
 
@@ -149,13 +149,14 @@ fn tag_rest_length(bytes: &[u8]) -> usize
     bytes.len()
 }
 
-/// Returns the length of a tag whose name is at the front of bytes.
-pub(crate) fn tag_length(bytes: &[u8]) -> usize
+/// Returns the length of a tag whose name, of `name` bytes, is at the front of bytes.
+pub(crate) fn tag_length(bytes: &[u8], name: usize) -> usize
+    requires name { name ≡ name_length bytes.now }
+    requires within { name ≤ length bytes.now }
     ensures value { result ≡ tag_length bytes.now }
-    ensures name { name_length bytes.now ≤ result }
+    ensures name { name ≤ result }
     ensures bounds { result ≤ length bytes.now }
 {
-    let name = name_length(bytes);
     name + tag_rest_length(&bytes[name..])
 }
 

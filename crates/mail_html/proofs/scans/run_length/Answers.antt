@@ -1,14 +1,8 @@
-use Rattle.std.proofs.Common.{◌∙◌, ap, length, rules, tests}
-use Rattle.std.specs.Option.{unwrap_or}
-use Rattle.std.proofs.lemmas.Iterator.{YieldsList-from_slice}
-use Rattle.std.proofs.lemmas.Iterator.Search.{position_from_yields_List}
-use Rattle.std.specs.Char.{is_ascii_whitespace}
-use Rattle.mail_html.proofs.lemmas.Scans.{first_unwrapped}
+use Rattle.std.proofs.Common.{◌∙◌, sym}
+use Rattle.std.proofs.lemmas.List.{take_rest}
+use Rattle.mail_codec.proofs.lemmas.Places.{PassedTo-more}
+use Rattle.mail_html.specs.private.Runs.{begins_gap}
 use Rattle.mail_html.proofs.scans.run_length.Goals as goal
 
-pub returns-clause-value : goal.returns-clause-value
-returns-clause-value c =
-    c.unwrap_or.ensures
-    ∙ ap (λ o. unwrap_or o (length c.args.bytes.now))
-    (position_from_yields_List is_ascii_whitespace _ _ c.position.result c.position.ensures.ran (YieldsList-from_slice _ c.iter.ensures.rest) (λ x b q k. search (rules, tests)))
-    ∙ first_unwrapped is_ascii_whitespace c.args.bytes.now
+pub bytes-preserved : goal.bytes-preserved
+bytes-preserved c = PassedTo-more begins_gap c.args.bytes.now _ _ c.bytes.invariant c.bytes-test.true (rw take_rest at (sym c.begins_gap.ensures ∙ c.if-begins_gap.false))
