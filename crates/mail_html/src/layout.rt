@@ -1,8 +1,11 @@
 //! Text with the gaps between its runs.
-ghost use Rattle.std.specs.Prelude.{◌≡◌, ◌<◌, ◌≤◌, IfOk, OnOk, length, drop, fold};
+ghost use Rattle.std.specs.Prelude.{◌≡◌, ◌<◌, ◌≤◌, ◌==◌, IfOk, OnOk, length, drop, fold};
+ghost use Rattle.mail_codec.specs.Ascii.{carriage_return};
+ghost use Rattle.mail_codec.specs.Places.{begins, first_place};
 ghost use Rattle.mail_html.specs.Layout.{one_more_line, rank, wider, with_collapsed, with_gap, with_kept, with_text};
 
 use crate::scans::run_length;
+use mail_codec::bytescan::find_byte;
 use std::alloc::AllocError;
 
 /// What is between two runs of text.
@@ -101,22 +104,48 @@ fn push_kept(text: &mut Vec<u8>, before: Gap, bytes: &[u8]) -> Result<Gap, Alloc
         ≡ fold with_kept (text.old.items, before) bytes.now) }
 {
     let mut gap = before;
-    for byte in bytes {
-        gap = push_byte(text, gap, *byte)?;
+    let mut rest = bytes;
+    'rest: while !rest.is_empty() {
+        let run = push_kept_run(text, gap, rest)?;
+        gap = run.gap;
+        rest = &rest[run.taken..];
     }
     Ok(gap)
 }
 
-/// Appends a byte, unless it is CR, and returns the gap after it.
-fn push_byte(text: &mut Vec<u8>, before: Gap, byte: u8) -> Result<Gap, AllocError>
-    ensures { IfOk result (λ gap. (text.new.items, gap) ≡ with_kept (text.old.items, before) byte) }
+/// Appends the bytes before the first CR at the front of bytes, or leaves out a CR there.
+fn push_kept_run(text: &mut Vec<u8>, before: Gap, bytes: &[u8]) -> Result<Run, AllocError>
+    requires { 0 < length bytes.now }
+    ensures pushed { IfOk result (λ run.
+        fold with_kept (text.new.items, run.gap) (drop run.taken bytes.now)
+        ≡ fold with_kept (text.old.items, before) bytes.now) }
+    ensures some { IfOk result (λ run. 0 < run.taken) }
+    ensures bounds { IfOk result (λ run. run.taken ≤ length bytes.now) }
 {
-    if byte == b'\r' {
-        return Ok(before);
+    let taken = kept_length(bytes);
+    if taken == 0 {
+        return Ok(Run {
+            gap: before,
+            taken: 1,
+        });
     }
     push_gap(text, before)?;
-    text.push(byte)?;
-    Ok(Gap::Nothing)
+    text.extend_from_slice(&bytes[..taken])?;
+    Ok(Run {
+        gap: Gap::Nothing,
+        taken,
+    })
+}
+
+/// Returns the number of bytes before the first CR.
+fn kept_length(bytes: &[u8]) -> usize
+    ensures value { result ≡ first_place (begins (λ b. b == carriage_return)) bytes.now }
+    ensures bounds { result ≤ length bytes.now }
+{
+    match find_byte(bytes, b'\r') {
+        Some(place) => place,
+        None => bytes.len(),
+    }
 }
 
 /// Appends text whose whitespace collapses, and returns the gap after it.

@@ -6,7 +6,7 @@ use Rattle.std.specs.Char.{is_ascii_whitespace}
 use Rattle.std.proofs.lemmas.Bool.{cases_Bool}
 use Rattle.mail_codec.specs.Places.{begins, first_place}
 use Rattle.mail_codec.proofs.lemmas.Places.{first_place-here, first_place-past, true_not_false}
-use Rattle.mail_html.specs.Layout.{Written, wider, with_collapsed, with_gap}
+use Rattle.mail_html.specs.Layout.{Written, wider, with_collapsed, with_gap, with_kept}
 use Rattle.mail_html.specs.private.Runs.{begins_gap}
 use Rattle.mail_html.specs.declared.layout.Gap.{Gap}
 use Rattle.mail_html.specs.declared.layout.Gap.TheVariants.{Nothing, Space}
@@ -160,3 +160,44 @@ pub white_pushed : (text bs : List ℕ) (gap : Gap) → 0 < length bs → is_asc
     → fold with_collapsed (text, wider gap Space) (drop 1 bs) ≡ fold with_collapsed (text, gap) bs
 unfolding step
 white_pushed text bs gap some is = white_first is_ascii_whitespace text bs gap some is
+
+-- one more byte where whitespace is kept, by any test of CR
+kept : (ℕ → Bool) → Written → ℕ → Written
+kept returns written byte = cond (returns byte) written (with_gap written.0 written.1 ++ (byte ∷ []), Nothing)
+
+-- a kept run goes on up to the next CR
+kept_on : (returns : ℕ → Bool) (text bs : List ℕ)
+    → fold (kept returns) (text, Nothing) bs ≡ fold (kept returns) (text ++ take (first_place (begins returns) bs) bs, Nothing) (drop (first_place (begins returns) bs) bs)
+unfolding kept
+kept_on returns text [] = ap (λ (t : List ℕ). (t, Nothing)) (sym (append-nil text))
+kept_on returns text (b ∷ bs) = elim (cases_Bool (returns b)) [
+  | inl e ↦ rw (e, append-nil) (rw e refl)
+  | inr e ↦
+      let n = first_place (begins returns) bs in
+      let one : kept returns (text, Nothing) b ≡ (text ++ (b ∷ []), Nothing) = rw (e, no_gap text) refl in
+      let on = ap (λ (w : Written). fold (kept returns) w bs) one ∙ kept_on returns (text ++ (b ∷ [])) bs ∙ ap (λ (t : List ℕ). fold (kept returns) (t, Nothing) (drop n bs)) (append_assoc text (b ∷ []) (take n bs)) in
+      let skip : first_place (begins returns) (b ∷ bs) ≡ suc n = rw e refl in
+      on ∙ ap (λ (m : ℕ). fold (kept returns) (text ++ take m (b ∷ bs), Nothing) (drop m (b ∷ bs))) (sym skip)
+]
+
+kept_first : (returns : ℕ → Bool) (text bs : List ℕ) (gap : Gap) (n : ℕ) → 0 < n → n ≡ first_place (begins returns) bs
+    → fold (kept returns) (with_gap text gap ++ take n bs, Nothing) (drop n bs) ≡ fold (kept returns) (text, gap) bs
+unfolding kept
+kept_first returns text [] gap n some is = absurd (omega arith)
+kept_first returns text (b ∷ bs) gap n some is = elim (cases_Bool (returns b)) [
+  | inl e ↦ let here = first_place-here (begins returns) (b ∷ bs) e in absurd (omega arith)
+  | inr e ↦
+      let m = first_place (begins returns) bs in
+      let skip : n ≡ suc m = is ∙ rw e refl in
+      let one : (with_gap text gap ++ (b ∷ []), Nothing) ≡ kept returns (text, gap) b = rw e refl in
+      ap (λ (k : ℕ). fold (kept returns) (with_gap text gap ++ take k (b ∷ bs), Nothing) (drop k (b ∷ bs))) skip
+      ∙ ap (λ (t : List ℕ). fold (kept returns) (t, Nothing) (drop m bs)) (sym (append_assoc (with_gap text gap) (b ∷ []) (take m bs)))
+      ∙ sym (kept_on returns (with_gap text gap ++ (b ∷ [])) bs)
+      ∙ ap (λ (w : Written). fold (kept returns) w bs) one
+]
+
+-- the same for CR
+pub kept_pushed : (text bs : List ℕ) (gap : Gap) (n : ℕ) → 0 < n → n ≡ first_place (begins (λ b. b == 13)) bs
+    → fold with_kept (with_gap text gap ++ take n bs, Nothing) (drop n bs) ≡ fold with_kept (text, gap) bs
+unfolding kept
+kept_pushed text bs gap n some is = kept_first (λ b. b == 13) text bs gap n some is
