@@ -92,6 +92,7 @@ pub struct HeaderPlaces {
 /// assert_eq!(rt; &raw[places.value_start..places.value_end], b"Hello,\n  you".as_slice());
 /// assert_eq!(rt; places.length, 22);
 /// ```
+#[inline(always)]
 #[tactic(auto, using(crate::proofs::lemmas::Header::header_cuts))]
 pub fn header_places(raw: &[u8]) -> HeaderPlaces
     ensures key { result.key_end ≡ key_end raw.now }
