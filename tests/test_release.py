@@ -17,6 +17,7 @@ import pytest
 
 import make_manuals
 import make_release
+import proved_objects
 from support import LOGIC, SUBCOMMANDS, TOP, VERSION, compiled, missing, program, run, text_of
 
 OPTIONS = re.findall(r'^    pub const \w+: &str = "(.*)";$', text_of("crates/rocktray/src/options.rt"), re.M)
@@ -76,6 +77,65 @@ def test_commit_of_the_program(tmp_path):
     before = run([path, "--version"]).stdout.decode()
     make_release.write_commit(path, text, COMMIT)
     assert run([path, "--version"]).stdout.decode() == before.replace(text, COMMIT) != before
+
+
+def compiled_in(top, text, names=tuple(proved_objects.COMPILED)):
+    """Writes what looks like what the gate compiles of these crates, in the place of what an earlier run compiled."""
+    for name, file in proved_objects.COMPILED.items():
+        path = top / "crates" / name / "out" / file
+        path.parent.mkdir(parents=True, exist_ok=True)
+        path.unlink(missing_ok=True)
+        if name in names:
+            path.write_text(f"{text} {name}")
+
+
+OLD, NEW = ({name: f"{kind} {name}" for name in proved_objects.COMPILED} for kind in ("old", "new"))
+
+
+@pytest.mark.quick
+def test_kept_objects(tmp_path):
+    """What the gate compiled is found for the sources that it was made of, and for no others."""
+    names = sorted(proved_objects.COMPILED)
+    assert proved_objects.kept_objects(tmp_path, OLD) == {}
+    compiled_in(tmp_path, "one")
+    assert proved_objects.keep(tmp_path, OLD, OLD) == names
+    compiled_in(tmp_path, "changed since")
+    found = proved_objects.kept_objects(tmp_path, OLD)
+    assert {name: path.read_text() for name, path in found.items()} == {name: f"one {name}" for name in names}
+    assert proved_objects.kept_objects(tmp_path, NEW) == {}
+    assert sorted(proved_objects.kept_objects(tmp_path, NEW | {"mail_c": OLD["mail_c"]})) == ["mail_c"]
+    # a run that compiles the archive alone, since the kit keeps the programs
+    compiled_in(tmp_path, "two", ["mail_c"])
+    assert proved_objects.keep(tmp_path, OLD, OLD) == names
+    found = proved_objects.kept_objects(tmp_path, OLD)
+    assert [found[name].read_text() for name in names] == ["two mail_c", "one mail_show", "one rocktray"]
+    # a byte that changed, and sources that changed after the run or while it ran
+    found["rocktray"].write_text("One rocktray")
+    assert sorted(proved_objects.kept_objects(tmp_path, OLD)) == ["mail_c", "mail_show"]
+    assert proved_objects.keep(tmp_path, NEW, NEW) == ["mail_c"]
+    compiled_in(tmp_path, "three")
+    assert proved_objects.keep(tmp_path, OLD, NEW) == ["mail_c"]
+    assert proved_objects.keep(tmp_path, OLD, {}) == []
+    (tmp_path / "out" / "proved" / "made.json").write_text("[")
+    assert proved_objects.kept_objects(tmp_path, NEW) == {}
+
+
+@pytest.mark.quick
+@pytest.mark.parametrize("kept", [[], ["mail_c"], list(proved_objects.COMPILED)], ids=len)
+def test_objects_of_a_release(kept, tmp_path, monkeypatch):
+    """A release takes what the gate compiled of its sources, and proves them if anything is missing."""
+    gate, source, objects, proved = tmp_path / "gate", tmp_path / "source", tmp_path / "objects", []
+    compiled_in(gate, "gate", kept)
+    compiled_in(source, "release")
+    proved_objects.keep(gate, OLD, OLD)
+    monkeypatch.setattr(make_release, "TOP", gate)
+    monkeypatch.setattr(make_release, "stamps", lambda top: OLD)
+    monkeypatch.setattr(make_release, "prove", proved.append)
+    monkeypatch.setattr(make_release, "compile_crate", lambda top, name: top / "crates" / name / "out" / proved_objects.COMPILED[name])
+    make_release.compile_all(source, objects)
+    wanted = {file: f"{'gate' if name in kept else 'release'} {name}" for name, file in proved_objects.COMPILED.items()}
+    assert {path.name: path.read_text() for path in objects.iterdir()} == wanted
+    assert proved == ([] if len(kept) == len(wanted) else [source])
 
 
 def script(path, text):

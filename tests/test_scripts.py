@@ -90,7 +90,7 @@ def test_launcher(link):
 @pytest.mark.parametrize("command", [
     ["./mail_show", "samples/plain.eml"], ["tools/program.sh", "rocktray"],
     ["tools/make_c_library.sh", "/tmp/rocktray"], ["tools/make_wheel.py", "/tmp/wheels"], ["./test"], [".ci/run"],
-    ["tools/make_release.py", "/tmp/release"], ["tools/try_edits.py"],
+    ["tools/make_release.py", "/tmp/release"], ["tools/try_edits.py"], ["tools/proved_objects.py"],
 ])
 def test_without_the_kit(command, tmp_path):
     """Without the kit, and in a copy where nothing is built, one line says what is needed."""

@@ -2,14 +2,15 @@
 """Makes a release of the commit that is checked out, in a directory: docs/RELEASING.md says what is in it.
 
 The same commit, kit and tools give the same bytes, wherever and whenever they are made. A checkout with changes is
-refused. The files of the commit are written to another directory by `git archive`, proved there by `rt ci`, built and
-packed. What the kit keeps of earlier proofs of the same files on this machine is not proved again. The commit is
-written into the object of the proved program. It needs the kit, and what tools/install_needs.sh --release installs.
+refused. The files of the commit are written to another directory by `git archive`, built there and packed. What the
+gate compiled of these files in this checkout (tools/proved_objects.py) is not compiled again; if anything is missing,
+all is proved by `rt ci`, which takes what the kit keeps of earlier proofs of the same files on this machine, and the
+rest is compiled. The commit is written into the object of the proved program. It needs the kit, and what
+tools/install_needs.sh --release installs.
 """
 
 import argparse
 import functools
-import hashlib
 import json
 import os
 import re
@@ -23,12 +24,11 @@ from datetime import datetime, timezone
 from pathlib import Path
 
 import make_manuals
+from proved_objects import COMPILED, digest, kept_objects, stamps
 from try_edits import stamps_in
 
 TOP = Path(__file__).resolve().parent.parent
 PROGRAMS = ("rocktray", "mail_show")
-# the object or archive that the kit makes of each crate in a release
-COMPILED = {"rocktray": "rocktray.o", "mail_show": "mail_show.o", "mail_c": "libmail_c.a"}
 PROCESSOR = "x86-64-v2"
 # the system whose C library the programs are linked against, and what is taken of it
 OLDEST = "bullseye"
@@ -55,11 +55,6 @@ def run(*command, **options):
     if ended.returncode != 0:
         raise Failed(f"{' '.join(command)} ended with status {ended.returncode}\n{ended.stdout[-5000:]}")
     return ended.stdout
-
-
-def digest(path):
-    """The SHA-256 of a file."""
-    return hashlib.sha256(path.read_bytes()).hexdigest()
 
 
 def constant(source, path, name):
@@ -141,13 +136,25 @@ def link(source, objects, prefix, work):
     return version
 
 
+def compile_all(source, objects):
+    """Has the objects of all crates of a release: those that the gate compiled of these sources, and all others."""
+    kept = kept_objects(TOP, stamps(source))
+    for path in kept.values():
+        copy(path, objects)
+    lacking = [name for name in COMPILED if name not in kept]
+    if not lacking:
+        return
+    print(f"make_release.py: the gate has not compiled {', '.join(lacking)} of this commit here: proving", file=sys.stderr)
+    prove(source)
+    with ThreadPoolExecutor() as pool:
+        for path in pool.map(functools.partial(compile_crate, source), lacking):
+            copy(path, objects)
+
+
 def build(source, prefix, work, commit):
     """Proves and builds the programs and the C library into a prefix, and returns what BUILD.json says of it."""
-    prove(source)
     objects = work / "objects"
-    with ThreadPoolExecutor() as pool:
-        for path in pool.map(functools.partial(compile_crate, source), COMPILED):
-            copy(path, objects)
+    compile_all(source, objects)
     copy(objects / COMPILED["mail_c"], source / "crates" / "mail_c" / "out")
     run(source / "tools" / "make_c_library.sh", prefix, env={**os.environ, "BUILT": "only"})
     (prefix / "bin").mkdir()
