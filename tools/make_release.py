@@ -62,6 +62,7 @@ def constant(source, path, name):
     return re.search(rf'^(?:pub )?const {name}: &str = "(.*)";$', (source / path).read_text(), re.M)[1]
 
 
+@functools.cache
 def kit():
     """The directory of the kit."""
     return Path(run("rt", "doc").strip()).parent
