@@ -1,6 +1,7 @@
 """Real mails as the parts of one mail, or as a mailbox. The order of the mails is shuffled, the same in each run. A mail
 that mail_speed refuses to read is left out: as a part it would have all refused."""
 
+import email
 import os
 import random
 import subprocess
@@ -28,6 +29,21 @@ def chosen(paths, size, reader):
         if len(mail) <= left and is_read(reader, mail):
             left -= len(mail)
             yield mail
+
+
+def html_parts(mail):
+    """The HTML of the parts of a mail."""
+    for part in email.message_from_bytes(mail).walk():
+        if part.get_content_type() == "text/html":
+            try:
+                yield part.get_payload(decode=True).decode(part.get_content_charset() or "utf-8", "replace")
+            except LookupError:  # no charset has this name
+                pass
+
+
+def as_html(mails):
+    """The HTML parts of them, each once, in UTF-8."""
+    return "\n".join(dict.fromkeys(text for mail in mails for text in html_parts(mail))).encode()
 
 
 def as_parts(mails):

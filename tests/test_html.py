@@ -8,9 +8,7 @@ otherwise by a cause that DIFFERENCES.md names is taken out of it, such as image
 import base64
 import collections
 import concurrent.futures
-import email
 import html.entities
-import html.parser
 import re
 import shutil
 
@@ -18,15 +16,11 @@ import pytest
 
 from support import FROM, SAMPLES, TOP, command, missing, run
 
+from real_mail import html_parts
+from readers.html_reader import LYNX, LYNX_SETTINGS, W3M, by_parser
 from texts import html_of
 
 SOURCE = TOP / "crates" / "mail_html" / "src" / "named.rt"
-HIDDEN = {"script", "style", "template", "noscript", "svg", "math", "iframe", "noembed", "noframes"}
-SEPARATE = set(
-    "td th tr br p div table tbody thead tfoot center li ul ol h1 h2 h3 h4 h5 h6 hr blockquote pre address article aside body "
-    "caption dd details dialog dir dl dt fieldset figcaption figure footer form head header hgroup html legend listing main "
-    "menu nav optgroup option search section select summary textarea title xmp".split()
-)
 # what a mutation puts into a document
 PIECES = [
     "<", ">", "&", "</", "<!--", "-->", "<script>", "</script>", "<style>", "</style>", "<b>", "</b>", "<p>", "<br>",
@@ -35,8 +29,6 @@ PIECES = [
     "<a href='u'>", "</a>",
 ]
 MUTATIONS, BATCH, MARK = 20_000, 500, "zqseparatorqz"
-# lynx reads one document in a run, so only these are also read by it
-BY_LYNX = 1_000
 
 
 def names():
@@ -64,60 +56,28 @@ def test_order():
             assert not [later for later, _ in group[place + 1:] if later.startswith(name)], name
 
 
-class Collector(html.parser.HTMLParser):
-    """Collects the text that html.parser reads."""
-
-    def __init__(self):
-        super().__init__()
-        self.pieces, self.hidden = [], []
-
-    def handle_starttag(self, tag, attrs):
-        """An element that separates text, hides it, or is an image."""
-        self.pieces.append("\n" if tag in SEPARATE else "")
-        if tag in HIDDEN:
-            self.hidden.append(tag)
-        if tag == "img" and not self.hidden:
-            self.pieces.append(f"[{dict(reversed(attrs)).get('alt') or ''}]")
-
-    def handle_endtag(self, tag):
-        """The end of an element."""
-        self.pieces.append("\n" if tag in SEPARATE else "")
-        while tag in self.hidden:
-            self.hidden.pop()
-
-    def handle_data(self, data):
-        """Text."""
-        self.pieces.append("" if self.hidden else data)
-
-
-def by_parser(text):
-    """The text by html.parser, or None if it refuses the document."""
-    reader = Collector()
-    try:
-        reader.feed(text)
-        reader.close()
-    except AssertionError:
-        return None
-    return "".join(reader.pieces)
-
-
-def by_lynx(text):
-    """The text by lynx."""
-    options = "-dump -stdin -nolist -width=1000 -assume_charset=utf-8 -display_charset=utf-8".split()
-    return run(["lynx", *options], text.encode()).stdout.decode("utf-8", "replace")
-
-
-def by_w3m(texts, directory):
-    """The texts by one run of w3m, with a mark after each."""
+def by_browser(browser, texts, directory):
+    """The texts by one run of w3m or lynx, with a mark after each."""
+    directory.mkdir()
+    (directory / "lynx.cfg").write_text(LYNX_SETTINGS)
     files = []
-    (directory / "mark.html").write_text(f"<p>{MARK}</p>")
     for number, text in enumerate(texts):
-        (directory / f"{number}.html").write_bytes(text.encode())
-        files += [f"{number}.html", "mark.html"]
-    options = "-dump -T text/html -I UTF-8 -O UTF-8 -cols 10000".split()
-    found = run(["w3m", *options, *files], cwd=directory).stdout.decode("utf-8", "replace").split(MARK)[:-1]
-    assert len(found) == len(texts)
+        for name, content in ((f"{number}.html", text), (f"mark{number}.html", f"<p>{MARK}</p>")):
+            (directory / name).write_bytes(content.encode())
+            files.append(name)
+    found = run([*browser, *files], cwd=directory).stdout.decode("utf-8", "replace").split(MARK)[:-1]
+    assert len(found) == len(texts), (browser[0], len(found))
     return found
+
+
+def by_others(texts, directory):
+    """The texts of each document by w3m, lynx and html.parser."""
+    batches = [texts[at : at + BATCH] for at in range(0, len(texts), BATCH)]
+    with concurrent.futures.ThreadPoolExecutor(4) as pool:
+        runs = [[pool.submit(by_browser, browser, batch, directory / f"{browser[0]}{number}") for number, batch in enumerate(batches)]
+                for browser in (W3M, LYNX)]
+        found = [[text for one in of for text in one.result()] for of in runs]
+    return zip(*found, map(by_parser, texts), strict=True)
 
 
 def by_us(texts):
@@ -141,16 +101,6 @@ def prepared(text):
     text = re.sub(r"(?i)<(?:a|input|ol|button|textarea|select|isindex|embed|object|applet|frame)\b", "<u", text)
     text = re.sub(r"<!--(?:>|->)", "<!-- -->", text).replace("--!>", "-->").replace("\0", "")
     return text.encode("utf-8", "replace").decode()
-
-
-def html_parts(raw):
-    """The HTML of the parts of a mail."""
-    for part in email.message_from_bytes(raw).walk():
-        if part.get_content_type() == "text/html":
-            try:
-                yield part.get_payload(decode=True).decode(part.get_content_charset() or "utf-8", "replace")
-            except LookupError:
-                pass
 
 
 def compare(texts, others):
@@ -196,29 +146,23 @@ def mutated(chance, text):
 
 
 def test_words(documents, tmp_path):
-    """The words of real HTML: at least 99.5 % of those that two other readers agree on, and none that no other has."""
-    with concurrent.futures.ThreadPoolExecutor(4) as pool:
-        lynx = list(pool.map(by_lynx, documents))
-    others = zip(by_w3m(documents, tmp_path), lynx, map(by_parser, documents))
-    agreed, there, alone = compare(documents, others)
+    """The words of real HTML: at least 99.5 % of those that two other readers agree on, and none that no other has. Each
+    document is read by w3m, lynx and html.parser.
+    """
+    agreed, there, alone = compare(documents, by_others(documents, tmp_path))
     assert alone == []
     assert agreed and there >= 0.995 * agreed, (there, agreed)
 
 
 def test_words_of_mutations(documents, chance, tmp_path):
-    """The same of mutations, of which lynx reads only some: w3m and html.parser read all. One word in 10,000 may be ours
-    alone: each other reader has its own way with broken tags.
+    """The same of 20,000 mutations, all of which w3m, lynx and html.parser read. One word in 10,000 may be ours alone: each
+    other reader has its own way with broken tags.
     """
     texts = []
     while len(texts) < MUTATIONS:
         text = chance.choice(documents)
         at = chance.randrange(max(1, len(text) - 600))
         texts.append(mutated(chance, text[at : at + 600]))
-    by_browser = []
-    for at in range(0, MUTATIONS, BATCH):
-        by_browser += by_w3m(texts[at : at + BATCH], tmp_path)
-    with concurrent.futures.ThreadPoolExecutor(4) as pool:
-        lynx = [*pool.map(by_lynx, texts[:BY_LYNX]), *[None] * (MUTATIONS - BY_LYNX)]
-    agreed, there, alone = compare(texts, zip(by_browser, lynx, map(by_parser, texts)))
+    agreed, there, alone = compare(texts, by_others(texts, tmp_path))
     assert there >= 0.995 * agreed, (there, agreed)
     assert 10_000 * len(alone) <= agreed, alone
