@@ -3,6 +3,7 @@ pub mod Archive
 pub mod Reports
 pub mod Bounce
 pub mod FileNames
+pub mod WindowsNames
 pub mod Files
 pub mod FileTexts
 pub mod Flowed

@@ -1,9 +1,7 @@
 -- What a contract sees of the mails inside a mail.
 use Rattle.std.specs.Prelude.{option_and_then, string_bytes}
-use Rattle.std.specs.Cow.{cow_slice_items}
 use Rattle.mailparse.specs.Outcome.{refusal_of}
 use Rattle.mail_data.specs.InnerMails as words
-use Rattle.mail_data.specs.declared.inner_mails.ForwardedMail.{ForwardedMail}
 use Rattle.mail_data.specs.declared.inner_mails.InnerMail.{InnerMail}
 
 -- a mail inside
@@ -14,7 +12,3 @@ inner_view mail = record {
   start = mail.start;
   refusal = option_and_then refusal_of mail.error;
 }
-
--- the mail that a part forwards
-abbrev pub forwarded_view : ForwardedMail → words.Forwarded
-forwarded_view mail = record { bytes = cow_slice_items mail.bytes; start = mail.start }

@@ -1,5 +1,7 @@
 pub mod FileNames
+pub mod WindowsNames
 pub mod Files
+pub mod RawPaths
 pub mod FileViews
 pub mod PartPlaces
 pub mod PlaceViews

@@ -12,11 +12,14 @@ ghost use Rattle.mail_data.specs.Files.{is_attachment, is_extracted, is_leaf, is
 ghost use Rattle.mail_data.specs.Files.{name_in, path_under, shown_name, typed_name};
 ghost use Rattle.mail_data.specs.Files.{whole_path};
 ghost use Rattle.mail_data.specs.FileViews.{attachment_view};
+ghost use Rattle.mail_data.specs.RawPaths.{file_name_or_path};
 
 mod left_over;
 mod names;
 mod naming;
 mod no_charsets;
+mod paths;
+mod windows;
 
 use crate::places::push_places;
 use left_over::left_over_text;
@@ -26,10 +29,12 @@ use mailparse::{
     Strict,
 };
 pub use names::safe_file_name;
+use naming::WithPaths;
 pub(crate) use naming::{NameReading, name_by};
 pub use no_charsets::NoCharsets;
 use std::alloc::{AllocError, Global};
 use std::collections::BTreeMap;
+pub use windows::windows_file_name;
 
 /// A file that a mail carries, as `attachments` returns it.
 #[derive(Debug, Drop)]
@@ -86,6 +91,40 @@ pub fn file_name<K: KnownCharsets>(
         (Ok (file_name (K.known known.now) (root (tree_of part.now)))) }
 {
     name_by(alloc, part, &Strict(known), known)
+}
+
+/// Returns the file name of a part as `file_name` does, but with Windows paths in quotes as they
+/// are: their backslashes are no escapes (against RFC 5322, section 3.2.1).
+///
+/// Such a path begins with a letter and `:\`, and is not escaped already. Some programs write it
+/// in the place of a name; `safe_file_name` keeps its last component. Allocates as `file_name` does.
+///
+/// # Errors
+///
+/// `MailParseError::Memory` if it runs out of memory.
+///
+/// # Examples
+///
+/// ```rust
+/// use mail_data::files::{file_name, file_name_or_path};
+/// use mailparse::parse_mail;
+///
+/// let raw = b"Content-Disposition: attachment; filename=\"C:\\dir\\a.txt\"\n\n";
+/// let mail = parse_mail(alloc, raw)?;
+/// let name = file_name_or_path(alloc, &mail, &())?.ok_or("no name")?;
+/// assert_eq!(rt; name.as_str(), "C:\\dir\\a.txt");
+/// assert_eq!(rt; file_name(alloc, &mail, &())?.ok_or("no name")?.as_str(), "C:dira.txt");
+/// ```
+#[tactic(auto, unfolding(crate::specs::RawPaths::file_name_or_path))]
+pub fn file_name_or_path<K: KnownCharsets>(
+    alloc: Global,
+    part: &ParsedMail<'_>,
+    known: &K,
+) -> Result<Option<String>, MailParseError>
+    ensures { AnswersOrMemory text_found result
+        (Ok (file_name_or_path (K.known known.now) (root (tree_of part.now)))) }
+{
+    name_by(alloc, part, &WithPaths(known), known)
 }
 
 /// Returns the file name in a disposition and a type, for callers that have read both; `file_name`

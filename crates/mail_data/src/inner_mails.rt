@@ -1,15 +1,15 @@
 //! The mails inside a mail, with the paths of the parts that contain them.
 ghost use Rattle.std.specs.Prelude.{◌≡◌, ◌||◌, ◌++◌, [], ◌∷◌, map, option_and_then, string_bytes};
-ghost use Rattle.std.specs.Prelude.{option_map, Some, IfErr, IfOk, OnOk, Ok};
+ghost use Rattle.std.specs.Prelude.{Some, IfErr, IfOk, OnOk, Ok};
 ghost use Rattle.mailparse.specs.Body.{BodyKind};
 ghost use Rattle.mailparse.specs.BodyViews.{Content, IsBody, content_of};
 ghost use Rattle.mailparse.specs.Mail.{root};
 ghost use Rattle.mailparse.specs.Outcome.{AnswersOrMemory, IsMemory, refusal_of};
 ghost use Rattle.mailparse.specs.Views.{placements_of, tree_of};
-ghost use Rattle.mail_data.specs.InnerMails.{forwarded, forwards, holds_mail, inner_mails, inner_mails_as};
+ghost use Rattle.mail_data.specs.InnerMails.{forwards, holds_mail, inner_mails, inner_mails_as};
 ghost use Rattle.mail_data.specs.InnerMails.{dot_count, is_plain, mail_start, path_within};
 ghost use Rattle.mail_data.specs.InnerMails.{places_under};
-ghost use Rattle.mail_data.specs.InnerMailViews.{forwarded_view, inner_view};
+ghost use Rattle.mail_data.specs.InnerMailViews.{inner_view};
 ghost use Rattle.mail_data.specs.PlaceViews.{place_view};
 ghost use Rattle.mail_data.specs.lenient.Content.{lenient_content};
 ghost use Rattle.mail_data.specs.lenient.Encoding.{lenient_body_kind};
@@ -21,7 +21,6 @@ use mail_codec::charset::KnownCharsets;
 use mailparse::body::Body;
 use mailparse::{MAX_LEVELS, MailParseError, ParsedMail, ReadingManner, Strict, parse_mail_as};
 use std::alloc::{AllocError, Global};
-use std::borrow::CowSlice;
 
 /// A mail inside a mail, as `inner_mails` returns it.
 #[derive(Debug, Drop)]
@@ -37,17 +36,6 @@ pub struct InnerMail {
     pub start: Option<usize>,
     /// The refusal of the mail, or `None` if it can be read.
     pub error: Option<MailParseError>,
-}
-
-/// The mail that a part forwards, as `forwarded_mail` returns it.
-#[derive(Debug, Drop)]
-pub struct ForwardedMail<'m> {
-    /// Its bytes, without a transfer encoding: `parse_mail_in` reads them, and `places_under`
-    /// lists its parts.
-    pub bytes: CowSlice<'m, u8>,
-    /// The offset of these bytes in the whole mail, or `None` if they do not occur there, since the
-    /// mail, or one that contains it, is encoded.
-    pub start: Option<usize>,
 }
 
 /// Returns the mails inside a mail: those that its parts forward, in order, each before those
@@ -173,50 +161,6 @@ fn push_inner<M: ReadingManner>(
         }
     }
     Ok(())
-}
-
-/// Returns the mail that a part forwards, given the offset of the mail that contains the part, or
-/// `None` if it forwards none or is not searched, as `inner_mails` says. The mail is not read: it
-/// may be refused.
-///
-/// Borrows the mail if it is not encoded, and otherwise allocates its bytes.
-///
-/// # Errors
-///
-/// `MailParseError::Memory` if it runs out of memory.
-///
-/// # Examples
-///
-/// ```rust
-/// use mail_data::inner_mails::forwarded_mail;
-/// use mail_data::places::places;
-/// use mailparse::parse_mail;
-///
-/// let mail = parse_mail(alloc, b"Content-Type: message/rfc822\n\nSubject: inside\n\nHello\n")?;
-/// let places = places(alloc, &mail)?;
-/// let found = forwarded_mail(alloc, &places[0], Some(0))?.ok_or("no mail")?;
-/// assert!(rt; found.bytes.as_slice().starts_with(b"Subject: inside"));
-/// assert_eq!(rt; found.start, Some(30));
-/// ```
-pub fn forwarded_mail<'m>(
-    alloc: Global,
-    place: &Place<'m, '_>,
-    start: Option<usize>,
-) -> Result<Option<ForwardedMail<'m>>, MailParseError>
-    ensures read { IfOk result (λ mail.
-        option_map forwarded_view mail ≡ forwarded start (place_view place.now)) }
-    ensures only_memory { IfErr result IsMemory }
-{
-    if !holds_mail(place) {
-        return Ok(None);
-    }
-    let body = lenient_body(alloc, place.part)?;
-    let start = mail_start(start, place, &body);
-    let content = lenient_content(alloc, &body)?;
-    Ok(Some(ForwardedMail {
-        bytes: content.bytes,
-        start,
-    }))
 }
 
 /// Returns the bytes of the mail in a body.

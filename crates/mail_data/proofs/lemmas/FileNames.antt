@@ -127,7 +127,7 @@ shortened-made cs none one both front ending n bytes start first second kept siz
 
 -- ---- a name that was made safe is safe
 
-all_safe : List ℕ → Bool
+pub all_safe : List ℕ → Bool
 all_safe cs = list_all (λ c. not (is_unsafe c)) cs
 
 made_safe-safe : (c : ℕ) → not (is_unsafe (made_safe c)) ≡ true
@@ -145,7 +145,7 @@ made-scalars : (cs : List ℕ) → scalars cs ≡ true → scalars (map made_saf
 made-scalars [] h = refl
 made-scalars (c ∷ cs) h = let parts = and_parts (scalar c) (scalars cs) h in and_from _ _ (made_safe-scalar c parts.0) (made-scalars cs parts.1)
 
-scalars-are : (cs : List ℕ) → scalars cs ≡ list_all scalar cs
+pub scalars-are : (cs : List ℕ) → scalars cs ≡ list_all scalar cs
 scalars-are [] = refl
 scalars-are (c ∷ cs) = ap (λ t. scalar c && t) (scalars-are cs)
 
@@ -224,7 +224,7 @@ trailing-more c cs i d low h =
     suffix_len-take_yes (λ e. not (eqb e c)) cs (i + 1) d (omega arith) (omega (arith, low)) (ap (λ k. not (eqb (get_or cs k d) c)) one ∙ ap not h)
     ∙ ap (λ k. 1 + trailing c (take k cs)) one
 
-size-at_least : (cs : List ℕ) → length cs ≤ size cs
+pub size-at_least : (cs : List ℕ) → length cs ≤ size cs
 size-at_least [] = omega arith
 size-at_least (c ∷ cs) =
     let later = size-at_least cs in
@@ -234,7 +234,7 @@ size-at_least (c ∷ cs) =
     omega (arith, later, all, one, some)
 
 -- characters that fit have at most that number of bytes
-fits-short : (capacity : ℕ) (cs : List ℕ) → fits capacity cs ≡ true → size cs ≤ capacity
+pub fits-short : (capacity : ℕ) (cs : List ℕ) → fits capacity cs ≡ true → size cs ≤ capacity
 fits-short capacity cs h =
     let whole = eqb-true (front_length capacity cs) (length cs) h in
     let same = ap size (front_within-takes capacity cs ∙ take_all (front_length capacity cs) cs (omega (arith, whole))) in

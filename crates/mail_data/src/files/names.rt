@@ -14,7 +14,8 @@ const MOST_BYTES: usize = 255;
 const MOST_OF_ENDING: usize = 17;
 
 /// Returns the name of a file made safe: on a POSIX system it names a file in the directory where
-/// it is used, and no other. Names that Windows reserves, such as `NUL` and `C:x`, stay.
+/// it is used, and no other. Names that Windows reserves, such as `NUL` and `C:x`, stay;
+/// `windows_file_name` changes them too.
 ///
 /// Of a Windows path, which begins with a drive, such as `C:\`, or with `\\`, only the text after
 /// the last `\` stays. Each `/`, `\` and control character, including NUL, becomes `_`. A name of
@@ -61,7 +62,7 @@ fn front_name(alloc: Global, name: &str) -> Result<String, AllocError>
 }
 
 /// Returns the characters of a name.
-fn characters(alloc: Global, name: &str) -> Result<Vec<char>, AllocError>
+pub(super) fn characters(alloc: Global, name: &str) -> Result<Vec<char>, AllocError>
     ensures { IfOk result (λ characters. characters.items ≡ chars name.now) }
 {
     let mut characters = Vec::new(alloc);
@@ -142,7 +143,7 @@ fn front_len(capacity: usize, characters: &[char]) -> usize
 }
 
 /// Returns whether characters fit into that many bytes.
-fn fits(capacity: usize, characters: &[char]) -> bool
+pub(super) fn fits(capacity: usize, characters: &[char]) -> bool
     ensures { result ≡ fits capacity characters.now }
 {
     front_len(capacity, characters) == characters.len()
@@ -194,7 +195,7 @@ fn size(characters: &[char]) -> usize
 }
 
 /// Appends characters.
-fn push_characters(text: &mut String, characters: &[char]) -> Result<(), AllocError>
+pub(super) fn push_characters(text: &mut String, characters: &[char]) -> Result<(), AllocError>
     ensures { OnOk result (string_bytes text.new
         ≡ string_bytes text.old ++ encode_utf8_all characters.now) }
 {
