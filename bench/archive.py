@@ -5,7 +5,7 @@ A mailbox of 1 GB with 200,000 made mails is read and loaded. Then a million mai
 here with the words of a large vocabulary, some frequent and some rare, and searched; the pages of web.py are fetched. It
 takes about 10 GB and some minutes. --mails N makes fewer of the million. With --directory the mails and lines stay there
 for later runs, and --prepare makes only these, so that the run that measures takes two minutes. The program rocktray
-must be built or installed.
+must be built or installed. The last lines are the paragraph "Measured" of examples/archive/README.md.
 """
 import argparse
 import json
@@ -15,6 +15,7 @@ import socket
 import subprocess
 import sys
 import tempfile
+import textwrap
 import time
 import urllib.parse
 import urllib.request
@@ -55,13 +56,19 @@ def write_mailbox(directory):
     return os.path.getsize(path)
 
 
+def megabytes(directory):
+    """Returns the size of the files of a directory."""
+    return sum(entry.stat().st_size for entry in os.scandir(directory)) / 1e6
+
+
 def gigabyte(data, work):
-    """Reads and loads a mailbox of 1 GB."""
-    size = write_mailbox(data)
-    reading = ran("index_archive.py", os.path.join(work, "index"), data)
-    loading = ran("load_sqlite.py", os.path.join(work, "index"), os.path.join(work, "gigabyte.db"))
+    """Reads and loads a mailbox of 1 GB. Returns what the README says of it."""
+    size, index, database = write_mailbox(data), os.path.join(work, "index"), os.path.join(work, "gigabyte.db")
+    reading, loading = ran("index_archive.py", index, data), ran("load_sqlite.py", index, database)
     rates = [f"{200_000 / seconds:,.0f}" for seconds in (loading, reading + loading)]
     print(f"200,000 mails, {size / 1e9:.2f} GB: read in {reading:.1f} s, loaded in {loading:.1f} s, {rates[0]} mails a second; both {rates[1]} a second")
+    return (f"a mailbox of {size / 1e9:.1f} GB with 200,000 mails was read in {reading:.0f} s into shards of {megabytes(index):.0f} MB, and loaded in "
+            f"{loading:.0f} s, {rates[0]} mails a second, into {megabytes(database):.0f} MB.")
 
 
 def vocabulary(rng):
@@ -136,21 +143,25 @@ def served(database):
 
 
 def million(index, work, count):
-    """Loads and searches many mails, and fetches pages of them."""
+    """Loads and searches many mails, and fetches pages of them. Returns what the README says of it."""
     words, database = write_index(index, count), os.path.join(work, "million.db")
     seconds = ran("load_sqlite.py", index, database)
     print(f"{count:,} mails: loaded in {seconds:.0f} s, {count / seconds:,.0f} mails a second")
     searches = {"the most frequent word": [words[0]], "two frequent words": words[:2], "two words": words[200:202], "a rare word": [words[40_000]]}
-    for name, asked in searches.items():
-        print(f"search.py, {name}: {1000 * fastest(ran, 'search.py', database, *asked):.0f} ms")
+    found = {name: 1000 * fastest(ran, "search.py", database, *asked) for name, asked in searches.items()}
+    for name, milliseconds in found.items():
+        print(f"search.py, {name}: {milliseconds:.0f} ms")
     server, address = served(database)
     paths = {name: "/?q=" + urllib.parse.quote(" ".join(asked)) for name, asked in searches.items()}
     paths |= {"the first page": "/", "a year": "/?year=2005", "mails with files": "/?has=attachment", "a type of file": "/?type=image/png",
               "a list": "/?list=l5.example", "a thread": "/thread?id=70@example.org", "a mail": "/mail/0/5",
               "the plot of months": "/plots/months.svg", "the plot of senders": "/plots/senders.svg"}
-    for name, path in paths.items():
-        print(f"page, {name}: {1000 * fastest(fetched, address + path):.0f} ms")
+    pages = {name: 1000 * fastest(fetched, address + path) for name, path in paths.items()}
+    for name, milliseconds in pages.items():
+        print(f"page, {name}: {milliseconds:.0f} ms")
     server.terminate()
+    return (f"{count:,} mails were loaded at {count / seconds:,.0f} a second; a search over them took {min(found.values()):.0f} to "
+            f"{max(found.values()):.0f} ms, and a page {min(pages.values()):.0f} to {max(pages.values()):.0f} ms.")
 
 
 def main():
@@ -166,8 +177,10 @@ def main():
             write_mailbox(mails)
             write_index(lines, given.mails)
         else:
-            gigabyte(mails, work)
-            million(lines, work, given.mails)
+            first, second = gigabyte(mails, work), million(lines, work, given.mails)
+            rest = "`bench/archive.py` measures this. `tests/test_archive.py` runs all of it on 60 MB, kills workers meanwhile, and compares the bytes " \
+                "with those of one process."
+            print("\n" + textwrap.fill(f"On one machine with {os.cpu_count()} processors, {first} {second} {rest}", 120, break_on_hyphens=False))
 
 
 if __name__ == "__main__":
