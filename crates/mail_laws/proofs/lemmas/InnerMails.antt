@@ -83,33 +83,27 @@ slice-at input bytes start r at order ends =
     let size = ap length at.1 in
     ap (λ (text : List ℕ). slice text r) (sym at.1) ∙ slice-moved input whole r order (omega (arith, size, ends))
 
-module _ (input bytes : List ℕ) (start : ℕ) (at : AreAt input (Some start) bytes) where
-  wholes-at : (found : List Placement) → AllByRecursion (IsWithin (length bytes)) found
-      → map (λ place. slice input (moved start place.whole)) found ≡ map (λ place. slice bytes place.whole) found
-  wholes-at [] within = refl
-  wholes-at (place ∷ found) within =
-      ap (λ (text : List ℕ). text ∷ map (λ place. slice input (moved start place.whole)) found)
-      (sym (slice-at input bytes start place.whole at within.0.whole_order within.0.whole_ends))
-      ∙ ap (λ (texts : List (List ℕ)). slice bytes place.whole ∷ texts) (wholes-at found within.1)
-
-  bodies-at : (found : List Placement) → AllByRecursion (IsWithin (length bytes)) found
-      → map (λ place. slice input (moved start place.body)) found ≡ map (λ place. slice bytes place.body) found
-  bodies-at [] within = refl
-  bodies-at (place ∷ found) within =
-      ap (λ (text : List ℕ). text ∷ map (λ place. slice input (moved start place.body)) found)
-      (sym (slice-at input bytes start place.body at within.0.body_order within.0.body_ends))
-      ∙ ap (λ (texts : List (List ℕ)). slice bytes place.body ∷ texts) (bodies-at found within.1)
+-- ranges of placements that lie within the bytes
+ranges-at : (input bytes : List ℕ) (start : ℕ) (at : AreAt input (Some start) bytes) (range : Placement → Range)
+    → ((place : Placement) → IsWithin (length bytes) place → ((range place).start ≤ (range place).end) × ((range place).end ≤ length bytes)) → (found : List Placement)
+    → AllByRecursion (IsWithin (length bytes)) found → map (λ place. slice input (moved start (range place))) found ≡ map (λ place. slice bytes (range place)) found
+ranges-at input bytes start at range lies [] within = refl
+ranges-at input bytes start at range lies (place ∷ found) within =
+    let lie = lies place within.0 in
+    ap (λ (text : List ℕ). text ∷ map (λ place. slice input (moved start (range place))) found)
+    (sym (slice-at input bytes start (range place) at lie.0 lie.1))
+    ∙ ap (λ (texts : List (List ℕ)). slice bytes (range place) ∷ texts) (ranges-at input bytes start at range lies found within.1)
 
 pub parts-at : (manner : Manner) (greatest start : ℕ) (input bytes : List ℕ) (mail : Tree) → AreAt input (Some start) bytes → read_mail_as manner greatest bytes ≡ Ok mail
     → map (λ place. slice input (moved start place.whole)) (placements_as manner.whole_lines 0 mail) ≡ map (λ node. node.bytes) (nodes mail)
 parts-at manner greatest start input bytes mail at read =
-    wholes-at input bytes start at (placements_as manner.whole_lines 0 mail) (placements-within manner greatest bytes mail read)
+    ranges-at input bytes start at (λ place. place.whole) (λ place within. (within.whole_order, within.whole_ends)) (placements_as manner.whole_lines 0 mail) (placements-within manner greatest bytes mail read)
     ∙ placements_as-bytes manner greatest bytes mail read
 
 pub part-bodies-at : (manner : Manner) (greatest start : ℕ) (input bytes : List ℕ) (mail : Tree) → AreAt input (Some start) bytes → read_mail_as manner greatest bytes ≡ Ok mail
     → map (λ place. slice input (moved start place.body)) (placements_as manner.whole_lines 0 mail) ≡ map (λ node. node.body) (nodes mail)
 part-bodies-at manner greatest start input bytes mail at read =
-    bodies-at input bytes start at (placements_as manner.whole_lines 0 mail) (placements-within manner greatest bytes mail read)
+    ranges-at input bytes start at (λ place. place.body) (λ place within. (within.body_order, within.body_ends)) (placements_as manner.whole_lines 0 mail) (placements-within manner greatest bytes mail read)
     ∙ placements_as-bodies manner greatest bytes mail read
 
 -- ---- the places of a mail and its parts
