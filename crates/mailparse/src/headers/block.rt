@@ -84,6 +84,7 @@ pub fn parse_headers(
 /// assert_eq!(rt; count_headers(b"Subject: Hi\nTo: you\n\nbody"), 2);
 /// assert_eq!(rt; count_headers(b"Subject: Hi\n\rTo: you"), 0);
 /// ```
+#[inline(never)]
 pub fn count_headers(raw: &[u8]) -> usize
     ensures { result ≡ headers_met (read_headers raw.now) }
 {
