@@ -11,7 +11,7 @@ impl fmt::Debug for LossyText<'_> {
     fn fmt<W: fmt::Write>(&self, f: &mut fmt::Formatter<W>) -> fmt::Result {
         f.write_char('"')?;
         for chunk in self.0.utf8_chunks() {
-            write_escaped(chunk.valid(), f)?;
+            write_escaped(f, chunk.valid())?;
             if !chunk.invalid().is_empty() {
                 f.write_char(char::REPLACEMENT_CHARACTER)?;
             }
@@ -21,17 +21,17 @@ impl fmt::Debug for LossyText<'_> {
 }
 
 /// Writes the text as it appears between the quotes of its `Debug` output.
-fn write_escaped<W: fmt::Write>(text: &str, f: &mut fmt::Formatter<W>) -> fmt::Result {
+fn write_escaped<W: fmt::Write>(f: &mut fmt::Formatter<W>, text: &str) -> fmt::Result {
     for character in text.chars() {
-        write_escaped_character(character, f)?;
+        write_escaped_character(f, character)?;
     }
     Ok(())
 }
 
 /// Writes one character as it appears there: a quotation mark is escaped, an apostrophe is not.
 fn write_escaped_character<W: fmt::Write>(
-    character: char,
     f: &mut fmt::Formatter<W>,
+    character: char,
 ) -> fmt::Result {
     if character == '\'' {
         return f.write_char(character);

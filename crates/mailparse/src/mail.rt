@@ -229,7 +229,7 @@ pub fn parse_mail_as<'a, M: ReadingManner>(
         Answers tree_of result (read_mail_as (M.manner manner.now) levels raw.now) }
 {
     let default = DefaultType::Text;
-    parse_mail_recursive(alloc, raw, 0, default, levels + 1, manner, &mut None)
+    parse_mail_recursive(alloc, &mut None, raw, 0, default, levels + 1, manner)
 }
 
 /// Reads a message as `parse_mail_as` does, but refuses one with more than `most` items, which are
@@ -280,19 +280,19 @@ pub fn parse_mail_within<'a, M: ReadingManner>(
 {
     let default = DefaultType::Text;
     let mut left = Some(most);
-    parse_mail_recursive(alloc, raw, 0, default, levels + 1, manner, &mut left)
+    parse_mail_recursive(alloc, &mut left, raw, 0, default, levels + 1, manner)
 }
 
 /// Reads a message that starts at `offset` of the mail and has at most `levels` levels, counting
 /// its own. Takes its items off those that are left.
 fn parse_mail_recursive<'a, M: ReadingManner>(
     alloc: Global,
+    left: &mut Option<usize>,
     raw: &'a [u8],
     offset: usize,
     default: DefaultType,
     levels: u8,
     manner: &M,
-    left: &mut Option<usize>,
 ) -> Result<ParsedMail<'a>, MailParseError>
     requires within { offset + length raw.now < 2 ^ 64 }
     ensures read { AnswersOrMemory tree_of result
@@ -333,7 +333,7 @@ fn parse_mail_recursive<'a, M: ReadingManner>(
         let (part_end, after) = cut_part(raw, start, line_delimiter.as_slice(), whole);
         let part = &raw[start..part_end];
         let begin = offset + start;
-        let read = parse_mail_recursive(alloc, part, begin, inner, levels - 1, manner, left)?;
+        let read = parse_mail_recursive(alloc, left, part, begin, inner, levels - 1, manner)?;
         subparts.push(read)?;
         next = after;
     }

@@ -352,7 +352,7 @@ impl<'a> ParsedMail<'a> {
         ensures bounds { IfOk result (λ iterator. length (trees_left iterator) < 2 ^ 64) }
     {
         let mut parts = Vec::new(alloc);
-        push_parts(self, &mut parts)?;
+        push_parts(&mut parts, self)?;
         Ok(PartsIterator { parts, index: 0 })
     }
 }
@@ -400,15 +400,15 @@ impl<'m, 'a> Iterator for PartsIterator<'m, 'a> {
 /// Appends a message and its parts to a list, each before its own parts.
 #[tactic(auto, using(crate::proofs::lemmas::Mail::parts_within))]
 fn push_parts<'m, 'a>(
-    mail: &'m ParsedMail<'a>,
     found: &mut Vec<&'m ParsedMail<'a>>,
+    mail: &'m ParsedMail<'a>,
 ) -> Result<(), AllocError>
     ensures { OnOk result (map (λ m. tree_of m.now) found.new.items
         ≡ map (λ m. tree_of m.now) found.old.items ++ trees_within (tree_of mail.now)) }
 {
     found.push(mail)?;
     for part in &mail.subparts {
-        push_parts(part, found)?;
+        push_parts(found, part)?;
     }
     Ok(())
 }

@@ -62,9 +62,9 @@ fn base_of_section_0<'n, C: Decode>(sections: &Sections<C>, name: &'n str) -> Op
 /// Appends the bases of the names of a map.
 fn add_bases<C: Decode, X>(
     alloc: Global,
+    bases: &mut Vec<String>,
     sections: &Sections<C>,
     named: &BTreeMap<String, X>,
-    bases: &mut Vec<String>,
 ) -> Result<(), AllocError>
     ensures { OnOk result (map string_bytes bases.new.items ≡ map string_bytes bases.old.items
         ++ bases_of_sections_0 (stored_section C.text sections.now) (names_in named.now)) }
@@ -83,8 +83,8 @@ fn bases_of<C: Decode>(alloc: Global, sections: &Sections<C>) -> Result<Vec<Stri
         (stored_section C.text sections.now) (names_of_sections sections.now)) }
 {
     let mut bases = Vec::new(alloc);
-    add_bases(alloc, sections, &sections.texts, &mut bases)?;
-    add_bases(alloc, sections, &sections.extended, &mut bases)?;
+    add_bases(alloc, &mut bases, sections, &sections.texts)?;
+    add_bases(alloc, &mut bases, sections, &sections.extended)?;
     Ok(bases)
 }
 

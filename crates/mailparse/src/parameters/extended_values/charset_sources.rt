@@ -98,10 +98,10 @@ fn write_range(places: &mut Vec<usize>, first: usize, end: usize, place: usize)
 /// that begin with it, less its last byte.
 #[tactic(auto, using(crate::proofs::lemmas::CharsetSourcesRanges::offers))]
 fn offer<C: Decode>(
+    places: &mut Vec<usize>,
     extended: &[ExtendedName<'_, C>],
     shared: &[usize],
     place: usize,
-    places: &mut Vec<usize>,
 )
     requires within { place < length extended.now }
     requires shared { shared.now ≡ shared_lens extended.now }
@@ -139,7 +139,7 @@ pub(super) fn charset_sources<C: Decode>(
     let mut places = own_places(alloc, extended.len())?;
     let mut place = 0;
     while place < extended.len() {
-        offer(extended, shared.as_slice(), place, &mut places);
+        offer(&mut places, extended, shared.as_slice(), place);
         place += 1;
     }
     Ok(places)
