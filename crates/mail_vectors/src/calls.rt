@@ -31,8 +31,8 @@ mod values;
 use crate::notation::{Answer, Decision, Row};
 
 /// Makes the call that a row names, and writes its result. Returns whether there is such a call.
-pub fn make(row: &Row, answer: &mut Answer) -> bool {
-    match make_any(row, answer) {
+pub fn make(answer: &mut Answer, row: &Row) -> bool {
+    match make_any(answer, row) {
         Ok(is_made) => is_made,
         Err(error) => {
             answer.refusal(error);
@@ -43,50 +43,50 @@ pub fn make(row: &Row, answer: &mut Answer) -> bool {
 
 /// The same, except that the caller writes a refusal. Each topic makes its own calls, and returns
 /// whether it has this one.
-fn make_any(row: &Row, answer: &mut Answer) -> Decision {
-    Ok(make_of_codecs(row, answer)? || make_of_the_port(row, answer)? || make_above(row, answer)?)
+fn make_any(answer: &mut Answer, row: &Row) -> Decision {
+    Ok(make_of_codecs(answer, row)? || make_of_the_port(answer, row)? || make_above(answer, row)?)
 }
 
 /// The same for the calls of the codecs, of `mail_charsets` and of `mail_html`.
-fn make_of_codecs(row: &Row, answer: &mut Answer) -> Decision {
+fn make_of_codecs(answer: &mut Answer, row: &Row) -> Decision {
     Ok(
-        searches::make(row, answer)?
-            || charsets::make(row, answer)?
-            || encodings::make(row, answer)?
-            || transfer::make(row, answer)?
-            || tables::make(row, answer)?
-            || html::make(row, answer)?
-            || under::make(row, answer)?
-            || sweeps::make(row, answer)?,
+        searches::make(answer, row)?
+            || charsets::make(answer, row)?
+            || encodings::make(answer, row)?
+            || transfer::make(answer, row)?
+            || tables::make(answer, row)?
+            || html::make(answer, row)?
+            || under::make(answer, row)?
+            || sweeps::make(answer, row)?,
     )
 }
 
 /// The same for the calls of the port.
-fn make_of_the_port(row: &Row, answer: &mut Answer) -> Decision {
+fn make_of_the_port(answer: &mut Answer, row: &Row) -> Decision {
     Ok(
-        values::make(row, answer)?
-            || parameters::make(row, answer)?
-            || bodies::make(row, answer)?
-            || headers::make(row, answer)?
-            || lookups::make(row, answer)?
-            || parts::make(row, answer)?
-            || levels::make(row, answer)?
-            || kinds::make(row, answer)?
-            || errors::make(row, answer)?,
+        values::make(answer, row)?
+            || parameters::make(answer, row)?
+            || bodies::make(answer, row)?
+            || headers::make(answer, row)?
+            || lookups::make(answer, row)?
+            || parts::make(answer, row)?
+            || levels::make(answer, row)?
+            || kinds::make(answer, row)?
+            || errors::make(answer, row)?,
     )
 }
 
 /// The same for the calls of the crates above the port.
-fn make_above(row: &Row, answer: &mut Answer) -> Decision {
+fn make_above(answer: &mut Answer, row: &Row) -> Decision {
     Ok(
-        encoded_values::make(row, answer)?
-            || outlines::make(row, answer)?
-            || files::make(row, answer)?
-            || mailboxes::make(row, answer)?
-            || reports::make(row, answer)?
-            || lenient::make(row, answer)?
-            || texts::make(row, answer)?
-            || addresses::make(row, answer)?
-            || debug::make(row, answer)?,
+        encoded_values::make(answer, row)?
+            || outlines::make(answer, row)?
+            || files::make(answer, row)?
+            || mailboxes::make(answer, row)?
+            || reports::make(answer, row)?
+            || lenient::make(answer, row)?
+            || texts::make(answer, row)?
+            || addresses::make(answer, row)?
+            || debug::make(answer, row)?,
     )
 }

@@ -143,7 +143,7 @@ impl Tally {
 /// inputs.
 fn returned(row: &Row) -> Result<Answer, MailParseError> {
     let mut answer = Answer::new(row)?;
-    if !calls::make(row, &mut answer) || !row.fits() {
+    if !calls::make(&mut answer, row) || !row.fits() {
         answer.refusal(FORM);
     }
     answer.outcome()?;

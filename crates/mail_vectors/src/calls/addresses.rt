@@ -22,23 +22,23 @@ use mailparse::{KnownCharsets, MailParseError, parse_mail};
 use std::alloc::{AllocError, Global};
 
 /// Makes the call of a row, if it is one of these.
-pub fn make(row: &Row, answer: &mut Answer) -> Decision {
+pub fn make(answer: &mut Answer, row: &Row) -> Decision {
     match row.call.as_str() {
-        "addresses" => list_addresses(row, answer, &())?,
-        "addresses_with" => list_addresses(row, answer, &all_tables())?,
-        "addresses_of" => list_named(row, answer)?,
-        "sender_of" => find_sender(row, answer)?,
+        "addresses" => list_addresses(answer, row, &())?,
+        "addresses_with" => list_addresses(answer, row, &all_tables())?,
+        "addresses_of" => list_named(answer, row)?,
+        "sender_of" => find_sender(answer, row)?,
         "write_mailboxes" => answer.put(written(row)),
         "write_group" => answer.put(written_group(row)),
-        "read_written" => read_written(row, answer)?,
-        "rewrite" => rewrite(row, answer)?,
+        "read_written" => read_written(answer, row)?,
+        "rewrite" => rewrite(answer, row)?,
         _ => return Ok(false),
     }
     Ok(true)
 }
 
 /// Writes the elements of a list of addresses.
-fn list_addresses<K: KnownCharsets>(row: &Row, answer: &mut Answer, known: &K) -> Outcome {
+fn list_addresses<K: KnownCharsets>(answer: &mut Answer, row: &Row, known: &K) -> Outcome {
     write_list(answer, &read_addresses(row.alloc, row.bytes(0))?, known);
     Ok(())
 }
@@ -50,7 +50,7 @@ fn write_list<K: KnownCharsets>(answer: &mut Answer, list: &AddressList<'_>, kno
 }
 
 /// Writes the elements of all headers with a name.
-fn list_named(row: &Row, answer: &mut Answer) -> Outcome {
+fn list_named(answer: &mut Answer, row: &Row) -> Outcome {
     let mail = parse_mail(row.alloc, row.bytes(0))?;
     write_list(
         answer,
@@ -61,7 +61,7 @@ fn list_named(row: &Row, answer: &mut Answer) -> Outcome {
 }
 
 /// Writes the sender of a mail.
-fn find_sender(row: &Row, answer: &mut Answer) -> Outcome {
+fn find_sender(answer: &mut Answer, row: &Row) -> Outcome {
     let mail = parse_mail(row.alloc, row.bytes(0))?;
     match sender_of(row.alloc, &mail.get_headers())? {
         Some(mailbox) => write_mailbox(answer, &mailbox, &()),
@@ -156,14 +156,14 @@ fn write(alloc: Global, addresses: &[NewAddress<'_>]) -> Result<Vec<u8>, MailPar
 const NO_ADDRESS: &str = "no address has such a local part or domain";
 
 /// Writes the elements of the written list of mailboxes.
-fn read_written(row: &Row, answer: &mut Answer) -> Outcome {
+fn read_written(answer: &mut Answer, row: &Row) -> Outcome {
     let value = written(row)?;
     write_list(answer, &read_addresses(row.alloc, value.as_slice())?, &());
     Ok(())
 }
 
 /// Writes each mailbox of a list that was read.
-fn rewrite(row: &Row, answer: &mut Answer) -> Outcome {
+fn rewrite(answer: &mut Answer, row: &Row) -> Outcome {
     for address in &read_addresses(row.alloc, row.bytes(0))? {
         if let Address::Mailbox(mailbox) = address {
             answer.put(rewritten(row.alloc, mailbox));

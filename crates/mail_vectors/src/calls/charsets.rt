@@ -15,11 +15,11 @@ use mail_codec::charset::{Charset, decode_ascii, decode_latin1};
 use std::alloc::AllocError;
 
 /// Makes the call of a row, if it is one of these.
-pub fn make(row: &Row, answer: &mut Answer) -> Decision {
+pub fn make(answer: &mut Answer, row: &Row) -> Decision {
     match row.call.as_str() {
-        "charset_for_label" => find_charsets(row, answer),
-        "decode" | "decode_without_bom_handling" => decode(row, answer),
-        "utf_16" => decode_units(row, answer),
+        "charset_for_label" => find_charsets(answer, row),
+        "decode" | "decode_without_bom_handling" => decode(answer, row),
+        "utf_16" => decode_units(answer, row),
         "decode_latin1" => answer.put(decode_latin1(row.alloc, row.bytes(0))),
         "decode_ascii" => answer.put(decode_ascii(row.alloc, row.bytes(0))),
         _ => return Ok(false),
@@ -28,7 +28,7 @@ pub fn make(row: &Row, answer: &mut Answer) -> Decision {
 }
 
 /// Writes the charset of each label.
-fn find_charsets(row: &Row, answer: &mut Answer) {
+fn find_charsets(answer: &mut Answer, row: &Row) {
     for at in 0..row.count() {
         answer.word(match Charset::for_label(row.bytes(at)) {
             Some(Charset::Utf8) => "utf-8",
@@ -41,7 +41,7 @@ fn find_charsets(row: &Row, answer: &mut Answer) {
 }
 
 /// Writes the text of bytes under a label.
-fn decode(row: &Row, answer: &mut Answer) {
+fn decode(answer: &mut Answer, row: &Row) {
     let Some(charset) = Charset::for_label(row.bytes(0)) else {
         return answer.word("none");
     };
@@ -52,7 +52,7 @@ fn decode(row: &Row, answer: &mut Answer) {
 }
 
 /// Writes the texts of units in both orders of bytes.
-fn decode_units(row: &Row, answer: &mut Answer) {
+fn decode_units(answer: &mut Answer, row: &Row) {
     let (big, little) = (Charset::Utf16Be, Charset::Utf16Le);
     answer.put(big.decode(row.alloc, row.bytes(0)));
     let end = answer.len();

@@ -34,7 +34,7 @@ use mailparse::{MailParseError, ParsedMail, parse_mail};
 use std::alloc::Global;
 
 /// Makes the call of a row, if it is this one.
-pub fn make(row: &Row, answer: &mut Answer) -> Decision {
+pub fn make(answer: &mut Answer, row: &Row) -> Decision {
     if row.call.as_str() != "debug" {
         return Ok(false);
     }
@@ -49,7 +49,7 @@ pub fn make(row: &Row, answer: &mut Answer) -> Decision {
         "entry" => answer.debug(&read_mailbox(row.bytes(1), Format::Plain).next()),
         "outline" => answer.debug_of(outline_of(row, 1)),
         "addresses" => answer.debug_of(read_addresses(row.alloc, row.bytes(1))),
-        "new_group" => show_group(row, answer)?,
+        "new_group" => show_group(answer, row)?,
         "write_error" => answer.debug(&WriteError::Address),
         _ => {
             let mail = parse_mail(row.alloc, row.bytes(1))?;
@@ -68,7 +68,7 @@ fn show_table(answer: &mut Answer) {
 }
 
 /// Writes a group with the mailboxes of the inputs.
-fn show_group(row: &Row, answer: &mut Answer) -> Outcome {
+fn show_group(answer: &mut Answer, row: &Row) -> Outcome {
     let members = new_mailboxes(row, 2)?;
     answer.debug(&NewAddress::Group(NewGroup {
         display_name: row.text(1),

@@ -6,7 +6,7 @@ use mailparse::{MailParseError, parse_header};
 use std::alloc::Global;
 
 /// Makes the call of a row, if it is one of these.
-pub fn make(row: &Row, answer: &mut Answer) -> Decision {
+pub fn make(answer: &mut Answer, row: &Row) -> Decision {
     match row.call.as_str() {
         "encode_value" => answer.put(encode_value(row.alloc, row.text(0))),
         "read_encoded" => answer.put(read_back(row.alloc, row.text(0))),

@@ -12,18 +12,18 @@ use mail_charsets::{AllCharsets, Encoding, Indexes};
 use mail_codec::charset::{Decode, KnownCharsets, Utf7};
 
 /// Makes the call of a row, if it is one of these.
-pub fn make(row: &Row, answer: &mut Answer) -> Decision {
+pub fn make(answer: &mut Answer, row: &Row) -> Decision {
     match row.call.as_str() {
-        "encoding_for_label" => find_encodings(row, answer),
-        "decode_encoding" => decode(row, answer),
-        "decode_with_utf_7" => decode_with_utf_7(row, answer),
+        "encoding_for_label" => find_encodings(answer, row),
+        "decode_encoding" => decode(answer, row),
+        "decode_with_utf_7" => decode_with_utf_7(answer, row),
         _ => return Ok(false),
     }
     Ok(true)
 }
 
 /// Writes the encoding of each label.
-fn find_encodings(row: &Row, answer: &mut Answer) {
+fn find_encodings(answer: &mut Answer, row: &Row) {
     for at in 0..row.count() {
         answer.word(name(Encoding::for_label(row.bytes(at))));
     }
@@ -46,7 +46,7 @@ fn name(encoding: Option<Encoding>) -> &'static str {
 }
 
 /// Writes the texts of bytes under a label.
-fn decode(row: &Row, answer: &mut Answer) {
+fn decode(answer: &mut Answer, row: &Row) {
     let Some(encoding) = Encoding::for_label(row.bytes(0)) else {
         return answer.word("none");
     };
@@ -57,7 +57,7 @@ fn decode(row: &Row, answer: &mut Answer) {
 }
 
 /// Writes the texts of bytes under a label that may be one of UTF-7.
-fn decode_with_utf_7(row: &Row, answer: &mut Answer) {
+fn decode_with_utf_7(answer: &mut Answer, row: &Row) {
     let Some(charset) = (AllCharsets::standard(), Utf7).for_label(row.bytes(0)) else {
         return answer.word("none");
     };

@@ -13,11 +13,11 @@ use std::alloc::AllocError;
 use std::borrow::CowStr;
 
 /// Makes the call of a row, if it is one of these.
-pub fn make(row: &Row, answer: &mut Answer) -> Decision {
+pub fn make(answer: &mut Answer, row: &Row) -> Decision {
     match row.call.as_str() {
         "error" => push_error(answer, &error_of(row)?),
         "from" => answer.debug(&converted(row)?),
-        "fault" => push_fault(row, answer)?,
+        "fault" => push_fault(answer, row)?,
         _ => return Ok(false),
     }
     Ok(true)
@@ -65,7 +65,7 @@ fn fault_of(row: &Row) -> Base64Fault {
     }
 }
 
-fn push_fault(row: &Row, answer: &mut Answer) -> Outcome {
+fn push_fault(answer: &mut Answer, row: &Row) -> Outcome {
     match row.text(0) {
         "base64" => {
             answer.display(&fault_of(row));

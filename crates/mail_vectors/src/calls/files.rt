@@ -17,15 +17,15 @@ use std::alloc::Global;
 use std::collections::BTreeMap;
 
 /// Makes the call of a row, if it is one of these.
-pub fn make(row: &Row, answer: &mut Answer) -> Decision {
+pub fn make(answer: &mut Answer, row: &Row) -> Decision {
     match row.call.as_str() {
-        "attachments" => list_files(row, answer, &())?,
-        "attachments_with" => list_files(row, answer, &all_tables())?,
-        "file_name" | "is_attachment" | "is_extracted" | "is_leaf" => look_at(row, answer, &())?,
-        "file_name_with" | "is_attachment_with" => look_at(row, answer, &all_tables())?,
-        "named_file" | "describes_attachment" => describe(row, answer)?,
-        "filled_parameter" => get_parameter(row, answer)?,
-        "part_places" => list_places(row, answer)?,
+        "attachments" => list_files(answer, row, &())?,
+        "attachments_with" => list_files(answer, row, &all_tables())?,
+        "file_name" | "is_attachment" | "is_extracted" | "is_leaf" => look_at(answer, row, &())?,
+        "file_name_with" | "is_attachment_with" => look_at(answer, row, &all_tables())?,
+        "named_file" | "describes_attachment" => describe(answer, row)?,
+        "filled_parameter" => get_parameter(answer, row)?,
+        "part_places" => list_places(answer, row)?,
         "safe_file_name" => answer.put(safe_file_name(row.alloc, row.text(0))),
         _ => return Ok(false),
     }
@@ -43,7 +43,7 @@ pub fn part_at<'m, 'a>(
 
 /// `attachments MAIL => PATH NAME BYTES` for each file, NAME as `file_name` returns it; likewise
 /// `attachments_with`, under all tables.
-fn list_files<K: KnownCharsets>(row: &Row, answer: &mut Answer, known: &K) -> Outcome {
+fn list_files<K: KnownCharsets>(answer: &mut Answer, row: &Row, known: &K) -> Outcome {
     let mail = parse_mail_in(row.alloc, row.bytes(0), known)?;
     for file in &attachments(row.alloc, &mail, known)? {
         answer.put(file.path.as_str());
@@ -56,7 +56,7 @@ fn list_files<K: KnownCharsets>(row: &Row, answer: &mut Answer, known: &K) -> Ou
 /// `file_name MAIL PART => NAME`, `is_attachment MAIL PART => TRUTH`, `is_extracted MAIL PART =>
 /// TRUTH` and `is_leaf MAIL PART => TRUTH`; likewise `file_name_with` and `is_attachment_with`,
 /// under all tables.
-fn look_at<K: KnownCharsets>(row: &Row, answer: &mut Answer, known: &K) -> Outcome {
+fn look_at<K: KnownCharsets>(answer: &mut Answer, row: &Row, known: &K) -> Outcome {
     let mail = parse_mail_in(row.alloc, row.bytes(0), known)?;
     let part = part_at(row.alloc, &mail, row.number(1))?;
     match row.call.as_str() {
@@ -69,7 +69,7 @@ fn look_at<K: KnownCharsets>(row: &Row, answer: &mut Answer, known: &K) -> Outco
 }
 
 /// `named_file DISPOSITION TYPE => NAME` and `describes_attachment DISPOSITION TYPE => TRUTH`
-fn describe(row: &Row, answer: &mut Answer) -> Outcome {
+fn describe(answer: &mut Answer, row: &Row) -> Outcome {
     let disposition = disposition_of(row)?;
     let ctype = type_of(row, 1)?;
     match row.call.as_str() {
@@ -100,7 +100,7 @@ fn type_of(row: &Row, at: usize) -> Result<ParsedContentType, MailParseError> {
 }
 
 /// `filled_parameter TYPE NAME => VALUE`
-fn get_parameter(row: &Row, answer: &mut Answer) -> Outcome {
+fn get_parameter(answer: &mut Answer, row: &Row) -> Outcome {
     let ctype = type_of(row, 0)?;
     answer.put(filled_parameter(&ctype.params, row.text(1)));
     Ok(())
@@ -108,7 +108,7 @@ fn get_parameter(row: &Row, answer: &mut Answer) -> Outcome {
 
 /// `part_places MAIL => PATH START END START END` for the mail and each part: its range, and then
 /// that of its body.
-fn list_places(row: &Row, answer: &mut Answer) -> Outcome {
+fn list_places(answer: &mut Answer, row: &Row) -> Outcome {
     let mail = parse_mail(row.alloc, row.bytes(0))?;
     for place in &places(row.alloc, &mail)? {
         answer.put(place.path.as_str());

@@ -17,11 +17,11 @@ use mailparse::{
 };
 
 /// Makes the call of a row, if it is one of these.
-pub fn make(row: &Row, answer: &mut Answer) -> Decision {
+pub fn make(answer: &mut Answer, row: &Row) -> Decision {
     match row.call.as_str() {
-        "parse_header" => push_front(row, answer)?,
+        "parse_header" => push_front(answer, row)?,
         "header_places" => answer.put(&header_places(row.bytes(0))),
-        "parse_headers" | "different_headers" => push_block(row, answer)?,
+        "parse_headers" | "different_headers" => push_block(answer, row)?,
         "get_key" | "get_key_ref" | "get_value_ref" | "header" | "strict_value" | "debug_header" =>
             {
                 push_text(answer, row.call.as_str(), &parse_header(row.bytes(0))?.0);
@@ -31,7 +31,7 @@ pub fn make(row: &Row, answer: &mut Answer) -> Decision {
     Ok(true)
 }
 
-fn push_front(row: &Row, answer: &mut Answer) -> Outcome {
+fn push_front(answer: &mut Answer, row: &Row) -> Outcome {
     let (header, length) = parse_header(row.bytes(0))?;
     answer.put(&header);
     answer.put(length);
@@ -56,7 +56,7 @@ impl Show for &HeaderPlaces {
     }
 }
 
-fn push_block(row: &Row, answer: &mut Answer) -> Outcome {
+fn push_block(answer: &mut Answer, row: &Row) -> Outcome {
     let (headers, end) = parse_headers(row.alloc, row.bytes(0))?;
     answer.put(end);
     match row.call.as_str() {

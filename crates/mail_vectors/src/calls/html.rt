@@ -10,7 +10,7 @@ use mail_html::{Links, References, html_text};
 use std::alloc::{AllocError, Global};
 
 /// Makes the call of a row, if it is this one.
-pub fn make(row: &Row, answer: &mut Answer) -> Decision {
+pub fn make(answer: &mut Answer, row: &Row) -> Decision {
     match row.call.as_str() {
         "html_text" => answer.put(read(row.alloc, row.text(0), Links::Omitted)),
         "html_text_with_links" => answer.put(read(row.alloc, row.text(0), Links::Footnotes)),

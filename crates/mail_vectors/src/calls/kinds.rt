@@ -23,28 +23,28 @@ use mailparse::{
 };
 
 /// Makes the call of a row, if it is one of these.
-pub fn make(row: &Row, answer: &mut Answer) -> Decision {
+pub fn make(answer: &mut Answer, row: &Row) -> Decision {
     match row.call.as_str() {
         "debug_content_type" => answer.debug_of(parse_content_type(row.alloc, row.text(0))),
-        "default_content_type" => show_default_type(row, answer)?,
+        "default_content_type" => show_default_type(answer, row)?,
         "debug_content_disposition" => {
             answer.debug_of(parse_content_disposition(row.alloc, row.text(0)));
         }
         "debug_default_disposition" => {
             answer.debug(&ParsedContentDisposition::default(row.alloc));
         }
-        "default_disposition" => push_default(row, answer),
+        "default_disposition" => push_default(answer, row),
         "get_content_type" => push_type(answer, type_of(&Label::of(row, 0)?.body(row.bytes(2)))),
-        "equal_dispositions" => push_equal(row, answer)?,
+        "equal_dispositions" => push_equal(answer, row)?,
         "show_ids" => show_ids(answer, &list_of(row, 0, row.count())?),
-        "copy_ids" => copy_ids(row, answer)?,
+        "copy_ids" => copy_ids(answer, row)?,
         "equal_ids" => answer.put(list_of(row, 0, 1)? == list_of(row, 1, 2)?),
         _ => return Ok(false),
     }
     Ok(true)
 }
 
-fn show_default_type(row: &Row, answer: &mut Answer) -> Outcome {
+fn show_default_type(answer: &mut Answer, row: &Row) -> Outcome {
     let found = ParsedContentType::default(row.alloc)?;
     push_type(answer, &found);
     answer.put(found.params.len());
@@ -58,7 +58,7 @@ pub fn push_type(answer: &mut Answer, ctype: &ParsedContentType) {
     answer.put(ctype.charset.as_str());
 }
 
-fn push_default(row: &Row, answer: &mut Answer) {
+fn push_default(answer: &mut Answer, row: &Row) {
     let found = ParsedContentDisposition::default(row.alloc);
     answer.put(&found);
     push_equal_copy(answer, &found.disposition, &found.disposition);
@@ -82,7 +82,7 @@ fn type_of<'a>(body: &Body<'a>) -> &'a ParsedContentType {
     }
 }
 
-fn push_equal(row: &Row, answer: &mut Answer) -> Outcome {
+fn push_equal(answer: &mut Answer, row: &Row) -> Outcome {
     let first = parse_content_disposition(row.alloc, row.text(0))?;
     let second = parse_content_disposition(row.alloc, row.text(1))?;
     answer.put(first.disposition == second.disposition);
@@ -104,7 +104,7 @@ fn show_ids(answer: &mut Answer, list: &MessageIdList) {
     answer.debug(list);
 }
 
-fn copy_ids(row: &Row, answer: &mut Answer) -> Outcome {
+fn copy_ids(answer: &mut Answer, row: &Row) -> Outcome {
     let mut list = list_of(row, 0, row.count())?;
     let copy = list.clone(row.alloc)?;
     answer.put(copy == list);

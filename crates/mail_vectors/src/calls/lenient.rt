@@ -15,15 +15,15 @@ use mailparse::body::Body;
 use mailparse::{KnownCharsets, MAX_LEVELS, ParsedMail, parse_mail, parse_mail_as};
 
 /// Makes the call of a row, if it is one of these.
-pub fn make(row: &Row, answer: &mut Answer) -> Decision {
+pub fn make(answer: &mut Answer, row: &Row) -> Decision {
     match row.call.as_str() {
-        "base64_front" => read_front(row, answer)?,
-        "lenient_body" => read_body(row, answer)?,
-        "body_text" => read_text(row, answer)?,
-        "lenient_content" => read_content(row, answer)?,
+        "base64_front" => read_front(answer, row)?,
+        "lenient_body" => read_body(answer, row)?,
+        "body_text" => read_text(answer, row)?,
+        "lenient_content" => read_content(answer, row)?,
         "find_ids" => answer.put(find_ids(row.alloc, row.text(0), IdRule::WithAt)),
         "find_any_ids" => answer.put(find_ids(row.alloc, row.text(0), IdRule::Any)),
-        "lenient_nodes" | "lenient_file_names" => read_parts(row, answer, &all_tables())?,
+        "lenient_nodes" | "lenient_file_names" => read_parts(answer, row, &all_tables())?,
         "date_of" => write_date(answer, date_of(row.text(0))),
         "zoned_date_of" => write_date(answer, zoned_date_of(row.text(0))),
         "date_and_offset_of" => write_date(answer, date_and_offset_of(row.text(0))),
@@ -34,7 +34,7 @@ pub fn make(row: &Row, answer: &mut Answer) -> Decision {
 
 /// `base64_front BODY => BYTES GROUP IGNORED`, GROUP the index of the first invalid group or `none`,
 /// and IGNORED the number of bytes that were ignored.
-fn read_front(row: &Row, answer: &mut Answer) -> Outcome {
+fn read_front(answer: &mut Answer, row: &Row) -> Outcome {
     let front = base64_front(row.alloc, row.bytes(0))?;
     answer.put(front.bytes.as_slice());
     answer.put(front.fault);
@@ -44,7 +44,7 @@ fn read_front(row: &Row, answer: &mut Answer) -> Outcome {
 
 /// `lenient_body MAIL PART => KIND RAW`, and the decoded bytes where the kind is `base64` or
 /// `quoted-printable`. The whole mail is part 0.
-fn read_body(row: &Row, answer: &mut Answer) -> Outcome {
+fn read_body(answer: &mut Answer, row: &Row) -> Outcome {
     let mail = parse_mail(row.alloc, row.bytes(0))?;
     let part = part_at(row.alloc, &mail, row.number(1))?;
     write_body(answer, &lenient_body(row.alloc, part)?);
@@ -59,7 +59,7 @@ fn write_body(answer: &mut Answer, body: &Body<'_>) {
 }
 
 /// `body_text MAIL => TEXT CHARSET DAMAGED` of the whole mail, under all tables.
-fn read_text(row: &Row, answer: &mut Answer) -> Outcome {
+fn read_text(answer: &mut Answer, row: &Row) -> Outcome {
     let mail = parse_mail(row.alloc, row.bytes(0))?;
     let read = body_text(row.alloc, &mail, &all_tables())?;
     answer.put(read.text.as_str());
@@ -70,7 +70,7 @@ fn read_text(row: &Row, answer: &mut Answer) -> Outcome {
 
 /// `lenient_content MAIL => BYTES GROUP IGNORED` of the whole mail, GROUP the index of the group
 /// that is refused or `none`, and IGNORED the number of bytes that were ignored.
-fn read_content(row: &Row, answer: &mut Answer) -> Outcome {
+fn read_content(answer: &mut Answer, row: &Row) -> Outcome {
     let mail = parse_mail(row.alloc, row.bytes(0))?;
     let body = lenient_body(row.alloc, &mail)?;
     let content = lenient_content(row.alloc, &body)?;
@@ -84,7 +84,7 @@ fn read_content(row: &Row, answer: &mut Answer) -> Outcome {
 }
 
 /// Writes the result of a call on each part of a mail.
-fn read_parts<K: KnownCharsets>(row: &Row, answer: &mut Answer, known: &K) -> Outcome {
+fn read_parts<K: KnownCharsets>(answer: &mut Answer, row: &Row, known: &K) -> Outcome {
     let levels = row.levels(1);
     if levels > MAX_LEVELS {
         return Err(FORM);

@@ -22,7 +22,7 @@ use mailparse::{
 use std::alloc::Global;
 
 /// Makes the call of a row, if it is one of these.
-pub fn make(row: &Row, answer: &mut Answer) -> Decision {
+pub fn make(answer: &mut Answer, row: &Row) -> Decision {
     match row.call.as_str() {
         "max_levels" => answer.put(usize::from(MAX_LEVELS)),
         "parse_mail_limited" => {
@@ -34,7 +34,7 @@ pub fn make(row: &Row, answer: &mut Answer) -> Decision {
         }
         "kept_within" => answer.put(count_kept(row.alloc, row.bytes(1), row.number(0))),
         "block_headers" => answer.put(count_headers(row.bytes(0))),
-        "levels" => push_levels(row, answer)?,
+        "levels" => push_levels(answer, row)?,
         "truncated" => push_truncated(answer, row.bytes(0)),
         _ => return Ok(false),
     }
@@ -76,7 +76,7 @@ fn count_of(alloc: Global, raw: &[u8]) -> Result<usize, MailParseError> {
     count_below(alloc, &mail)
 }
 
-fn push_levels(row: &Row, answer: &mut Answer) -> Outcome {
+fn push_levels(answer: &mut Answer, row: &Row) -> Outcome {
     let levels = least_levels(row.alloc, row.bytes(0))?;
     answer.put(usize::from(levels));
     answer.put(count_under(row.alloc, row.bytes(0), levels));

@@ -13,29 +13,29 @@ use mailparse::{MailHeader, MailHeaderMap, MailParseError, parse_headers, parse_
 use std::alloc::{AllocError, Global};
 
 /// Makes the call of a row, if it is one of these.
-pub fn make(row: &Row, answer: &mut Answer) -> Decision {
+pub fn make(answer: &mut Answer, row: &Row) -> Decision {
     match row.call.as_str() {
         "get_first_header"
         | "get_all_headers"
         | "get_first_value"
         | "get_all_values"
-        | "count_headers" => look_up(row, answer)?,
-        "names_of_each" => push_names_of_each(row, answer)?,
+        | "count_headers" => look_up(answer, row)?,
+        "names_of_each" => push_names_of_each(answer, row)?,
         _ => return Ok(false),
     }
     Ok(true)
 }
 
-fn look_up(row: &Row, answer: &mut Answer) -> Outcome {
+fn look_up(answer: &mut Answer, row: &Row) -> Outcome {
     let mail = parse_mail(row.alloc, row.bytes(0))?;
     answer.word("list");
-    push_found(row, answer, &mail.headers)?;
+    push_found(answer, row, &mail.headers)?;
     answer.word("block");
-    push_found(row, answer, &mail.get_headers())
+    push_found(answer, row, &mail.get_headers())
 }
 
 /// Writes the result of a look-up.
-fn push_found<M: MailHeaderMap>(row: &Row, answer: &mut Answer, map: &M) -> Outcome {
+fn push_found<M: MailHeaderMap>(answer: &mut Answer, row: &Row, map: &M) -> Outcome {
     let name = row.text(1);
     match row.call.as_str() {
         "get_first_header" => answer.put(map.get_first_header(name).map(|it| it.get_value_raw())),
@@ -53,7 +53,7 @@ fn push_values(answer: &mut Answer, headers: &[&MailHeader<'_>]) {
     }
 }
 
-fn push_names_of_each(row: &Row, answer: &mut Answer) -> Outcome {
+fn push_names_of_each(answer: &mut Answer, row: &Row) -> Outcome {
     let names = names_of(row.alloc, row.text(1))?;
     for byte in row.bytes(0) {
         answer.put(names_that_match(row.alloc, &[b'k', *byte, b':', b'v'], names.as_str()));

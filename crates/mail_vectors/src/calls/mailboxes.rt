@@ -10,10 +10,10 @@ use mail_data::mailbox::{
 ///
 /// - `settled_entry BYTES => SEPARATOR MAIL ENDING REST`, or `none`; likewise
 ///   `settled_counted_entry`
-pub fn make(row: &Row, answer: &mut Answer) -> Decision {
+pub fn make(answer: &mut Answer, row: &Row) -> Decision {
     match row.call.as_str() {
-        "read_mailbox" => list_mails(row, answer, Format::Plain),
-        "read_counted_mailbox" => list_mails(row, answer, Format::Counted),
+        "read_mailbox" => list_mails(answer, row, Format::Plain),
+        "read_counted_mailbox" => list_mails(answer, row, Format::Counted),
         "settled_entry" => answer.put(settled_entry(row.bytes(0), Format::Plain)),
         "settled_counted_entry" => answer.put(settled_entry(row.bytes(0), Format::Counted)),
         "settled_front" => settle_front(answer, row.bytes(0)),
@@ -25,7 +25,7 @@ pub fn make(row: &Row, answer: &mut Answer) -> Decision {
 
 /// `read_mailbox BYTES => FRONT`, and `SEPARATOR MAIL ENDING` for each mail; likewise
 /// `read_counted_mailbox`.
-fn list_mails(row: &Row, answer: &mut Answer, format: Format) {
+fn list_mails(answer: &mut Answer, row: &Row, format: Format) {
     let mails = read_mailbox(row.bytes(0), format);
     answer.put(mails.front());
     for entry in mails {

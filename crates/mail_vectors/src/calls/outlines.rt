@@ -19,7 +19,7 @@ use std::alloc::Global;
 pub use steps::outline_of;
 
 /// Makes the call of a row, if it is one of these.
-pub fn make(row: &Row, answer: &mut Answer) -> Decision {
+pub fn make(answer: &mut Answer, row: &Row) -> Decision {
     match row.call.as_str() {
         "render" | "is_well_formed" | "read_outline" | "outline" => {
             write_of(row.call.as_str(), answer, &outline_of(row, 0)?)?;

@@ -17,13 +17,13 @@ use std::alloc::Global;
 use std::collections::BTreeMap;
 
 /// Makes the call of a row, if it is one of these.
-pub fn make(row: &Row, answer: &mut Answer) -> Decision {
+pub fn make(answer: &mut Answer, row: &Row) -> Decision {
     match row.call.as_str() {
         "parse_content_type" => answer.put(parse_content_type(row.alloc, row.text(0))),
         "parse_content_disposition" => {
             answer.put(parse_content_disposition(row.alloc, row.text(0)));
         }
-        "parse_many_parameters" => push_many(row, answer)?,
+        "parse_many_parameters" => push_many(answer, row)?,
         _ => return Ok(false),
     }
     Ok(true)
@@ -83,7 +83,7 @@ fn many_parameters(alloc: Global, count: usize) -> Result<ParsedContentType, Mai
 }
 
 /// Writes how many parameters a type with many of them has, and the last of them.
-fn push_many(row: &Row, answer: &mut Answer) -> Outcome {
+fn push_many(answer: &mut Answer, row: &Row) -> Outcome {
     let found = many_parameters(row.alloc, row.number(0))?;
     let last = row.number(0).saturating_sub(1);
     let name = format!(in row.alloc; "n{last}")?;

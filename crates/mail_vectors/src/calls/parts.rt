@@ -25,7 +25,7 @@ use mailparse::{MailParseError, ParsedMail, parse_mail};
 use std::alloc::Global;
 
 /// Makes the call of a row, if it is one of these.
-pub fn make(row: &Row, answer: &mut Answer) -> Decision {
+pub fn make(answer: &mut Answer, row: &Row) -> Decision {
     match row.call.as_str() {
         "mail"
         | "nodes"
@@ -33,11 +33,11 @@ pub fn make(row: &Row, answer: &mut Answer) -> Decision {
         | "get_raw_bytes"
         | "get_body"
         | "get_body_raw"
-        | "get_content_disposition" => push_parts(row, answer)?,
+        | "get_content_disposition" => push_parts(answer, row)?,
         "count_parts" | "next_parts" | "held" | "get_headers" | "debug_headers" | "debug_mail" => {
-            push_whole(row, answer)?;
+            push_whole(answer, row)?;
         }
-        "without_headers" | "without_parts" | "under_charset" => push_changed(row, answer)?,
+        "without_headers" | "without_parts" | "under_charset" => push_changed(answer, row)?,
         _ => return Ok(false),
     }
     Ok(true)
@@ -54,7 +54,7 @@ pub fn count_below(alloc: Global, mail: &ParsedMail<'_>) -> Result<usize, MailPa
 }
 
 /// Writes the result of a call on each part.
-fn push_parts(row: &Row, answer: &mut Answer) -> Outcome {
+fn push_parts(answer: &mut Answer, row: &Row) -> Outcome {
     let mail = parse_mail(row.alloc, row.bytes(0))?;
     for part in mail.parts(row.alloc)? {
         push_part(answer, row.call.as_str(), part);
@@ -109,7 +109,7 @@ fn push_fields(answer: &mut Answer, part: &ParsedMail<'_>) {
 }
 
 /// Writes the result of a call on the whole mail.
-fn push_whole(row: &Row, answer: &mut Answer) -> Outcome {
+fn push_whole(answer: &mut Answer, row: &Row) -> Outcome {
     let mail = parse_mail(row.alloc, row.bytes(0))?;
     match row.call.as_str() {
         "count_parts" => answer.put(count_parts(row.alloc, &mail)),
@@ -177,12 +177,12 @@ fn push_listed(answer: &mut Answer, mail: &ParsedMail<'_>) {
 }
 
 /// Writes the result of a call on a modified mail.
-fn push_changed(row: &Row, answer: &mut Answer) -> Outcome {
+fn push_changed(answer: &mut Answer, row: &Row) -> Outcome {
     let mut mail = parse_mail(row.alloc, row.bytes(0))?;
     match row.call.as_str() {
         "without_headers" => push_without_headers(answer, &mut mail),
         "without_parts" => push_without_parts(answer, &mut mail),
-        _ => return push_under_charset(row, answer, &mut mail),
+        _ => return push_under_charset(answer, row, &mut mail),
     }
     Ok(())
 }
@@ -202,7 +202,7 @@ fn push_without_parts(answer: &mut Answer, mail: &mut ParsedMail<'_>) {
     answer.put(count_parts(answer.alloc, mail));
 }
 
-fn push_under_charset(row: &Row, answer: &mut Answer, mail: &mut ParsedMail<'_>) -> Outcome {
+fn push_under_charset(answer: &mut Answer, row: &Row, mail: &mut ParsedMail<'_>) -> Outcome {
     let ctype = &mut mail.ctype;
     ctype.charset = String::from_str(row.alloc, row.text(1))?;
     answer.put(mail.get_body(row.alloc));

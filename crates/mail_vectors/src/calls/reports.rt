@@ -13,17 +13,17 @@ use mailparse::parse_mail;
 /// - `original_message_id MAIL => ID`
 /// - `message_id MAIL => ID`
 /// - `parents MAIL => ID..`
-pub fn make(row: &Row, answer: &mut Answer) -> Decision {
+pub fn make(answer: &mut Answer, row: &Row) -> Decision {
     match row.call.as_str() {
-        "recipients" | "original_message_id" | "message_id" | "parents" => read_mail(row, answer)?,
-        "report_blocks" => read_report(row, answer)?,
+        "recipients" | "original_message_id" | "message_id" | "parents" => read_mail(answer, row)?,
+        "report_blocks" => read_report(answer, row)?,
         _ => return Ok(false),
     }
     Ok(true)
 }
 
 /// Writes the result of a call on a mail.
-fn read_mail(row: &Row, answer: &mut Answer) -> Outcome {
+fn read_mail(answer: &mut Answer, row: &Row) -> Outcome {
     let mail = parse_mail(row.alloc, row.bytes(0))?;
     match row.call.as_str() {
         "recipients" => write_recipients(answer, recipients(row.alloc, &mail, &())?.as_slice()),
@@ -46,7 +46,7 @@ fn write_recipients(answer: &mut Answer, recipients: &[Recipient]) {
 }
 
 /// Writes the blocks of a report.
-fn read_report(row: &Row, answer: &mut Answer) -> Outcome {
+fn read_report(answer: &mut Answer, row: &Row) -> Outcome {
     let mail = parse_mail(row.alloc, row.bytes(0))?;
     match report_blocks(row.alloc, &mail, &())? {
         Some(blocks) => write_blocks(answer, blocks.as_slice()),

@@ -26,20 +26,20 @@ use mail_codec::bytescan::{
 use std::alloc::AllocError;
 
 /// Makes the call of a row, if it is one of these.
-pub fn make(row: &Row, answer: &mut Answer) -> Decision {
+pub fn make(answer: &mut Answer, row: &Row) -> Decision {
     match row.call.as_str() {
-        "find_byte" | "find_either" | "find" | "find_pair" => find_all(row, answer),
+        "find_byte" | "find_either" | "find" | "find_pair" => find_all(answer, row),
         "find_escape" => answer.put(find_escape(row.bytes(0))),
         "strip_ascii_whitespace" => answer.put(strip_ascii_whitespace(row.alloc, row.bytes(0))),
-        "find_each_byte" => find_each_byte(row, answer)?,
-        "find_each_pair" => find_each_pair(row, answer)?,
+        "find_each_byte" => find_each_byte(answer, row)?,
+        "find_each_pair" => find_each_pair(answer, row)?,
         _ => return Ok(false),
     }
     Ok(true)
 }
 
 /// Makes a search for each needle.
-fn find_all(row: &Row, answer: &mut Answer) {
+fn find_all(answer: &mut Answer, row: &Row) {
     for at in 1..row.count() {
         answer.put(offset(row, row.call.as_str(), row.bytes(0), row.bytes(at)));
     }
@@ -69,18 +69,16 @@ struct Sweep {
 }
 
 /// Looks for each byte beside each other byte.
-fn find_each_byte(row: &Row, answer: &mut Answer) -> Result<(), AllocError> {
+fn find_each_byte(answer: &mut Answer, row: &Row) -> Result<(), AllocError> {
     let mut sweep = Sweep::new(row);
     for byte in 0..=255u8 {
-        for other in 0..=255u8 {
-            sweep.find_beside(answer, row.text(0), byte, other)?;
-        }
+        sweep.find_beside_each(answer, row.text(0), byte)?;
     }
     Ok(())
 }
 
 /// Looks for each pair that has a byte of this pair, and for each byte twice, among other bytes.
-fn find_each_pair(row: &Row, answer: &mut Answer) -> Result<(), AllocError> {
+fn find_each_pair(answer: &mut Answer, row: &Row) -> Result<(), AllocError> {
     let mut sweep = Sweep::new(row);
     let [first, second] = row.bytes(0) else {
         row.reject();
@@ -101,6 +99,19 @@ impl Sweep {
             most: row.number(1),
             runs: Runs::new(),
         }
+    }
+
+    /// Looks for a byte beside each other one.
+    fn find_beside_each(
+        &mut self,
+        answer: &mut Answer,
+        kind: &str,
+        byte: u8,
+    ) -> Result<(), AllocError> {
+        for other in 0..=255u8 {
+            self.find_beside(answer, kind, byte, other)?;
+        }
+        Ok(())
     }
 
     /// Looks for a byte beside another one.

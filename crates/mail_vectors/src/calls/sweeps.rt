@@ -34,11 +34,11 @@ use std::alloc::{AllocError, Global};
 use std::borrow::CowStr;
 
 /// Makes the call of a row, if it is one of these.
-pub fn make(row: &Row, answer: &mut Answer) -> Decision {
+pub fn make(answer: &mut Answer, row: &Row) -> Decision {
     match row.call.as_str() {
-        "places" => go_over_places(row, answer)?,
-        "around" => go_around(row, answer)?,
-        "fronts" => go_on(row, answer)?,
+        "places" => go_over_places(answer, row)?,
+        "around" => go_around(answer, row)?,
+        "fronts" => go_on(answer, row)?,
         _ => return Ok(false),
     }
     Ok(true)
@@ -111,7 +111,7 @@ fn push_between(
 }
 
 /// Tries the bytes at all offsets.
-fn go_over_places(row: &Row, answer: &mut Answer) -> Outcome {
+fn go_over_places(answer: &mut Answer, row: &Row) -> Outcome {
     let mut sweep = Sweep {
         text: Vec::new(row.alloc),
         joined: Vec::new(row.alloc),
@@ -119,9 +119,8 @@ fn go_over_places(row: &Row, answer: &mut Answer) -> Outcome {
     };
     let (fewest, most) = (row.number(6), row.number(7));
     for trail in 0..=most {
-        for lead in fewest.saturating_sub(trail)..=most.saturating_sub(trail) {
-            sweep.try_place(row, answer, (lead, trail))?;
-        }
+        let leads = (fewest.saturating_sub(trail), most.saturating_sub(trail));
+        sweep.try_places(answer, row, leads, trail)?;
     }
     Ok(())
 }
@@ -137,12 +136,27 @@ struct Sweep {
 }
 
 impl Sweep {
+    /// Makes the call with each number of LEAD from the first to the last of two, before one number
+    /// of TRAIL.
+    fn try_places(
+        &mut self,
+        answer: &mut Answer,
+        row: &Row,
+        (fewest, most): (usize, usize),
+        trail: usize,
+    ) -> Outcome {
+        for lead in fewest..=most {
+            self.try_place(answer, row, (lead, trail))?;
+        }
+        Ok(())
+    }
+
     /// Tries the bytes at an offset, with these numbers of pieces before and after.
-    fn try_place(&mut self, row: &Row, answer: &mut Answer, pieces: (usize, usize)) -> Outcome {
+    fn try_place(&mut self, answer: &mut Answer, row: &Row, pieces: (usize, usize)) -> Outcome {
         self.joined.clear();
         for byte in 0..=255u8 {
             if row.bytes(3) == b"any".as_slice() || row.bytes(3) == [byte].as_slice() {
-                self.try_byte(row, answer, byte, pieces)?;
+                self.try_byte(answer, row, byte, pieces)?;
             }
         }
         if !row.text(0).starts_with("find") {
@@ -156,8 +170,8 @@ impl Sweep {
     /// Tries a byte at an offset.
     fn try_byte(
         &mut self,
-        row: &Row,
         answer: &mut Answer,
+        row: &Row,
         byte: u8,
         (lead, trail): (usize, usize),
     ) -> Outcome {
@@ -235,21 +249,21 @@ fn bytes_of(
 }
 
 /// Decodes two texts with each byte between them.
-fn go_around(row: &Row, answer: &mut Answer) -> Outcome {
+fn go_around(answer: &mut Answer, row: &Row) -> Outcome {
     let mut text = Vec::new(row.alloc);
     let mut runs = Runs::new();
     for byte in 0..=255u8 {
         text.clear();
         push_between(&mut text, row.bytes(1), byte, row.bytes(2))?;
         let from = answer.len();
-        write_between(row, answer, decode(row, text.as_slice())?);
+        write_between(answer, row, decode(row, text.as_slice())?);
         runs.take(answer, from);
     }
     Ok(())
 }
 
 /// Appends the decoded bytes between two sides, or the refused group.
-fn write_between(row: &Row, answer: &mut Answer, read: Result<Vec<u8>, usize>) {
+fn write_between(answer: &mut Answer, row: &Row, read: Result<Vec<u8>, usize>) {
     match read {
         Ok(bytes) => answer.put(between(bytes.as_slice(), row.bytes(3), row.bytes(4))),
         Err(group) => push_invalid(answer, group),
@@ -265,7 +279,7 @@ fn between<'b>(bytes: &'b [u8], front: &[u8], back: &[u8]) -> &'b [u8] {
 }
 
 /// Decodes a text, and then its fronts one after another.
-fn go_on(row: &Row, answer: &mut Answer) -> Outcome {
+fn go_on(answer: &mut Answer, row: &Row) -> Outcome {
     let text = row.bytes(1);
     let whole = decode(row, text)?.unwrap_or(Vec::new(row.alloc));
     answer.put(whole.as_slice());

@@ -34,9 +34,9 @@ use mailparse::{
 use std::alloc::{AllocError, Global};
 
 /// Makes the call of a row, if it is one of these.
-pub fn make(row: &Row, answer: &mut Answer) -> Decision {
+pub fn make(answer: &mut Answer, row: &Row) -> Decision {
     match row.call.as_str() {
-        "labels_of_table" => push_labels(row, answer),
+        "labels_of_table" => push_labels(answer, row),
         "table_for_label"
         | "decode_with"
         | "decode_without_bom_handling_with"
@@ -44,7 +44,7 @@ pub fn make(row: &Row, answer: &mut Answer) -> Decision {
         | "parse_content_type_with"
         | "parse_content_disposition_with"
         | "body_with"
-        | "mail_with" => choose_tables(row, answer)?,
+        | "mail_with" => choose_tables(answer, row)?,
         "tables" => write_mail(answer, row.bytes(0), all_tables(), all_tables())?,
         _ => return Ok(false),
     }
@@ -52,21 +52,21 @@ pub fn make(row: &Row, answer: &mut Answer) -> Decision {
 }
 
 /// Makes the call of a row with the tables that it names.
-fn choose_tables(row: &Row, answer: &mut Answer) -> Outcome {
+fn choose_tables(answer: &mut Answer, row: &Row) -> Outcome {
     if row.text(0) == "all" {
-        return call_with(row, answer, all_tables());
+        return call_with(answer, row, all_tables());
     }
     let made_up = made_up(row.alloc, row.text(0))?;
     let tables = own_tables(row.alloc, made_up.as_slice())?;
-    call_with(row, answer, tables.as_slice())
+    call_with(answer, row, tables.as_slice())
 }
 
 /// Makes the call of a row with tables.
-fn call_with(row: &Row, answer: &mut Answer, tables: &[SingleByteTable<'_>]) -> Outcome {
+fn call_with(answer: &mut Answer, row: &Row, tables: &[SingleByteTable<'_>]) -> Outcome {
     let alloc = row.alloc;
     match row.call.as_str() {
-        "table_for_label" => push_numbers(row, answer, tables),
-        "decode_with" | "decode_without_bom_handling_with" => decode(row, answer, tables),
+        "table_for_label" => push_numbers(answer, row, tables),
+        "decode_with" | "decode_without_bom_handling_with" => decode(answer, row, tables),
         "get_value_with" => answer.put(value_of(row, tables)),
         "parse_content_type_with" => {
             answer.put(parse_content_type_with(alloc, row.text(1), tables));
@@ -75,7 +75,7 @@ fn call_with(row: &Row, answer: &mut Answer, tables: &[SingleByteTable<'_>]) -> 
             answer.put(parse_content_disposition_with(alloc, row.text(1), tables));
         }
         "body_with" => answer.put(body_text(row, tables)),
-        _ => return read_mail(row, answer, tables),
+        _ => return read_mail(answer, row, tables),
     }
     Ok(())
 }
@@ -145,14 +145,14 @@ pub fn all_tables() -> &'static [SingleByteTable<'static>] {
 }
 
 /// Writes the number of the table for each label.
-fn push_numbers(row: &Row, answer: &mut Answer, tables: &[SingleByteTable<'_>]) {
+fn push_numbers(answer: &mut Answer, row: &Row, tables: &[SingleByteTable<'_>]) {
     for at in 1..row.count() {
         answer.put(table_for_label(row.bytes(at), tables));
     }
 }
 
 /// Writes the labels of a table of `mail_charsets`.
-fn push_labels(row: &Row, answer: &mut Answer) {
+fn push_labels(answer: &mut Answer, row: &Row) {
     match all_tables().get(row.number(0)) {
         Some(table) => push_all(answer, table.labels),
         None => answer.word("none"),
@@ -167,7 +167,7 @@ fn push_all(answer: &mut Answer, texts: &[&str]) {
 }
 
 /// Writes the text of bytes under the table of a label.
-fn decode(row: &Row, answer: &mut Answer, tables: &[SingleByteTable<'_>]) {
+fn decode(answer: &mut Answer, row: &Row, tables: &[SingleByteTable<'_>]) {
     let number = table_for_label(row.bytes(1), tables).unwrap_or(tables.len());
     let Some(table) = tables.get(number) else {
         return answer.word("none");
@@ -206,7 +206,7 @@ fn text_of(
 }
 
 /// Writes a mail that is parsed under tables, and read under others.
-fn read_mail(row: &Row, answer: &mut Answer, first: &[SingleByteTable<'_>]) -> Outcome {
+fn read_mail(answer: &mut Answer, row: &Row, first: &[SingleByteTable<'_>]) -> Outcome {
     if row.text(1) == "all" {
         return write_mail(answer, row.bytes(2), first, all_tables());
     }

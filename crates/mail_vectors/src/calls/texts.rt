@@ -9,22 +9,22 @@ use mail_data::texts::{text_part, text_type};
 use mailparse::{KnownCharsets, MailParseError, parse_mail_in};
 
 /// Makes the call of a row, if it is one of these.
-pub fn make(row: &Row, answer: &mut Answer) -> Decision {
+pub fn make(answer: &mut Answer, row: &Row) -> Decision {
     match row.call.as_str() {
-        "text_part" => find_text(row, answer, &())?,
-        "text_part_with" => find_text(row, answer, &all_tables())?,
-        "inner_mail_bytes" | "last_inner_mail" => read_inner(row, answer, &())?,
-        "inner_mails" => read_inner(row, answer, &all_tables())?,
-        "flowed_text" => read_flowed(row, answer)?,
+        "text_part" => find_text(answer, row, &())?,
+        "text_part_with" => find_text(answer, row, &all_tables())?,
+        "inner_mail_bytes" | "last_inner_mail" => read_inner(answer, row, &())?,
+        "inner_mails" => read_inner(answer, row, &all_tables())?,
+        "flowed_text" => read_flowed(answer, row)?,
         "text_type" => answer.put(text_type(row.text(0))),
-        "unflowed" => join_lines(row, answer),
+        "unflowed" => join_lines(answer, row),
         _ => return Ok(false),
     }
     Ok(true)
 }
 
 /// `unflowed TEXT DELETES => TEXT`, where DELETES is 1 for `delsp=yes` and otherwise 0.
-fn join_lines(row: &Row, answer: &mut Answer) {
+fn join_lines(answer: &mut Answer, row: &Row) {
     let del_sp = if row.number(1) == 1 {
         DelSp::Yes
     } else {
@@ -35,7 +35,7 @@ fn join_lines(row: &Row, answer: &mut Answer) {
 
 /// `text_part MAIL => TEXT`, the text of the part's body, or `none`; likewise `text_part_with`,
 /// under all tables.
-fn find_text<K: KnownCharsets>(row: &Row, answer: &mut Answer, known: &K) -> Outcome {
+fn find_text<K: KnownCharsets>(answer: &mut Answer, row: &Row, known: &K) -> Outcome {
     let mail = parse_mail_in(row.alloc, row.bytes(0), known)?;
     match text_part(row.alloc, &mail, known)? {
         Some(part) => answer.put(part.get_body_in(row.alloc, known)),
@@ -45,14 +45,14 @@ fn find_text<K: KnownCharsets>(row: &Row, answer: &mut Answer, known: &K) -> Out
 }
 
 /// `flowed_text MAIL => TEXT` of the whole mail, under all tables.
-fn read_flowed(row: &Row, answer: &mut Answer) -> Outcome {
+fn read_flowed(answer: &mut Answer, row: &Row) -> Outcome {
     let mail = parse_mail_in(row.alloc, row.bytes(0), &all_tables())?;
     answer.put(flowed_text(row.alloc, &mail, &all_tables())?.text);
     Ok(())
 }
 
 /// Writes the result of a call on the mails inside a mail.
-fn read_inner<K: KnownCharsets>(row: &Row, answer: &mut Answer, known: &K) -> Outcome {
+fn read_inner<K: KnownCharsets>(answer: &mut Answer, row: &Row, known: &K) -> Outcome {
     let found = inner_mails_of(row, known)?;
     match row.call.as_str() {
         "inner_mail_bytes" => copy_inner(answer, found.as_slice()),

@@ -11,7 +11,7 @@ use crate::notation::{Answer, Decision, Row};
 use mail_codec::transfer::{decode_base64, decode_base64_body, decode_quoted_printable};
 
 /// Makes the call of a row, if it is one of these.
-pub fn make(row: &Row, answer: &mut Answer) -> Decision {
+pub fn make(answer: &mut Answer, row: &Row) -> Decision {
     match row.call.as_str() {
         "decode_base64" => push_groups(answer, decode_base64(row.alloc, row.bytes(0))?),
         "decode_base64_body" => push_groups(answer, decode_base64_body(row.alloc, row.bytes(0))?),

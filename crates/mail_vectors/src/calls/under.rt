@@ -32,40 +32,40 @@ use mailparse::{
 use std::alloc::Global;
 
 /// Makes the call of a row with the charsets that it names, if it is one of these.
-pub fn make(row: &Row, answer: &mut Answer) -> Decision {
+pub fn make(answer: &mut Answer, row: &Row) -> Decision {
     if !row.call.as_str().ends_with("_under") {
         return Ok(false);
     }
     match row.text(0) {
-        "latin1" => call_under(row, answer, &OnlyLatin1),
-        "all" => call_under(row, answer, &AllCharsets::standard()),
-        text => call_under_made_up(row, answer, text)?,
+        "latin1" => call_under(answer, row, &OnlyLatin1),
+        "all" => call_under(answer, row, &AllCharsets::standard()),
+        text => call_under_made_up(answer, row, text)?,
     }
     Ok(true)
 }
 
 /// Makes the call of a row with made-up tables.
-fn call_under_made_up(row: &Row, answer: &mut Answer, text: &str) -> Outcome {
+fn call_under_made_up(answer: &mut Answer, row: &Row, text: &str) -> Outcome {
     let made_up = made_up(row.alloc, text)?;
     let tables = own_tables(row.alloc, made_up.as_slice())?;
     let known = (tables.as_slice(), Indexes::standard());
-    call_under(row, answer, &known);
+    call_under(answer, row, &known);
     Ok(())
 }
 
 /// Makes the call of a row under charsets, and writes a refusal.
-fn call_under<K: KnownCharsets>(row: &Row, answer: &mut Answer, known: &K) {
-    let outcome = write_under(row, answer, known);
+fn call_under<K: KnownCharsets>(answer: &mut Answer, row: &Row, known: &K) {
+    let outcome = write_under(answer, row, known);
     answer.put(outcome);
 }
 
 /// The same, except that the caller writes a refusal.
-fn write_under<K: KnownCharsets>(row: &Row, answer: &mut Answer, known: &K) -> Outcome {
+fn write_under<K: KnownCharsets>(answer: &mut Answer, row: &Row, known: &K) -> Outcome {
     let alloc = row.alloc;
     match row.call.as_str() {
         "value_under" => answer.put(value_of(row, known)),
         "value_text_under" => answer.put(value_text_in(alloc, row.bytes(1), known)),
-        "first_value_under" | "all_values_under" => look_up(row, answer, known)?,
+        "first_value_under" | "all_values_under" => look_up(answer, row, known)?,
         "type_under" => answer.put(parse_content_type_in(alloc, row.text(1), known)),
         "disposition_under" => {
             answer.put(parse_content_disposition_in(alloc, row.text(1), known));
@@ -106,16 +106,16 @@ fn text_of<K: KnownCharsets>(
 }
 
 /// Writes the first value with a name, or all.
-fn look_up<K: KnownCharsets>(row: &Row, answer: &mut Answer, known: &K) -> Outcome {
+fn look_up<K: KnownCharsets>(answer: &mut Answer, row: &Row, known: &K) -> Outcome {
     let mail = parse_mail_in(row.alloc, row.bytes(1), known)?;
     answer.word("list");
-    push_found(row, answer, &mail.headers, known);
+    push_found(answer, row, &mail.headers, known);
     answer.word("block");
-    push_found(row, answer, &mail.get_headers(), known);
+    push_found(answer, row, &mail.get_headers(), known);
     Ok(())
 }
 
-fn push_found<M, K>(row: &Row, answer: &mut Answer, map: &M, known: &K)
+fn push_found<M, K>(answer: &mut Answer, row: &Row, map: &M, known: &K)
 where
     M: MailHeaderMap,
     K: KnownCharsets,

@@ -9,7 +9,7 @@ use mailparse::{MailParseError, MessageIdList, dateparse, msgidparse, parse_head
 use std::alloc::Global;
 
 /// Makes the call of a row, if it is one of these.
-pub fn make(row: &Row, answer: &mut Answer) -> Decision {
+pub fn make(answer: &mut Answer, row: &Row) -> Decision {
     match row.call.as_str() {
         "get_value" | "get_value_utf8" => answer.put(value_of(row)),
         "dateparse" => answer.put(dateparse(row.text(0))),
