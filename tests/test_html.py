@@ -9,6 +9,7 @@ import base64
 import collections
 import concurrent.futures
 import html.entities
+import json
 import re
 import shutil
 
@@ -88,6 +89,14 @@ def by_us(texts):
     assert (ended.returncode, ended.stderr) == (0, b"")
     views = re.split(r"(?m)^-- mail \d+ --\n", ended.stdout.decode())[1:]
     return ["\n".join(line for line in view.split("\n") if line.startswith("  ")) for view in views]
+
+
+def test_json():
+    """The texts of HTML in the JSON of the samples have the words of html.parser, and no others."""
+    for path in SAMPLES:
+        ended = run([*command("json"), "--html-text", "--mail", path])
+        found = [part["html_text"] for part in json.loads(ended.stdout)["parts"] if part["type"] == "text/html"]
+        assert [words(text) for text in found] == [words(by_parser(text)) for text in html_parts(path.read_bytes())], path
 
 
 def words(text):

@@ -30,8 +30,8 @@ MEMBERS = ORIGIN + [
 ]
 PART_MEMBERS = [
     "path", "inside", "type", "charset", "params", "disposition", "file_name", "content_id", "attachment", "extracted",
-    "encoding", "start", "end", "size", "decoded_size", "error", "sha256", "report", "headers", "text", "text_charset",
-    "damaged",
+    "encoding", "start", "end", "size", "decoded_size", "error", "sha256", "report", "headers", "text", "html_text",
+    "text_charset", "damaged",
 ]
 # texts in the charsets of several bytes
 TEXTS = {
@@ -397,7 +397,7 @@ def without_text(line):
     if "parts" in value:
         value["recipients"] = None
         for part in value["parts"]:
-            part.update(text=None, decoded_size=None, sha256=None, report=None)
+            part.update(text=None, html_text=None, decoded_size=None, sha256=None, report=None)
             for name in ("error", "text_charset", "damaged"):
                 part.pop(name, None)
     return list(value.items())
@@ -438,6 +438,39 @@ def test_options():
     plain = flowed.replace(b"; format=flowed", b"")
     for data in (plain, b"Content-Transfer-Encoding: base64\n" + plain):
         assert objects(["--flowed"], data, 0, "--flowed") == objects([], data, 0, "no --flowed"), f"--flowed {data!r}"
+
+
+# HTML in a charset, and what a reader of the HTML Standard shows of it: tags, comments and scripts are no text
+HTML_TEXTS = [
+    ("us-ascii", "caf&eacute; <b class='a>b'>&amp;</b> t&#101;a<!-- no --><script>if (a<b) no()</script>", "caf\xe9 & tea"),
+    ("iso-8859-1", "\xe4<style>p{}</style> 2 &lt; 3", "\xe4 2 < 3"), ("koi8-r", "\u0414<i>\u0430</i>&#x2028;", "\u0414\u0430\u2028"),
+    ("utf-8", "a &amp;lt; b", "a &lt; b"), ("utf-8", "", ""), ("utf-8", "<!-- only a comment -->", ""),
+]
+
+
+def test_html_text():
+    """With --html-text a text that is HTML has its own text beside it, and nothing else changes."""
+    wanted, pieces = [None, None], [b"\nplain"]
+    for at, (charset, text, shown) in enumerate(HTML_TEXTS):
+        head = f"Content-Type: TEXT/HTML; charset={charset}\n".encode()
+        body = text.encode(charset)
+        pieces.append(head + (b"Content-Transfer-Encoding: base64\n\n" + base64.encodebytes(body) if at % 2 else b"\n" + body))
+        wanted.append(shown)
+    html = b"Content-Type: text/html%b\n\n<p>x</p>"
+    attached = html % b"\nContent-Disposition: attachment"
+    pieces += [attached, b"Content-Type: text/htmlx\n\n<p>x</p>", b"Content-Type: message/rfc822\n\n" + html % b"; format=flowed"]
+    wanted += [None, None, None, "x"]
+    data = multipart(b"b", *pieces)
+    found = objects(["--html-text"], data, 0, "--html-text")[0]["parts"]
+    assert [part["html_text"] for part in found] == wanted, "--html-text"
+    plain = objects([], data, 0, "no --html-text")[0]["parts"]
+    assert plain == [{**part, "html_text": None} for part in found], "no --html-text"
+    assert objects(["--html-text", "--no-text"], data, 0, "both") == objects(["--no-text"], data, 0, "--no-text"), "--no-text"
+    for options in (["--mail"], ["--flowed"]):
+        assert objects(["--html-text", *options], data, 0, repr(options))[0]["parts"] == found, f"--html-text {options}"
+    box = FROM + data + b"\n" + FROM + html % b"" + b"\n"
+    found = [part["html_text"] for line in objects(["--mbox", "--html-text"], box, 0, "a mailbox") for part in line["parts"]]
+    assert found == [*wanted, "x"], "a mailbox"
 
 
 def nested(levels):

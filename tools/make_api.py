@@ -149,7 +149,7 @@ class Item:
         self.signature = re.split(r" (?:ensures|requires)\b", text)[0]
         self.doc = re.sub(r"^ *//[/!] ?", "", doc, flags=re.MULTILINE)
         self.members = []
-        self.traits = re.findall(r"\w+", "".join(re.findall(r"#\[derive\((.*?)\)\]", attributes)))
+        self.traits = re.findall(r"\w+", "".join(re.findall(r"#\[derive(?:_where)?\((.*?)\)\]", attributes)))
 
     def paragraph(self):
         """The first paragraph of the doc comment."""

@@ -64,7 +64,7 @@ text_of_html shows_links references bytes = do
 
 -- Under the charsets that are known.
 module _ (known : Charsets) where
-  -- bodies decoded, no hashes, and texts as they are
+  -- bodies decoded, no hashes, texts as they are, and without the text of HTML
   abbrev pub plain_options : Options
   plain_options = record {
     known = known;
@@ -72,6 +72,7 @@ module _ (known : Charsets) where
     decodes_bodies = true;
     hashes = false;
     joins_flowed = false;
+    html = None;
   }
 
   -- the line of JSON of a mail

@@ -38,6 +38,7 @@ pub(crate) fn json<K: KnownCharsets>(
         decodes_bodies: true,
         hashes: false,
         joins_flowed: false,
+        html: None,
     };
     let mut line = Vec::new(alloc);
     match write_mail(alloc, &mut line, &mail, &origin, options, known) {

@@ -26,11 +26,12 @@ use std::io::Write;
 
 /// How the parts of a mail are read: of their bodies, only those that are mails are decoded, since
 /// the others are decoded when they are saved.
-const MAILS: LineOptions = LineOptions {
+const MAILS: LineOptions<'static> = LineOptions {
     limit: DEFAULT_LIMIT,
     decodes_bodies: false,
     hashes: false,
     joins_flowed: false,
+    html: None,
 };
 
 /// Saves the chosen files of a mail with this number in its mailbox and of the mails inside it, and

@@ -1,16 +1,19 @@
 -- How mails are read and shown; the program's own form.
-use Rattle.std.specs.Prelude.{ℕ, Bool}
+use Rattle.std.specs.Prelude.{ℕ, Bool, Option, option_map}
 use Rattle.mail_codec.specs.Charset.{Charsets}
+use Rattle.mail_html.specs.declared.references.References.{References}
 use Rattle.mail_json.specs.declared.options.LineOptions as code
 
 -- the charsets that are known, the limit on the messages, parts and headers of each mail, whether bodies are decoded,
--- whether files have their hashes, and whether each flowed paragraph of a text is one line
+-- whether files have their hashes, whether each flowed paragraph of a text is one line, and the references under which
+-- HTML has its text, or none
 pub record Options : Type 0 where
   pub known : Charsets
   pub limit : ℕ
   pub decodes_bodies : Bool
   pub hashes : Bool
   pub joins_flowed : Bool
+  pub html : Option References
 
 -- the same of the program's options, under these charsets
 abbrev pub options_of : Charsets → code.LineOptions → Options
@@ -21,6 +24,7 @@ options_of known options =
       decodes_bodies = options.decodes_bodies;
       hashes = options.hashes;
       joins_flowed = options.joins_flowed;
+      html = option_map (λ references. references.now) options.html;
     }
 
 -- these options, under which bodies are decoded, or are not

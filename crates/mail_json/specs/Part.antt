@@ -17,6 +17,9 @@ use Rattle.mail_data.specs.Flowed.{unflowed_of}
 use Rattle.mail_data.specs.Reports.{report_blocks}
 use Rattle.mail_data.specs.Texts.{text_type}
 use Rattle.mail_data.specs.lenient.Content.{Content, message_content}
+use Rattle.mail_html.specs.Text.{html_text}
+use Rattle.mail_html.specs.declared.links.Links.TheVariants.{Omitted}
+use Rattle.mail_html.specs.declared.references.References.{References}
 use Rattle.mail_program.specs.Hash.{hash_text}
 
 -- a sum, or the greatest number of 64 bits, which no file reaches
@@ -72,3 +75,9 @@ hash_of false content = None
 abbrev pub text_shown : Bool → ContentType → List ℕ → List ℕ
 text_shown true ctype text = unflowed_of ctype text
 text_shown false ctype text = text
+
+-- the text of HTML, if a text of this type is HTML, and that is wanted
+abbrev pub html_shown : Option References → ContentType → List ℕ → Option (List ℕ)
+html_shown (Some references) ctype text =
+    if bytes_eq ctype.mimetype (codes "text/html") then Some (html_text Omitted references text) else None
+html_shown None ctype text = None

@@ -32,9 +32,10 @@ use Rattle.mail_json.specs.Fields.{content_id, date_fault_text, disposition_name
 use Rattle.mail_data.specs.InnerMails.{InnerMail}
 use Rattle.mail_json.specs.Inside.{Listed, mails_inside, parts_inside, without_bytes}
 use Rattle.mail_json.specs.Origin.{Origin}
-use Rattle.mail_json.specs.Part.{Lists, content_if, hash_of, is_attachment, is_read, path_shown, place_in, recipients_if, report_if, text_shown}
+use Rattle.mail_json.specs.Part.{Lists, content_if, hash_of, html_shown, is_attachment, is_read, path_shown, place_in, recipients_if, report_if, text_shown}
 use Rattle.mail_json.specs.Options.{Options}
 use Rattle.mail_json.specs.Reports.{delivery_value}
+use Rattle.mail_html.specs.declared.references.References.{References}
 use Rattle.mail_program.specs.Refusal.{refusal_text}
 use Rattle.mail_json.specs.Printed.{Member, list_of, number_or_null, number_value, object_of, one, seconds_value, string_or_null, strings}
 
@@ -113,11 +114,15 @@ abbrev pub damaged_members : Bool → List Member
 damaged_members true = one (codes "damaged") (boolean true)
 damaged_members false = []
 
--- the members of a text that is shown or not
-abbrev pub text_members : Bool → List ℕ → List ℕ → Bool → List Member
-text_members false text charset is_damaged = one (codes "text") null
-text_members true text charset is_damaged =
-    one (codes "text") (string text) ++ one (codes "text_charset") (string charset) ++ damaged_members is_damaged
+-- the members of a text that is not shown; and of one that is shown or not, given the text of its HTML
+abbrev pub no_text_members : List Member
+no_text_members = one (codes "text") null ++ one (codes "html_text") null
+
+abbrev pub text_members : Bool → List ℕ → Option (List ℕ) → List ℕ → Bool → List Member
+text_members false text html charset is_damaged = no_text_members
+text_members true text html charset is_damaged =
+    one (codes "text") (string text) ++ one (codes "html_text") (string_or_null html) ++ one (codes "text_charset") (string charset)
+    ++ damaged_members is_damaged
 
 -- the member that says that the zone of a date is not known
 abbrev pub zone_members : Bool → List Member
@@ -190,15 +195,16 @@ module _ (known : Charsets) where
       ++ one (codes "content_id") (string_or_null (content_id node))
 
   -- the members of the text of a body that is shown or not
-  abbrev pub shown_members : Bool → Bool → ContentType → Content → List Member
-  shown_members joins shows ctype content =
+  abbrev pub shown_members : Bool → Option References → Bool → ContentType → Content → List Member
+  shown_members joins html shows ctype content =
       let read = text_read known ctype.charset content in
-      text_members shows (text_shown joins ctype read.text) read.charset read.is_damaged
+      let text = text_shown joins ctype read.text in
+      text_members shows text (html_shown html ctype text) read.charset read.is_damaged
 
   -- the same of a body that is decoded or not
-  abbrev pub body_members : Bool → Bool → ContentType → Option Content → List Member
-  body_members joins shows ctype (Some content) = shown_members joins shows ctype content
-  body_members joins shows ctype None = one (codes "text") null
+  abbrev pub body_members : Bool → Option References → Bool → ContentType → Option Content → List Member
+  body_members joins html shows ctype (Some content) = shown_members joins html shows ctype content
+  body_members joins html shows ctype None = no_text_members
 
   -- the value of the first header with a name
   abbrev pub value_or_null : List ℕ → Node → Json
@@ -278,7 +284,7 @@ module _ (options : Options) where
       ++ one (codes "sha256") (string_or_null (hash_of (options.hashes && is_extracted options.known place.part) content))
       ++ one (codes "report") (report_value (report_if options.known options.decodes_bodies node))
       ++ one (codes "headers") (list_of (map (header_value options.known) node.headers))
-      ++ body_members options.known options.joins_flowed (is_read place.part disposition) node.ctype content
+      ++ body_members options.known options.joins_flowed options.html (is_read place.part disposition) node.ctype content
 
   -- a value is the object of a part of a mail that is in this part, or in none, and that begins at this offset
   abbrev pub IsPartValue : Option (List ℕ) → Option ℕ → Place → Json → Type 0

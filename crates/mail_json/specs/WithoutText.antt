@@ -7,6 +7,7 @@ use Rattle.json.specs.Json.{Json, null, array, object, Items, no_items, item, Me
 abbrev pub is_nulled : List ℕ → Bool
 is_nulled name =
     bytes_eq name (codes "decoded_size") || bytes_eq name (codes "sha256") || bytes_eq name (codes "report") || bytes_eq name (codes "text")
+    || bytes_eq name (codes "html_text")
 
 abbrev pub is_left_out : List ℕ → Bool
 is_left_out name = bytes_eq name (codes "error") || bytes_eq name (codes "text_charset") || bytes_eq name (codes "damaged")

@@ -56,15 +56,16 @@ pub struct Decoded<'p, 'm, 'a> {
 /// let content = parts[0].content.as_ref().ok_or("not decoded")?;
 /// assert_eq!(rt; content.bytes.as_slice(), b"Hello".as_slice());
 /// ```
+#[inline(never)]
 pub fn decoded_parts<'p, 'm, 'a>(
     alloc: Global,
     places: &'p [Place<'m, 'a>],
-    options: LineOptions,
+    options: LineOptions<'_>,
 ) -> Result<Vec<Decoded<'p, 'm, 'a>>, MailParseError>
     ensures places { IfOk result (λ parts.
         map decoded_place parts.items ≡ map place_view places.now) }
     ensures decoded { IfOk result (λ parts.
-        AllByRecursion (IsDecoded options.decodes_bodies) parts.items) }
+        AllByRecursion (IsDecoded options.entry.decodes_bodies) parts.items) }
     ensures only_memory { IfErr result IsMemory }
 {
     let mut parts = Vec::new(alloc);

@@ -3,10 +3,13 @@ ghost use Rattle.std.specs.Prelude.{◌≡◌, ◌++◌, [], ◌∷◌, map, opt
 ghost use Rattle.std.specs.List.{AllByRecursion};
 ghost use Rattle.std.specs.Prelude.{IfErr, IfOk, OnOk};
 ghost use Rattle.mailparse.specs.Mail.{Tree};
-ghost use Rattle.mailparse.specs.Outcome.{IsMemory, refusal_of};
+ghost use Rattle.mailparse.specs.Outcome.{AnswersOrMemory, IsMemory, refusal_of};
 ghost use Rattle.mailparse.specs.Placement.{placements};
-ghost use Rattle.mail_data.specs.InnerMails.{mails_in_place};
+ghost use Rattle.mailparse.specs.Views.{placements_of, tree_of};
+ghost use Rattle.mail_data.specs.InnerMails.{mails_in_place, places_under};
+ghost use Rattle.mail_data.specs.Reading.{mail_reading};
 ghost use Rattle.mail_data.specs.PartPlaces.{places};
+ghost use Rattle.mail_data.specs.PlaceViews.{place_view};
 ghost use Rattle.mail_json.specs.Inside.{mails_among, mails_inside, without_bytes};
 ghost use Rattle.mail_json.specs.InsideViews.{inside_view};
 ghost use Rattle.mail_json.specs.Members.{AddsMember, is_key};
@@ -25,9 +28,10 @@ use crate::members::{add_number_or_null, add_optional, add_text, first_key, key}
 use crate::options::LineOptions;
 use crate::part::{Form, place_in, write_found};
 use mail_data::inner_mails::{holds_mail, mail_start, places_under};
+use mail_data::places::Place;
 use mail_data::reading::read_mail;
 use mail_program::{Fault, refusal_of};
-use mailparse::{KnownCharsets, MAX_LEVELS, MailParseError};
+use mailparse::{KnownCharsets, MAX_LEVELS, MailParseError, ParsedMail};
 use std::alloc::{AllocError, Global};
 use std::io::Write;
 
@@ -54,23 +58,26 @@ struct Within {
 }
 
 /// Writes the objects of all parts of a mail, and then those of the mails inside it, separated by
-/// commas, and adds the mails inside to a list. The mail begins at the offset `origin` of the input.
+/// commas, and adds the mails inside to a list. The mail begins at the offset `origin` of the
+/// input.
 pub(crate) fn write_parts<W: Write, K: KnownCharsets>(
     alloc: Global,
     out: &mut W,
+    mails: &mut Vec<Inside>,
     parts: &[Decoded<'_, '_, '_>],
     origin: usize,
-    options: LineOptions,
+    options: LineOptions<'_>,
     known: &K,
-    mails: &mut Vec<Inside>,
 ) -> Result<(), Fault>
     requires { AllByRecursion (IsDecoded options.decodes_bodies) parts.now }
-    ensures written { (mail : Tree) → map decoded_place parts.now ≡ places mail (placements 0 mail) →
+    ensures written { (mail : Tree) →
+        map decoded_place parts.now ≡ places mail (placements 0 mail) →
         WritesOne (W.contents out.old) (W.contents out.new) result (listed text_of [])
-        (ArePartValues (options_of (K.known known.now) options) origin mail) }
-    ensures listed { (mail : Tree) → map decoded_place parts.now ≡ places mail (placements 0 mail) →
+        (ArePartValues (options_of (K.known known.now) options.entry) origin mail) }
+    ensures listed { (mail : Tree) →
+        map decoded_place parts.now ≡ places mail (placements 0 mail) →
         OnOk result (map inside_view mails.new.items ≡ map inside_view mails.old.items
-        ++ map without_bytes (mails_inside (K.known known.now) options.limit mail)) }
+        ++ map without_bytes (mails_inside (K.known known.now) options.entry.limit mail)) }
 {
     let form = Form {
         inside: None,
@@ -84,7 +91,7 @@ pub(crate) fn write_parts<W: Write, K: KnownCharsets>(
         start: Some(0),
         most: MAX_LEVELS,
     };
-    write_inside(alloc, out, parts, within, options, known, mails)
+    write_inside(alloc, out, mails, parts, within, options, known)
 }
 
 /// Writes the objects of the parts of the mails that these parts of a mail contain, each after a
@@ -93,21 +100,21 @@ pub(crate) fn write_parts<W: Write, K: KnownCharsets>(
 fn write_inside<W: Write, K: KnownCharsets>(
     alloc: Global,
     out: &mut W,
+    mails: &mut Vec<Inside>,
     parts: &[Decoded<'_, '_, '_>],
     within: Within,
-    options: LineOptions,
+    options: LineOptions<'_>,
     known: &K,
-    mails: &mut Vec<Inside>,
 ) -> Result<(), Fault>
-    ensures written { AllByRecursion (IsDecoded options.decodes_bodies) parts.now →
+    ensures written { AllByRecursion (IsDecoded options.entry.decodes_bodies) parts.now →
         WroteOne (W.contents out.old) (W.contents out.new) result (after_commas text_of)
-        (AreInsideValues (options_of (K.known known.now) options) within.origin
-        (mails_among (K.known known.now) options.limit within.most within.start
+        (AreInsideValues (options_of (K.known known.now) options.entry) within.origin
+        (mails_among (K.known known.now) options.entry.limit within.most within.start
         (map decoded_place parts.now))) }
-    ensures listed { AllByRecursion (IsDecoded options.decodes_bodies) parts.now →
+    ensures listed { AllByRecursion (IsDecoded options.entry.decodes_bodies) parts.now →
         OnOk result (map inside_view mails.new.items
         ≡ map inside_view mails.old.items ++ map without_bytes
-        (mails_among (K.known known.now) options.limit within.most within.start
+        (mails_among (K.known known.now) options.entry.limit within.most within.start
         (map decoded_place parts.now))) }
     ensures failed { IfErr result IsEnd }
 {
@@ -120,7 +127,7 @@ fn write_inside<W: Write, K: KnownCharsets>(
             start: within.start,
             most: within.most - 1,
         };
-        write_forwarded(alloc, out, part, deeper, options, known, mails)?;
+        write_forwarded(alloc, out, mails, part, deeper, options, known)?;
     }
     Ok(())
 }
@@ -131,21 +138,21 @@ fn write_inside<W: Write, K: KnownCharsets>(
 fn write_forwarded<W: Write, K: KnownCharsets>(
     alloc: Global,
     out: &mut W,
+    mails: &mut Vec<Inside>,
     part: &Decoded<'_, '_, '_>,
     within: Within,
-    options: LineOptions,
+    options: LineOptions<'_>,
     known: &K,
-    mails: &mut Vec<Inside>,
 ) -> Result<(), Fault>
-    ensures written { IsDecoded options.decodes_bodies part.now →
+    ensures written { IsDecoded options.entry.decodes_bodies part.now →
         WroteOne (W.contents out.old) (W.contents out.new) result (after_commas text_of)
-        (AreInsideValues (options_of (K.known known.now) options) within.origin
-        (mails_in_place (K.known known.now) options.limit within.most within.start
+        (AreInsideValues (options_of (K.known known.now) options.entry) within.origin
+        (mails_in_place (K.known known.now) options.entry.limit within.most within.start
         (decoded_place part.now))) }
-    ensures listed { IsDecoded options.decodes_bodies part.now →
+    ensures listed { IsDecoded options.entry.decodes_bodies part.now →
         OnOk result (map inside_view mails.new.items
         ≡ map inside_view mails.old.items ++ map without_bytes
-        (mails_in_place (K.known known.now) options.limit within.most within.start
+        (mails_in_place (K.known known.now) options.entry.limit within.most within.start
         (decoded_place part.now))) }
     ensures failed { IfErr result IsEnd }
 {
@@ -154,16 +161,16 @@ fn write_forwarded<W: Write, K: KnownCharsets>(
     }
     let start = mail_start(within.start, part.place, &part.body);
     let path = part.place.path.as_str();
-    match read_mail(alloc, mail_in(part), options.limit, known) {
+    match read_boxed(alloc, mail_in(part), options.limit, known) {
         Ok(mail) => {
-            push_inside(alloc, path, start, None, mails)?;
+            push_inside(alloc, mails, path, start, None)?;
             let form = Form {
                 inside: Some(path),
                 start: place_in(start, within.origin),
                 options,
                 known,
             };
-            let found = places_under(alloc, &mail, path)?;
+            let found = places_inside(alloc, &mail, path)?;
             let parts = decoded_parts(alloc, found.as_slice(), options)?;
             write_found(alloc, out, parts.as_slice(), Position::Later, form)?;
             let inside = Within {
@@ -171,22 +178,64 @@ fn write_forwarded<W: Write, K: KnownCharsets>(
                 start,
                 most: within.most,
             };
-            write_inside(alloc, out, parts.as_slice(), inside, options, known, mails)
+            write_inside(alloc, out, mails, parts.as_slice(), inside, options, known)
         }
         Err(error) => {
-            push_refused(alloc, path, start, error, mails)?;
+            push_refused(alloc, mails, path, start, error)?;
             Ok(())
         }
     }
 }
 
-/// Adds a mail that is refused with this error to a list, unless memory ran out.
+/// Reads a mail as `read_mail` does, into a box. It is not inlined, so that mails inside one another
+/// need less stack.
+#[inline(never)]
+fn read_boxed<'a, K: KnownCharsets>(
+    alloc: Global,
+    raw: &'a [u8],
+    limit: usize,
+    known: &K,
+) -> Result<Box<ParsedMail<'a>>, MailParseError>
+    ensures read { AnswersOrMemory (λ mail. tree_of mail.value) result
+        (mail_reading (K.known known.now) limit raw.now) }
+    ensures places { IfOk result (λ mail.
+        placements_of mail.value ≡ placements 0 (tree_of mail.value)) }
+{
+    let mail = read_mail(alloc, raw, limit, known)?;
+    Ok(boxed(alloc, mail)?)
+}
+
+/// Returns the parts of a mail inside the part with this path, as `places_under` does. It is not
+/// inlined, so that mails inside one another need less stack.
+#[inline(never)]
+fn places_inside<'m, 'a>(
+    alloc: Global,
+    mail: &'m ParsedMail<'a>,
+    path: &str,
+) -> Result<Vec<Place<'m, 'a>>, AllocError>
+    ensures { IfOk result (λ found. map place_view found.items
+        ≡ places_under path.now (tree_of mail.now) (placements_of mail.now)) }
+{
+    places_under(alloc, mail, path)
+}
+
+/// Moves a mail into a box.
+fn boxed<'a>(alloc: Global, mail: ParsedMail<'a>) -> Result<Box<ParsedMail<'a>>, AllocError>
+    ensures { IfOk result (λ boxed. boxed.value ≡ mail.entry) }
+{
+    let boxed = Box::new(alloc, mail)?;
+    Ok(boxed)
+}
+
+/// Adds a mail that is refused with this error to a list, unless memory ran out. It is not inlined,
+/// so that mails inside one another need less stack.
+#[inline(never)]
 fn push_refused(
     alloc: Global,
+    mails: &mut Vec<Inside>,
     path: &str,
     start: Option<usize>,
     error: MailParseError,
-    mails: &mut Vec<Inside>,
 ) -> Result<(), AllocError>
     ensures listed { OnOk result (map inside_view mails.new.items
         ≡ map inside_view mails.old.items ++ record {
@@ -198,17 +247,18 @@ fn push_refused(
 {
     match error {
         MailParseError::Memory(error) => Err(error),
-        error => push_inside(alloc, path, start, Some(error), mails),
+        error => push_inside(alloc, mails, path, start, Some(error)),
     }
 }
 
-/// Adds a mail to a list.
+/// Adds a mail to a list. It is not inlined, so that mails inside one another need less stack.
+#[inline(never)]
 fn push_inside(
     alloc: Global,
+    mails: &mut Vec<Inside>,
     path: &str,
     start: Option<usize>,
     error: Option<MailParseError>,
-    mails: &mut Vec<Inside>,
 ) -> Result<(), AllocError>
     ensures { OnOk result (map inside_view mails.new.items
         ≡ map inside_view mails.old.items ++ record {

@@ -49,11 +49,11 @@ pub fn write_single<W: Write, K: KnownCharsets>(
     out: &mut W,
     input: &[u8],
     file: Option<&str>,
-    options: LineOptions,
+    options: LineOptions<'_>,
     known: &K,
 ) -> Result<Written, Fault>
     ensures { WritesLines (W.contents out.old) (W.contents out.new) result (IsMailLine
-        (options_of (K.known known.now) options) (option_map (λ name. name.now) file.entry)
+        (options_of (K.known known.now) options.entry) (option_map (λ name. name.now) file.entry)
         input.now) }
 {
     let origin = Origin {
@@ -191,11 +191,11 @@ fn write_line<W: Write, K: KnownCharsets>(
     out: &mut W,
     raw: &[u8],
     origin: &Origin<'_>,
-    options: LineOptions,
+    options: LineOptions<'_>,
     known: &K,
 ) -> Result<Written, Fault>
     ensures { WritesLines (W.contents out.old) (W.contents out.new) result
-        (IsLine (options_of (K.known known.now) options) (origin_of origin.now) raw.now) }
+        (IsLine (options_of (K.known known.now) options.entry) (origin_of origin.now) raw.now) }
 {
     match read_mail(alloc, raw, options.limit, known) {
         Ok(mail) => {

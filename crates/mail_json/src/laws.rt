@@ -40,8 +40,8 @@ pub fn lines_are_json()
         (value : Json) × (object : List ℕ) × IsLineValue options origin mail value
         × IsJsonLine value object × (text ≡ object ++ codes "\n") }
     ensures all { (options : Options) (format : Format) (file : Option (List ℕ)) (bytes : List ℕ)
-        (is_clean : Bool) (text : List ℕ) → AreMailboxLines options format file bytes is_clean text →
-        AreJsonLines text }
+        (is_clean : Bool) (text : List ℕ) →
+        AreMailboxLines options format file bytes is_clean text → AreJsonLines text }
     ensures part { (options : Options) (kind : InputKind) (file : Option (List ℕ)) (bytes : List ℕ)
         (count number : ℕ) (is_clean : Bool) (text : List ℕ) →
         ArePartLines options kind file bytes count number is_clean text → AreJsonLines text }

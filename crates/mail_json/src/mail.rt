@@ -65,12 +65,12 @@ pub fn write_mail<W: Write, K: KnownCharsets>(
     out: &mut W,
     mail: &ParsedMail<'_>,
     origin: &Origin<'_>,
-    options: LineOptions,
+    options: LineOptions<'_>,
     known: &K,
 ) -> Result<(), Fault>
     requires placed { placements_of mail.now ≡ placements 0 (tree_of mail.now) }
     ensures { WritesOne (W.contents out.old) (W.contents out.new) result text_of
-        (IsMailValue (options_of (K.known known.now) options) (origin_of origin.now)
+        (IsMailValue (options_of (K.known known.now) options.entry) (origin_of origin.now)
         (tree_of mail.now)) }
 {
     let found = places(alloc, mail)?;
@@ -81,7 +81,7 @@ pub fn write_mail<W: Write, K: KnownCharsets>(
     let mut inside = Vec::new(alloc);
     write_word(out, key!("parts"))?;
     write_word(out, "[")?;
-    write_parts(alloc, out, parts, origin.start, options, known, &mut inside)?;
+    write_parts(alloc, out, &mut inside, parts, origin.start, options, known)?;
     write_word(out, "]")?;
     write_word(out, key!("forwarded"))?;
     write_mails(alloc, out, inside.as_slice(), origin.start)?;
@@ -94,13 +94,14 @@ fn head_of<K: KnownCharsets>(
     mail: &ParsedMail<'_>,
     parts: &[Decoded<'_, '_, '_>],
     origin: &Origin<'_>,
-    options: LineOptions,
+    options: LineOptions<'_>,
     known: &K,
 ) -> Result<LineBuffer, Fault>
     requires decoded { AllByRecursion (IsDecoded options.decodes_bodies) parts.now }
     requires whole { map decoded_tree parts.now ≡ trees_within (tree_of mail.now) }
     ensures written { IfOk result (λ line. line_bytes line ≡ begun (head_members
-        (K.known known.now) options.decodes_bodies (origin_of origin.now) (tree_of mail.now))) }
+        (K.known known.now) options.entry.decodes_bodies (origin_of origin.now)
+        (tree_of mail.now))) }
     ensures failed { IfErr result IsEnd }
 {
     let mut line = LineBuffer::new(alloc)?;
@@ -117,13 +118,14 @@ fn write_head<W: Write, K: KnownCharsets>(
     mail: &ParsedMail<'_>,
     parts: &[Decoded<'_, '_, '_>],
     origin: &Origin<'_>,
-    options: LineOptions,
+    options: LineOptions<'_>,
     known: &K,
 ) -> Result<(), Fault>
     requires decoded { AllByRecursion (IsDecoded options.decodes_bodies) parts.now }
     requires whole { map decoded_tree parts.now ≡ trees_within (tree_of mail.now) }
     ensures { BeginsMembers (W.contents out.old) (W.contents out.new) result (head_members
-        (K.known known.now) options.decodes_bodies (origin_of origin.now) (tree_of mail.now)) }
+        (K.known known.now) options.entry.decodes_bodies (origin_of origin.now)
+        (tree_of mail.now)) }
 {
     write_origin(out, origin)?;
     write_values(alloc, out, mail, known)?;

@@ -1,9 +1,10 @@
 //! What an input is, and how its mails are read and shown.
-ghost use Rattle.std.specs.Prelude.{◌≡◌, false, true};
+ghost use Rattle.std.specs.Prelude.{◌≡◌, None, false, true};
 ghost use Rattle.mail_json.specs.JsonLines.{format_of};
 
 use mail_data::mailbox::Format;
 use mail_data::reading::DEFAULT_LIMIT;
+use mail_html::References;
 
 /// What an input is.
 #[derive(Clone, Copy, Debug, PartialEq, Eq)]
@@ -40,8 +41,8 @@ impl InputKind {
 }
 
 /// How mails are read and shown.
-#[derive(Clone, Copy, Debug)]
-pub struct LineOptions {
+#[derive_where(Clone, Copy, Debug)]
+pub struct LineOptions<'r> {
     /// The greatest number of messages, parts and headers in a mail that is not refused. Each mail
     /// inside a mail has this limit for itself.
     pub limit: usize,
@@ -52,11 +53,15 @@ pub struct LineOptions {
     pub hashes: bool,
     /// Whether each paragraph of a flowed text is one line (RFC 3676).
     pub joins_flowed: bool,
+    /// The references under which texts of the type `text/html` have the text of their HTML beside
+    /// them, or `None` if it is left out.
+    #[derive_where(skip(Debug))]
+    pub html: Option<&'r References<'r>>,
 }
 
-impl LineOptions {
+impl<'r> LineOptions<'r> {
     /// Returns options that read mails with the limit `DEFAULT_LIMIT`, decode bodies, show no
-    /// hashes, and show texts as they are.
+    /// hashes, and show texts as they are, without the text of HTML.
     ///
     /// # Examples
     ///
@@ -65,17 +70,19 @@ impl LineOptions {
     ///
     /// assert!(rt; !LineOptions::new().hashes);
     /// ```
-    pub fn new() -> LineOptions
+    pub fn new() -> LineOptions<'r>
         ensures limit { result.limit ≡ 1000000 }
         ensures decodes_bodies { result.decodes_bodies ≡ true }
         ensures hashes { result.hashes ≡ false }
         ensures joins_flowed { result.joins_flowed ≡ false }
+        ensures html { result.html ≡ None }
     {
         LineOptions {
             limit: DEFAULT_LIMIT,
             decodes_bodies: true,
             hashes: false,
             joins_flowed: false,
+            html: None,
         }
     }
 }
@@ -88,7 +95,7 @@ pub struct Source<'s, K> {
     /// The name of the file, or `None` for standard input.
     pub file: Option<&'s str>,
     /// How its mails are shown.
-    pub options: LineOptions,
+    pub options: LineOptions<'s>,
     /// The charsets in which its mails are read.
     #[derive_where(skip(Debug))]
     pub known: &'s K,

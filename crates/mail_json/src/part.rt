@@ -12,8 +12,8 @@ ghost use Rattle.mail_data.specs.lenient.ContentViews.{content_view};
 ghost use Rattle.mail_data.specs.PlaceViews.{place_view};
 ghost use Rattle.mail_data.specs.Files.{is_leaf, is_shown};
 ghost use Rattle.mail_data.specs.ReportViews.{block_view};
-ghost use Rattle.mail_json.specs.Part.{Lists, content_if, hash_of, is_attachment, is_read};
-ghost use Rattle.mail_json.specs.Part.{path_shown, place_in, report_if, text_shown};
+ghost use Rattle.mail_json.specs.Part.{Lists, content_if, hash_of, html_shown, is_attachment};
+ghost use Rattle.mail_json.specs.Part.{is_read, path_shown, place_in, report_if, text_shown};
 ghost use Rattle.mail_json.specs.Options.{options_of};
 ghost use Rattle.mail_json.specs.DecodedViews.{IsDecoded, decoded_place};
 ghost use Rattle.mail_json.specs.LineViews.{line_bytes};
@@ -22,7 +22,8 @@ ghost use Rattle.mail_program.specs.Fault.{IsEnd};
 ghost use Rattle.mail_json.specs.Printed.{comma, listed, member_text, object_of, one, text_of};
 ghost use Rattle.mail_json.specs.Values.{AreValues, IsPartValue, body_members, bounds_in};
 ghost use Rattle.mail_json.specs.Values.{damaged_members, decoded_members, shown_members};
-ghost use Rattle.mail_json.specs.Values.{disposition_members, header_value, parameter_member};
+ghost use Rattle.mail_json.specs.Values.{disposition_members, header_value, no_text_members};
+ghost use Rattle.mail_json.specs.Values.{parameter_member};
 ghost use Rattle.mail_json.specs.Values.{size_members};
 ghost use Rattle.mail_program.specs.Streams.{Writes};
 ghost use Rattle.mail_json.specs.Written.{WritesOne};
@@ -47,6 +48,7 @@ use mail_data::lenient::{Content, charset_used, lenient_text};
 use mail_data::places::Place;
 use mail_data::reports::{Block, has_report, read_blocks};
 use mail_data::texts::text_type;
+use mail_html::{Links, References, html_text};
 use mail_program::{Fault, refusal_of, sha256_text};
 use mailparse::{
     KnownCharsets, MailHeader, MailParseError, ParsedContentDisposition, ParsedContentType,
@@ -57,13 +59,13 @@ use std::io::Write;
 
 /// The mail to which parts belong, and how they are shown.
 #[derive_where(Clone, Copy)]
-pub(crate) struct Form<'f, K> {
+pub(crate) struct Form<'f, 'r, K> {
     /// The path of the part that contains the mail, or `None` for the mail itself.
     pub inside: Option<&'f str>,
     /// The offset in the input at which the mail begins, or `None` if it is encoded.
     pub start: Option<usize>,
     /// How its parts are shown.
-    pub options: LineOptions,
+    pub options: LineOptions<'r>,
     /// The charsets in which they are read.
     pub known: &'f K,
 }
@@ -76,7 +78,7 @@ pub(crate) fn write_found<W: Write, K: KnownCharsets>(
     out: &mut W,
     parts: &[Decoded<'_, '_, '_>],
     first: Position,
-    form: Form<'_, K>,
+    form: Form<'_, '_, K>,
 ) -> Result<(), Fault>
     requires { AllByRecursion (IsDecoded form.options.decodes_bodies) parts.now }
     ensures { WritesOne (W.contents out.old) (W.contents out.new) result
@@ -99,7 +101,7 @@ pub(crate) fn write_part<W: Write, K: KnownCharsets>(
     alloc: Global,
     out: &mut W,
     part: &Decoded<'_, '_, '_>,
-    form: Form<'_, K>,
+    form: Form<'_, '_, K>,
 ) -> Result<(), Fault>
     requires { IsDecoded form.options.decodes_bodies part.now }
     ensures { WritesOne (W.contents out.old) (W.contents out.new) result text_of
@@ -116,7 +118,7 @@ pub(crate) fn write_part<W: Write, K: KnownCharsets>(
 fn object_of<K: KnownCharsets>(
     alloc: Global,
     part: &Decoded<'_, '_, '_>,
-    form: Form<'_, K>,
+    form: Form<'_, '_, K>,
 ) -> Result<LineBuffer, Fault>
     requires { IsDecoded form.options.decodes_bodies part.now }
     ensures written { IfOk result (λ line. (value : Json) × IsPartValue
@@ -137,7 +139,7 @@ fn write_object<W: Write, K: KnownCharsets>(
     alloc: Global,
     out: &mut W,
     decoded: &Decoded<'_, '_, '_>,
-    form: Form<'_, K>,
+    form: Form<'_, '_, K>,
 ) -> Result<(), Fault>
     requires { IsDecoded form.options.decodes_bodies decoded.now }
     ensures { WritesOne (W.contents out.old) (W.contents out.new) result text_of
@@ -257,8 +259,21 @@ pub(crate) fn place_in(start: Option<usize>, at: usize) -> Option<usize>
     Some(start?.saturating_add(at))
 }
 
-/// Returns whether the body of a part is a text that is shown.
-fn is_read(part: &ParsedMail<'_>, disposition: &ParsedContentDisposition) -> bool
+/// Returns whether the body of a part of this disposition is a text that is shown: it has no parts
+/// of its own, is not marked as an attachment, and its type is that of a text.
+///
+/// Does not allocate.
+///
+/// # Examples
+///
+/// ```rust
+/// use mail_json::is_read;
+/// use mailparse::parse_mail;
+///
+/// let mail = parse_mail(alloc, b"Content-Type: text/html\n\n<p>Hello")?;
+/// assert!(rt; is_read(&mail, &mail.get_content_disposition(alloc)?));
+/// ```
+pub fn is_read(part: &ParsedMail<'_>, disposition: &ParsedContentDisposition) -> bool
     ensures { result ≡ is_read (tree_of part.now) (views.disposition disposition.now) }
 {
     !is_attachment_disposition(&disposition.disposition)
@@ -294,7 +309,21 @@ fn write_parameter<W: Write>(out: &mut W, name: &str, value: &str) -> Result<(),
 
 /// Returns whether a part of this disposition is an attachment: it has no parts of its own, and its
 /// disposition and its type are those of one.
-fn is_attachment(
+///
+/// # Errors
+///
+/// `AllocError` if it runs out of memory.
+///
+/// # Examples
+///
+/// ```rust
+/// use mail_json::is_attachment;
+/// use mailparse::parse_mail;
+///
+/// let mail = parse_mail(alloc, b"Content-Disposition: attachment; filename=a.txt\n\nHello")?;
+/// assert!(rt; is_attachment(alloc, &mail, &mail.get_content_disposition(alloc)?)?);
+/// ```
+pub fn is_attachment(
     alloc: Global,
     part: &ParsedMail<'_>,
     disposition: &ParsedContentDisposition,
@@ -390,47 +419,81 @@ fn write_part_text<W: Write, K: KnownCharsets>(
     content: &Option<Content<'_>>,
     part: &ParsedMail<'_>,
     is_read: bool,
-    options: LineOptions,
+    options: LineOptions<'_>,
     known: &K,
 ) -> Result<(), Fault>
     ensures { let node = root (tree_of part.now) in
+        let options = options_of (K.known known.now) options.entry in
         option_map content_view content.now ≡ content_if options.decodes_bodies node →
         AddsMembers (W.contents out.old) (W.contents out.new) result
-        (body_members (K.known known.now) options.joins_flowed is_read node.ctype
+        (body_members options.known options.joins_flowed options.html is_read node.ctype
         (content_if options.decodes_bodies node)) }
 {
     let Some(content) = content else {
-        return add_null(out, key!("text"));
+        return write_no_text(out);
     };
     write_body_text(alloc, out, content, &part.ctype, is_read, options, known)
 }
 
+/// Writes the members of a text that is not shown or not decoded.
+fn write_no_text<W: Write>(out: &mut W) -> Result<(), Fault>
+    ensures { AddsMembers (W.contents out.old) (W.contents out.new) result no_text_members }
+{
+    add_null(out, key!("text"))?;
+    add_null(out, key!("html_text"))?;
+    Ok(())
+}
+
 /// Writes the members of the text of a body, or `null` if it is not shown: the text, with each
-/// flowed paragraph as one line if that is wanted, the charset in which it is read, and whether the
-/// body is damaged.
+/// flowed paragraph as one line if that is wanted, the text of its HTML, the charset in which it is
+/// read, and whether the body is damaged.
 fn write_body_text<W: Write, K: KnownCharsets>(
     alloc: Global,
     out: &mut W,
     content: &Content<'_>,
     ctype: &ParsedContentType,
     is_read: bool,
-    options: LineOptions,
+    options: LineOptions<'_>,
     known: &K,
 ) -> Result<(), Fault>
-    ensures { AddsMembers (W.contents out.old) (W.contents out.new) result
-        (shown_members (K.known known.now) options.joins_flowed is_read (content_type ctype.now)
-        (content_view content.now)) }
+    ensures { let options = options_of (K.known known.now) options.entry in
+        AddsMembers (W.contents out.old) (W.contents out.new) result
+        (shown_members options.known options.joins_flowed options.html is_read
+        (content_type ctype.now) (content_view content.now)) }
 {
     if !is_read {
-        return add_null(out, key!("text"));
+        return write_no_text(out);
     }
     let bytes = content.bytes.as_slice();
     let text = lenient_text(alloc, bytes, ctype, known)?;
     let shown = text_shown(alloc, ctype, text, options.joins_flowed)?;
     add_text(out, key!("text"), shown.as_str())?;
+    let html = html_shown(alloc, ctype, shown.as_str(), options.html)?;
+    add_optional(out, key!("html_text"), html.as_deref())?;
     add_text(out, key!("text_charset"), charset_used(bytes, ctype, known))?;
     write_damaged(out, content.fault.is_some())?;
     Ok(())
+}
+
+/// Returns the text of HTML without the targets of its links if a text of this type is HTML, and
+/// references are given.
+fn html_shown(
+    alloc: Global,
+    ctype: &ParsedContentType,
+    text: &str,
+    references: Option<&References<'_>>,
+) -> Result<Option<String>, AllocError>
+    ensures { IfOk result (λ shown. text_found shown ≡ html_shown
+        (option_map (λ references. references.now) references.entry) (content_type ctype.now)
+        text.now) }
+{
+    let Some(references) = references else {
+        return Ok(None);
+    };
+    if ctype.mimetype.as_str() != "text/html" {
+        return Ok(None);
+    }
+    Ok(Some(html_text(alloc, text, Links::Omitted, references)?))
 }
 
 /// Returns a text of this type as it is shown: with each flowed paragraph as one line, if that is

@@ -328,7 +328,8 @@ pub(crate) fn write_rest<R: Read, W: Write, M: Watch, K: KnownCharsets>(
         (W.contents out.old) (W.contents out.new) result (λ more. AreChosen
         (options_of (K.known source.entry.known.now) source.entry.options)
         (format_of source.entry.kind) (option_map (λ name. name.now) source.entry.file)
-        first.selection (placed_from first.at (entries_in (format_of source.entry.kind) (read.now ++ more)))) }
+        first.selection (placed_from first.at
+        (entries_in (format_of source.entry.kind) (read.now ++ more)))) }
 {
     let format = source.kind.format();
     let mut written = Written::Clean;
@@ -365,8 +366,8 @@ fn write_settled<'a, W: Write, K: KnownCharsets>(
     ensures written { IfOk result (λ s. WritesSettled
         (options_of (K.known source.entry.known.now) source.entry.options)
         (format_of source.entry.kind) (option_map (λ name. name.now) source.entry.file)
-        (W.contents out.old) (W.contents out.new) first.selection first.at bytes.now s.next.selection s.next.at s.rest.now
-        (is_clean s.written)) }
+        (W.contents out.old) (W.contents out.new) first.selection first.at bytes.now
+        s.next.selection s.next.at s.rest.now (is_clean s.written)) }
     ensures failed { IfErr result IsEnd }
 {
     let format = source.kind.format();

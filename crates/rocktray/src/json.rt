@@ -6,6 +6,7 @@ use crate::{Terminals, wrong};
 use clap::ArgMatches;
 use mail_charsets::AllCharsets;
 use mail_data::mailbox::Format;
+use mail_html::References;
 use mail_inputs::{
     Consumer, Content, Meter, NOT_UTF8, Name, Progress, fail, open_regular, read_inputs, shown,
 };
@@ -25,8 +26,10 @@ use std::rt::Files;
 struct How {
     /// What each input is.
     kind: InputKind,
-    /// How mails are shown.
-    options: LineOptions,
+    /// How mails are shown, without the text of HTML.
+    options: LineOptions<'static>,
+    /// Whether HTML has its text.
+    shows_html: bool,
     /// Whether a long run reports its progress.
     progress: Progress,
 }
@@ -62,7 +65,8 @@ impl<W: Write> Consumer for Lines<W> {
     ) -> Result<Outcome, Fault> {
         let mut meter = MailMeter(Meter::new(rt, name, self.how.progress, 0));
         let known = &AllCharsets::standard();
-        let mut source = self.how.source(name, known);
+        let references = &References::standard();
+        let mut source = self.how.source(name, references, known);
         source.kind = known_kind(source.kind, content);
         let written = write_input(rt.alloc(), &mut self.out, reader, source, &mut meter)?;
         Ok(outcome_of(written))
@@ -74,14 +78,28 @@ impl<W: Write> Consumer for Lines<W> {
 }
 
 impl How {
-    /// Returns an input that is read in this way.
-    fn source<'s, K>(self, file: Option<&'s str>, known: &'s K) -> Source<'s, K> {
+    /// Returns an input that is read in this way, under these references.
+    fn source<'s, K>(
+        self,
+        file: Option<&'s str>,
+        references: &'s References<'s>,
+        known: &'s K,
+    ) -> Source<'s, K> {
         Source {
             kind: self.kind,
             file,
-            options: self.options,
+            options: self.line_options(references),
             known,
         }
+    }
+
+    /// Returns how mails are shown, under these references.
+    fn line_options<'r>(self, references: &'r References<'r>) -> LineOptions<'r> {
+        let mut options: LineOptions<'r> = self.options;
+        if self.shows_html {
+            options.html = Some(references);
+        }
+        options
     }
 }
 
@@ -134,6 +152,7 @@ fn how_of(matches: &ArgMatches<'_>, terminals: Terminals) -> How {
     How {
         kind: kind_of(matches),
         options,
+        shows_html: matches.get_flag(ids::HTML_TEXT),
         progress: progress_of(matches, terminals),
     }
 }
@@ -248,7 +267,8 @@ fn write_part<I: Read + Seek, R: Eprint + AllocGlobal, W: Write>(
     let how = lines.how;
     let mut meter = MailMeter(Meter::new(rt, Some(path), how.progress, range.start));
     let known = &AllCharsets::standard();
-    let source = how.source(Some(path), known);
+    let references = &References::standard();
+    let source = how.source(Some(path), references, known);
     if part.number == 1 {
         let out = &mut lines.out;
         return write_first_part(rt.alloc(), out, reader, source, range.end, &mut meter);

@@ -23,6 +23,8 @@ pub mod ids {
 
     pub const HASH: &str = "hash";
 
+    pub const HTML_TEXT: &str = "html-text";
+
     pub const INPUTS: &str = "inputs";
 
     pub const INTO: &str = "into";
@@ -170,6 +172,7 @@ fn json<'a>(alloc: Global) -> Result<Command<'a>, AllocError> {
             ids::FLOWED,
             "Show each paragraph in format=flowed as one line",
         ))?
+        .arg(flag(alloc, ids::HTML_TEXT, "Show the text of HTML beside it"))?
         .arg(flag(
             alloc,
             ids::NO_TEXT,

@@ -43,7 +43,8 @@ use Rattle.mail_json.specs.Inside.{mails_inside, parts_inside}
 use Rattle.mail_program.specs.Refusal.{refusal_text}
 use Rattle.mail_json.specs.Origin.{Origin}
 use Rattle.mail_json.specs.Reports.{delivery_value}
-use Rattle.mail_json.specs.Part.{content_if, hash_of, is_attachment, is_read, place_in, recipients_if, report_if, text_shown}
+use Rattle.mail_html.specs.declared.references.References.{References}
+use Rattle.mail_json.specs.Part.{content_if, hash_of, html_shown, is_attachment, is_read, place_in, recipients_if, report_if, text_shown}
 use Rattle.mail_json.specs.Printed.{line_of, list_of, members_of, object_of, one, seconds_value, string_or_null, text_of}
 use Rattle.mail_json.specs.Values.{address_list, AreInsideValues, AreJsonLines, AreValues, IsJsonLine, IsLineValue, IsMailValue, IsPartValue, block_value, body_members, date_members, decoded_members, element_value, error_value, front_members, header_value, id_list, ids_members, inner_value, origin_members, pair_value, parameter_member, part_members, raw_values, recipients_value, report_value, single_or_unknown_value, single_value, size_members, text_members, unread_value, values_members, zone_members}
 use Rattle.mail_json.proofs.lemmas.Values.{AreGood, IsGood, all_distinct, all_then, flag_good, json_line, list_good, mapped_good, members_then, named_good, null_good, number_good, number_or_null_good, object_good, optional_good, seconds_good, sorted_names, string_good}
@@ -69,10 +70,10 @@ size_good : (d : ℕ) (fault : Option Refusal) (size : ℕ) → AreGood d (size_
 size_good d None size = (number_good d size, tt)
 size_good d (Some refusal) size = (null_good d, (string_good d (refusal_text refusal), tt))
 
-text_good : (d : ℕ) (shows : Bool) (text charset : List ℕ) (is_damaged : Bool) → AreGood d (text_members shows text charset is_damaged)
-text_good d false text charset is_damaged = (null_good d, tt)
-text_good d true text charset false = (string_good d text, (string_good d charset, tt))
-text_good d true text charset true = (string_good d text, (string_good d charset, (flag_good d true, tt)))
+text_good : (d : ℕ) (shows : Bool) (text : List ℕ) (html : Option (List ℕ)) (charset : List ℕ) (is_damaged : Bool) → AreGood d (text_members shows text html charset is_damaged)
+text_good d false text html charset is_damaged = (null_good d, (null_good d, tt))
+text_good d true text html charset false = (string_good d text, (optional_good d html, (string_good d charset, tt)))
+text_good d true text html charset true = (string_good d text, (optional_good d html, (string_good d charset, (flag_good d true, tt))))
 
 pair_good : (d : ℕ) (pair : List ℕ × List ℕ) → IsGood (suc d) (pair_value pair)
 pair_good d pair = list_good d (string pair.0 ∷ string pair.1 ∷ []) (string_good d pair.0, (string_good d pair.1, tt))
@@ -91,31 +92,33 @@ decoded_good : (d : ℕ) (content : Option Content) → AreGood d (decoded_membe
 decoded_good d (Some content) = size_good d content.fault (length content.bytes)
 decoded_good d None = (null_good d, tt)
 
-body_good : (d : ℕ) (known : Charsets) (joins shows : Bool) (ctype : ContentType) (content : Option Content) → AreGood d (body_members known joins shows ctype content)
-body_good d known joins shows ctype (Some content) =
-    let read = text_read known ctype.charset content in text_good d shows (text_shown joins ctype read.text) read.charset read.is_damaged
-body_good d known joins shows ctype None = (null_good d, tt)
+body_good : (d : ℕ) (known : Charsets) (joins : Bool) (html : Option References) (shows : Bool) (ctype : ContentType) (content : Option Content) → AreGood d (body_members known joins html shows ctype content)
+body_good d known joins html shows ctype (Some content) =
+    let read = text_read known ctype.charset content in
+    let text = text_shown joins ctype read.text in text_good d shows text (html_shown html ctype text) read.charset read.is_damaged
+body_good d known joins html shows ctype None = (null_good d, (null_good d, tt))
 
 module _ (options : Options) where
   -- no name occurs twice, whether the size is known or not, and whatever the members of the text are
   shown_distinct : (inside : Option (List ℕ)) (start : Option ℕ) (place : Place) (pairs : List (List ℕ × List ℕ)) (fault : Option Refusal) (size : ℕ) (hash report headers : Json) (shows : Bool)
-      (text charset : List ℕ) (is_damaged : Bool)
+      (text : List ℕ) (html : Option (List ℕ)) (charset : List ℕ) (is_damaged : Bool)
       → all_distinct (keys (members_of (front_members options inside start place pairs ++ size_members fault size ++ one (codes "sha256") hash ++ one (codes "report") report ++ one (codes "headers") headers
-      ++ text_members shows text charset is_damaged))) ≡ true
-  shown_distinct inside start place pairs None size hash report headers false text charset is_damaged = refl
-  shown_distinct inside start place pairs None size hash report headers true text charset true = refl
-  shown_distinct inside start place pairs None size hash report headers true text charset false = refl
-  shown_distinct inside start place pairs (Some refusal) size hash report headers false text charset is_damaged = refl
-  shown_distinct inside start place pairs (Some refusal) size hash report headers true text charset true = refl
-  shown_distinct inside start place pairs (Some refusal) size hash report headers true text charset false = refl
+      ++ text_members shows text html charset is_damaged))) ≡ true
+  shown_distinct inside start place pairs None size hash report headers false text html charset is_damaged = refl
+  shown_distinct inside start place pairs None size hash report headers true text html charset true = refl
+  shown_distinct inside start place pairs None size hash report headers true text html charset false = refl
+  shown_distinct inside start place pairs (Some refusal) size hash report headers false text html charset is_damaged = refl
+  shown_distinct inside start place pairs (Some refusal) size hash report headers true text html charset true = refl
+  shown_distinct inside start place pairs (Some refusal) size hash report headers true text html charset false = refl
 
   part_distinct : (inside : Option (List ℕ)) (start : Option ℕ) (place : Place) (pairs : List (List ℕ × List ℕ)) (content : Option Content) (hash report headers : Json) (shows : Bool)
       → all_distinct (keys (members_of (front_members options inside start place pairs ++ decoded_members content ++ one (codes "sha256") hash ++ one (codes "report") report ++ one (codes "headers") headers
-      ++ body_members options.known options.joins_flowed shows (root place.part).ctype content))) ≡ true
+      ++ body_members options.known options.joins_flowed options.html shows (root place.part).ctype content))) ≡ true
   part_distinct inside start place pairs None hash report headers shows = refl
   part_distinct inside start place pairs (Some content) hash report headers shows =
       let read = text_read options.known (root place.part).ctype.charset content in
-      shown_distinct inside start place pairs content.fault (length content.bytes) hash report headers shows (text_shown options.joins_flowed (root place.part).ctype read.text) read.charset read.is_damaged
+      shown_distinct inside start place pairs content.fault (length content.bytes) hash report headers shows
+      (text_shown options.joins_flowed (root place.part).ctype read.text) (html_shown options.html (root place.part).ctype (text_shown options.joins_flowed (root place.part).ctype read.text)) read.charset read.is_damaged
 
   part_good : (inside : Option (List ℕ)) (start : Option ℕ) (place : Place) (pairs : List (List ℕ × List ℕ)) → IsStrictlySortedBy (slice_cmp nat_cmp) (map (λ p. p.0) pairs)
       → IsGood 4 (object_of (part_members options inside start place pairs))
@@ -130,7 +133,7 @@ module _ (options : Options) where
       let hash = string_or_null (hash_of (options.hashes && extracted) content) in
       let report = report_value (report_if options.known options.decodes_bodies node) in
       let headers = list_of (map (header_value options.known) node.headers) in
-      let text = body_members options.known options.joins_flowed shows node.ctype content in
+      let text = body_members options.known options.joins_flowed options.html shows node.ctype content in
       let sized : AreGood 3 (size ++ one (codes "sha256") hash) = members_then 3 size (one (codes "sha256") hash) (decoded_good 3 content) (optional_good 3 _, tt) in
       let reported : AreGood 3 (size ++ one (codes "sha256") hash ++ one (codes "report") report) =
       members_then 3 (size ++ one (codes "sha256") hash) (one (codes "report") report) sized (report_good 0 _, tt) in
@@ -138,7 +141,7 @@ module _ (options : Options) where
       members_then 3 (size ++ one (codes "sha256") hash ++ one (codes "report") report) (one (codes "headers") headers) reported
       (mapped_good 2 (header_value options.known) (header_good options.known 1) node.headers, tt) in
       let rest : AreGood 3 (size ++ one (codes "sha256") hash ++ one (codes "report") report ++ one (codes "headers") headers ++ text) =
-      members_then 3 (size ++ one (codes "sha256") hash ++ one (codes "report") report ++ one (codes "headers") headers) text listed (body_good 3 options.known options.joins_flowed shows node.ctype content) in
+      members_then 3 (size ++ one (codes "sha256") hash ++ one (codes "report") report ++ one (codes "headers") headers) text listed (body_good 3 options.known options.joins_flowed options.html shows node.ctype content) in
       named_good (part_distinct inside start place pairs content hash report headers shows)
       (string_good 3 _, (optional_good 3 inside, (string_good 3 node.ctype.mimetype, (string_good 3 node.ctype.charset, (params_good 2 pairs ordered, (optional_good 3 _, (optional_good 3 _, (optional_good 3 _, (flag_good 3 attached, (flag_good 3 extracted, (string_good 3 _, (number_or_null_good 3 _, (number_or_null_good 3 _, (number_good 3 (length node.body), rest))))))))))))))
 

@@ -1,5 +1,5 @@
 -- Lemmas on the objects of parts, and on the parameters of a type.
-use Rattle.std.proofs.Common.{◌≡◌, ℕ, Bool, true, false, List, [], ◌∷◌, ◌++◌, map, Option, Some, Result, option_map, cond, String, refl, sym, ap, subst, ◌∙◌, append_assoc}
+use Rattle.std.proofs.Common.{◌≡◌, ℕ, Bool, true, false, List, [], ◌∷◌, ◌++◌, map, Option, Some, None, Result, option_map, cond, String, refl, sym, ap, subst, ◌∙◌, append_assoc}
 use Rattle.std.proofs.lemmas.List.{append-nil}
 use Rattle.std.proofs.lemmas.Map.Text.{is_eq-slice_cmp}
 use Rattle.std.specs.Prelude.{◌&&◌, ◌||◌, codes, not}
@@ -25,13 +25,16 @@ use Rattle.mail_data.specs.Files.{is_extracted, is_leaf, is_shown}
 use Rattle.mail_data.specs.lenient.Content.{Content, message_content}
 use Rattle.mail_data.specs.lenient.Texts.{BodyText, text_read}
 use Rattle.mail_json.specs.Options.{Options}
-use Rattle.mail_json.specs.Part.{Lists, content_if, is_attachment, text_shown}
-use Rattle.mail_json.specs.Printed.{Member, listed, one, text_of}
-use Rattle.mail_json.specs.Values.{AreValues, IsPartValue, shown_members, text_members}
+use Rattle.mail_html.specs.Text.{html_text}
+use Rattle.mail_html.specs.declared.links.Links.TheVariants.{Omitted}
+use Rattle.mail_html.specs.declared.references.References.{References}
+use Rattle.mail_json.specs.Part.{Lists, content_if, html_shown, is_attachment, text_shown}
+use Rattle.mail_json.specs.Printed.{Member, listed, text_of}
+use Rattle.mail_json.specs.Values.{AreValues, IsPartValue, no_text_members, shown_members, text_members}
 use Rattle.mail_json.specs.Written.{WritesOne}
 use Rattle.mail_data.specs.PartPlaces.{Place}
 use Rattle.mail_program.specs.declared.fault.Fault.{Fault}
-use Rattle.json.specs.Json.{Json, null}
+use Rattle.json.specs.Json.{Json}
 use Rattle.mail_json.proofs.lemmas.JsonText.{listed-comma}
 
 -- ---- the objects
@@ -68,8 +71,10 @@ found_as options inside text s t xs ys old new r e f h =
     (subst (λ (zs : List Place). WritesOne old new r text (AreValues (IsPartValue options inside s) zs)) f h)
 
 -- the members of a text that was read, with each flowed paragraph as one line if that is wanted
-abbrev pub read_members : Bool → ContentType → BodyText → List Member
-read_members joins ctype read = text_members true (text_shown joins ctype read.text) read.charset read.is_damaged
+abbrev pub read_members : Bool → Option References → ContentType → BodyText → List Member
+read_members joins html ctype read =
+    let text = text_shown joins ctype read.text in
+    text_members true text (html_shown html ctype text) read.charset read.is_damaged
 
 -- ---- a message and its parts
 
@@ -127,10 +132,19 @@ pub content_some : (decodes : Bool) (node : Node) (content : Content) → conten
 content_some true node content e = (cc, refl)
 content_some false node content e = absurd (cc)
 
-pub text-hidden : (known : Charsets) (joins shows : Bool) (ctype : ContentType) (content : Content) → shows ≡ false
-    → one (codes "text") null ≡ shown_members known joins shows ctype content
-text-hidden known joins shows ctype content e = rw e refl
+pub text-hidden : (known : Charsets) (joins : Bool) (html : Option References) (shows : Bool) (ctype : ContentType) (content : Content) → shows ≡ false
+    → no_text_members ≡ shown_members known joins html shows ctype content
+text-hidden known joins html shows ctype content e = rw e refl
 
-pub text-shown : (known : Charsets) (joins shows : Bool) (ctype : ContentType) (content : Content) → shows ≡ true
-    → read_members joins ctype (text_read known ctype.charset content) ≡ shown_members known joins shows ctype content
-text-shown known joins shows ctype content e = rw e refl
+pub text-shown : (known : Charsets) (joins : Bool) (html : Option References) (shows : Bool) (ctype : ContentType) (content : Content) → shows ≡ true
+    → read_members joins html ctype (text_read known ctype.charset content) ≡ shown_members known joins html shows ctype content
+text-shown known joins html shows ctype content e = rw e refl
+
+-- a text that is HTML, and one that is not
+pub html-shown : (references : References) (ctype : ContentType) (text : List ℕ) → bytes_eq ctype.mimetype (codes "text/html") ≡ true
+    → Some (html_text Omitted references text) ≡ html_shown (Some references) ctype text
+html-shown references ctype text e = rw e refl
+
+pub html-other : (references : References) (ctype : ContentType) (text : List ℕ) → bytes_eq ctype.mimetype (codes "text/html") ≡ false
+    → None ≡ html_shown (Some references) ctype text
+html-other references ctype text e = rw e refl

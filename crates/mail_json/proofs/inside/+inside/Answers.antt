@@ -6,6 +6,7 @@ use Rattle.mail_data.specs.Reading.{mail_reading}
 use Rattle.mailparse.specs.Outcome.{refusal_of}
 use Rattle.mailparse.specs.Placement.{Placement}
 use Rattle.mailparse.specs.Views.{placements_of, tree_of}
+use Rattle.mailparse.specs.declared.mail.message.ParsedMail.{ParsedMail}
 use Rattle.mail_data.proofs.lemmas.InnerMails.{forwarded-is}
 use Rattle.mail_data.specs.InnerMails.{InnerMail, mails_in_place, places_under}
 use Rattle.mail_data.specs.PartPlaces.{Place}
@@ -108,8 +109,9 @@ write_forwarded-returns-in_ok-write_found-in-Ok-clause-written g t c = λ is.
     let read = c.in-Ok.ensures.read in
     let path = c.as_str-path.ensures.value in
     let places =
-    c.in_ok-found-in-Ok.ensures ∙ ap (λ (p : List ℕ). places_under p (tree_of mail) (placements_of mail)) path
-    ∙ ap (λ (ps : List Placement). places_under place.path (tree_of mail) ps) c.in-Ok.ensures.places in
+    c.in_ok-found-in-Ok.ensures ∙ ap (λ (m : ParsedMail). places_under c.as_str-path.result.now (tree_of m) (placements_of m)) c.deref.ensures
+    ∙ ap (λ (p : List ℕ). places_under p (tree_of mail.value) (placements_of mail.value)) path
+    ∙ ap (λ (ps : List Placement). places_under place.path (tree_of mail.value) ps) c.in-Ok.ensures.places in
     let made = c.in_ok-parts-in-Ok.ensures.places ∙ ap (map place_view) c.as_slice.ensures.value ∙ places in
     let first = ap (map decoded_place) c.as_slice-in-Ok.ensures.value ∙ made in
     let again = ap (map decoded_place) c.as_slice-in-Ok-2.ensures.value ∙ made in
@@ -119,7 +121,7 @@ write_forwarded-returns-in_ok-write_found-in-Ok-clause-written g t c = λ is.
     let are =
     subst (λ (p : List ℕ). AreValues (IsPartValue options (Some p) (place_in start within.origin)) (map decoded_place c.as_slice-in-Ok.result.now) own.0) path placed in
     let all = subst (AllByRecursion (IsDecoded c.args.options.decodes_bodies)) (sym c.as_slice-in-Ok-2.ensures.value) c.in_ok-parts-in-Ok.ensures.decoded in
-    read_written options within.origin within.most within.start place start bytes (tree_of mail) _ _ _ _ _ c.write_inside.result own.0 some read first again are own.2
+    read_written options within.origin within.most within.start place start bytes (tree_of mail.value) _ _ _ _ _ c.write_inside.result own.0 some read first again are own.2
     (c.write_inside.ensures.written all)
 
 pub write_forwarded-returns-in_ok-write_found-in-Ok-clause-listed : goal.write_forwarded-returns-in_ok-write_found-in-Ok-clause-listed
@@ -137,12 +139,13 @@ write_forwarded-returns-in_ok-write_found-in-Ok-clause-listed g t c = λ is.
     let one =
     c.in_ok-push_inside-in-Ok.ensures ∙ ap (λ (p : List ℕ). map inside_view c.args.mails.now.items ++ listed_with p start None ∷ []) path in
     let places =
-    c.in_ok-found-in-Ok.ensures ∙ ap (λ (p : List ℕ). places_under p (tree_of mail) (placements_of mail)) path
-    ∙ ap (λ (ps : List Placement). places_under place.path (tree_of mail) ps) c.in-Ok.ensures.places in
+    c.in_ok-found-in-Ok.ensures ∙ ap (λ (m : ParsedMail). places_under c.as_str-path.result.now (tree_of m) (placements_of m)) c.deref.ensures
+    ∙ ap (λ (p : List ℕ). places_under p (tree_of mail.value) (placements_of mail.value)) path
+    ∙ ap (λ (ps : List Placement). places_under place.path (tree_of mail.value) ps) c.in-Ok.ensures.places in
     let again =
     ap (map decoded_place) c.as_slice-in-Ok-2.ensures.value ∙ c.in_ok-parts-in-Ok.ensures.places ∙ ap (map place_view) c.as_slice.ensures.value ∙ places in
     let all = subst (AllByRecursion (IsDecoded c.args.options.decodes_bodies)) (sym c.as_slice-in-Ok-2.ensures.value) c.in_ok-parts-in-Ok.ensures.decoded in
-    read_listed options within.origin within.most within.start place start bytes (tree_of mail) _ _ _ _ c.write_inside.result some c.in-Ok.ensures.read again one
+    read_listed options within.origin within.most within.start place start bytes (tree_of mail.value) _ _ _ _ c.write_inside.result some c.in-Ok.ensures.read again one
     (c.write_inside.ensures.listed all)
 
 pub write_forwarded-returns-in_ok-push_refused-in-Err-clause-written : goal.write_forwarded-returns-in_ok-push_refused-in-Err-clause-written

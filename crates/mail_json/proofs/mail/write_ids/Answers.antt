@@ -1,4 +1,4 @@
-use Rattle.std.proofs.Common.{ℕ, List, String, Global, map, string_bytes, true, false, sym, ap, ◌∙◌}
+use Rattle.std.proofs.Common.{ℕ, List, String, Global, map, string_bytes, true, false, ap, ◌∙◌}
 use Rattle.std.specs.Prelude.{codes}
 use Rattle.mail_data.specs.Archive.{ids_of}
 use Rattle.mail_json.specs.Printed.{strings}
