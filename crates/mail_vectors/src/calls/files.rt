@@ -1,12 +1,12 @@
 //! The calls on files. A part is the one at a number of `parts`, the whole mail at 0.
 //!
-//! `safe_file_name NAME => NAME`
+//! `safe_file_name NAME => NAME` and `windows_file_name NAME => NAME`
 
 use crate::calls::tables::all_tables;
 use crate::notation::{Answer, Decision, FORM, Outcome, Row};
 use mail_data::files::{
-    attachments, describes_attachment, file_name, filled_parameter, is_attachment, is_extracted,
-    is_leaf, named_file, safe_file_name,
+    attachments, describes_attachment, file_name, file_name_or_path, filled_parameter,
+    is_attachment, is_extracted, is_leaf, named_file, safe_file_name, windows_file_name,
 };
 use mail_data::places::places;
 use mailparse::{
@@ -21,12 +21,15 @@ pub fn make(answer: &mut Answer, row: &Row) -> Decision {
     match row.call.as_str() {
         "attachments" => list_files(answer, row, &())?,
         "attachments_with" => list_files(answer, row, &all_tables())?,
-        "file_name" | "is_attachment" | "is_extracted" | "is_leaf" => look_at(answer, row, &())?,
+        "file_name" | "file_name_or_path" | "is_attachment" | "is_extracted" | "is_leaf" => {
+            look_at(answer, row, &())?;
+        }
         "file_name_with" | "is_attachment_with" => look_at(answer, row, &all_tables())?,
         "named_file" | "describes_attachment" => describe(answer, row)?,
         "filled_parameter" => get_parameter(answer, row)?,
         "part_places" => list_places(answer, row)?,
         "safe_file_name" => answer.put(safe_file_name(row.alloc, row.text(0))),
+        "windows_file_name" => answer.put(windows_file_name(row.alloc, row.text(0))),
         _ => return Ok(false),
     }
     Ok(true)
@@ -53,14 +56,15 @@ fn list_files<K: KnownCharsets>(answer: &mut Answer, row: &Row, known: &K) -> Ou
     Ok(())
 }
 
-/// `file_name MAIL PART => NAME`, `is_attachment MAIL PART => TRUTH`, `is_extracted MAIL PART =>
-/// TRUTH` and `is_leaf MAIL PART => TRUTH`; likewise `file_name_with` and `is_attachment_with`,
-/// under all tables.
+/// `file_name MAIL PART => NAME`, `file_name_or_path MAIL PART => NAME`, `is_attachment MAIL PART =>
+/// TRUTH`, `is_extracted MAIL PART => TRUTH` and `is_leaf MAIL PART => TRUTH`; likewise
+/// `file_name_with` and `is_attachment_with`, under all tables.
 fn look_at<K: KnownCharsets>(answer: &mut Answer, row: &Row, known: &K) -> Outcome {
     let mail = parse_mail_in(row.alloc, row.bytes(0), known)?;
     let part = part_at(row.alloc, &mail, row.number(1))?;
     match row.call.as_str() {
         "file_name" | "file_name_with" => answer.put(file_name(row.alloc, part, known)),
+        "file_name_or_path" => answer.put(file_name_or_path(row.alloc, part, known)),
         "is_leaf" => answer.put(is_leaf(part)),
         "is_extracted" => answer.put(is_extracted(row.alloc, part, known)),
         _ => answer.put(is_attachment(row.alloc, part, known)),

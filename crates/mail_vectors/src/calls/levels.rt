@@ -3,6 +3,7 @@
 //! - `max_levels => NUMBER`.
 //! - `parse_mail_limited LEVELS MAIL => PARTS`: how many parts there are, or the refusal.
 //! - `parse_mail_within LEVELS ITEMS MAIL => PARTS`: the same under a limit on parts and headers too.
+//! - `read_mail ITEMS MAIL => PARTS`: the same as the programs read mails, which sets the levels.
 //! - `kept_within ITEMS MAIL => PARTS`: the same in the lenient manner, which keeps refused messages.
 //! - `block_headers MAIL => HEADERS`: how many headers its block has, 0 if that is refused.
 //! - `levels MAIL => LEVELS PARTS PARTS`: the least limit under which the mail is not refused for
@@ -15,6 +16,7 @@
 use crate::calls::parts::{Held, count_below};
 use crate::notation::{Answer, Decision, FORM, Outcome, Row};
 use mail_data::lenient::Lenient;
+use mail_data::reading::read_mail;
 use mailparse::{
     MAX_LEVELS, MailParseError, ParsedMail, Strict, count_headers, parse_mail, parse_mail_limited,
     parse_mail_within,
@@ -32,6 +34,7 @@ pub fn make(answer: &mut Answer, row: &Row) -> Decision {
             let found = count_within(row.alloc, row.bytes(2), row.levels(0), row.number(1));
             answer.put(found);
         }
+        "read_mail" => answer.put(count_read(row.alloc, row.bytes(1), row.number(0))),
         "kept_within" => answer.put(count_kept(row.alloc, row.bytes(1), row.number(0))),
         "block_headers" => answer.put(count_headers(row.bytes(0))),
         "levels" => push_levels(answer, row)?,
@@ -61,6 +64,12 @@ fn count_within(
         return Err(FORM);
     }
     let mail = parse_mail_within(alloc, raw, levels, most, &Strict(&()))?;
+    count_below(alloc, &mail)
+}
+
+/// Returns how many parts a mail has as the programs read it, under a limit on parts and headers.
+fn count_read(alloc: Global, raw: &[u8], most: usize) -> Result<usize, MailParseError> {
+    let mail = read_mail(alloc, raw, most, &())?;
     count_below(alloc, &mail)
 }
 

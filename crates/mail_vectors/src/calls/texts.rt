@@ -4,9 +4,9 @@
 use crate::calls::tables::all_tables;
 use crate::notation::{Answer, Decision, Outcome, Row};
 use mail_data::flowed::{DelSp, flowed_text, unflowed};
-use mail_data::inner_mails::{InnerMail, inner_mails, places_under};
+use mail_data::inner_mails::{InnerMail, forwards, inner_mails, places_under};
 use mail_data::texts::{text_part, text_type};
-use mailparse::{KnownCharsets, MailParseError, parse_mail_in};
+use mailparse::{KnownCharsets, MailParseError, parse_mail, parse_mail_in};
 
 /// Makes the call of a row, if it is one of these.
 pub fn make(answer: &mut Answer, row: &Row) -> Decision {
@@ -16,6 +16,7 @@ pub fn make(answer: &mut Answer, row: &Row) -> Decision {
         "inner_mail_bytes" | "last_inner_mail" => read_inner(answer, row, &())?,
         "inner_mails" => read_inner(answer, row, &all_tables())?,
         "flowed_text" => read_flowed(answer, row)?,
+        "forwards" => say_forwards(answer, row)?,
         "text_type" => answer.put(text_type(row.text(0))),
         "unflowed" => join_lines(answer, row),
         _ => return Ok(false),
@@ -48,6 +49,13 @@ fn find_text<K: KnownCharsets>(answer: &mut Answer, row: &Row, known: &K) -> Out
 fn read_flowed(answer: &mut Answer, row: &Row) -> Outcome {
     let mail = parse_mail_in(row.alloc, row.bytes(0), &all_tables())?;
     answer.put(flowed_text(row.alloc, &mail, &all_tables())?.text);
+    Ok(())
+}
+
+/// `forwards MAIL => TRUTH` of the whole mail.
+fn say_forwards(answer: &mut Answer, row: &Row) -> Outcome {
+    let mail = parse_mail(row.alloc, row.bytes(0))?;
+    answer.put(forwards(&mail));
     Ok(())
 }
 
