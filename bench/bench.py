@@ -18,7 +18,8 @@ The programs must be built (tools/program.sh mail_speed and so on); other reader
 out. The Rust crate is --oracle PROGRAM (oracle/crate), --encoding-rs PROGRAM decodes encodings of several bytes
 alone. GMime needs libgmime-3.0-dev; it copies the input first, reads mails inside `message/rfc822` too, and mailboxes
 by its own reader. mimetic needs libmimetic-dev; it leaves encoded words in values, and finds no parts after a
-multipart without its end. Python's email reads mails inside `message/rfc822` too. fetch_real.sh DIRECTORY takes real
+multipart without its end. Python's email reads mails inside `message/rfc822` too. The cases `html` and `real-html` are
+read by html.parser, with a collector of text, and by `lynx -dump`, whose start is taken off. fetch_real.sh DIRECTORY takes real
 mails for --real out of Debian's source packages, and made_mails.py makes the others. README.md has figures.
 """
 import argparse
@@ -40,7 +41,7 @@ import c_library
 import made_mails
 import python_module
 import real_mail
-from texts import CHARSETS, text_of
+from texts import CHARSETS, html_of, text_of
 
 TURN = 2e8  # nanoseconds of a turn
 SLOW = 1e9  # a round that takes longer has three turns
@@ -100,15 +101,17 @@ CASES = {
     "escapes": made("escapes-body", "quoted-printable"),
     **{kind: made(kind, "values") for kind in ("folds", "folded-letters", "openings", "encoded-words", "letters")},
     **{label: charset(label) for label in CHARSETS},
+    "html": Case("HTML of newsletters", lambda scale: html_of(int(scale * 1_000_000)), ("html",)),
 }
 REAL = {
     "real": ("one real mail", 6_000_000, real_mail.as_parts, ("parse", "all")),
     "real-300k": ("one real mail", 300_000, real_mail.as_parts, ("parse", "all")),
     "real-mailbox": ("a mailbox of real mails", 6_000_000, real_mail.as_mailbox, ("mailbox-parse", "mailbox-all")),
+    "real-html": ("the HTML parts", 60_000_000, real_mail.as_html, ("html",)),
 }
 # what others call `all` is `full` here
 OURS = {"all": "full", "mailbox-all": "mailbox-full"}
-CODECS = {"absent", "lines", "text", "whitespace", "base64", "base64-body", "quoted-printable", "values"}
+CODECS = {"absent", "lines", "text", "whitespace", "base64", "base64-body", "quoted-printable", "values", "html"}
 
 
 @dataclass
@@ -170,7 +173,17 @@ def readers(asked, work):
     if not asked.instructions:
         script = os.path.join(HERE, "readers", "email_reader.py")
         found.append(Reader("email", lambda rounds, it: None if is_codec(it) else [sys.executable, script, "bench", rounds, it]))
+        found += [html_reader(name) for name in ("html.parser", "lynx") if {"html", "real-html"} & set(asked.cases)]
     return [reader for reader in found if reader]
+
+
+def html_reader(name):
+    """A reader of HTML, or None."""
+    if name == "lynx" and not shutil.which(name):
+        leave_out(name, "it is not installed")
+        return None
+    script = os.path.join(HERE, "readers", "html_reader.py")
+    return Reader(name, lambda rounds, it: [sys.executable, script, name, rounds] if it == "html" else None)
 
 
 def crate_command(oracle, rounds, work):

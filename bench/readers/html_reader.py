@@ -68,19 +68,20 @@ def took(call, *arguments):
     return time.perf_counter_ns() - start
 
 
-def dumped(directory, name):
-    """Reads a file by lynx."""
-    subprocess.run([*LYNX, name], cwd=directory, stdout=subprocess.DEVNULL, check=True)
+def dumped(directory, names):
+    """Reads files by one run of lynx."""
+    subprocess.run([*LYNX, *names], cwd=directory, stdout=subprocess.DEVNULL, check=True)
 
 
 def times_of_lynx(data, rounds):
-    """The times of lynx, without its start."""
+    """The times of lynx, without its start. A run reads a short document as often as makes a megabyte."""
+    copies = [f"{number}.html" for number in range(max(1, 1_000_000 // max(len(data), 1)))]
     with tempfile.TemporaryDirectory() as directory:
-        for name, content in (("all.html", data), ("none.html", b""), ("lynx.cfg", LYNX_SETTINGS.encode())):
+        for name, content in (("none.html", b""), ("lynx.cfg", LYNX_SETTINGS.encode()), *((name, data) for name in copies)):
             with open(os.path.join(directory, name), "wb") as file:
                 file.write(content)
-        start = min(took(dumped, directory, "none.html") for _ in range(5))
-        return [took(dumped, directory, "all.html") - start for _ in range(rounds)]
+        start = min(took(dumped, directory, ["none.html"]) for _ in range(5))
+        return [(took(dumped, directory, copies) - start) / len(copies) for _ in range(rounds)]
 
 
 def main():

@@ -4,8 +4,10 @@ use mail_charsets::{Encoding, Indexes};
 use mail_codec::bytescan::{find, find_byte, strip_ascii_whitespace};
 use mail_codec::transfer::{decode_base64, decode_base64_body, decode_quoted_printable};
 use mail_data::mailbox::{Format, read_mailbox};
+use mail_html::{Links, References, html_text};
 use mailparse::{MailParseError, ParsedMail, parse_mail};
 use std::alloc::{AllocError, Global};
+use std::str;
 
 /// Runs the task of this name. Returns the size of its result: bytes, lines, or headers of a
 /// message.
@@ -23,7 +25,19 @@ pub fn run(alloc: Global, name: &str, input: &[u8]) -> Result<usize, MailParseEr
         "full" => full(alloc, &parse_mail(alloc, input)?),
         "mailbox-parse" => mails(alloc, false, input),
         "mailbox-full" => mails(alloc, true, input),
+        "html" => html(alloc, input),
         _ => decoded(alloc, name, input),
+    }
+}
+
+/// Reads the text of HTML. Returns its length.
+fn html(alloc: Global, input: &[u8]) -> Result<usize, MailParseError> {
+    match str::from_utf8(input) {
+        Ok(html) => {
+            let text = html_text(alloc, html, Links::Omitted, &References::standard())?;
+            Ok(text.len())
+        }
+        Err(_) => Err(MailParseError::Generic("the input is not UTF-8")),
     }
 }
 
