@@ -9,8 +9,10 @@ commands of docs/SCRIPTS.md for GNU parallel run unchanged. It takes about 30 s.
 
 import bz2
 import contextlib
+import email
 import glob
 import gzip
+import importlib
 import importlib.util
 import json
 import lzma
@@ -27,8 +29,11 @@ import pytest
 from support import FROM, TOP, missing, program, run, text_of
 
 from archive import write_index
+from compare_real import mails_at
 from fences import fences_of
 from made_mails import mailbox
+from readers.html_reader import by_parser
+from real_mail import html_parts
 
 pytestmark = pytest.mark.xdist_group("archive")
 EXAMPLES = os.path.join(TOP, "examples", "archive")
@@ -43,7 +48,7 @@ PART = "all.mbox (--part 9/30)"
 STAND_IN = """#!/bin/sh
 [ ! -e '{directory}/slow' ] || sleep 0.1
 case $* in
-    'json --part 9/30 '*)
+    'json --html-text --part 9/30 '*)
         if [ -e '{directory}/deadly' ]; then
             [ -e '{directory}/always' ] || rm '{directory}/deadly'
             '{json}' "$@" | head -c 100000
@@ -59,7 +64,8 @@ SMALL = (
     b"Date: Mon, 3 Mar 2025 10:00:00 +0000\nContent-Type: multipart/mixed; boundary=b\n\n"
     b"--b\n\nThe quagga is extinct.\n--b\nContent-Type: application/pdf; name=quagga.pdf\n\nx\n--b--\n",
     b"From: Bo <bo@example.net>\nSubject: Re: Zebra crossing\nMessage-ID: <2@small>\nIn-Reply-To: <1@small>\n"
-    b"Date: Tue, 4 Mar 2025 10:00:00 +0000\nContent-Type: text/html\n\n<p title=okapi>So is the aurochs.</p>\n",
+    b"Date: Tue, 4 Mar 2025 10:00:00 +0000\nContent-Type: text/html\n\n"
+    b"<style>dodo</style><p title='okapi > kakapo'>So is the <b>aur</b>ochs,<br>the kak&aacute;po&hellip;<!-- moa > huia --></p>\n",
     b" refused\n",
     b"From: \x1b[31mCai@example.net\nSubject: =?utf-8?q?Zebra=0Aforged?=\nMessage-ID: <3@small>\nReferences: <0@small> <2@small>\n\n.\n",
 )
@@ -192,7 +198,7 @@ def stack():
 def wanted(directory):
     """The lines of one process over the archive."""
     calls = make_archive(directory)
-    lines = b"".join(run([program("rocktray"), "json", *arguments]).stdout for arguments in calls)
+    lines = b"".join(run([program("rocktray"), "json", "--html-text", *arguments]).stdout for arguments in calls)
     assert lines.count(b"\n") == MAILS + 10
     write(os.path.join(directory, "rocktray"), STAND_IN.format(directory=directory, json=program("rocktray")).encode())
     os.chmod(os.path.join(directory, "rocktray"), 0o755)
@@ -374,7 +380,8 @@ def test_searched(runs):
         (["subject:", "zebra"], [answer, first, forged]),
         (["body: zebra"], []),
         (["auroch*"], [answer]),
-        (["okapi"], []),
+        (['"so is the aurochs the kakapo"'], [answer]),
+        *((([word], []) for word in ("okapi", "dodo", "moa", "huia", "aacute"))),
         (["--from", "ana@example.net"], [first]),
         (["crossing", "--from", "bo"], [answer]),
         (["zebra", "--after", "2025-03-04"], [answer]),
@@ -526,6 +533,11 @@ def test_lists(runs):
         ended = runs.call("search.py", "lists.db", *arguments)
         wanted = "-\tAna Lima <ana@example.net>, bo@example.net\tLists\ta\t1\tx:0-1\n"
         assert ended.stdout.decode() == wanted, f"addresses in lists: {arguments}"
+    html = {**file, "type": "text/html", "text": "<p>x", "html_text": None}
+    write(runs.path("other/a.jsonl"), json.dumps({**line, "parts": [html]}).encode() + b"\n")
+    write(runs.path("other/MANIFEST"), b'{"shard": "a.jsonl"}\n')
+    ended = runs.call("load_sqlite.py", "other", "other.db")
+    assert ended.returncode == 1 and b"a shard has no text of HTML: repeat index_archive.py" in ended.stderr, "lines without --html-text"
     write(runs.path("old/a.jsonl"), json.dumps({**line, "schema": 4}).encode() + b"\n")
     write(runs.path("old/MANIFEST"), b'{"shard": "a.jsonl"}\n')
     ended = runs.call("load_sqlite.py", "old", "old.db")
@@ -546,3 +558,32 @@ def test_parallel(runs):
         wanted = subprocess.run([program("rocktray"), "json", "--part", "1/1", "all.mbox"], cwd=place, stdout=subprocess.PIPE, check=False).stdout
         with open(os.path.join(place, "mails.json"), "rb") as found:
             assert found.read() == wanted, "GNU parallel: the lines"
+
+
+def html_alone(directory):
+    """The real mails whose only texts are HTML: each with its path, its id or None, and the longest of its words."""
+    for path, raw in mails_at([directory]):
+        mail = email.message_from_bytes(raw)
+        kinds = {part.get_content_type() for part in mail.walk() if part.get_content_maintype() == "text"}
+        text = "\n".join(filter(None, map(by_parser, html_parts(raw))))
+        if kinds == {"text/html"} and (found := re.findall(r"\b[a-zA-Z]+\b", text)):
+            yield path, ((mail["message-id"] or "").strip().strip("<>") or None), max(found, key=len)
+
+
+def test_real_html(request, tmp_path):
+    """Each real mail that has HTML alone is found by a word of its text, and a page of web.py shows this."""
+    given = request.config.getoption("--real") or pytest.skip("real mails are given by --real")
+    script, database = os.path.join(EXAMPLES, "index_archive.py"), str(tmp_path / "db")
+    places = [os.path.join(TOP, one) for one in given]
+    command = [sys.executable, script, tmp_path / "index", *places, "--program", program("rocktray"), "--skip-bad", "--load", database]
+    assert subprocess.run(command, stderr=subprocess.DEVNULL, check=False).returncode == 0
+    client = importlib.import_module("web").create_app(database, program("rocktray")).test_client()
+    slices = list(map(search.opened, search.slices_of(database)))
+    mails = [one for place in places for one in html_alone(place)]
+    for path, message_id, word in mails:
+        found, _ = search.found_in(slices, [search.with_words(search.quoted(word))], None)
+        those = [(db, number) for mail, db, number in found if mail["file"] == path.partition(":")[0] or mail["message_id"] == message_id]
+        assert those, (path, word)
+        shown = [client.get(f"/mail/{slices.index(db)}/{number}").text for db, number in those]
+        assert any(word in page.partition("<pre>")[2].partition("</pre>")[0] for page in shown), (path, word)
+    assert len(mails) >= 25, "mails with HTML alone"

@@ -32,7 +32,7 @@ MAILS = (
     "Date: Mon, 3 Mar 2025 10:00:00 +0000\nContent-Type: multipart/mixed; boundary=b\n\n"
     "--b\n\nThe quagga is extinct.\n--b\nContent-Type: application/pdf\nContent-Disposition: attachment; filename=quagga.pdf\n\n%PDF-x\n--b--\n",
     "From: Bo <bo@example.net>\nSubject: Re: Zebra crossing\nMessage-ID: <2@small>\nIn-Reply-To: <1@small>\n"
-    "Date: Tue, 4 Mar 2025 10:00:00 +0000\n\nSo is the aurochs.\n",
+    "Date: Tue, 4 Mar 2025 10:00:00 +0000\nContent-Type: text/html\n\n<style>dodo</style><p title='>'>So &lt;is&gt; the <b>aur</b>ochs.</p>\n",
     f"From: {WORD} <evil@example.net>\nTo: \"{EVIL}\" <x@example.net>\nSubject: {WORD}\nMessage-ID: <<script>alert(3)</script>@x>\nList-Id: {EVIL}\n"
     "Date: Wed, 5 Mar 2025 10:00:00 +0000\nContent-Type: multipart/mixed; boundary=b\n\n"
     f"--b\n\n{EVIL}\n\x1b[31m red\n--b\nContent-Type: text/html\n\n<p>{EVIL}</p>\n"
@@ -46,7 +46,7 @@ def database(tmp_path_factory):
     directory = tmp_path_factory.mktemp("web")
     (directory / "mails.mbox").write_bytes(b"".join(FROM + mail.encode() + b"\n" for mail in MAILS))
     (directory / "index").mkdir()
-    lines = subprocess.run([program("rocktray"), "json", str(directory / "mails.mbox")], stdout=subprocess.PIPE, check=True).stdout
+    lines = subprocess.run([program("rocktray"), "json", "--html-text", str(directory / "mails.mbox")], stdout=subprocess.PIPE, check=True).stdout
     refused = {"schema": json.loads(lines.partition(b"\n")[0])["schema"], "file": f"{EVIL}.mbox", "start": 0, "end": 9, "error": "Header cannot start"}
     (directory / "index/a.jsonl").write_bytes(lines + json.dumps(refused).encode() + b"\n")
     (directory / "index/MANIFEST").write_bytes(b'{"shard": "a.jsonl"}\n')
@@ -100,6 +100,8 @@ def test_pages(address):
     _, headers, content = get(address, links(mail, "/file/")[0])
     assert (content, headers["Content-Disposition"], headers["Content-Type"]) == ("%PDF-x", "attachment; filename=quagga.pdf", "application/octet-stream")
     assert get(address, links(mail, "/raw/")[0])[2] == MAILS[0]
+    of_html = next(get(address, link)[2] for link in links(get(address, "/?q=aurochs")[2], "/mail/"))
+    assert "<pre>So &lt;is&gt; the aurochs.</pre>" in of_html, "a mail with HTML alone"
     thread = get(address, "/thread?id=2@small")[2]
     assert re.search(r'level-0.*Zebra crossing.*level-1.*Re: Zebra crossing', thread, re.DOTALL)
     refused = get(address, "/refused")[2]

@@ -4,7 +4,7 @@
 Every machine sees the directories, OUT and the program under the same paths. A large mailbox is read in equal parts,
 and small files are read together. Packed files are unpacked by gzip, xz, bzip2 or zstd. The lines of each part go to a
 file in OUT, a shard, which gets its name when it is complete. The name is a hash of the part, the paths, sizes and times
-of its files, and the program: no part is read twice, however often a run is interrupted, and a mailbox that changed is
+of its files, the program and how it is run: no part is read twice, however often a run is interrupted, and a mailbox that changed is
 read again. OUT/MANIFEST, written last, names the shards in order; other shards are removed. Files that cannot be read
 are named there and on standard error, and the exit status is 1, or 0 with --skip-bad; the next run tries them again.
 Files that begin as those of other formats do, such as images, are counted and skipped.
@@ -25,6 +25,8 @@ import zlib
 
 from program import rocktray
 
+# how a part is read
+JSON = ["json", "--html-text"]
 OURS = re.compile(r"[0-9a-f]{32}\.jsonl|\.part-[0-9a-f]{32}")
 NO_TEXT = re.compile("[\udc80-\udcff]")
 # what packed files begin with, and the programs that unpack them
@@ -189,7 +191,7 @@ def read_files(command, stdin, shard):
 
 def shard_of(version, part):
     """Returns the name of the shard of a part, given a hash of the program."""
-    return f"{hashlib.sha256(repr((version, part)).encode('utf-8', 'surrogateescape')).hexdigest()[:32]}.jsonl"
+    return f"{hashlib.sha256(repr((version, JSON, part)).encode('utf-8', 'surrogateescape')).hexdigest()[:32]}.jsonl"
 
 
 def write_shard(name, part, out, program):
@@ -199,9 +201,9 @@ def write_shard(name, part, out, program):
     try:
         with open(unfinished, "xb") as shard:
             if "--label" in options:
-                fault = read_alone([program, "json", *options], files[0][0], shard)
+                fault = read_alone([program, *JSON, *options], files[0][0], shard)
             else:
-                fault = read_files([program, "json", *options, *(path for path, _, _ in files)], subprocess.DEVNULL, shard)
+                fault = read_files([program, *JSON, *options, *(path for path, _, _ in files)], subprocess.DEVNULL, shard)
             os.fsync(shard.fileno())
         if not fault and [state(path) for path, _, _ in files] != files:
             fault = "changed while it was read"

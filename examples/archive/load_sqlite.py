@@ -26,7 +26,6 @@ import concurrent.futures
 import contextlib
 import gc
 import glob
-import html
 import json
 import marshal
 import os
@@ -91,7 +90,6 @@ BUFFER = "insert into texts(texts, rank) values('hashsize', 100000000)"
 WORDS = "id, subject, sender, recipients, body from mails"
 # the number of the form of the lines
 LINES = 5
-TAGS = re.compile(r"<(style|script)\b.*?</\1|<[^>]*>", re.DOTALL | re.IGNORECASE)
 FLAGS = re.compile(r":2,([A-Za-z]+)$")
 LIST_ID = re.compile(r"<([^<>\s]+)>\s*$")
 
@@ -117,10 +115,14 @@ def mailboxes(value):
 
 
 def body(parts):
-    """Returns the text of a mail: its text parts, or if there are only HTML parts, those without their tags."""
+    """Returns the text of a mail: its text parts, or if there are only HTML parts, the text of these."""
     texts = [part for part in parts if part["text"]]
     plain = [part["text"] for part in texts if part["type"] != "text/html"]
-    return "\n".join(plain or [html.unescape(TAGS.sub(" ", part["text"])) for part in texts])
+    if plain:
+        return "\n".join(plain)
+    if any(part.get("html_text") is None for part in texts):
+        raise ValueError("a shard has no text of HTML: repeat index_archive.py")
+    return "\n".join(part["html_text"] for part in texts)
 
 
 def list_id(line):
