@@ -1,0 +1,127 @@
+-- Each finding of a message has the path of that message.
+use Rattle.std.proofs.Common.{◌≡◌, ◌<◌, ℕ, zero, suc, Bool, true, false, List, [], ◌∷◌, ◌++◌, length, drop, get_or, refl, Option, Some, None, arith}
+use Rattle.std.specs.Prelude.{flat_map, is_none, not, ◌&&◌, ◌==◌, codes, if◌then◌else◌}
+use Rattle.std.specs.List.{All}
+use Rattle.std.proofs.lemmas.List.Elements.{All-append}
+use Rattle.mail_codec.specs.Ascii.{colon}
+use Rattle.mail_codec.specs.Places.{byte_place}
+use Rattle.mailparse.specs.Body.{BodyKind, in_base64, in_quoted_printable, in_7bit, in_8bit, in_binary}
+use Rattle.mailparse.specs.ContentType.{ContentType}
+use Rattle.mailparse.specs.Mail.{body_kind, root}
+use Rattle.mail_data.specs.Files.{is_leaf}
+use Rattle.mail_data.specs.PartPlaces.{Place}
+use Rattle.mail_check.specs.Bodies.{is_base64_lines}
+use Rattle.mail_check.specs.Bytes.{earlier, first_byte, first_offset, is_bad_escape, is_control, is_end_blank, is_escaped_end, is_high, is_lone_return, is_nul, mixed_line_end}
+use Rattle.mail_check.specs.Findings.{Finding, Spot, block_findings, byte_findings, delimiter_findings, encoded_findings, finding_at, has_none, header_findings, is_far, is_single}
+use Rattle.mail_check.specs.Findings.{line_findings, listed, listed_if, message_findings, multipart_findings, part_findings, quoted_findings, repeated}
+use Rattle.mail_check.specs.Findings.{spot_in, spot_of_body, type_findings}
+use Rattle.mail_check.specs.Lines.{HeaderLine, ends_block, has_blank_fold, has_comment_fold, has_high_value, header_lines, is_bad_encoding, is_bad_key, is_composite, is_encoding, is_named}
+use Rattle.mail_check.specs.Lines.{is_other_message, second_named, single_names}
+use Rattle.mail_check.specs.Multiparts.{dash_of, is_bad_boundary, is_close, is_inside, is_tailed}
+use Rattle.mail_check.specs.declared.names.Name.{Name}
+use Rattle.mail_check.specs.declared.names.Name.TheVariants as name
+
+-- all findings have this path
+abbrev pub On : List ℕ → List Finding → Type 0
+On path found = All (λ (f : Finding). f.path ≡ path) found
+
+module _ (path : List ℕ) where
+  none : On path []
+  none = λ k d low. absurd (omega arith)
+
+  one : (f : Finding) → f.path ≡ path → (k : ℕ) (d : Finding) → k < length (f ∷ []) → (get_or (f ∷ []) k d).path ≡ path
+  one f h zero d low = h
+  one f h (suc k) d low = absurd (omega arith)
+
+  both : (xs ys : List Finding) → On path xs → On path ys → On path (xs ++ ys)
+  both xs ys h k = All-append (λ (f : Finding). f.path ≡ path) xs ys h k
+
+  each : {X : Type 0} (f : X → List Finding) → ((x : X) → On path (f x)) → (xs : List X) → On path (flat_map f xs)
+  each f h [] = none
+  each f h (x ∷ xs) = both (f x) (flat_map f xs) (h x) (each f h xs)
+
+-- what is listed for a spot has its path
+on_listed : (spot : Spot) (n : Name) (offset : Option ℕ) → On spot.path (listed spot n offset)
+on_listed spot n None = none spot.path
+on_listed spot n (Some p) = one spot.path (finding_at spot n p) refl
+
+on_listed_if : (spot : Spot) (n : Name) (is : Bool) → On spot.path (listed_if spot n is)
+on_listed_if spot n false = none spot.path
+on_listed_if spot n true = one spot.path (finding_at spot n 0) refl
+
+on_bytes : (spot : Spot) (bytes : List ℕ) → On spot.path (byte_findings spot bytes)
+on_bytes spot bytes =
+    both spot.path _ _ (on_listed spot name.Nul (first_offset (is_nul bytes) bytes))
+    (both spot.path _ _ (on_listed spot name.LoneCr (first_offset (is_lone_return bytes) bytes)) (on_listed spot name.MixedLineEnds (mixed_line_end bytes)))
+
+on_line : (spot : Spot) (size : ℕ) (line : HeaderLine) → On spot.path (line_findings spot size line)
+on_line spot size line =
+    both spot.path _ _ (on_listed_if spot name.NoBlankLine (ends_block size line))
+    (both spot.path _ _ (on_listed_if spot name.BadKey (is_bad_key line))
+    (both spot.path _ _ (on_listed_if spot name.BlankFold (has_blank_fold line))
+    (both spot.path _ _ (on_listed_if spot name.CommentFold (has_comment_fold line)) (on_listed_if spot name.Header8bit (has_high_value line)))))
+
+on_type : (spot : Spot) (ctype : ContentType) (line : HeaderLine) → On spot.path (type_findings spot ctype line)
+on_type spot ctype line =
+    both spot.path _ _ (on_listed_if spot name.EncodingSyntax (is_bad_encoding line))
+    (both spot.path _ _ (on_listed_if spot name.EncodingOnComposite (is_encoding line && is_composite ctype))
+    (both spot.path _ _ (on_listed_if spot name.OtherMessage (is_named (codes "Content-Type") line && is_other_message ctype))
+    (on_listed_if spot name.BadBoundary (is_named (codes "Content-Type") line && is_bad_boundary ctype))))
+
+on_quoted : (spot : Spot) (body : List ℕ) → On spot.path (quoted_findings spot body)
+on_quoted spot body =
+    both spot.path _ _ (on_listed spot name.QpSyntax (earlier (first_offset (is_bad_escape body) body) (first_byte is_control body)))
+    (both spot.path _ _ (on_listed spot name.QpBlank (earlier (first_offset (is_end_blank body) body) (first_offset (is_escaped_end body) body)))
+    (on_listed spot name.EightBitBody (first_byte is_high body)))
+
+on_delimiters : (spot : Spot) (dash text : List ℕ) → On spot.path (delimiter_findings spot dash text)
+on_delimiters spot dash text =
+    both spot.path _ _ (on_listed spot name.DelimiterInside (first_offset (is_inside dash text) text)) (on_listed spot name.DelimiterTail (first_offset (is_tailed dash text) text))
+
+module _ (place : Place) where
+  on_header : (line : HeaderLine) → On place.path (header_findings place line)
+  on_header line =
+      let spot = spot_in place line.start (length line.bytes) in
+      both place.path _ _ (on_line spot (length (root place.part).block) line) (on_type spot (root place.part).ctype line)
+
+  on_repeated : (line : Option HeaderLine) → On place.path (repeated place line)
+  on_repeated None = none place.path
+  on_repeated (Some line) = one place.path (finding_at (spot_in place line.start (length line.bytes)) name.Duplicate 0) refl
+
+  on_block : (lines : List HeaderLine) → On place.path (block_findings place lines)
+  on_block lines =
+      both place.path _ _ (on_listed_if (spot_in place 0 0) name.NoHeaders (has_none lines))
+      (both place.path _ _ (each place.path (header_findings place) on_header lines)
+      (each place.path (λ (n : List ℕ). repeated place (second_named n lines)) (λ n. on_repeated (second_named n lines)) single_names))
+
+  on_parts : (size : ℕ) (dash text : List ℕ) → On place.path (part_findings place size dash text)
+  on_parts size dash text =
+      both place.path _ _ (on_listed_if (spot_in place size 0) name.NoDelimiter (is_leaf place.part))
+      (on_listed_if (spot_in place size (length text)) name.NoClose (not (is_leaf place.part) && is_none (first_offset (is_close dash text) text)))
+
+  on_multipart : (dash : Option (List ℕ)) → On place.path (multipart_findings place dash)
+  on_multipart None = none place.path
+  on_multipart (Some dash) =
+      let size = length (root place.part).block in
+      let text = drop size (root place.part).bytes in
+      both place.path _ _ (on_listed (spot_of_body place 1) name.Preamble (byte_place (root place.part).body colon))
+      (both place.path _ _ (on_parts size dash text) (on_delimiters (spot_in place size (length dash)) dash text))
+
+  on_encoded : (kind : BodyKind) (body : List ℕ) → On place.path (encoded_findings place kind body)
+  on_encoded in_base64 body = on_listed_if (spot_of_body place (length body)) name.Base64Syntax (not (is_base64_lines body))
+  on_encoded in_quoted_printable body = on_quoted (spot_of_body place 1) body
+  on_encoded in_7bit body = on_listed (spot_of_body place 1) name.EightBitBody (first_byte is_high body)
+  on_encoded in_8bit body = none place.path
+  on_encoded in_binary body = none place.path
+
+  on_either : (is : Bool) (xs : List Finding) → On place.path xs → On place.path (if is then xs else [])
+  on_either true xs h = h
+  on_either false xs h = none place.path
+
+  pub paths_are_of_parts : (number : ℕ) → On place.path (message_findings number place)
+  paths_are_of_parts number =
+      let node = root place.part in
+      both place.path _ _ (on_either (number == 0) _ (on_bytes (spot_in place 0 1) node.bytes))
+      (both place.path _ _ (on_listed_if (spot_in place 0 (length node.bytes)) name.Many (is_far number place))
+      (both place.path _ _ (on_block (header_lines node))
+      (both place.path _ _ (on_multipart (dash_of node.ctype)) (on_either (is_single place.part) _ (on_encoded (body_kind node) node.body)))))

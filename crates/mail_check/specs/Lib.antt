@@ -1,0 +1,10 @@
+pub mod Names
+pub mod Bytes
+pub mod Lines
+pub mod LineViews
+pub mod Multiparts
+pub mod Bodies
+pub mod Findings
+pub mod FindingViews
+pub mod Clean
+pub mod private

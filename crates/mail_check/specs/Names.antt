@@ -1,0 +1,87 @@
+-- The names of findings, their classes and their sentences; this crate's own words.
+use Rattle.std.specs.Prelude.{ℕ, List, codes}
+use Rattle.mail_check.specs.declared.names.Class.{Class}
+use Rattle.mail_check.specs.declared.names.Class.TheVariants as class
+use Rattle.mail_check.specs.declared.names.Name.{Name}
+use Rattle.mail_check.specs.declared.names.Name.TheVariants as name
+
+-- the text of a name
+abbrev pub text_of : Name → List ℕ
+text_of name.Nul = codes "nul"
+text_of name.LoneCr = codes "lone-cr"
+text_of name.MixedLineEnds = codes "mixed-line-ends"
+text_of name.Many = codes "many"
+text_of name.NoHeaders = codes "no-headers"
+text_of name.NoBlankLine = codes "no-blank-line"
+text_of name.BadKey = codes "bad-key"
+text_of name.BlankFold = codes "blank-fold"
+text_of name.CommentFold = codes "comment-fold"
+text_of name.Header8bit = codes "header-8bit"
+text_of name.Duplicate = codes "duplicate"
+text_of name.EncodingSyntax = codes "encoding-syntax"
+text_of name.EncodingOnComposite = codes "encoding-on-composite"
+text_of name.OtherMessage = codes "other-message"
+text_of name.BadBoundary = codes "bad-boundary"
+text_of name.Preamble = codes "preamble"
+text_of name.NoDelimiter = codes "no-delimiter"
+text_of name.DelimiterInside = codes "delimiter-inside"
+text_of name.DelimiterTail = codes "delimiter-tail"
+text_of name.NoClose = codes "no-close"
+text_of name.Base64Syntax = codes "base64-syntax"
+text_of name.QpSyntax = codes "qp-syntax"
+text_of name.QpBlank = codes "qp-blank"
+text_of name.EightBitBody = codes "8bit-body"
+
+-- its class
+abbrev pub class_of : Name → Class
+class_of name.Nul = class.Structure
+class_of name.LoneCr = class.Structure
+class_of name.MixedLineEnds = class.Structure
+class_of name.Many = class.Structure
+class_of name.NoHeaders = class.Structure
+class_of name.NoBlankLine = class.Structure
+class_of name.BadKey = class.Structure
+class_of name.BlankFold = class.Structure
+class_of name.CommentFold = class.Structure
+class_of name.Header8bit = class.Name
+class_of name.Duplicate = class.Structure
+class_of name.EncodingSyntax = class.Bytes
+class_of name.EncodingOnComposite = class.Structure
+class_of name.OtherMessage = class.Structure
+class_of name.BadBoundary = class.Structure
+class_of name.Preamble = class.Structure
+class_of name.NoDelimiter = class.Structure
+class_of name.DelimiterInside = class.Structure
+class_of name.DelimiterTail = class.Structure
+class_of name.NoClose = class.Structure
+class_of name.Base64Syntax = class.Bytes
+class_of name.QpSyntax = class.Bytes
+class_of name.QpBlank = class.Bytes
+class_of name.EightBitBody = class.Note
+
+-- its sentence
+abbrev pub sentence_of : Name → List ℕ
+sentence_of name.Nul = codes "The mail contains a NUL byte: readers in C may end the line or the mail there."
+sentence_of name.LoneCr = codes "A CR has no LF after it: some readers end the line there."
+sentence_of name.MixedLineEnds = codes "A line end is not like the first one of the mail: some readers end lines at CR LF alone."
+sentence_of name.Many = codes "The part is nested 10 levels deep or has 100 messages and parts before it: readers have limits."
+sentence_of name.NoHeaders = codes "The message has no headers: what follows may be read as headers, or its empty lines be lost."
+sentence_of name.NoBlankLine = codes "The headers end with their part, without an empty line: readers differ in where the body begins."
+sentence_of name.BadKey = codes "The header has no colon, two of them, or a name with other characters than printable ASCII: some readers end the headers there."
+sentence_of name.BlankFold = codes "A line that continues the header has only spaces and tabs: some readers end the headers there."
+sentence_of name.CommentFold = codes "A closing parenthesis precedes a folding of the addresses or ids: some readers end the headers there."
+sentence_of name.Header8bit = codes "The value of the header has bytes that are not ASCII: readers guess the charset, or remove them."
+sentence_of name.Duplicate = codes "The header is the second of a name that may occur once: readers take the first or the last."
+sentence_of name.EncodingSyntax = codes "The transfer encoding is not exactly one of the five names: some readers decode the body, others do not."
+sentence_of name.EncodingOnComposite = codes "A multipart or a message is in base64 or quoted-printable: some readers decode it before they split it."
+sentence_of name.OtherMessage = codes "The type begins with message/ but is not one that all readers know: some read a mail in it."
+sentence_of name.BadBoundary = codes "A multipart has no boundary of 1 to 70 allowed characters, or another type has a boundary: readers split it or not."
+sentence_of name.Preamble = codes "The text before the first delimiter has a colon: some readers take it for a part with headers."
+sentence_of name.NoDelimiter = codes "The multipart has no part: readers show its text, or nothing."
+sentence_of name.DelimiterInside = codes "The dash-boundary occurs within a line: some readers take it for a delimiter."
+sentence_of name.DelimiterTail = codes "A line begins with the dash-boundary and goes on: some readers take it for a delimiter."
+sentence_of name.NoClose = codes "The multipart has no close-delimiter: readers differ in where its last part ends, or refuse it."
+sentence_of name.Base64Syntax = codes "The Base64 is not lines of whole groups with padding at the end alone: readers stop, skip or go on."
+sentence_of name.QpSyntax = codes "An equals sign begins no escape in upper case and no soft line break, or a control character occurs: readers keep or drop it."
+sentence_of name.QpBlank = codes "Blanks end a line of quoted-printable, a soft line break ends the body, or a line end is escaped: readers keep or drop it."
+sentence_of name.EightBitBody = codes "A body in 7bit or quoted-printable has bytes that are not ASCII."

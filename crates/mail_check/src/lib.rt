@@ -1,0 +1,19 @@
+//! Findings: the places of a mail at which programs may read something else.
+//!
+//! `findings` lists them for a mail and its parts. Each has a name, which says what it is, a class,
+//! a range of the mail and the path of a part. A mail is read as `mailparse` reads it; what other
+//! programs read was measured and is on the page FINDINGS.md.
+//!
+//! The examples run in a function with the runtime `rt` and its allocator `alloc`.
+#![tactic(auto)]
+
+mod bodies;
+pub mod laws;
+mod lines;
+mod listing;
+mod multipart;
+mod names;
+mod scan;
+
+pub use listing::{Finding, findings};
+pub use names::{Class, Name};

@@ -1,0 +1,676 @@
+//! The findings of a mail.
+ghost use Rattle.std.specs.Prelude.{◌≡◌, ◌++◌, ◌<◌, ◌||◌, ◌==◌, ◌∷◌, if◌then◌else◌, [], flat_map};
+ghost use Rattle.std.specs.Prelude.{length, map, IfErr, IfOk, Ok, OnOk};
+ghost use Rattle.mailparse.specs.Body.{BodyKind};
+ghost use Rattle.mailparse.specs.BodyViews.{Content, IsBody, content_of};
+ghost use Rattle.mailparse.specs.Mail.{body_kind, root};
+ghost use Rattle.mailparse.specs.Outcome.{AnswersOrMemory, IsMemory};
+ghost use Rattle.mailparse.specs.Views.{placements_of, tree_of};
+ghost use Rattle.mail_data.specs.InnerMails.{dot_count};
+ghost use Rattle.mail_data.specs.PlaceViews.{place_view};
+ghost use Rattle.mail_check.specs.FindingViews.{finding_view, spot_view};
+ghost use Rattle.mail_check.specs.Findings.{block_findings, byte_findings, delimiter_findings};
+ghost use Rattle.mail_check.specs.Findings.{encoded_findings, finding_at, findings};
+ghost use Rattle.mail_check.specs.Findings.{header_findings, is_far};
+ghost use Rattle.mail_check.specs.Findings.{leaf_findings, line_findings, listed, listed_if};
+ghost use Rattle.mail_check.specs.Findings.{message_findings, multipart_findings, part_findings};
+ghost use Rattle.mail_check.specs.Findings.{has_none, is_single, quoted_findings, repeated};
+ghost use Rattle.mail_check.specs.Findings.{repeated_findings};
+ghost use Rattle.mail_check.specs.Findings.{spot_in, spot_of_body};
+ghost use Rattle.mail_check.specs.Findings.{type_findings};
+ghost use Rattle.mail_check.specs.LineViews.{line_view};
+ghost use Rattle.mail_codec.specs.Ascii.{colon};
+ghost use Rattle.mail_codec.specs.Places.{byte_place};
+ghost use Rattle.mail_check.specs.Lines.{header_lines, second_named, single_names};
+ghost use Rattle.mail_check.specs.declared.names.Name.TheVariants.{Preamble};
+ghost use Rattle.mail_check.specs.Multiparts.{dash_of};
+
+use crate::bodies::is_base64_lines;
+use crate::lines::{
+    HeaderLine, ends_block, has_blank_fold, has_comment_fold, has_high_value, header_lines,
+    is_bad_encoding, is_bad_key, is_encoding, is_type, second_named,
+};
+use crate::multipart::{
+    Occurrence, begins_type, dash_of, first_delimiter, is_bad_boundary, is_composite,
+    is_other_message,
+};
+use crate::names::{Class, Name};
+use crate::scan::{Pattern, control_byte, earlier, first_match, from_offset, high_byte, later};
+use mail_codec::bytescan::find_byte;
+use mail_data::files::is_leaf;
+use mail_data::places::{Place, places};
+use mailparse::body::Body;
+use mailparse::{MailParseError, ParsedMail};
+use std::alloc::{AllocError, Global};
+use std::ops::Range;
+
+/// A place of a mail at which programs may read something else, as `findings` returns it.
+#[derive(Debug, Drop)]
+pub struct Finding {
+    /// What is found.
+    pub name: Name,
+    /// The class of the name.
+    pub class: Class,
+    /// The bytes at which it is found, as a range of the mail that was parsed, counted from 0.
+    pub range: Range<usize>,
+    /// The path of the part, as IMAP numbers parts (RFC 3501, section 6.4.5): `2.1` is the first
+    /// part of the second part. The path of the whole mail is `1`, that of its body, if it has no
+    /// parts, and otherwise empty.
+    pub path: String,
+}
+
+/// Where findings may be.
+#[derive(Clone, Copy)]
+struct Spot<'p> {
+    /// The path of the part.
+    path: &'p str,
+    /// An offset of the mail.
+    start: usize,
+    /// The number of bytes that a finding has.
+    size: usize,
+}
+
+/// Returns the findings of a mail: where programs may read something else than `parse_mail` does
+/// (RFC 5322, sections 2 and 3; RFC 2045, section 6; RFC 2046, section 5.1).
+///
+/// They are listed for the mail and each of its parts, in the order in which these appear, each
+/// before its own parts. First come line ends and NUL bytes of the whole mail, then for each
+/// message its headers, its delimiters and its body. What may occur at many places of a mail, a
+/// header or a body is reported once, where it first occurs. Mails inside the mail are not read.
+/// The time is linear in the bytes, times the levels. Allocates the findings, their paths, and for
+/// each message a list of its headers and its boundary.
+///
+/// # Errors
+///
+/// `MailParseError::Memory` if it runs out of memory.
+///
+/// # Examples
+///
+/// ```rust
+/// use mail_check::{Name, findings};
+/// use mailparse::parse_mail;
+///
+/// let mail = parse_mail(alloc, b"Subject: a\nSubject: b\n\nHi\n")?;
+/// let found = findings(alloc, &mail)?;
+/// assert_eq!(rt; found.len(), 1);
+/// assert!(rt; found[0].name == Name::Duplicate);
+/// assert_eq!(rt; found[0].range, 11..22);
+/// ```
+#[tactic(auto, unfolding(crate::specs::Findings::findings))]
+pub fn findings(alloc: Global, mail: &ParsedMail<'_>) -> Result<Vec<Finding>, MailParseError>
+    ensures { AnswersOrMemory (λ found. map finding_view found.items) result
+        (Ok (findings (tree_of mail.now) (placements_of mail.now))) }
+{
+    let places = places(alloc, mail)?;
+    let mut found = Vec::new(alloc);
+    let mut number = 0;
+    for place in &places {
+        push_message(alloc, &mut found, place, number)?;
+        number += 1;
+    }
+    Ok(found)
+}
+
+/// Appends the findings of a message, given how many come before it.
+fn push_message(
+    alloc: Global,
+    found: &mut Vec<Finding>,
+    place: &Place<'_, '_>,
+    number: usize,
+) -> Result<(), MailParseError>
+    ensures written { OnOk result (map finding_view found.new.items
+        ≡ map finding_view found.old.items ++ message_findings number (place_view place.now)) }
+    ensures only_memory { IfErr result IsMemory }
+{
+    push_first(alloc, found, place, number)?;
+    let spot = spot_in(place, 0, place.part.raw_bytes.len());
+    push_if(alloc, found, &spot, Name::Many, is_far(number, place))?;
+    push_block(alloc, found, place)?;
+    push_multipart(alloc, found, place)?;
+    push_leaf(alloc, found, place)
+}
+
+/// Appends the findings of the bytes of the whole mail, if no message comes before this one.
+fn push_first(
+    alloc: Global,
+    found: &mut Vec<Finding>,
+    place: &Place<'_, '_>,
+    number: usize,
+) -> Result<(), AllocError>
+    ensures { OnOk result (map finding_view found.new.items
+        ≡ map finding_view found.old.items
+        ++ (if number == 0
+        then byte_findings (spot_in (place_view place.now) 0 1)
+        (root (tree_of place.now.part.now)).bytes
+        else [])) }
+{
+    if number > 0 {
+        return Ok(());
+    }
+    push_bytes(alloc, found, &spot_in(place, 0, 1), place.part.raw_bytes)
+}
+
+/// Appends the findings of line ends and NUL bytes.
+fn push_bytes(
+    alloc: Global,
+    found: &mut Vec<Finding>,
+    spot: &Spot<'_>,
+    bytes: &[u8],
+) -> Result<(), AllocError>
+    ensures { OnOk result (map finding_view found.new.items
+        ≡ map finding_view found.old.items ++ byte_findings (spot_view spot.now) bytes.now) }
+{
+    push_at(
+        alloc,
+        found,
+        spot,
+        Name::Nul,
+        first_match(Pattern::Nul, bytes),
+    )?;
+    push_at(
+        alloc,
+        found,
+        spot,
+        Name::LoneCr,
+        first_match(Pattern::LoneReturn, bytes),
+    )?;
+    let mixed = later(
+        first_match(Pattern::ReturnFeed, bytes),
+        first_match(Pattern::BareLineFeed, bytes),
+    );
+    push_at(alloc, found, spot, Name::MixedLineEnds, mixed)
+}
+
+/// Returns whether a part is nested 10 levels deep, or 100 messages come before it.
+fn is_far(number: usize, place: &Place<'_, '_>) -> bool
+    ensures { result ≡ is_far number (place_view place.now) }
+{
+    number == 100 || dot_count(place.path.as_str()) == 9
+}
+
+/// Returns the number of dots in a path.
+#[tactic(auto, unfolding(mail_data::specs::InnerMails::dot_count))]
+fn dot_count(path: &str) -> usize
+    ensures { result ≡ dot_count path.now }
+{
+    path.as_bytes().iter().filter(|byte| **byte == b'.').count()
+}
+
+/// Appends the findings of the headers of a message.
+fn push_block(
+    alloc: Global,
+    found: &mut Vec<Finding>,
+    place: &Place<'_, '_>,
+) -> Result<(), AllocError>
+    ensures { OnOk result (map finding_view found.new.items
+        ≡ map finding_view found.old.items
+        ++ block_findings (place_view place.now)
+        (header_lines (root (tree_of place.now.part.now)))) }
+{
+    let lines = header_lines(alloc, place.part)?;
+    push_headers(alloc, found, place, lines.as_slice())
+}
+
+/// Appends the findings of these headers of a message.
+fn push_headers(
+    alloc: Global,
+    found: &mut Vec<Finding>,
+    place: &Place<'_, '_>,
+    lines: &[HeaderLine<'_>],
+) -> Result<(), AllocError>
+    ensures { OnOk result (map finding_view found.new.items
+        ≡ map finding_view found.old.items
+        ++ block_findings (place_view place.now) (map line_view lines.now)) }
+{
+    let spot = spot_in(place, 0, 0);
+    push_if(alloc, found, &spot, Name::NoHeaders, has_none(lines))?;
+    push_lines(alloc, found, place, lines)?;
+    push_repeated(alloc, found, place, lines)
+}
+
+/// Returns whether there is no header.
+#[tactic(auto, using(crate::proofs::lemmas::Lines::none_counted))]
+fn has_none(lines: &[HeaderLine<'_>]) -> bool
+    ensures { result ≡ has_none (map line_view lines.now) }
+{
+    lines.is_empty()
+}
+
+/// Appends the findings of each header.
+fn push_lines(
+    alloc: Global,
+    found: &mut Vec<Finding>,
+    place: &Place<'_, '_>,
+    lines: &[HeaderLine<'_>],
+) -> Result<(), AllocError>
+    ensures { OnOk result (map finding_view found.new.items
+        ≡ map finding_view found.old.items
+        ++ flat_map (header_findings (place_view place.now)) (map line_view lines.now)) }
+{
+    for line in lines {
+        push_header(alloc, found, place, line)?;
+    }
+    Ok(())
+}
+
+/// Appends the findings of one header of a message.
+fn push_header(
+    alloc: Global,
+    found: &mut Vec<Finding>,
+    place: &Place<'_, '_>,
+    line: &HeaderLine<'_>,
+) -> Result<(), AllocError>
+    ensures { OnOk result (map finding_view found.new.items
+        ≡ map finding_view found.old.items
+        ++ header_findings (place_view place.now) (line_view line.now)) }
+{
+    let spot = spot_in(place, line.start, line.bytes.len());
+    let size = place.part.get_headers().get_raw_bytes().len();
+    push_line(alloc, found, &spot, size, line)?;
+    push_type(alloc, found, &spot, place.part, line)
+}
+
+/// Appends the findings of how a header is written, in a block of this size.
+fn push_line(
+    alloc: Global,
+    found: &mut Vec<Finding>,
+    spot: &Spot<'_>,
+    size: usize,
+    line: &HeaderLine<'_>,
+) -> Result<(), AllocError>
+    ensures { OnOk result (map finding_view found.new.items
+        ≡ map finding_view found.old.items
+        ++ line_findings (spot_view spot.now) size (line_view line.now)) }
+{
+    push_if(
+        alloc,
+        found,
+        spot,
+        Name::NoBlankLine,
+        ends_block(size, line),
+    )?;
+    push_if(alloc, found, spot, Name::BadKey, is_bad_key(line))?;
+    push_if(alloc, found, spot, Name::BlankFold, has_blank_fold(line))?;
+    push_if(
+        alloc,
+        found,
+        spot,
+        Name::CommentFold,
+        has_comment_fold(line),
+    )?;
+    push_if(alloc, found, spot, Name::Header8bit, has_high_value(line))
+}
+
+/// Appends the findings of what a header says of its message.
+fn push_type(
+    alloc: Global,
+    found: &mut Vec<Finding>,
+    spot: &Spot<'_>,
+    part: &ParsedMail<'_>,
+    line: &HeaderLine<'_>,
+) -> Result<(), AllocError>
+    ensures { OnOk result (map finding_view found.new.items
+        ≡ map finding_view found.old.items
+        ++ type_findings (spot_view spot.now) (root (tree_of part.now)).ctype
+        (line_view line.now)) }
+{
+    push_if(
+        alloc,
+        found,
+        spot,
+        Name::EncodingSyntax,
+        is_bad_encoding(line),
+    )?;
+    let encodes = is_encoding(line) && is_composite(part);
+    push_if(alloc, found, spot, Name::EncodingOnComposite, encodes)?;
+    let is_other = is_type(line) && is_other_message(part);
+    push_if(alloc, found, spot, Name::OtherMessage, is_other)?;
+    let is_bad = is_type(line) && is_bad_boundary(part);
+    push_if(alloc, found, spot, Name::BadBoundary, is_bad)
+}
+
+/// The names of which a message has one header (RFC 5322, section 3.6; RFC 2045 and 2183).
+const SINGLE_NAMES: [&str; 17] = [
+    "Content-Type",
+    "Content-Transfer-Encoding",
+    "Content-Disposition",
+    "Content-ID",
+    "Content-Description",
+    "MIME-Version",
+    "From",
+    "Sender",
+    "Reply-To",
+    "To",
+    "Cc",
+    "Bcc",
+    "Date",
+    "Subject",
+    "Message-ID",
+    "In-Reply-To",
+    "References",
+];
+
+/// Appends the second header of each name that may occur once.
+fn push_repeated(
+    alloc: Global,
+    found: &mut Vec<Finding>,
+    place: &Place<'_, '_>,
+    lines: &[HeaderLine<'_>],
+) -> Result<(), AllocError>
+    ensures { OnOk result (map finding_view found.new.items
+        ≡ map finding_view found.old.items
+        ++ repeated_findings (place_view place.now) (map line_view lines.now) single_names) }
+{
+    push_seconds(alloc, found, place, lines, &SINGLE_NAMES)
+}
+
+/// Appends the second header of each of these names.
+fn push_seconds(
+    alloc: Global,
+    found: &mut Vec<Finding>,
+    place: &Place<'_, '_>,
+    lines: &[HeaderLine<'_>],
+    names: &[&str],
+) -> Result<(), AllocError>
+    ensures { OnOk result (map finding_view found.new.items
+        ≡ map finding_view found.old.items
+        ++ repeated_findings (place_view place.now) (map line_view lines.now)
+        (map (λ name. name.now) names.now)) }
+{
+    for name in names {
+        push_second(alloc, found, place, name, lines)?;
+    }
+    Ok(())
+}
+
+/// Appends the second header with a name, if there is one.
+fn push_second(
+    alloc: Global,
+    found: &mut Vec<Finding>,
+    place: &Place<'_, '_>,
+    name: &str,
+    lines: &[HeaderLine<'_>],
+) -> Result<(), AllocError>
+    ensures { OnOk result (map finding_view found.new.items
+        ≡ map finding_view found.old.items
+        ++ repeated (place_view place.now) (second_named name.now (map line_view lines.now))) }
+{
+    match second_named(name.as_bytes(), lines) {
+        Some(line) => {
+            let spot = spot_in(place, line.start, line.bytes.len());
+            push(alloc, found, &spot, Name::Duplicate, 0)
+        }
+        None => Ok(()),
+    }
+}
+
+/// Appends the findings of a multipart with a boundary.
+fn push_multipart(
+    alloc: Global,
+    found: &mut Vec<Finding>,
+    place: &Place<'_, '_>,
+) -> Result<(), MailParseError>
+    ensures written { OnOk result (map finding_view found.new.items
+        ≡ map finding_view found.old.items
+        ++ multipart_findings (place_view place.now)
+        (dash_of (root (tree_of place.now.part.now)).ctype)) }
+    ensures only_memory { IfErr result IsMemory }
+{
+    let Some(dash) = dash_of(alloc, place.part)? else {
+        return Ok(());
+    };
+    push_preamble(alloc, found, place)?;
+    let size = place.part.get_headers().get_raw_bytes().len();
+    let text = from_offset(place.part.raw_bytes, size);
+    push_parts(alloc, found, place, dash.as_slice(), text)?;
+    let spot = spot_in(place, size, dash.len());
+    push_delimiters(alloc, found, &spot, dash.as_slice(), text)?;
+    Ok(())
+}
+
+/// Appends the finding of the preamble of a multipart.
+fn push_preamble(
+    alloc: Global,
+    found: &mut Vec<Finding>,
+    place: &Place<'_, '_>,
+) -> Result<(), MailParseError>
+    ensures written { OnOk result (map finding_view found.new.items
+        ≡ map finding_view found.old.items
+        ++ listed (spot_of_body (place_view place.now) 1) Preamble
+        (byte_place (root (tree_of place.now.part.now)).body colon)) }
+    ensures only_memory { IfErr result IsMemory }
+{
+    let body = place.part.get_body_encoded(alloc)?;
+    let spot = spot_of_body(place, 1);
+    push_at(
+        alloc,
+        found,
+        &spot,
+        Name::Preamble,
+        find_byte(body.get_raw(), b':'),
+    )?;
+    Ok(())
+}
+
+/// Appends the findings of whether a multipart has parts, and a close-delimiter after them.
+fn push_parts(
+    alloc: Global,
+    found: &mut Vec<Finding>,
+    place: &Place<'_, '_>,
+    dash: &[u8],
+    text: &[u8],
+) -> Result<(), AllocError>
+    requires some { 0 < length dash.now }
+    ensures { OnOk result (map finding_view found.new.items
+        ≡ map finding_view found.old.items
+        ++ part_findings (place_view place.now)
+        (length (root (tree_of place.now.part.now)).block) dash.now text.now) }
+{
+    let size = place.part.get_headers().get_raw_bytes().len();
+    let has_none = is_leaf(place.part);
+    let spot = spot_in(place, size, 0);
+    push_if(alloc, found, &spot, Name::NoDelimiter, has_none)?;
+    let close = first_delimiter(Occurrence::Close, dash, text);
+    let spot = spot_in(place, size, text.len());
+    push_if(
+        alloc,
+        found,
+        &spot,
+        Name::NoClose,
+        !has_none && close.is_none(),
+    )
+}
+
+/// Appends the findings of the delimiters in the text of a multipart.
+fn push_delimiters(
+    alloc: Global,
+    found: &mut Vec<Finding>,
+    spot: &Spot<'_>,
+    dash: &[u8],
+    text: &[u8],
+) -> Result<(), AllocError>
+    requires some { 0 < length dash.now }
+    ensures { OnOk result (map finding_view found.new.items
+        ≡ map finding_view found.old.items
+        ++ delimiter_findings (spot_view spot.now) dash.now text.now) }
+{
+    let inside = first_delimiter(Occurrence::Inside, dash, text);
+    push_at(alloc, found, spot, Name::DelimiterInside, inside)?;
+    let tailed = first_delimiter(Occurrence::Tailed, dash, text);
+    push_at(alloc, found, spot, Name::DelimiterTail, tailed)
+}
+
+/// Appends the findings of the body of a message without parts that is no multipart.
+fn push_leaf(
+    alloc: Global,
+    found: &mut Vec<Finding>,
+    place: &Place<'_, '_>,
+) -> Result<(), MailParseError>
+    ensures written { OnOk result (map finding_view found.new.items
+        ≡ map finding_view found.old.items ++ leaf_findings (place_view place.now)) }
+    ensures only_memory { IfErr result IsMemory }
+{
+    if is_single(place.part) {
+        push_body(alloc, found, place)?;
+    }
+    Ok(())
+}
+
+/// Returns whether a message has no parts and is no multipart.
+fn is_single(part: &ParsedMail<'_>) -> bool
+    ensures { result ≡ is_single (tree_of part.now) }
+{
+    is_leaf(part) && !begins_type(b"multipart", part)
+}
+
+/// Appends the findings of the body of a message.
+fn push_body(
+    alloc: Global,
+    found: &mut Vec<Finding>,
+    place: &Place<'_, '_>,
+) -> Result<(), MailParseError>
+    ensures written { let node = root (tree_of place.now.part.now) in
+        OnOk result (map finding_view found.new.items ≡ map finding_view found.old.items
+        ++ encoded_findings (place_view place.now) (body_kind node) node.body) }
+    ensures only_memory { IfErr result IsMemory }
+{
+    let body = place.part.get_body_encoded(alloc)?;
+    push_encoded(alloc, found, place, &body)?;
+    Ok(())
+}
+
+/// Appends the findings of a body.
+fn push_encoded(
+    alloc: Global,
+    found: &mut Vec<Finding>,
+    place: &Place<'_, '_>,
+    body: &Body<'_>,
+) -> Result<(), AllocError>
+    ensures { (kind : BodyKind) (given : Content) → IsBody kind given body.now →
+        OnOk result (map finding_view found.new.items
+        ≡ map finding_view found.old.items
+        ++ encoded_findings (place_view place.now) kind given.raw) }
+{
+    let spot = spot_of_body(place, 1);
+    match body {
+        Body::Base64(base64) => {
+            let raw = base64.get_raw();
+            let spot = spot_of_body(place, raw.len());
+            push_if(
+                alloc,
+                found,
+                &spot,
+                Name::Base64Syntax,
+                !is_base64_lines(raw),
+            )
+        }
+        Body::QuotedPrintable(quoted) => push_quoted(alloc, found, &spot, quoted.get_raw()),
+        Body::SevenBit(text) => {
+            push_at(
+                alloc,
+                found,
+                &spot,
+                Name::EightBitBody,
+                high_byte(text.get_raw()),
+            )
+        }
+        Body::EightBit(_) | Body::Binary(_) => Ok(()),
+    }
+}
+
+/// Appends the findings of a body in quoted-printable.
+fn push_quoted(
+    alloc: Global,
+    found: &mut Vec<Finding>,
+    spot: &Spot<'_>,
+    raw: &[u8],
+) -> Result<(), AllocError>
+    ensures { OnOk result (map finding_view found.new.items
+        ≡ map finding_view found.old.items ++ quoted_findings (spot_view spot.now) raw.now) }
+{
+    let syntax = earlier(first_match(Pattern::BadEscape, raw), control_byte(raw));
+    push_at(alloc, found, spot, Name::QpSyntax, syntax)?;
+    let blank = earlier(
+        first_match(Pattern::EndBlank, raw),
+        first_match(Pattern::EscapedEnd, raw),
+    );
+    push_at(alloc, found, spot, Name::QpBlank, blank)?;
+    push_at(alloc, found, spot, Name::EightBitBody, high_byte(raw))
+}
+
+/// Returns where findings of a message may be, at an offset after its first byte.
+fn spot_in<'p>(place: &'p Place<'_, '_>, offset: usize, size: usize) -> Spot<'p>
+    ensures { spot_view result ≡ spot_in (place_view place.now) offset size }
+{
+    Spot {
+        path: place.path.as_str(),
+        start: place.byte_range.start.saturating_add(offset),
+        size,
+    }
+}
+
+/// Returns where findings of the body of a message may be.
+fn spot_of_body<'p>(place: &'p Place<'_, '_>, size: usize) -> Spot<'p>
+    ensures { spot_view result ≡ spot_of_body (place_view place.now) size }
+{
+    Spot {
+        path: place.path.as_str(),
+        start: place.body_range.start,
+        size,
+    }
+}
+
+/// Appends the finding at an offset, if there is one.
+fn push_at(
+    alloc: Global,
+    found: &mut Vec<Finding>,
+    spot: &Spot<'_>,
+    name: Name,
+    offset: Option<usize>,
+) -> Result<(), AllocError>
+    ensures { OnOk result (map finding_view found.new.items
+        ≡ map finding_view found.old.items ++ listed (spot_view spot.now) name offset) }
+{
+    match offset {
+        Some(offset) => push(alloc, found, spot, name, offset),
+        None => Ok(()),
+    }
+}
+
+/// Appends the finding of a whole spot, if it is to be.
+fn push_if(
+    alloc: Global,
+    found: &mut Vec<Finding>,
+    spot: &Spot<'_>,
+    name: Name,
+    is: bool,
+) -> Result<(), AllocError>
+    ensures { OnOk result (map finding_view found.new.items
+        ≡ map finding_view found.old.items ++ listed_if (spot_view spot.now) name is) }
+{
+    if is {
+        push(alloc, found, spot, name, 0)?;
+    }
+    Ok(())
+}
+
+/// Appends a finding.
+fn push(
+    alloc: Global,
+    found: &mut Vec<Finding>,
+    spot: &Spot<'_>,
+    name: Name,
+    offset: usize,
+) -> Result<(), AllocError>
+    ensures { OnOk result (map finding_view found.new.items
+        ≡ map finding_view found.old.items ++ finding_at (spot_view spot.now) name offset ∷ []) }
+{
+    let start = spot.start.saturating_add(offset);
+    found.push(Finding {
+        name,
+        class: name.class(),
+        range: start..start.saturating_add(spot.size),
+        path: String::from_str(alloc, spot.path)?,
+    })?;
+    Ok(())
+}

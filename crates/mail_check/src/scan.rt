@@ -1,0 +1,305 @@
+//! Searches of bytes for what other programs may read differently.
+ghost use Rattle.std.specs.Prelude.{◌≡◌, ◌<◌, ◌≤◌, ◌==◌, ◌||◌, ◌&&◌, drop, length, not};
+ghost use Rattle.std.specs.List.{list_all};
+ghost use Rattle.mail_codec.specs.Places.{begins, first_place};
+ghost use Rattle.mail_codec.specs.Ascii.{carriage_return, is_blank, line_feed};
+ghost use Rattle.mail_check.specs.Bytes.{earlier, is_bad_escape, is_control, is_end_blank};
+ghost use Rattle.mail_check.specs.Bytes.{is_escape_digit};
+ghost use Rattle.mail_check.specs.Bytes.{is_escaped_end, is_high, later};
+ghost use Rattle.mail_check.specs.Bytes.{byte_at, first_byte, first_offset, is_line_left};
+ghost use Rattle.mail_check.specs.Bytes.{is_bare_line_feed, is_blank_fold, is_comment_fold};
+ghost use Rattle.mail_check.specs.Bytes.{is_lone_return, is_return_feed};
+ghost use Rattle.mail_check.specs.private.Patterns.{first_lead, matches_at, second_lead};
+
+use mail_codec::bytescan::find_either;
+
+/// What is searched for. Each begins with one of two bytes.
+#[derive(Clone, Copy)]
+pub(crate) enum Pattern {
+    /// A NUL.
+    Nul,
+    /// A CR without a LF after it.
+    LoneReturn,
+    /// A CR and a LF.
+    ReturnFeed,
+    /// A LF without a CR before it.
+    BareLineFeed,
+    /// A LF, and after it a line of blanks.
+    BlankFold,
+    /// A closing parenthesis before a line end and a blank.
+    CommentFold,
+    /// An equals sign that begins neither an escape nor a soft line break.
+    BadEscape,
+    /// A blank at the end of a line.
+    EndBlank,
+    /// An equals sign before nothing but line ends, or an escaped CR or LF.
+    EscapedEnd,
+}
+
+/// Returns the offset of the first occurrence of a pattern.
+pub(crate) fn first_match(pattern: Pattern, bytes: &[u8]) -> Option<usize>
+    ensures value { result ≡ first_offset (matches_at pattern bytes.now) bytes.now }
+{
+    let mut from = 0;
+    'places: while let Some(next) = find_either(
+        &bytes[from..],
+        first_lead(pattern),
+        second_lead(pattern),
+    ) {
+        let place = from + next;
+        if matches_at(pattern, bytes, place) {
+            return Some(place);
+        }
+        from = place + 1;
+    }
+    None
+}
+
+/// Returns the first of the two bytes with which a pattern may begin.
+fn first_lead(pattern: Pattern) -> u8
+    ensures { result ≡ first_lead pattern }
+{
+    match pattern {
+        Pattern::Nul => 0,
+        Pattern::LoneReturn | Pattern::ReturnFeed => b'\r',
+        Pattern::BareLineFeed | Pattern::BlankFold => b'\n',
+        Pattern::CommentFold => b')',
+        Pattern::BadEscape | Pattern::EscapedEnd => b'=',
+        Pattern::EndBlank => b' ',
+    }
+}
+
+/// Returns the second of them.
+fn second_lead(pattern: Pattern) -> u8
+    ensures { result ≡ second_lead pattern }
+{
+    match pattern {
+        Pattern::EndBlank => b'\t',
+        pattern => first_lead(pattern),
+    }
+}
+
+/// Returns whether a pattern occurs at an offset.
+fn matches_at(pattern: Pattern, bytes: &[u8], at: usize) -> bool
+    requires within { at < length bytes.now }
+    ensures { result ≡ matches_at pattern bytes.now at }
+{
+    match pattern {
+        Pattern::Nul => byte_at(bytes, at, 0),
+        Pattern::LoneReturn => is_lone_return(bytes, at),
+        Pattern::ReturnFeed => is_return_feed(bytes, at),
+        Pattern::BareLineFeed => is_bare_line_feed(bytes, at),
+        Pattern::BlankFold => is_blank_fold(bytes, at),
+        Pattern::CommentFold => is_comment_fold(bytes, at),
+        Pattern::BadEscape => is_bad_escape(bytes, at),
+        Pattern::EndBlank => is_end_blank(bytes, at),
+        Pattern::EscapedEnd => is_escaped_end(bytes, at),
+    }
+}
+
+/// Returns whether a byte is at an offset.
+#[inline(always)]
+fn byte_at(bytes: &[u8], at: usize, byte: u8) -> bool
+    ensures { result ≡ byte_at bytes.now at byte }
+{
+    match bytes.get(at) {
+        Some(found) => *found == byte,
+        None => false,
+    }
+}
+
+/// Returns whether a CR without a LF after it is at an offset.
+fn is_lone_return(bytes: &[u8], at: usize) -> bool
+    requires within { at < length bytes.now }
+    ensures { result ≡ is_lone_return bytes.now at }
+{
+    byte_at(bytes, at, b'\r') && !byte_at(bytes, at + 1, b'\n')
+}
+
+/// Returns whether a CR and a LF are at an offset.
+fn is_return_feed(bytes: &[u8], at: usize) -> bool
+    requires within { at < length bytes.now }
+    ensures { result ≡ is_return_feed bytes.now at }
+{
+    byte_at(bytes, at, b'\r') && byte_at(bytes, at + 1, b'\n')
+}
+
+/// Returns whether a LF without a CR before it is at an offset.
+fn is_bare_line_feed(bytes: &[u8], at: usize) -> bool
+    requires within { at < length bytes.now }
+    ensures { result ≡ is_bare_line_feed bytes.now at }
+{
+    byte_at(bytes, at, b'\n') && !(at > 0 && byte_at(bytes, at - 1, b'\r'))
+}
+
+/// Returns whether a LF is at an offset, and after it a line that consists of blanks.
+fn is_blank_fold(bytes: &[u8], at: usize) -> bool
+    requires within { at < length bytes.now }
+    ensures { result ≡ is_blank_fold bytes.now at }
+{
+    if !byte_at(bytes, at, b'\n') {
+        return false;
+    }
+    let rest = &bytes[at + 1..];
+    let count = blank_count(rest);
+    count > 0 && is_line_left(&rest[count..])
+}
+
+/// Returns whether a closing parenthesis is at an offset, and after it blanks, a line end and a
+/// blank.
+fn is_comment_fold(bytes: &[u8], at: usize) -> bool
+    requires within { at < length bytes.now }
+    ensures { result ≡ is_comment_fold bytes.now at }
+{
+    if !byte_at(bytes, at, b')') {
+        return false;
+    }
+    let rest = &bytes[at + 1..];
+    let rest = &rest[blank_count(rest)..];
+    rest.starts_with(b"\n ")
+        || rest.starts_with(b"\n\t")
+        || rest.starts_with(b"\r\n ")
+        || rest.starts_with(b"\r\n\t")
+}
+
+/// Returns whether an equals sign is at an offset that begins neither an escape nor a soft line
+/// break.
+fn is_bad_escape(bytes: &[u8], at: usize) -> bool
+    requires within { at < length bytes.now }
+    ensures { result ≡ is_bad_escape bytes.now at }
+{
+    if !byte_at(bytes, at, b'=') {
+        return false;
+    }
+    let rest = &bytes[at + 1..];
+    !(rest.starts_with(b"\n") || rest.starts_with(b"\r\n") || has_escape_digits(rest))
+}
+
+/// Returns whether two digits of an escape are at the front.
+fn has_escape_digits(rest: &[u8]) -> bool
+    ensures { result
+        ≡ (begins is_escape_digit rest.now && begins is_escape_digit (drop 1 rest.now)) }
+{
+    digit_at(rest, 0) && digit_at(rest, 1)
+}
+
+/// Returns whether a digit of an escape is at an offset.
+fn digit_at(bytes: &[u8], at: usize) -> bool
+    ensures { result ≡ begins is_escape_digit (drop at bytes.now) }
+{
+    match bytes.get(at) {
+        Some(byte) => is_escape_digit(*byte),
+        None => false,
+    }
+}
+
+/// Returns whether a byte is a digit of an escape.
+fn is_escape_digit(byte: u8) -> bool
+    ensures { result ≡ is_escape_digit byte }
+{
+    (byte >= b'0' && byte <= b'9') || (byte >= b'A' && byte <= b'F')
+}
+
+/// Returns whether a blank at the end of a line is at an offset.
+fn is_end_blank(bytes: &[u8], at: usize) -> bool
+    requires within { at < length bytes.now }
+    ensures { result ≡ is_end_blank bytes.now at }
+{
+    let is_blank = match bytes.get(at) {
+        Some(byte) => *byte == b' ' || *byte == b'\t',
+        None => false,
+    };
+    is_blank && is_line_left(&bytes[at + 1..])
+}
+
+/// Returns whether an equals sign is at an offset before nothing but line ends, or one that begins
+/// an escaped CR or LF.
+fn is_escaped_end(bytes: &[u8], at: usize) -> bool
+    requires within { at < length bytes.now }
+    ensures { result ≡ is_escaped_end bytes.now at }
+{
+    if !byte_at(bytes, at, b'=') {
+        return false;
+    }
+    let rest = &bytes[at + 1..];
+    are_line_ends(rest) || rest.starts_with(b"0D") || rest.starts_with(b"0A")
+}
+
+/// Returns whether all bytes are those of line ends.
+fn are_line_ends(bytes: &[u8]) -> bool
+    ensures { result ≡ list_all (λ b. b == carriage_return || b == line_feed) bytes.now }
+{
+    bytes.iter().all(|byte| *byte == b'\r' || *byte == b'\n')
+}
+
+/// Returns the offset of the first byte that is not ASCII.
+pub(crate) fn high_byte(bytes: &[u8]) -> Option<usize>
+    ensures { result ≡ first_byte is_high bytes.now }
+{
+    bytes.iter().position(|byte| *byte >= 128)
+}
+
+/// Returns the offset of the first control character that is no tab and no byte of a line end.
+pub(crate) fn control_byte(bytes: &[u8]) -> Option<usize>
+    ensures { result ≡ first_byte is_control bytes.now }
+{
+    bytes.iter().position(|byte| is_control(*byte))
+}
+
+/// Returns whether a byte is such a control character.
+fn is_control(byte: u8) -> bool
+    ensures { result ≡ is_control byte }
+{
+    (byte < 32 && !(byte == b'\t' || byte == b'\n' || byte == b'\r')) || byte == 127
+}
+
+/// Returns the earlier of two offsets, if there is one of them.
+pub(crate) fn earlier(first: Option<usize>, second: Option<usize>) -> Option<usize>
+    ensures { result ≡ earlier first second }
+{
+    match (first, second) {
+        (None, second) => second,
+        (Some(place), None) => Some(place),
+        (Some(place), Some(other)) => Some(if other < place { other } else { place }),
+    }
+}
+
+/// Returns the later of two offsets, if there are both.
+pub(crate) fn later(first: Option<usize>, second: Option<usize>) -> Option<usize>
+    ensures { result ≡ later first second }
+{
+    match (first, second) {
+        (Some(place), Some(other)) => Some(if place < other { other } else { place }),
+        _ => None,
+    }
+}
+
+/// Returns the bytes from an offset onwards, or none if there are fewer.
+pub(crate) fn from_offset(bytes: &[u8], at: usize) -> &[u8]
+    ensures { result.now ≡ drop at bytes.now }
+{
+    if at < bytes.len() {
+        &bytes[at..]
+    } else {
+        &bytes[bytes.len()..]
+    }
+}
+
+/// Returns the number of blanks at the front.
+pub(crate) fn blank_count(bytes: &[u8]) -> usize
+    ensures value { result ≡ first_place (begins (λ b. not (is_blank b))) bytes.now }
+    ensures bounds { result ≤ length bytes.now }
+{
+    bytes
+        .iter()
+        .position(|byte| *byte != b' ' && *byte != b'\t')
+        .unwrap_or(bytes.len())
+}
+
+/// Returns whether nothing of a line is left: whether the bytes begin with a line end or are at
+/// their end.
+pub(crate) fn is_line_left(rest: &[u8]) -> bool
+    ensures { result ≡ is_line_left rest.now }
+{
+    rest.is_empty() || rest.starts_with(b"\n") || rest.starts_with(b"\r\n")
+}
