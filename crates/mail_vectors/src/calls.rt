@@ -8,6 +8,7 @@ mod encoded_values;
 mod encodings;
 mod errors;
 mod files;
+mod findings;
 mod headers;
 mod html;
 mod kinds;
@@ -82,6 +83,7 @@ fn make_above(answer: &mut Answer, row: &Row) -> Decision {
         encoded_values::make(answer, row)?
             || outlines::make(answer, row)?
             || files::make(answer, row)?
+            || findings::make(answer, row)?
             || mailboxes::make(answer, row)?
             || reports::make(answer, row)?
             || lenient::make(answer, row)?
