@@ -9,7 +9,6 @@ commands of docs/SCRIPTS.md for GNU parallel run unchanged. It takes about 30 s.
 
 import bz2
 import contextlib
-import email
 import glob
 import gzip
 import importlib
@@ -29,11 +28,9 @@ import pytest
 from support import FROM, TOP, missing, program, run, text_of
 
 from archive import write_index
-from compare_real import mails_at
 from fences import fences_of
 from made_mails import mailbox
 from readers.html_reader import by_parser
-from real_mail import html_parts
 
 pytestmark = pytest.mark.xdist_group("archive")
 EXAMPLES = os.path.join(TOP, "examples", "archive")
@@ -560,14 +557,16 @@ def test_parallel(runs):
             assert found.read() == wanted, "GNU parallel: the lines"
 
 
-def html_alone(directory):
-    """The real mails whose only texts are HTML: each with its path, its id or None, and the longest of its words."""
-    for path, raw in mails_at([directory]):
-        mail = email.message_from_bytes(raw)
-        kinds = {part.get_content_type() for part in mail.walk() if part.get_content_maintype() == "text"}
-        text = "\n".join(filter(None, map(by_parser, html_parts(raw))))
-        if kinds == {"text/html"} and (found := re.findall(r"\b[a-zA-Z]+\b", text)):
-            yield path, ((mail["message-id"] or "").strip().strip("<>") or None), max(found, key=len)
+def html_alone(index):
+    """The mails of an index whose only texts are HTML: each with its file, where it starts, and the longest of its words, by
+    html.parser."""
+    for name in glob.glob(os.path.join(index, "*.jsonl")):
+        with open(name, encoding="utf-8") as shard:
+            for line in map(json.loads, shard):
+                texts = [part for part in line.get("parts", ()) if part["text"]]
+                text = "\n".join(by_parser(part["text"]) or "" for part in texts)
+                if {part["type"] for part in texts} == {"text/html"} and (found := re.findall(r"\b[a-zA-Z]+\b", text)):
+                    yield line["file"], line["start"], max(found, key=len)
 
 
 def test_real_html(request, tmp_path):
@@ -579,11 +578,11 @@ def test_real_html(request, tmp_path):
     assert subprocess.run(command, stderr=subprocess.DEVNULL, check=False).returncode == 0
     client = importlib.import_module("web").create_app(database, program("rocktray")).test_client()
     slices = list(map(search.opened, search.slices_of(database)))
-    mails = [one for place in places for one in html_alone(place)]
-    for path, message_id, word in mails:
-        found, _ = search.found_in(slices, [search.with_words(search.quoted(word))], None)
-        those = [(db, number) for mail, db, number in found if mail["file"] == path.partition(":")[0] or mail["message_id"] == message_id]
-        assert those, (path, word)
-        shown = [client.get(f"/mail/{slices.index(db)}/{number}").text for db, number in those]
-        assert any(word in page.partition("<pre>")[2].partition("</pre>")[0] for page in shown), (path, word)
-    assert len(mails) >= 25, "mails with HTML alone"
+    mails = list(html_alone(tmp_path / "index"))
+    for path, start, word in mails:
+        where = [search.with_words(search.quoted(word)), ("mails.id in (select mail from copies where file = ? and start = ?)", path, start)]
+        found, _ = search.found_in(slices, where, None)
+        assert found, (path, word)
+        shown = client.get(f"/mail/{slices.index(found[0][1])}/{found[0][2]}").text
+        assert word in shown.partition("<pre>")[2].partition("</pre>")[0], (path, word)
+    assert len(mails) >= 20, "mails with HTML alone"
