@@ -7,7 +7,6 @@ and files are downloads. It needs Flask and pygal (Debian: python3-flask, python
 """
 import argparse
 import contextlib
-import datetime
 import json
 import os
 import re
