@@ -234,6 +234,51 @@ def test_windows_paths(path, tmp_path):
     assert (ended.returncode, [file.name for file in tmp_path.iterdir()]) == (0, [ntpath.basename(path)])
 
 
+@pytest.mark.parametrize("path", ["C:\\Users\\x\\a.pdf", "z:\\a b.pdf"])
+@pytest.mark.parametrize("escaped", [False, True])
+def test_windows_paths_in_quotes(path, escaped, tmp_path):
+    """Of a path with a drive in quotes the name of the file is saved, whether its backslashes are escaped or not."""
+    quoted = path.replace("\\", "\\\\") if escaped else path
+    mail = b"Content-Disposition: attachment; filename=\"%b\"\n\nx" % quoted.encode()
+    ended = run([*command("extract"), "--into", tmp_path, "--mail"], mail)
+    assert (ended.returncode, [file.name for file in tmp_path.iterdir()]) == (0, [ntpath.basename(path)])
+
+
+# Microsoft, "Naming Files, Paths, and Namespaces": the names of devices and the reserved characters
+DEVICES = {"CON", "PRN", "AUX", "NUL", *(port + digit for port in ("COM", "LPT") for digit in "123456789\u00b9\u00b2\u00b3")}
+RESERVED = re.compile(r'[<>:"/\\|?*\x00-\x1f]|[. ]$')
+NAMES = {
+    "NUL.txt": "_NUL.txt", "NUL.tar.gz": "_NUL.tar.gz", "com1": "_com1", "LPT\u00b2.log": "_LPT\u00b2.log", "aux .c": "_aux .c",
+    "a<b>c:d\"e|f?g*h": "a_b_c_d_e_f_g_h", "end.": "end_", "end ": "end_", "null.txt": "null.txt", "COM10": "COM10",
+    "r\u00e9sum\u00e9 (1).pdf": "r\u00e9sum\u00e9 (1).pdf", "console.log": "console.log", "a.con": "a.con", "lpt": "lpt",
+    "x." + 252 * "y" + " ": "x." + 252 * "y" + "_",
+}
+
+
+def is_reserved(name):
+    """Whether Windows reserves or refuses a name."""
+    return bool(RESERVED.search(name)) or name.partition(".")[0].rstrip(" ").upper() in DEVICES
+
+
+def test_windows_names(tmp_path):
+    """Windows takes each name, also with a number, and what it takes stays; without the option names stay."""
+    quoted = ["".join(f"%{byte:02X}" for byte in name.encode()) for name in NAMES]
+    mail = multipart(b"b", *(
+        b"Content-Disposition: attachment; filename*=utf-8''%b\n\nx" % name.encode() for name in quoted))
+    for options, wanted in ([["--windows-names"], list(NAMES.values())], [[], list(NAMES)]):
+        into = tmp_path / f"into{len(options)}"
+        into.mkdir()
+        for run_number in range(3):
+            ended = run([*command("extract"), "--into", into, "--mail", *options], mail)
+            saved = [json.loads(line)["saved"] for line in ended.stdout.splitlines()]
+            assert (ended.returncode, len(saved)) == (0, len(NAMES))
+            if options:
+                assert not any(map(is_reserved, saved))
+            if run_number == 0:
+                assert saved == wanted
+    assert all((name == changed) == (not is_reserved(name)) for name, changed in NAMES.items())
+
+
 def nested(levels, innermost):
     """A mail with an image and a mail that it forwards, which is like it, and so on; the innermost has this file."""
     mail = multipart(b"last", b"Content-Type: application/zip; name=last.zip\n\n" + innermost)

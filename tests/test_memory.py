@@ -2,8 +2,8 @@
 
 Each allocation of a run is refused in turn, alone or with all that follow. The run then gives what it gives with ample
 memory, or ends with exit status 1 and reports only that memory ran out. What rocktray has written by then is the front
-of what it writes with ample memory, and each saved file is complete; mail_show has written nothing. A run that met a
-refusal ends in the second way.
+of what it writes with ample memory, and each saved file is complete and has its line; mail_show has written nothing. A
+run that met a refusal ends in the second way.
 """
 
 import base64
@@ -82,6 +82,11 @@ class Refused:
         compared = filecmp.dircmp(self.directory / "into", self.directory / "saved")
         return not compared.right_only and not compared.diff_files, not compared.left_only + compared.diff_files
 
+    def has_lines(self, output):
+        """Whether the files that are there are those of the lines."""
+        names = {json.loads(line)["saved"] for line in output.split(b"\n")[:-1]} - {None}
+        return names == {path.name for path in (self.directory / "into").iterdir()}
+
     def is_right(self, found):
         """Whether a run gave what it gives with ample memory."""
         return found == self.wanted and self.saved_files()[0]
@@ -92,7 +97,8 @@ class Refused:
         may_begin = self.name != "mail_show"
         front = self.wanted[1].startswith(output) if may_begin else output == b""
         is_reported = error.count(b"\n") == 1 and error.endswith(b"out of memory\n")
-        return status == 1 and is_reported and front and self.saved_files()[1]
+        is_saved = self.saved_files()[1] and (self.name != "extract" or self.has_lines(output))
+        return status == 1 and is_reported and front and is_saved
 
 
 @pytest.mark.parametrize("which", ["REFUSE_AT", "REFUSE_FROM"])

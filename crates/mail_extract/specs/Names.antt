@@ -4,6 +4,9 @@ use Rattle.std.specs.Option.{unwrap_or}
 use Rattle.std.specs.Str.{IsCharBoundary, NoCharPasses}
 use Rattle.mail_codec.specs.Places.{begins}
 use Rattle.mail_data.specs.FileNames.{safe_name}
+use Rattle.mail_data.specs.WindowsNames.{windows_name}
+use Rattle.mail_extract.specs.declared.options.Naming.{Naming}
+use Rattle.mail_extract.specs.declared.options.Naming.TheVariants.{BySender, ForWindows, ByHash}
 
 -- a character with which no saved name begins: `.`, which hides a file, and `-`, which makes its name an option
 abbrev pub is_refused_first : ℕ → Bool
@@ -33,15 +36,21 @@ pub record IsFrontOf (most : ℕ) (text front : List ℕ) : Type 0 where
   pub whole : IsCharBoundary text count
   pub longest : (n : ℕ) → count < n → n ≤ most → ¬ (IsCharBoundary text n)
 
+-- a name made safe, or a name that Windows takes if that is asked for
+abbrev pub made_name : Naming → List ℕ → List ℕ
+made_name BySender name = safe_name name
+made_name ForWindows name = windows_name name
+made_name ByHash name = safe_name name
+
 -- a text with a hyphen and a number before an ending; at most 200 bytes of the text are kept, so that the number fits
-abbrev pub IsNumberedBefore : List ℕ → List ℕ → ℕ → List ℕ → Type 0
-IsNumberedBefore stem ending number text =
-    (front : List ℕ) × IsFrontOf 200 stem front × (text ≡ safe_name (front ++ (codes "-" ++ (decimal number ++ ending))))
+abbrev pub IsNumberedBefore : Naming → List ℕ → List ℕ → ℕ → List ℕ → Type 0
+IsNumberedBefore naming stem ending number text =
+    (front : List ℕ) × IsFrontOf 200 stem front × (text ≡ made_name naming (front ++ (codes "-" ++ (decimal number ++ ending))))
 
 -- a name with a number before its ending
-pub record IsNumbered (name : List ℕ) (number : ℕ) (text : List ℕ) : Type 0 where
+pub record IsNumbered (naming : Naming) (name : List ℕ) (number : ℕ) (text : List ℕ) : Type 0 where
   pub stem : List ℕ
   pub ending : List ℕ
   pub cut : name ≡ stem ++ ending
   pub is_ending : IsEnding name ending
-  pub numbered : IsNumberedBefore stem ending number text
+  pub numbered : IsNumberedBefore naming stem ending number text

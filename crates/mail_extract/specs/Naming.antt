@@ -1,10 +1,11 @@
 -- The options of saving, and the name under which a file is saved if that is free; the program's own rule.
 use Rattle.std.specs.Prelude.{ℕ, List}
 use Rattle.mail_data.specs.FileNames.{safe_name}
+use Rattle.mail_data.specs.WindowsNames.{windows_name}
 use Rattle.mail_extract.specs.Choice.{Choice}
 use Rattle.mail_extract.specs.declared.hash.Hashing.{Hashing}
 use Rattle.mail_extract.specs.declared.options.Naming.{Naming}
-use Rattle.mail_extract.specs.declared.options.Naming.TheVariants.{BySender, ByHash}
+use Rattle.mail_extract.specs.declared.options.Naming.TheVariants.{BySender, ForWindows, ByHash}
 use Rattle.mail_program.specs.Hash.{hash_text}
 
 -- the limit on the messages, parts and headers of each mail, whether files are hashed, what names them, and which are saved
@@ -14,7 +15,8 @@ pub record Options : Type 0 where
   pub naming : Naming
   pub choice : Choice
 
--- the name under which bytes are saved if it is free: that of the sender, or their SHA-256
+-- the name under which bytes are saved if it is free: that of the sender, which Windows takes if that is asked for, or their SHA-256
 unfoldable pub target : Naming → (name bytes : List ℕ) → List ℕ
 target BySender name bytes = name
+target ForWindows name bytes = windows_name name
 target ByHash name bytes = safe_name (hash_text bytes)

@@ -5,9 +5,10 @@ use Rattle.std.specs.Result.{result_ok}
 use Rattle.mail_codec.specs.Charset.{Charsets}
 use Rattle.mailparse.specs.Mail.{Node, Tree, root}
 use Rattle.mailparse.specs.Placement.{Placement, placements}
-use Rattle.mail_data.specs.Files.{file_name, is_extracted}
+use Rattle.mail_data.specs.Files.{is_extracted}
 use Rattle.mail_data.specs.InnerMails.{InnerMail, forwards, inner_mails_within, places_under}
 use Rattle.mail_data.specs.PartPlaces.{Place, places}
+use Rattle.mail_data.specs.RawPaths.{file_name_or_path}
 use Rattle.mail_data.specs.Reading.{mail_reading}
 use Rattle.mail_data.specs.lenient.Content.{Content}
 use Rattle.mail_extract.specs.Choice.{Choice, keeps}
@@ -20,7 +21,7 @@ use Rattle.mail_extract.specs.Naming.{Options, target}
 use Rattle.mail_extract.specs.declared.level.Level.{Level}
 use Rattle.mail_extract.specs.declared.level.Level.TheVariants.{Own, Inside}
 use Rattle.mail_extract.specs.declared.options.Naming.{Naming}
-use Rattle.mail_extract.specs.declared.options.Naming.TheVariants.{BySender, ByHash}
+use Rattle.mail_extract.specs.declared.options.Naming.TheVariants.{BySender, ForWindows, ByHash}
 
 -- a file of a mail: the path of its part, the type, the wanted name, its content, and whether the file of a forwarded mail contains it
 pub record Wanted : Type 0 where
@@ -39,17 +40,17 @@ pub record Outcome : Type 0 where
   pub sha256 : Option (List ℕ)
   pub error : Option (List ℕ)
 
--- For a directory that may fail if it has certain files, and the wanted name of a file.
-module _ (can_fail : List File → Bool) (name : List ℕ) where
+-- For a directory that may fail if it has certain files, what names files, and the wanted name of a file.
+module _ (can_fail : List File → Bool) (naming : Naming) (name : List ℕ) where
   -- the name with each number from `from` onwards and below a bound is taken
   abbrev pub AreTaken : List File → ℕ → ℕ → Type 0
-  AreTaken files from bound = (n : ℕ) → from ≤ n → n < bound → (text : List ℕ) × IsNumbered name n text × (has_file text files ≡ true)
+  AreTaken files from bound = (n : ℕ) → from ≤ n → n < bound → (text : List ℕ) × IsNumbered naming name n text × (has_file text files ≡ true)
 
   -- a file was saved under the name with the least free number from `from` onwards, and the next number is the one after it; or the directory failed,
   -- and the next number is the one after that which was tried; or no number below 2^64 - 1 is free
   abbrev pub IsKeptNumbered : List File → List ℕ → ℕ → Option (List ℕ) → ℕ → List File → Type 0
   IsKeptNumbered files bytes from (Some text) next now =
-      (n : ℕ) × (next ≡ n + 1) × (from ≤ n) × AreTaken files from n × IsNumbered name n text × (has_file text files ≡ false)
+      (n : ℕ) × (next ≡ n + 1) × (from ≤ n) × AreTaken files from n × IsNumbered naming name n text × (has_file text files ≡ false)
       × (now ≡ files ++ (text, bytes) ∷ [])
   IsKeptNumbered files bytes from None next now =
       (now ≡ files)
@@ -62,12 +63,15 @@ module _ (can_fail : List File → Bool) (name : List ℕ) where
       ⊎ ((has_file name files ≡ true) × IsKeptNumbered files bytes from saved next now)
       ⊎ ((can_fail files ≡ true) × (saved ≡ None) × (next ≡ from) × (now ≡ files))
 
-  -- the same, but if the name is the hash of the bytes and a file with this name has them already, nothing is written
+-- For a directory that may fail if it has certain files, and the wanted name of a file.
+module _ (can_fail : List File → Bool) (name : List ℕ) where
+  -- a file was saved under the name or a number; but if the name is the hash of the bytes and a file with this name has them already, nothing is written
   abbrev pub IsPut : Naming → List File → List ℕ → ℕ → Option (List ℕ) → ℕ → List File → Type 0
-  IsPut BySender files bytes from saved next now = IsKept files bytes from saved next now
+  IsPut BySender files bytes from saved next now = IsKept can_fail BySender name files bytes from saved next now
+  IsPut ForWindows files bytes from saved next now = IsKept can_fail ForWindows name files bytes from saved next now
   IsPut ByHash files bytes from saved next now =
       ((has_copy name bytes files ≡ true) × (saved ≡ Some name) × (next ≡ from) × (now ≡ files))
-      ⊎ ((has_copy name bytes files ≡ false) × IsKept files bytes from saved next now)
+      ⊎ ((has_copy name bytes files ≡ false) × IsKept can_fail ByHash name files bytes from saved next now)
 
 -- For a directory that may fail if it has certain files, under these options.
 module _ (can_fail : List File → Bool) (options : Options) where
@@ -94,7 +98,7 @@ wanted_as level place name =
 module _ (known : Charsets) where
   -- a part as it is to be saved
   abbrev pub wanted : Level → Place → Wanted
-  wanted level place = wanted_as level place (wanted_name (file_name known (root place.part)) (ending_of (root place.part)))
+  wanted level place = wanted_as level place (wanted_name (file_name_or_path known (root place.part)) (ending_of (root place.part)))
 
   -- the files among some parts
   abbrev pub wanted_among : Level → List Place → List Wanted

@@ -4,9 +4,10 @@ ghost use Rattle.mail_codec.specs.Places.{begins};
 ghost use Rattle.mailparse.specs.Map.{text_found};
 ghost use Rattle.mail_data.specs.FileNames.{IsSafeName};
 ghost use Rattle.mail_extract.specs.Names.{IsNumbered, IsNumberedBefore, is_refused_first};
-ghost use Rattle.mail_extract.specs.Names.{visible_name, wanted_name};
+ghost use Rattle.mail_extract.specs.Names.{made_name, visible_name, wanted_name};
 
-use mail_data::files::safe_file_name;
+use crate::options::Naming;
+use mail_data::files::{safe_file_name, windows_file_name};
 use std::alloc::{AllocError, Global};
 
 /// The greatest number of bytes of a name before a number.
@@ -63,18 +64,24 @@ fn is_refused_first(name: &[u8]) -> bool
 /// # Errors
 ///
 /// If it runs out of memory.
-pub fn numbered(alloc: Global, name: &str, number: u64) -> Result<String, AllocError>
-    ensures read { IfOk result (λ text. IsNumbered name.now number (string_bytes text)) }
+pub fn numbered(
+    alloc: Global,
+    name: &str,
+    number: u64,
+    naming: Naming,
+) -> Result<String, AllocError>
+    ensures read { IfOk result (λ text.
+        IsNumbered naming name.now number (string_bytes text)) }
     ensures safe { IfOk result (λ text. IsSafeName (string_bytes text)) }
 {
     match name.rsplit_once('.') {
         Some((stem, rest)) => {
             let ending = format!(in alloc; ".{rest}")?;
-            let text = numbered_before(alloc, stem, number, ending.as_str())?;
+            let text = numbered_before(alloc, stem, number, ending.as_str(), naming)?;
             Ok(text)
         }
         None => {
-            let text = numbered_before(alloc, name, number, "")?;
+            let text = numbered_before(alloc, name, number, "", naming)?;
             Ok(text)
         }
     }
@@ -86,13 +93,35 @@ fn numbered_before(
     stem: &str,
     number: u64,
     ending: &str,
+    naming: Naming,
 ) -> Result<String, AllocError>
     ensures read { IfOk result (λ text.
-        IsNumberedBefore stem.now ending.now number (string_bytes text)) }
+        IsNumberedBefore naming stem.now ending.now number (string_bytes text)) }
     ensures safe { IfOk result (λ text. IsSafeName (string_bytes text)) }
 {
     let (front, _) = stem.split_at(stem.floor_char_boundary(MOST_STEM));
     let text = format!(in alloc; "{front}-{number}{ending}")?;
-    let safe = safe_file_name(alloc, text.as_str())?;
-    Ok(safe)
+    let made = made_name(alloc, text.as_str(), naming)?;
+    Ok(made)
+}
+
+/// Returns a name made safe, or a name that Windows takes if that is asked for.
+fn made_name(alloc: Global, name: &str, naming: Naming) -> Result<String, AllocError>
+    ensures read { IfOk result (λ text. string_bytes text ≡ made_name naming name.now) }
+    ensures safe { IfOk result (λ text. IsSafeName (string_bytes text)) }
+{
+    match naming {
+        Naming::BySender => {
+            let made = safe_file_name(alloc, name)?;
+            Ok(made)
+        }
+        Naming::ForWindows => {
+            let taken = windows_file_name(alloc, name)?;
+            Ok(taken)
+        }
+        Naming::ByHash => {
+            let made = safe_file_name(alloc, name)?;
+            Ok(made)
+        }
+    }
 }

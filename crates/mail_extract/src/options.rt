@@ -5,7 +5,7 @@ ghost use Rattle.mail_extract.specs.Naming.{target};
 
 use crate::choice::Choice;
 use crate::hash::Hashing;
-use mail_data::files::safe_file_name;
+use mail_data::files::{safe_file_name, windows_file_name};
 use mail_json::InputKind;
 use mail_program::sha256_text;
 use std::alloc::{AllocError, Global};
@@ -15,6 +15,8 @@ use std::alloc::{AllocError, Global};
 pub enum Naming {
     /// Its sender.
     BySender,
+    /// Its sender, with a name that Windows takes.
+    ForWindows,
     /// The SHA-256 of its bytes: files with the same bytes are saved once.
     ByHash,
 }
@@ -71,6 +73,10 @@ pub(crate) fn target_name(
 {
     match naming {
         Naming::BySender => Ok(name),
+        Naming::ForWindows => {
+            let taken = windows_file_name(alloc, name.as_str())?;
+            Ok(taken)
+        }
         Naming::ByHash => {
             let hash = sha256_text(alloc, bytes)?;
             let safe = safe_file_name(alloc, hash.as_str())?;

@@ -6,7 +6,7 @@ ghost use Rattle.mailparse.specs.Mail.{root};
 ghost use Rattle.mailparse.specs.Outcome.{IsMemory};
 ghost use Rattle.mailparse.specs.Views.{tree_of};
 ghost use Rattle.mail_data.specs.FileNames.{IsSafeName};
-ghost use Rattle.mail_data.specs.Files.{file_name};
+ghost use Rattle.mail_data.specs.RawPaths.{file_name_or_path};
 ghost use Rattle.mail_data.specs.PlaceViews.{place_view};
 ghost use Rattle.mail_json.specs.DecodedViews.{IsDecoded, decoded_place};
 ghost use Rattle.mail_extract.specs.ChoiceViews.{choice_view, options_view};
@@ -23,7 +23,7 @@ use crate::names::wanted_name;
 use crate::options::{Source, Target};
 use crate::report::report_saved;
 use crate::save::save_file;
-use mail_data::files::{file_name, is_extracted};
+use mail_data::files::{file_name_or_path, is_extracted};
 use mail_data::places::Place;
 use mail_json::Decoded;
 use mail_program::{Fault, Outcome};
@@ -120,11 +120,11 @@ fn name_of<K: KnownCharsets>(
     known: &K,
 ) -> Result<String, MailParseError>
     ensures read { IfOk result (λ text. string_bytes text
-        ≡ wanted_name (file_name (K.known known.now) (root (tree_of part.now)))
+        ≡ wanted_name (file_name_or_path (K.known known.now) (root (tree_of part.now)))
         (ending_of (root (tree_of part.now)))) }
     ensures safe { IfOk result (λ text. IsSafeName (string_bytes text)) }
     ensures only_memory { IfErr result IsMemory }
 {
-    let name = file_name(alloc, part, known)?;
+    let name = file_name_or_path(alloc, part, known)?;
     Ok(wanted_name(alloc, name, ending_of(part))?)
 }

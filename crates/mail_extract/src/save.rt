@@ -126,12 +126,13 @@ fn put<D: Directory>(
     ensures safe { IfOk result (λ kept. IfSome (kept_name kept) IsSafeName) }
 {
     match naming {
-        Naming::BySender => keep(alloc, directory, number, name, bytes),
+        Naming::BySender => keep(alloc, directory, number, name, bytes, naming),
+        Naming::ForWindows => keep(alloc, directory, number, name, bytes, naming),
         Naming::ByHash => {
             if directory.has(name.as_str(), bytes)? {
                 return Ok(Kept::As(name));
             }
-            keep(alloc, directory, number, name, bytes)
+            keep(alloc, directory, number, name, bytes, naming)
         }
     }
 }
@@ -143,17 +144,18 @@ fn keep<D: Directory>(
     number: &mut u64,
     name: String,
     bytes: &[u8],
+    naming: Naming,
 ) -> Result<Kept, AllocError>
     requires { IsSafeName (string_bytes name) }
     ensures kept { IfOk result (λ kept. (files : List File) → D.held directory.old ≡ Some files →
         (now : List File) × (D.held directory.new ≡ Some now)
-        × IsKept D.can_fail (string_bytes name) files bytes.now number.old
+        × IsKept D.can_fail naming (string_bytes name) files bytes.now number.old
         (kept_name kept) number.new now) }
     ensures safe { IfOk result (λ kept. IfSome (kept_name kept) IsSafeName) }
 {
     match directory.create(name.as_str(), bytes)? {
         Created::Made => Ok(Kept::As(name)),
-        Created::Taken => keep_numbered(alloc, directory, number, name.as_str(), bytes),
+        Created::Taken => { keep_numbered(alloc, directory, number, name.as_str(), bytes, naming) }
         Created::Failed(error) => Ok(Kept::Nowhere(error)),
     }
 }
@@ -165,16 +167,17 @@ fn keep_numbered<D: Directory>(
     number: &mut u64,
     name: &str,
     bytes: &[u8],
+    naming: Naming,
 ) -> Result<Kept, AllocError>
     ensures kept { IfOk result (λ kept. (files : List File) → D.held directory.old ≡ Some files →
         (now : List File) × (D.held directory.new ≡ Some now)
-        × IsKeptNumbered D.can_fail name.now files bytes.now number.old
+        × IsKeptNumbered D.can_fail naming name.now files bytes.now number.old
         (kept_name kept) number.new now) }
     ensures safe { IfOk result (λ kept. IfSome (kept_name kept) IsSafeName) }
 {
     for next in *number..u64::MAX {
         *number = next + 1;
-        let name = numbered(alloc, name, next)?;
+        let name = numbered(alloc, name, next, naming)?;
         match directory.create(name.as_str(), bytes)? {
             Created::Made => return Ok(Kept::As(name)),
             Created::Taken => {}

@@ -156,6 +156,8 @@ fn options_of<'a>(matches: &ArgMatches<'a>) -> SaveOptions<'a> {
         },
         naming: if matches.get_flag(ids::BY_HASH) {
             Naming::ByHash
+        } else if matches.get_flag(ids::WINDOWS_NAMES) {
+            Naming::ForWindows
         } else {
             Naming::BySender
         },

@@ -52,6 +52,8 @@ pub mod ids {
     pub const STDOUT: &str = "stdout";
 
     pub const TYPE: &str = "type";
+
+    pub const WINDOWS_NAMES: &str = "windows-names";
 }
 
 /// The formats of mailboxes that `--mbox` names: mboxo, mboxrd, and mboxcl or mboxcl2.
@@ -211,7 +213,8 @@ fn extract<'a>(alloc: Global) -> Result<Command<'a>, AllocError> {
             alloc,
             ids::BY_HASH,
             "Save each file under the SHA-256 of its bytes, and copies once",
-        ))?;
+        ))?
+        .arg(windows_names(alloc)?)?;
     choosing(alloc, command)
 }
 
@@ -237,6 +240,16 @@ fn choosing<'a>(alloc: Global, command: Command<'a>) -> Result<Command<'a>, Allo
             "Save only the files whose name fits, such as *.pdf",
         ))?
         .arg(to_stdout(alloc)?)
+}
+
+/// Returns the option that changes names so that Windows takes them.
+fn windows_names<'a>(alloc: Global) -> Result<Arg<'a>, AllocError> {
+    flag(
+        alloc,
+        ids::WINDOWS_NAMES,
+        "Change names that Windows reserves or refuses, such as NUL",
+    )
+    .conflicts_with(ids::STDOUT)
 }
 
 /// Returns the option that writes the only file to standard output.

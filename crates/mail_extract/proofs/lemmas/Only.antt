@@ -256,14 +256,14 @@ module _ (file : Option (List ℕ)) (number : Option ℕ) (options : Options) (f
       }
 
   keeps_numbered : (name : List ℕ) (saved : Option (List ℕ)) → outcome.saved ≡ saved → has_file name files ≡ true
-      → IsKeptNumbered fails_if_full name files wanted.content.bytes from saved next now → Keeps files (wanted ∷ []) (file_line file number outcome ∷ []) now
+      → IsKeptNumbered fails_if_full BySender name files wanted.content.bytes from saved next now → Keeps files (wanted ∷ []) (file_line file number outcome ∷ []) now
   keeps_numbered name (Some text) e taken h = keeps_added text e h.6
   keeps_numbered name None e taken h = keeps_failed e (full_taken name files taken) h.0
 
   keeps_one : options.naming ≡ BySender → Keeps files (wanted ∷ []) (file_line file number outcome ∷ []) now
   keeps_one by_sender =
       let name = target options.naming wanted.name wanted.content.bytes in
-      let put : IsKept fails_if_full name files wanted.content.bytes from outcome.saved next now =
+      let put : IsKept fails_if_full BySender name files wanted.content.bytes from outcome.saved next now =
       subst (λ (n : Naming). IsPut fails_if_full name n files wanted.content.bytes from outcome.saved next now) by_sender one.kept in
       elim put [
         | inl new ↦ keeps_added name new.1 new.3

@@ -25,6 +25,7 @@ use Rattle.mail_extract.specs.declared.directory.Created.{Created}
 use Rattle.mail_extract.specs.declared.directory.Created.TheVariants.{Taken}
 use Rattle.mail_extract.specs.Names.{IsNumbered}
 use Rattle.mail_extract.specs.Naming.{Options, target}
+use Rattle.mail_extract.specs.declared.options.Naming.{Naming}
 use Rattle.mail_extract.specs.Save.{AreTaken, IsPut, IsSaved, Wanted, chosen, is_chosen, wanted, wanted_among, wanted_as, wanted_inside}
 use Rattle.mail_extract.specs.declared.level.Level.{Level}
 use Rattle.mail_extract.specs.declared.level.Level.TheVariants.{Inside}
@@ -139,17 +140,17 @@ inside_refused known limit inner refusal e =
     ap (λ (r : Reads Tree). option_map_or (λ u. wanted_among known Inside (places_under inner.path u (placements 0 u))) (result_ok r) []) e
 
 -- no number is below the first
-pub taken_start : (can_fail : List File → Bool) (name : List ℕ) (files : List File) (from : ℕ) → AreTaken can_fail name files from from
-taken_start can_fail name files from = λ n above below. absurd (omega arith)
+pub taken_start : (can_fail : List File → Bool) (naming : Naming) (name : List ℕ) (files : List File) (from : ℕ) → AreTaken can_fail naming name files from from
+taken_start can_fail naming name files from = λ n above below. absurd (omega arith)
 
 -- one more number
-pub taken_more : (can_fail : List File → Bool) (name : List ℕ) (files : List File) (from number : ℕ) (text : List ℕ) → IsNumbered name number text
-    → has_file text files ≡ true → AreTaken can_fail name files from number → AreTaken can_fail name files from (number + 1)
-taken_more can_fail name files from number text is taken before = λ n above below.
+pub taken_more : (can_fail : List File → Bool) (naming : Naming) (name : List ℕ) (files : List File) (from number : ℕ) (text : List ℕ) → IsNumbered naming name number text
+    → has_file text files ≡ true → AreTaken can_fail naming name files from number → AreTaken can_fail naming name files from (number + 1)
+taken_more can_fail naming name files from number text is taken before = λ n above below.
     ⊎_elim (λ less. before n above less)
     (λ not_less.
     let same : number ≡ n = omega arith in
-    subst (λ (m : ℕ). (t : List ℕ) × IsNumbered name m t × (has_file t files ≡ true)) same (text, is, taken))
+    subst (λ (m : ℕ). (t : List ℕ) × IsNumbered naming name m t × (has_file t files ≡ true)) same (text, is, taken))
     (cases_lt n number)
 
 -- whether one element passes a test, seen by a view

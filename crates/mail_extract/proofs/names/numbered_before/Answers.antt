@@ -1,5 +1,5 @@
 use Rattle.std.proofs.Common.{ap, ◌∙◌}
-use Rattle.mail_data.specs.FileNames.{safe_name}
+use Rattle.mail_extract.specs.Names.{made_name}
 use Rattle.mail_extract.proofs.names.numbered_before.Goals as goal
 
 pub returns-clause-read : goal.returns-clause-read
@@ -13,5 +13,5 @@ returns-clause-read c =
         whole = cut.boundary;
         longest = cut.nearest;
       },
-      c.in_ok-safe.ensures.read ∙ ap safe_name (c.as_str.ensures.value ∙ c.in_ok-text.ensures.ok),
+      c.in_ok-made.ensures.read ∙ ap (made_name c.args.naming) (c.as_str.ensures.value ∙ c.in_ok-text.ensures.ok),
     )

@@ -10,8 +10,8 @@ loop-next-preserved g c = record {
   taken = λ files e.
       let before = c.loop-next.invariant.taken files e in
       let there = created_taken files _ _ g.D.Directory.can_fail _ _ c.in-Taken.is (c.in_ok-create.ensures files before.0) in
-      let is = subst (λ (t : List ℕ). IsNumbered c.args.name.now c.loop-next.next t) (sym c.as_str.ensures.value) c.in_ok-name.ensures.read in
-      (there.1, taken_more g.D.Directory.can_fail c.args.name.now files c.args.number.now c.loop-next.next _ is there.0 before.1);
+      let is = subst (λ (t : List ℕ). IsNumbered c.args.naming c.args.name.now c.loop-next.next t) (sym c.as_str.ensures.value) c.in_ok-name.ensures.read in
+      (there.1, taken_more g.D.Directory.can_fail c.args.naming c.args.name.now files c.args.number.now c.loop-next.next _ is there.0 before.1);
 }
 
 pub returns-clause-kept : goal.returns-clause-kept

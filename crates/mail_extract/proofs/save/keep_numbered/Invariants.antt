@@ -9,5 +9,5 @@ invariant-loop-next g l = record {
   above : l.fn.number ≤ l.next;
   after : l.next ≤ l.number;
   taken : (files : List File) → g.D.Directory.held l.fn.directory ≡ Some files
-      → (g.D.Directory.held l.directory ≡ Some files) × AreTaken g.D.Directory.can_fail l.fn.name files l.fn.number l.next;
+      → (g.D.Directory.held l.directory ≡ Some files) × AreTaken g.D.Directory.can_fail l.naming l.fn.name files l.fn.number l.next;
 }
