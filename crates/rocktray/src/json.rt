@@ -21,15 +21,28 @@ use std::io::{self, BufWriter, Read, Seek, SeekFrom, Write};
 use std::process::ExitCode;
 use std::rt::Files;
 
+/// What the options say of the lines.
+#[derive(Clone, Copy, Debug)]
+struct Shown {
+    /// The greatest number of messages, parts and headers in a mail that is not refused.
+    limit: usize,
+    /// Whether bodies are decoded.
+    decodes_bodies: bool,
+    /// Whether files have their hashes.
+    hashes: bool,
+    /// Whether each paragraph of a flowed text is one line.
+    joins_flowed: bool,
+    /// Whether HTML has its text.
+    html_text: bool,
+}
+
 /// How the inputs are read.
 #[derive(Clone, Copy, Debug)]
 struct How {
     /// What each input is.
     kind: InputKind,
-    /// How mails are shown, without the text of HTML.
-    options: LineOptions<'static>,
-    /// Whether HTML has its text.
-    shows_html: bool,
+    /// What the options say of the lines.
+    shown: Shown,
     /// Whether a long run reports its progress.
     progress: Progress,
 }
@@ -88,18 +101,27 @@ impl How {
         Source {
             kind: self.kind,
             file,
-            options: self.line_options(references),
+            options: self.shown.line_options(references),
             known,
         }
     }
+}
 
+impl Shown {
     /// Returns how mails are shown, under these references.
     fn line_options<'r>(self, references: &'r References<'r>) -> LineOptions<'r> {
-        let mut options: LineOptions<'r> = self.options;
-        if self.shows_html {
-            options.html = Some(references);
+        let html = if self.html_text {
+            Some(references)
+        } else {
+            None
+        };
+        LineOptions {
+            limit: self.limit,
+            decodes_bodies: self.decodes_bodies,
+            hashes: self.hashes,
+            joins_flowed: self.joins_flowed,
+            html,
         }
-        options
     }
 }
 
@@ -144,15 +166,16 @@ pub fn run<'a, R: Files + Input + Print + Eprint + AllocGlobal>(
 
 /// Returns how the options say that inputs are read.
 fn how_of(matches: &ArgMatches<'_>, terminals: Terminals) -> How {
-    let mut options = LineOptions::new();
-    options.limit = limit_of(matches);
-    options.hashes = matches.get_flag(ids::HASH);
-    options.joins_flowed = matches.get_flag(ids::FLOWED);
-    options.decodes_bodies = !matches.get_flag(ids::NO_TEXT);
+    let shown = Shown {
+        limit: limit_of(matches),
+        decodes_bodies: !matches.get_flag(ids::NO_TEXT),
+        hashes: matches.get_flag(ids::HASH),
+        joins_flowed: matches.get_flag(ids::FLOWED),
+        html_text: matches.get_flag(ids::HTML_TEXT),
+    };
     How {
         kind: kind_of(matches),
-        options,
-        shows_html: matches.get_flag(ids::HTML_TEXT),
+        shown,
         progress: progress_of(matches, terminals),
     }
 }
