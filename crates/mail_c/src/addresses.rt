@@ -85,9 +85,9 @@ fn push_element<K: KnownCharsets>(
         (element_view element.now)) found.new) }
 {
     match element {
-        Address::Mailbox(mailbox) => push_mailbox(alloc, found, NONE, mailbox, known),
+        Address::Mailbox(mailbox) => push_mailbox(alloc, found, mailbox, NONE, known),
         Address::Group(group) => push_group(alloc, found, group, known),
-        Address::Unknown(unknown) => push_unknown(found, NONE, unknown),
+        Address::Unknown(unknown) => push_unknown(found, unknown, NONE),
     }
 }
 
@@ -105,16 +105,16 @@ fn push_group<K: KnownCharsets>(
 {
     let index = found.records.len() as u64;
     let name = group.get_display_name(alloc, known)?;
-    push_entry(found, 1, NONE, name.as_bytes(), b"")?;
-    push_members(alloc, found, index, group.members.as_slice(), known)
+    push_entry(found, name.as_bytes(), b"", 1, NONE)?;
+    push_members(alloc, found, group.members.as_slice(), index, known)
 }
 
 /// Appends the records of members of the group with this index.
 fn push_members<K: KnownCharsets>(
     alloc: Global,
     found: &mut AddressRecords,
-    group: u64,
     members: &[Member<'_>],
+    group: u64,
     known: &K,
 ) -> Result<(), MailParseError>
     ensures { OnOk result ((entries : List Entry) → AreRecords entries found.old →
@@ -122,7 +122,7 @@ fn push_members<K: KnownCharsets>(
         (map member_view members.now)) found.new) }
 {
     for member in members {
-        push_member(alloc, found, group, member, known)?;
+        push_member(alloc, found, member, group, known)?;
     }
     Ok(())
 }
@@ -131,8 +131,8 @@ fn push_members<K: KnownCharsets>(
 fn push_member<K: KnownCharsets>(
     alloc: Global,
     found: &mut AddressRecords,
-    group: u64,
     member: &Member<'_>,
+    group: u64,
     known: &K,
 ) -> Result<(), MailParseError>
     ensures { OnOk result ((entries : List Entry) → AreRecords entries found.old →
@@ -140,8 +140,8 @@ fn push_member<K: KnownCharsets>(
         ∷ []) found.new) }
 {
     match member {
-        Member::Mailbox(mailbox) => push_mailbox(alloc, found, group, mailbox, known),
-        Member::Unknown(unknown) => push_unknown(found, group, unknown),
+        Member::Mailbox(mailbox) => push_mailbox(alloc, found, mailbox, group, known),
+        Member::Unknown(unknown) => push_unknown(found, unknown, group),
     }
 }
 
@@ -149,8 +149,8 @@ fn push_member<K: KnownCharsets>(
 fn push_mailbox<K: KnownCharsets>(
     alloc: Global,
     found: &mut AddressRecords,
-    group: u64,
     mailbox: &Mailbox<'_>,
+    group: u64,
     known: &K,
 ) -> Result<(), MailParseError>
     ensures { OnOk result ((entries : List Entry) → AreRecords entries found.old →
@@ -159,14 +159,14 @@ fn push_mailbox<K: KnownCharsets>(
 {
     let name = mailbox.get_display_name(alloc, known)?;
     let address = mailbox.get_address(alloc)?;
-    push_entry(found, 0, group, name.as_bytes(), address.as_bytes())
+    push_entry(found, name.as_bytes(), address.as_bytes(), 0, group)
 }
 
 /// Appends the record of text that is no address, in the group with this index, or in none.
 fn push_unknown(
     found: &mut AddressRecords,
-    group: u64,
     unknown: &Unknown<'_>,
+    group: u64,
 ) -> Result<(), MailParseError>
     ensures { OnOk result ((entries : List Entry) → AreRecords entries found.old →
         AreRecords (entries ++ record {
@@ -176,16 +176,16 @@ fn push_unknown(
           address = unknown.now.text.now;
         } ∷ []) found.new) }
 {
-    push_entry(found, 2, group, b"", unknown.text)
+    push_entry(found, b"", unknown.text, 2, group)
 }
 
 /// Appends a record.
 fn push_entry(
     found: &mut AddressRecords,
-    kind: u64,
-    group: u64,
     name: &[u8],
     address: &[u8],
+    kind: u64,
+    group: u64,
 ) -> Result<(), MailParseError>
     ensures { OnOk result ((entries : List Entry) → AreRecords entries found.old →
         AreRecords (entries ++ record {

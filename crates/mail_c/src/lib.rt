@@ -182,7 +182,7 @@ pub extern "C" fn rocktray_body(
         buffer,
         needed,
         is_damaged,
-        ranges::body(alloc, encoding, body),
+        ranges::body(alloc, body, encoding),
     )
 }
 
@@ -203,7 +203,7 @@ pub extern "C" fn rocktray_body_text(
         is_damaged.old is_damaged.new result
         (read.body_text (all_known all) encoding body.now ctype.now) }
 {
-    let found = ranges::body_text(alloc, encoding, body, ctype, &charsets());
+    let found = ranges::body_text(alloc, body, ctype, encoding, &charsets());
     write_decoded(buffer, needed, is_damaged, found)
 }
 
@@ -221,7 +221,7 @@ pub extern "C" fn rocktray_body_charset(
         Ends buffer.old buffer.new needed.old needed.new result
         (λ found. read.body_charset (all_known all) encoding body.now ctype.now ≡ found) }
 {
-    let found = ranges::body_charset(alloc, encoding, body, ctype, &charsets());
+    let found = ranges::body_charset(alloc, body, ctype, encoding, &charsets());
     write_result(buffer, needed, found)
 }
 

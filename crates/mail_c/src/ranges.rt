@@ -1,6 +1,6 @@
 //! What is read of ranges of a mail: of raw values, of names and of bodies.
 ghost use Rattle.std.specs.Prelude.{◌≡◌, Ok, Some, IfOk, string_bytes};
-ghost use Rattle.mail_data.specs.Files.{filled, no_charsets};
+ghost use Rattle.mail_data.specs.Files.{filled};
 ghost use Rattle.mailparse.specs.Map.{text_found};
 ghost use Rattle.mailparse.specs.Body.{kind_named};
 ghost use Rattle.mailparse.specs.BodyViews.{name_of};
@@ -15,9 +15,8 @@ ghost use Rattle.mail_c.specs.Ranges.{undecoded_name, unquoted, value};
 use crate::buffer::write_items;
 use crate::codes::NO_MEMORY;
 use crate::results::{NO_LIMIT, text_in};
-use mail_codec::charset::Charset;
 use mail_data::bounce::original_message_id;
-use mail_data::files::{named_file, safe_file_name};
+use mail_data::files::{NoCharsets, named_file, safe_file_name};
 use mail_data::lenient::{charset_used, lenient_content, lenient_text};
 use mail_data::mailbox::quoted;
 use mail_data::reading::read_mail;
@@ -52,19 +51,6 @@ pub(crate) fn type_of<K: KnownCharsets>(
 {
     let text = value_text_in(alloc, raw, known)?;
     parse_content_type_in(alloc, text.as_str(), known)
-}
-
-/// No charsets: encoded words stay as they are.
-struct NoCharsets;
-
-impl KnownCharsets for NoCharsets {
-    type Decoder = Charset;
-
-    ghost known = { λ _ label. no_charsets label };
-
-    fn for_label(&self, _label: &[u8]) -> Option<Charset> {
-        None
-    }
 }
 
 /// Returns the file name in the raw values of a disposition and of a type.
@@ -159,7 +145,7 @@ pub(crate) struct Decoded {
 }
 
 /// Returns the decoded bytes of a body in the transfer encoding with this number.
-pub(crate) fn body(alloc: Global, encoding: u64, raw: &[u8]) -> Result<Decoded, MailParseError>
+pub(crate) fn body(alloc: Global, raw: &[u8], encoding: u64) -> Result<Decoded, MailParseError>
     ensures { AnswersOrMemory decoded_view result (Ok (body encoding raw.now)) }
 {
     let ctype = ParsedContentType::default(alloc)?;
@@ -174,9 +160,9 @@ pub(crate) fn body(alloc: Global, encoding: u64, raw: &[u8]) -> Result<Decoded, 
 /// Returns the text of such a body, given the raw value of its type.
 pub(crate) fn body_text<K: KnownCharsets>(
     alloc: Global,
-    encoding: u64,
     raw: &[u8],
     raw_type: &[u8],
+    encoding: u64,
     known: &K,
 ) -> Result<Decoded, MailParseError>
     ensures { AnswersOrMemory decoded_view result
@@ -195,9 +181,9 @@ pub(crate) fn body_text<K: KnownCharsets>(
 /// Returns the name of the charset in which `body_text` reads such a body.
 pub(crate) fn body_charset<K: KnownCharsets>(
     alloc: Global,
-    encoding: u64,
     raw: &[u8],
     raw_type: &[u8],
+    encoding: u64,
     known: &K,
 ) -> Result<Option<Vec<u8>>, MailParseError>
     ensures { AnswersOrMemory bytes_found result

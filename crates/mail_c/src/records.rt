@@ -8,18 +8,17 @@ ghost use Rattle.mailparse.specs.Views.{placement_of, placements_of, tree_of};
 ghost use Rattle.mail_c.specs.Codes.{IsCoded};
 ghost use Rattle.mailparse.specs.Disposition.{Disposition};
 ghost use Rattle.mail_data.specs.lenient.Encoding.{lenient_body_kind};
-ghost use Rattle.mail_json.specs.Part.{is_attachment, is_read};
 ghost use Rattle.mail_c.specs.Records.{bit, disposition_number, encoding_number, families, flags};
 ghost use Rattle.mail_c.specs.Records.{header_block, header_records, item_headers, items_of};
 ghost use Rattle.mail_c.specs.Records.{kind_number, limited, none, part_record, records, records_in};
 ghost use Rattle.mail_c.specs.RecordViews.{family_view, item_view, lists};
 
 use crate::codes::{NO_MEMORY, TOO_MANY, code_of};
-use mail_data::files::{describes_attachment, is_attachment_disposition, is_leaf, is_shown};
+use mail_data::files::{is_leaf, is_shown};
 use mail_data::inner_mails::forwards;
 use mail_data::lenient::lenient_body;
 use mail_data::reading::read_mail;
-use mail_data::texts::text_type;
+use mail_json::{is_attachment, is_read};
 use mailparse::body::Body;
 use mailparse::{
     DispositionType, KnownCharsets, MailHeaderMap, MailParseError, ParsedContentDisposition,
@@ -167,7 +166,7 @@ fn records_of<K: KnownCharsets>(
         (items_of (trees_within t) (placements_of mail.now) (families 0 none 0 t))) }
 {
     let mut nodes = Vec::new(alloc);
-    push_nodes(mail, NONE, 0, &mut nodes)?;
+    push_nodes(&mut nodes, mail, NONE, 0)?;
     records_in(alloc, nodes.as_slice(), known)
 }
 
@@ -185,17 +184,17 @@ fn records_in<K: KnownCharsets>(
         headers: Vec::new(alloc),
     };
     for node in nodes {
-        push_record(alloc, node, &mut records, known)?;
+        push_record(alloc, &mut records, node, known)?;
     }
     Ok(records)
 }
 
 /// Appends a message with this parent and level, and then its parts.
 fn push_nodes<'m, 'a>(
+    found: &mut Vec<Node<'m, 'a>>,
     mail: &'m ParsedMail<'a>,
     parent: u64,
     level: u64,
-    found: &mut Vec<Node<'m, 'a>>,
 ) -> Result<(), AllocError>
     requires { level ≤ vec_len found.old }
     ensures trees { OnOk result (map (λ node. tree_of node.part.now) found.new.items
@@ -215,7 +214,7 @@ fn push_nodes<'m, 'a>(
         level,
     })?;
     for part in &mail.subparts {
-        push_nodes(part, index, level + 1, found)?;
+        push_nodes(found, part, index, level + 1)?;
     }
     Ok(())
 }
@@ -223,8 +222,8 @@ fn push_nodes<'m, 'a>(
 /// Appends the record of a message, and those of its headers.
 fn push_record<K: KnownCharsets>(
     alloc: Global,
-    node: &Node<'_, '_>,
     records: &mut Records,
+    node: &Node<'_, '_>,
     known: &K,
 ) -> Result<(), MailParseError>
     ensures parts { OnOk result (records.new.parts.items ≡ records.old.parts.items
@@ -409,28 +408,4 @@ fn bit(is: bool, value: u64) -> u64
     ensures bounds { result ≤ value }
 {
     if is { value } else { 0 }
-}
-
-/// Returns whether a part of this disposition is an attachment.
-fn is_attachment(
-    alloc: Global,
-    part: &ParsedMail<'_>,
-    disposition: &ParsedContentDisposition,
-) -> Result<bool, AllocError>
-    ensures { IfOk result (λ is.
-        is ≡ is_attachment (tree_of part.now) (views.disposition disposition.now)) }
-{
-    if !is_leaf(part) {
-        return Ok(false);
-    }
-    describes_attachment(alloc, disposition, &part.ctype)
-}
-
-/// Returns whether the body of a part of this disposition is a text that is shown.
-fn is_read(part: &ParsedMail<'_>, disposition: &ParsedContentDisposition) -> bool
-    ensures { result ≡ is_read (tree_of part.now) (views.disposition disposition.now) }
-{
-    !is_attachment_disposition(&disposition.disposition)
-        && is_leaf(part)
-        && text_type(part.ctype.mimetype.as_str()).starts_with("text/")
 }

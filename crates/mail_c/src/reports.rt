@@ -95,19 +95,19 @@ fn push_blocks(found: &mut FieldRecords, blocks: &[Block]) -> Result<(), AllocEr
 {
     let mut index = 0;
     for block in blocks {
-        push_fields(found, index, block.fields.as_slice())?;
+        push_fields(found, block.fields.as_slice(), index)?;
         index += 1;
     }
     Ok(())
 }
 
 /// Appends the records of the fields of the block with this index.
-fn push_fields(found: &mut FieldRecords, block: u64, fields: &[Field]) -> Result<(), AllocError>
+fn push_fields(found: &mut FieldRecords, fields: &[Field], block: u64) -> Result<(), AllocError>
     ensures { OnOk result ((entries : List Entry) → AreFields entries found.old →
         AreFields (entries ++ block_entries block (map field_view fields.now)) found.new) }
 {
     for field in fields {
-        push_field(found, block, field.name.as_bytes(), field.value.as_bytes())?;
+        push_field(found, field.name.as_bytes(), field.value.as_bytes(), block)?;
     }
     Ok(())
 }
@@ -115,9 +115,9 @@ fn push_fields(found: &mut FieldRecords, block: u64, fields: &[Field]) -> Result
 /// Appends the record of a field.
 fn push_field(
     found: &mut FieldRecords,
-    block: u64,
     name: &[u8],
     value: &[u8],
+    block: u64,
 ) -> Result<(), AllocError>
     ensures { OnOk result ((entries : List Entry) → AreFields entries found.old →
         AreFields (entries ++ record {

@@ -8,7 +8,7 @@ use Rattle.mail_address.specs.Addresses.{Single}
 use Rattle.mail_address.specs.declared.list.Member.{Member}
 use Rattle.mail_json.specs.Addresses.{name_of}
 use Rattle.mail_c.specs.Records.{none}
-use Rattle.mail_c.proofs.lemmas.Rows.{length-rows, rows-next, texts-next}
+use Rattle.mail_c.proofs.lemmas.Rows.{length-rows, row-appended}
 use Rattle.mail_c.specs.AddressRecords.{AreRecords, Entry, addresses_found, entry_record, entry_text, group_entry, records_from, single_entry, strings_of}
 use Rattle.mail_c.specs.Buffer.{EndsBoth, Output, WritesBoth}
 use Rattle.mail_c.specs.declared.addresses.AddressRecord.{AddressRecord}
@@ -24,21 +24,13 @@ pub next_record : (old : AddressRecords) (entries : List Entry) (entry : Entry) 
     → records ≡ old.records.items ++ record { kind = entry.kind; group = entry.group; name_start = start; name_end = middle; address_start = middle; address_end = end } ∷ []
     → AreRecords entries old → (records ≡ records_from 0 (entries ++ entry ∷ [])) × (strings ≡ strings_of (entries ++ entry ∷ []))
 next_record old entries entry start middle end mid strings records s m e is_mid is_strings is_records are =
-    let here = length (strings_of entries) in
-    let at : start ≡ length (strings_of entries) = s ∙ ap (λ (t : List ℕ). length t) are.1 in
-    let named : middle ≡ length (strings_of entries) + length entry.name =
-    m ∙ ap (λ (t : List ℕ). length t) is_mid ∙ length-append old.strings.items entry.name ∙ ap (λ n. n + length entry.name) (sym s ∙ at) in
-    let addressed : end ≡ length (strings_of entries) + length entry.name + length entry.address =
+    let named : middle ≡ length old.strings.items + length entry.name = m ∙ ap (λ (t : List ℕ). length t) is_mid ∙ length-append old.strings.items entry.name in
+    let addressed : end ≡ length old.strings.items + length entry.name + length entry.address =
     e ∙ ap (λ (t : List ℕ). length t) is_strings ∙ length-append mid entry.address ∙ ap (λ n. n + length entry.address) (sym m ∙ named) in
-    let made : ◌≡◌ {A = AddressRecord} (record { kind = entry.kind; group = entry.group; name_start = start; name_end = middle; address_start = middle; address_end = end }) (entry_record (length (strings_of entries)) entry) =
-    (rw (addressed, named, at) refl) in (
-      is_records ∙ ap (λ (r : AddressRecord). old.records.items ++ r ∷ []) made
-          ∙ ap (λ (rs : List AddressRecord). rs ++ entry_record (length (strings_of entries)) entry ∷ []) are.0
-          ∙ ap (λ n. records_from 0 entries ++ entry_record n entry ∷ []) {x = length (strings_of entries)} {y = 0 + length (strings_of entries)} (omega arith)
-          ∙ sym (rows-next entry_record entry_text 0 entries entry),
-      is_strings ∙ ap (λ (t : List ℕ). t ++ entry.address) is_mid ∙ append_assoc old.strings.items entry.name entry.address
-          ∙ ap (λ (t : List ℕ). t ++ (entry.name ++ entry.address)) are.1 ∙ sym (texts-next entry_record entry_text entries entry),
-    )
+    let made : ◌≡◌ {A = AddressRecord} (record { kind = entry.kind; group = entry.group; name_start = start; name_end = middle; address_start = middle; address_end = end }) (entry_record (length old.strings.items) entry) =
+    (rw (addressed, named, s) refl) in
+    row-appended entry_record entry_text entries entry old.records.items records old.strings.items strings (is_records ∙ ap (λ (r : AddressRecord). old.records.items ++ r ∷ []) made)
+    (is_strings ∙ ap (λ (t : List ℕ). t ++ entry.address) is_mid ∙ append_assoc old.strings.items entry.name entry.address) are.0 are.1
 
 -- entries were appended, and then others
 pub appended : (first old new : AddressRecords) (done more : List Entry)

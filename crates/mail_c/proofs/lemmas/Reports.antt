@@ -16,7 +16,7 @@ use Rattle.mail_c.specs.Results.{no_limit}
 use Rattle.mail_c.specs.Rows.{rows_from}
 use Rattle.mail_c.specs.declared.reports.FieldRecord.{FieldRecord}
 use Rattle.mail_c.specs.declared.reports.FieldRecords.{FieldRecords}
-use Rattle.mail_c.proofs.lemmas.Rows.{rows-next, texts-next}
+use Rattle.mail_c.proofs.lemmas.Rows.{row-appended}
 
 -- a record was appended
 pub next_field : (old : FieldRecords) (entries : List Entry) (entry : Entry) (start middle end : ℕ) (mid strings : List ℕ) (records : List FieldRecord)
@@ -25,21 +25,13 @@ pub next_field : (old : FieldRecords) (entries : List Entry) (entry : Entry) (st
     → AreFields entries old
     → (records ≡ rows_from entry_record entry_text 0 (entries ++ entry ∷ [])) × (strings ≡ flat_map entry_text (entries ++ entry ∷ []))
 next_field old entries entry start middle end mid strings records s m e is_mid is_strings is_records are =
-    let texts = flat_map entry_text entries in
-    let at : start ≡ length texts = s ∙ ap (λ (t : List ℕ). length t) are.1 in
-    let named : middle ≡ length texts + length entry.name =
-    m ∙ ap (λ (t : List ℕ). length t) is_mid ∙ length-append old.strings.items entry.name ∙ ap (λ n. n + length entry.name) (sym s ∙ at) in
-    let valued : end ≡ length texts + length entry.name + length entry.value =
+    let named : middle ≡ length old.strings.items + length entry.name = m ∙ ap (λ (t : List ℕ). length t) is_mid ∙ length-append old.strings.items entry.name in
+    let valued : end ≡ length old.strings.items + length entry.name + length entry.value =
     e ∙ ap (λ (t : List ℕ). length t) is_strings ∙ length-append mid entry.value ∙ ap (λ n. n + length entry.value) (sym m ∙ named) in
-    let made : ◌≡◌ {A = FieldRecord} (record { block = entry.block; name_start = start; name_end = middle; value_start = middle; value_end = end }) (entry_record (length texts) entry) =
-    (rw (valued, named, at) refl) in (
-      is_records ∙ ap (λ (r : FieldRecord). old.records.items ++ r ∷ []) made
-          ∙ ap (λ (rs : List FieldRecord). rs ++ entry_record (length texts) entry ∷ []) are.0
-          ∙ ap (λ n. rows_from entry_record entry_text 0 entries ++ entry_record n entry ∷ []) {x = length texts} {y = 0 + length texts} (omega arith)
-          ∙ sym (rows-next entry_record entry_text 0 entries entry),
-      is_strings ∙ ap (λ (t : List ℕ). t ++ entry.value) is_mid ∙ append_assoc old.strings.items entry.name entry.value
-          ∙ ap (λ (t : List ℕ). t ++ (entry.name ++ entry.value)) are.1 ∙ sym (texts-next entry_record entry_text entries entry),
-    )
+    let made : ◌≡◌ {A = FieldRecord} (record { block = entry.block; name_start = start; name_end = middle; value_start = middle; value_end = end }) (entry_record (length old.strings.items) entry) =
+    (rw (valued, named, s) refl) in
+    row-appended entry_record entry_text entries entry old.records.items records old.strings.items strings (is_records ∙ ap (λ (r : FieldRecord). old.records.items ++ r ∷ []) made)
+    (is_strings ∙ ap (λ (t : List ℕ). t ++ entry.value) is_mid ∙ append_assoc old.strings.items entry.name entry.value) are.0 are.1
 
 -- the record of the next field was appended
 pub field_appended : (block : ℕ) (fields : List Field) (i : ℕ) (d : Field) (name value : List ℕ) → i < length fields → (name, value) ≡ field_view (get_or fields i d)

@@ -1,5 +1,5 @@
 -- Lemmas on records whose texts are one after another.
-use Rattle.std.proofs.Common.{◌≡◌, ℕ, suc, ◌+◌, List, [], ◌∷◌, ◌++◌, length, refl, ap, ◌∙◌, arith, length-append}
+use Rattle.std.proofs.Common.{◌≡◌, ℕ, suc, ◌+◌, List, [], ◌∷◌, ◌++◌, length, refl, sym, ap, ◌∙◌, arith, length-append}
 use Rattle.std.proofs.lemmas.List.{append-nil}
 use Rattle.std.proofs.lemmas.List.Concat.{flat_map-append}
 use Rattle.std.specs.List.{flat_map}
@@ -24,3 +24,16 @@ module _ {A R : Type 0} (row : ℕ → A → R) (text : A → List ℕ) where
   pub length-rows : (at : ℕ) (entries : List A) → length (rows_from row text at entries) ≡ length entries
   length-rows at [] = refl
   length-rows at (first ∷ entries) = ap suc (length-rows (at + length (text first)) entries)
+
+  -- an entry was appended, given what its record and its text are
+  pub row-appended : (entries : List A) (entry : A) (old_rows rows : List R) (old_texts texts : List ℕ)
+      → rows ≡ old_rows ++ row (length old_texts) entry ∷ [] → texts ≡ old_texts ++ text entry
+      → old_rows ≡ rows_from row text 0 entries → old_texts ≡ flat_map text entries
+      → (rows ≡ rows_from row text 0 (entries ++ entry ∷ [])) × (texts ≡ flat_map text (entries ++ entry ∷ []))
+  row-appended entries entry old_rows rows old_texts texts more written are is = (
+    more ∙ ap (λ (rs : List R). rs ++ row (length old_texts) entry ∷ []) are
+        ∙ ap (λ (t : List ℕ). rows_from row text 0 entries ++ row (length t) entry ∷ []) is
+        ∙ ap (λ n. rows_from row text 0 entries ++ row n entry ∷ []) {x = length (flat_map text entries)} {y = 0 + length (flat_map text entries)} (omega arith)
+        ∙ sym (rows-next 0 entries entry),
+    written ∙ ap (λ (t : List ℕ). t ++ text entry) is ∙ sym (texts-next entries entry),
+  )
