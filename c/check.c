@@ -66,8 +66,8 @@ void __wrap_free(void *block)
 /* Cases. */
 
 enum kind {
-    JSON, CONTENT, TEXT, HEADER, RAW_HEADER, IDS, OWN_IDS, HTML_TEXT, HTML_LINKS, READABLE, RECIPIENTS, BOUNCED_ID,
-    UNQUOTED, VALUE, FILE_NAME, SAFE_NAME, BODY, DAMAGED_BODY, BODY_TEXT, BODY_CHARSET, REASON
+    JSON, CONTENT, TEXT, HEADER, RAW_HEADER, IDS, OWN_IDS, HTML_TEXT, HTML_LINKS, READABLE, BOUNCED_ID, UNQUOTED,
+    VALUE, FILE_NAME, SAFE_NAME, BODY, DAMAGED_BODY, BODY_TEXT, BODY_CHARSET, REASON
 };
 
 struct bytes {
@@ -154,19 +154,6 @@ static const struct test tests[] = {
     { READABLE, BYTES("Content-Type: image/png\n\n<p>"), NOTHING, 0, ROCKTRAY_ABSENT, NOTHING },
     { READABLE, BYTES(" x"), NOTHING, 0, ROCKTRAY_LEADING_SPACE, NOTHING },
     /* RFC 3464, section 2 */
-    { RECIPIENTS, BYTES(REPORT "Reporting-MTA: dns; mx\n\nFinal-Recipient: rfc822; \"a\"@b\nAction: failed\n\n--b--\n"),
-      NOTHING, 0, ROCKTRAY_DONE,
-      BYTES("[{\"final_recipient\":\"\\\"a\\\"@b\",\"original_recipient\":null,\"action\":\"failed\",\"status\":null,"
-            "\"diagnostic_code\":null}]\n") },
-    { RECIPIENTS, BYTES(REPORT "Reporting-MTA: dns; mx\n\nFinal-Recipient: rfc822; a@b\n"
-                        "Diagnostic-Code: smtp; =?gb2312?b?xOO6ww==?=\n\n--b--\n"),
-      NOTHING, 0, ROCKTRAY_DONE,
-      BYTES("[{\"final_recipient\":\"a@b\",\"original_recipient\":null,\"action\":null,\"status\":null,"
-            "\"diagnostic_code\":\"\xe4\xbd\xa0\xe5\xa5\xbd\"}]\n") },
-    { RECIPIENTS, BYTES("Subject: no report\n\n"), NOTHING, 0, ROCKTRAY_DONE, BYTES("[]\n") },
-    { RECIPIENTS, NOTHING, NOTHING, 0, ROCKTRAY_DONE, BYTES("[]\n") },
-    { RECIPIENTS, BYTES(" x"), NOTHING, 0, ROCKTRAY_LEADING_SPACE, NOTHING },
-    /* RFC 3464, section 2 */
     { BOUNCED_ID, BYTES("Content-Type: multipart/report; boundary=b\n\n--b\nContent-Type: message/rfc822\n\n"
                         "Message-ID: <1@a>\n\nx\n--b--\n"), NOTHING, 0, ROCKTRAY_DONE, BYTES("1@a") },
     { BOUNCED_ID, NOTHING, NOTHING, 0, ROCKTRAY_ABSENT, NOTHING },
@@ -239,7 +226,6 @@ static uint32_t call(const struct test *test, uint8_t *buffer, size_t capacity, 
     case HTML_TEXT: code = rocktray_html_text(in.at, in.length, false, buffer, capacity, needed); break;
     case HTML_LINKS: code = rocktray_html_text(in.at, in.length, true, buffer, capacity, needed); break;
     case READABLE: code = rocktray_readable_text(in.at, in.length, false, buffer, capacity, needed); break;
-    case RECIPIENTS: code = rocktray_recipients(in.at, in.length, buffer, capacity, needed); break;
     case BOUNCED_ID: code = rocktray_bounced_id(in.at, in.length, buffer, capacity, needed); break;
     case UNQUOTED: code = rocktray_unquoted(in.at, in.length, buffer, capacity, needed); break;
     case VALUE: code = rocktray_value(in.at, in.length, buffer, capacity, needed); break;
@@ -697,6 +683,48 @@ static void check_report(void)
     count(code == ROCKTRAY_DONE, "a report with memory", 0);
 }
 
+/* RFC 3464, section 2.3: fields that are missing, one that is empty, and one that is encoded */
+static void check_recipients(void)
+{
+    const struct bytes mail = BYTES(REPORT "Reporting-MTA: dns; mx\n\n"
+                                    "Final-Recipient: rfc822; \"a\"@b\nAction: failed\nStatus:\n\n"
+                                    "Final-Recipient: rfc822; c@d\nDiagnostic-Code: smtp; =?gb2312?b?xOO6ww==?=\n\n--b--\n");
+    const struct bytes text = BYTES("Subject: no report\n\n"), space = BYTES(" x");
+    static const char wanted[] = "\"a\"@bfailedc@d\xe4\xbd\xa0\xe5\xa5\xbd";
+    static const uint64_t no = ROCKTRAY_NONE;
+    const uint64_t records_wanted[2][10] = {
+        { 0, 5, no, no, 5, 11, 11, 11, no, no }, { 11, 14, no, no, no, no, no, no, 14, 20 },
+    };
+    struct rocktray_recipient found[2];
+    char strings[30];
+    size_t found_needed = 77, needed = 77;
+    uint32_t code = rocktray_recipients(mail.at, mail.length, found, 2, &found_needed, strings, sizeof strings, &needed);
+    count(code == ROCKTRAY_DONE && found_needed == 2 && needed == 20 && memcmp(strings, wanted, 20) == 0
+              && memcmp(found, records_wanted, sizeof found) == 0,
+          "recipients", 0);
+    strings[0] = 'x', found[0].final_start = 5;
+    code = rocktray_recipients(mail.at, mail.length, found, 1, &found_needed, strings, sizeof strings, &needed);
+    count(code == ROCKTRAY_TOO_SHORT && found_needed == 2 && needed == 20 && strings[0] == 'x' && found[0].final_start == 5,
+          "one recipient too many", 0);
+    code = rocktray_recipients(mail.at, mail.length, found, 2, &found_needed, strings, 19, &needed);
+    count(code == ROCKTRAY_TOO_SHORT && strings[0] == 'x' && found[0].final_start == 5, "recipients that are too long", 0);
+    code = rocktray_recipients(text.at, text.length, NULL, 0, &found_needed, NULL, 0, &needed);
+    count(code == ROCKTRAY_DONE && found_needed == 0 && needed == 0, "a mail that is no report", 0);
+    code = rocktray_recipients(NULL, 0, NULL, 0, &found_needed, NULL, 0, &needed);
+    count(code == ROCKTRAY_DONE && found_needed == 0 && needed == 0, "recipients of an empty mail", 0);
+    found_needed = needed = 77;
+    code = rocktray_recipients(space.at, space.length, found, 2, &found_needed, strings, sizeof strings, &needed);
+    count(code == ROCKTRAY_LEADING_SPACE && found_needed == 77 && needed == 77, "recipients of a refused mail", 0);
+    for (long at = 1; at < 1000; at++) {
+        begin_refusing(at);
+        code = rocktray_recipients(mail.at, mail.length, found, 2, &found_needed, strings, sizeof strings, &needed);
+        if (is_all_given(at))
+            break;
+        count(code == ROCKTRAY_NO_MEMORY && found_needed == 77 && needed == 77 && blocks == 0,
+              "recipients without memory", (size_t)at);
+    }
+}
+
 /* The version of the library as a text. */
 static const char *version_text(void)
 {
@@ -721,6 +749,7 @@ static int check_cases(void)
     check_type();
     check_addresses();
     check_report();
+    check_recipients();
     return 0;
 }
 
@@ -845,6 +874,42 @@ static void print_report(struct bytes part)
     free(strings);
 }
 
+/* Writes a text, or `-` if it is missing. */
+static void print_text(const char *strings, uint64_t start, uint64_t end)
+{
+    if (start == ROCKTRAY_NONE)
+        printf(end == ROCKTRAY_NONE ? ":-" : ":!");
+    else
+        print_bytes(strings, start, end);
+}
+
+/* Writes the recipients that a mail reports: the texts of each. */
+static void print_recipients(struct bytes mail)
+{
+    size_t found_needed = 0, needed = 0;
+    struct rocktray_recipient *found = NULL;
+    char *strings = NULL;
+    uint32_t code = rocktray_recipients(mail.at, mail.length, NULL, 0, &found_needed, NULL, 0, &needed);
+    if (code == ROCKTRAY_TOO_SHORT) {
+        found = malloc((found_needed + 1) * sizeof *found);
+        strings = malloc(needed + 1);
+        code = rocktray_recipients(mail.at, mail.length, found, found_needed, &found_needed, strings, needed, &needed);
+    }
+    printf(" recipients=");
+    if (code != ROCKTRAY_DONE)
+        printf("!%u", code);
+    for (size_t i = 0; code == ROCKTRAY_DONE && i < found_needed; i++) {
+        fputs(i ? "," : "", stdout);
+        print_text(strings, found[i].final_start, found[i].final_end);
+        print_text(strings, found[i].original_start, found[i].original_end);
+        print_text(strings, found[i].action_start, found[i].action_end);
+        print_text(strings, found[i].status_start, found[i].status_end);
+        print_text(strings, found[i].diagnostic_start, found[i].diagnostic_end);
+    }
+    free(found);
+    free(strings);
+}
+
 static void print_digits(const char *at, uint64_t start, uint64_t end)
 {
     for (; start < end; start++)
@@ -940,7 +1005,7 @@ static int write_records(char **names)
         uint32_t code = records_of(mail, &records);
         printf("mail code=%u", code);
         print_result("bounced_id", BOUNCED_ID, mail, range(mail, 0, 0), 0);
-        print_result("recipients", RECIPIENTS, mail, range(mail, 0, 0), 0);
+        print_recipients(mail);
         print_result("unquoted", UNQUOTED, mail, range(mail, 0, 0), 0);
         printf("\n");
         for (size_t i = 0; code == ROCKTRAY_DONE && i < records.parts_length; i++)
@@ -1063,6 +1128,7 @@ static void *run_mails(void *unused)
         records_of(in, &records);
         free_records(&records);
         rocktray_report(in.at, in.length, NULL, 0, &fields_needed, NULL, 0, &needed);
+        rocktray_recipients(in.at, in.length, NULL, 0, &fields_needed, NULL, 0, &needed);
     }
     return unused;
 }

@@ -85,7 +85,7 @@ enum rocktray_code {
 /* Returns the version of the library, as ROCKTRAY_VERSION_NUMBER is that of the header. */
 uint32_t rocktray_version(void);
 
-/* The parent of the mail itself, and the group of an address that is in none. */
+/* The parent of the mail itself, the group of an address that is in none, and the ends of a range that is missing. */
 #define ROCKTRAY_NONE UINT64_MAX
 
 /* The transfer encoding of a body. A name that is unknown, or none, is ROCKTRAY_7BIT. */
@@ -152,6 +152,16 @@ struct rocktray_address {
     uint64_t address_start, address_end; /* the address in canonical form; of unknown text its bytes; else empty */
 };
 
+/* A recipient of a delivery report. The ranges are offsets in the buffer of strings; the texts there are in UTF-8,
+ * without comments and types. If a field is missing, both its start and its end are ROCKTRAY_NONE. */
+struct rocktray_recipient {
+    uint64_t final_start, final_end;           /* the address: Final-Recipient; never missing */
+    uint64_t original_start, original_end;     /* the address that the sender wrote: Original-Recipient */
+    uint64_t action_start, action_end;         /* failed, delayed, ..: Action */
+    uint64_t status_start, status_end;         /* as 5.1.1: Status */
+    uint64_t diagnostic_start, diagnostic_end; /* the reply of the other mail system: Diagnostic-Code */
+};
+
 /* A field of a report. The ranges are offsets in the buffer of strings. */
 struct rocktray_field {
     uint64_t block;                  /* the index of its block */
@@ -163,11 +173,13 @@ struct rocktray_field {
 static_assert(sizeof(struct rocktray_part) == 88, "eleven numbers of 64 bits");
 static_assert(sizeof(struct rocktray_header_record) == 40, "five numbers of 64 bits");
 static_assert(sizeof(struct rocktray_address) == 48, "six numbers of 64 bits");
+static_assert(sizeof(struct rocktray_recipient) == 80, "ten numbers of 64 bits");
 static_assert(sizeof(struct rocktray_field) == 40, "five numbers of 64 bits");
 #elif defined(__STDC_VERSION__) && __STDC_VERSION__ >= 201112L
 _Static_assert(sizeof(struct rocktray_part) == 88, "eleven numbers of 64 bits");
 _Static_assert(sizeof(struct rocktray_header_record) == 40, "five numbers of 64 bits");
 _Static_assert(sizeof(struct rocktray_address) == 48, "six numbers of 64 bits");
+_Static_assert(sizeof(struct rocktray_recipient) == 80, "ten numbers of 64 bits");
 _Static_assert(sizeof(struct rocktray_field) == 40, "five numbers of 64 bits");
 #endif
 
@@ -227,6 +239,13 @@ uint32_t rocktray_body_charset(uint64_t encoding, const void *body, size_t body_
  * the type of the part is another one. Refuses as rocktray_json does. */
 uint32_t rocktray_report(const void *part, size_t part_length, struct rocktray_field *fields, size_t fields_capacity,
                          size_t *fields_needed, void *buffer, size_t capacity, size_t *needed);
+
+/* Reads the recipients that a mail reports: those of the delivery reports anywhere in it (RFC 3464, 6533), and then
+ * those in its headers X-Failed-Recipients, of whom only the address is known. Fills a record for each, and writes
+ * their strings to the buffer. A mail that is no such report has none. Refuses as rocktray_json does. */
+uint32_t rocktray_recipients(const void *mail, size_t mail_length, struct rocktray_recipient *recipients,
+                             size_t recipients_capacity, size_t *recipients_needed, void *buffer, size_t capacity,
+                             size_t *needed);
 
 /* Reads the raw value of a header with addresses, as From or To. Fills a record for each element, and writes their
  * strings to the buffer. */
@@ -304,11 +323,6 @@ uint32_t rocktray_html_text(const void *html, size_t html_length, bool shows_lin
  * does. */
 uint32_t rocktray_readable_text(const void *mail, size_t mail_length, bool shows_links, void *buffer, size_t capacity,
                                 size_t *needed);
-
-/* Writes the recipients of a delivery report (RFC 3464) as one line of JSON, LF included: a list of objects with the
- * members final_recipient, original_recipient, action, status and diagnostic_code, each a string or null. The list is
- * empty if the mail is no such report. Refuses as rocktray_json does. */
-uint32_t rocktray_recipients(const void *mail, size_t mail_length, void *buffer, size_t capacity, size_t *needed);
 
 /* Writes the text of a code, in English. For a refused mail it is the text in the line of rocktray json. */
 uint32_t rocktray_reason(uint32_t code, void *buffer, size_t capacity, size_t *needed);

@@ -133,6 +133,15 @@ def fields_in(word):
     return [[int(block), bytes.fromhex(name).decode(), bytes.fromhex(value).decode()] for block, name, value in fields]
 
 
+RECIPIENT = ["final_recipient", "original_recipient", "action", "status", "diagnostic_code"]
+
+
+def recipients_in(word):
+    """The recipients, as the JSON says them."""
+    found = [[None if text == "-" else bytes.fromhex(text).decode() for text in one.split(":")[1:]] for one in word.split(",") if one]
+    return [dict(zip(RECIPIENT, texts, strict=True)) for texts in found]
+
+
 def fields_of(report):
     """The same of the JSON."""
     return report and [[number, *field] for number, block in enumerate(report) for field in block]
@@ -180,7 +189,7 @@ def test_records(check, hostile):
             if "error" in line:
                 continue
             assert text_in(mail["bounced_id"]) == line["bounced_id"], path
-            assert json.loads(text_in(mail["recipients"])) == line["recipients"], path
+            assert recipients_in(mail["recipients"]) == line["recipients"], path
             for name in ("from", "to", "cc", "bcc", "reply-to"):
                 if sum(key.lower() == name for key, _ in parts[0]["headers"]) == 1:
                     assert addresses_of(mail, name) == line[name.replace("-", "_")], (path, name)

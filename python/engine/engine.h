@@ -105,5 +105,7 @@ PyObject *read_mail(PyObject *module, PyObject *const *arguments, Py_ssize_t cou
 /* read_mails(data, places, limit): copies and reads the mails at these places. Of each its bytes, with what was read of it
  * or the code of its refusal. */
 PyObject *read_mails(PyObject *module, PyObject *const *arguments, Py_ssize_t count);
+/* recipients(data): of each recipient that a mail reports its five texts, of which a missing one is None. */
+PyObject *read_recipients(PyObject *module, PyObject *data);
 
 #endif

@@ -246,7 +246,6 @@ static int take_text(struct input *input, PyObject *text)
 /* Functions. */
 
 CALL(json, INPUT)
-CALL(recipients, INPUT)
 CALL(header, INPUT, OTHER, it->number)
 CALL(raw_header, INPUT, OTHER, it->number)
 CALL(ids, INPUT, it->choice)
@@ -273,13 +272,6 @@ static PyObject *json(PyObject *module, PyObject *data)
     struct request it = { .call = call_json };
     (void)module;
     return take(&it.input, data) < 0 ? NULL : bytes_and_back(&it, 2 * it.input.length + LONG);
-}
-
-static PyObject *recipients(PyObject *module, PyObject *data)
-{
-    struct request it = { .call = call_recipients };
-    (void)module;
-    return take(&it.input, data) < 0 ? NULL : bytes_and_back(&it, 0);
 }
 
 /* Takes an object, a name and a number, which are the arguments. Returns 0, or -1 for an error. */
@@ -451,7 +443,7 @@ static PyMethodDef functions[] = {
     { "version", version, METH_NOARGS, NULL },
     { "reason", reason, METH_O, NULL },
     { "json", json, METH_O, NULL },
-    { "recipients", recipients, METH_O, NULL },
+    { "recipients", read_recipients, METH_O, NULL },
     { "bounced_id", bounced_id, METH_O, NULL },
     { "header", FAST(header), METH_FASTCALL, NULL },
     { "raw_header", FAST(raw_header), METH_FASTCALL, NULL },

@@ -636,6 +636,7 @@ static uint32_t find(struct request *it, struct found *found, size_t record_size
 CALL_FOR_RECORDS(type)
 CALL_FOR_RECORDS(addresses)
 CALL_FOR_RECORDS(report)
+CALL_FOR_RECORDS(recipients)
 CALL(file_name, OTHER, INPUT)
 
 /* The k-th string of a type. */
@@ -835,6 +836,44 @@ static PyObject *reading_report(PyObject *self, PyObject *index)
     blocks = code == ROCKTRAY_DONE ? blocks_of(&found) : no_result(code);
     forget(&found);
     return blocks;
+}
+
+/* Recipients. */
+
+/* The text at the start of a range, or NULL if it is missing. */
+static const char *text_at(const struct found *found, uint64_t start)
+{
+    return start == ROCKTRAY_NONE ? NULL : found->buffer + start;
+}
+
+/* The texts of a recipient. A missing text is NULL, of which Py_BuildValue makes None. */
+static PyObject *recipient_of(const struct found *found, const struct rocktray_recipient *it)
+{
+    return Py_BuildValue("z#z#z#z#z#", text_at(found, it->final_start), (Py_ssize_t)(it->final_end - it->final_start),
+                         text_at(found, it->original_start), (Py_ssize_t)(it->original_end - it->original_start),
+                         text_at(found, it->action_start), (Py_ssize_t)(it->action_end - it->action_start),
+                         text_at(found, it->status_start), (Py_ssize_t)(it->status_end - it->status_start),
+                         text_at(found, it->diagnostic_start), (Py_ssize_t)(it->diagnostic_end - it->diagnostic_start));
+}
+
+PyObject *read_recipients(PyObject *module, PyObject *data)
+{
+    struct request it = { .call = call_recipients };
+    struct found found;
+    PyObject *list;
+    uint32_t code;
+    size_t k;
+    (void)module;
+    if (take(&it.input, data) < 0)
+        return NULL;
+    code = find(&it, &found, sizeof(struct rocktray_recipient));
+    give_back(&it.input);
+    list = code == ROCKTRAY_DONE ? PyList_New(0) : no_result(code);
+    for (k = 0; code == ROCKTRAY_DONE && list && k < found.record_count; k++)
+        if (append(list, recipient_of(&found, (const struct rocktray_recipient *)found.records + k)) < 0)
+            Py_CLEAR(list);
+    forget(&found);
+    return list;
 }
 
 /* Bodies. */

@@ -274,7 +274,7 @@ class Mail:
         self._reading
 
         def found() -> List[Recipient]:
-            return [Recipient(**value) for value in json.loads(_engine.recipients(self._data))]
+            return [Recipient(*texts) for texts in _engine.recipients(self._data)]
 
         return self._remember("recipients", found).copy()
 

@@ -189,6 +189,16 @@ def test_recipients_of_a_header():
     assert all(one[1:] == (None,) * 4 for one in mail.recipients)
 
 
+def test_many_recipients(monkeypatch):
+    """More than the stack has space for, with fields that are empty or missing; no JSON is read."""
+    blocks = [b"Final-Recipient: rfc822; a%d@b\nStatus:\n%b\n" % (k, b"Diagnostic-Code: smtp; %b\n" % (b"no" * k) * (k % 2)) for k in range(300)]
+    status = b"Content-Type: message/delivery-status\n\nReporting-MTA: dns; mx\n\n" + b"".join(blocks)
+    raw = multipart(b"b", TEXT, status, kind=b"report")
+    wanted = by_email.mail_object(raw)["recipients"]
+    monkeypatch.setattr("json.loads", None)
+    assert [one._asdict() for one in rocktray.parse(raw).recipients] == wanted and len(wanted) == 300
+
+
 def test_bounced_id(samples):
     for raw in samples.values():
         assert rocktray.parse(raw).bounced_id == by_email.bounced_id(email.message_from_bytes(by_email.closed(raw)))

@@ -7,5 +7,6 @@ pub mod Ranges
 pub mod Strings
 pub mod Rows
 pub mod Reports
+pub mod Recipients
 pub mod Laws
 pub mod AddressRecords

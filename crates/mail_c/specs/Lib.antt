@@ -9,4 +9,5 @@ pub mod Strings
 pub mod Rows
 pub mod Laws
 pub mod Reports
+pub mod Recipients
 pub mod AddressRecords

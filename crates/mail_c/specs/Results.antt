@@ -9,7 +9,6 @@ use Rattle.mailparse.specs.Mail.{root}
 use Rattle.mailparse.specs.Map.{all_with_key}
 use Rattle.mailparse.specs.Refusal.{◌>>=◌, Reads, encoding}
 use Rattle.mailparse.specs.Value.{lenient_value_in}
-use Rattle.mail_data.specs.Bounce as report
 use Rattle.mail_data.specs.Reading.{mail_reading}
 use Rattle.mail_data.specs.lenient.Encoding.{lenient_body_kind}
 use Rattle.mail_data.specs.lenient.Ids.{found_ids}
@@ -21,7 +20,6 @@ use Rattle.mail_html.specs.declared.links.Links.TheVariants.{Omitted, Footnotes}
 use Rattle.mail_html.specs.declared.references.References.{References}
 use Rattle.mail_json.specs.JsonLines.{IsMailLine}
 use Rattle.mail_json.specs.Options.{Options}
-use Rattle.mail_json.specs.Reports.{deliveries_text}
 use Rattle.mail_c.specs.Buffer.{Found}
 
 -- the bytes as a text, if they are UTF-8
@@ -80,12 +78,6 @@ module _ (known : Charsets) where
   IsJson raw (Ok (Some line)) = IsMailLine plain_options None raw true line
   IsJson raw (Ok None) = ⊥
   IsJson raw (Err refusal) = mail_reading known no_limit raw ≡ Err refusal
-
-  -- the recipients of a delivery report, as JSON
-  unfoldable pub recipients : List ℕ → Found
-  recipients raw = do
-    mail ← mail_reading known no_limit raw
-    Ok (Some (deliveries_text (report.recipients known mail)))
 
   -- the text of the body of a message
   unfoldable pub text : List ℕ → Found

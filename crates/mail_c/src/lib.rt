@@ -20,9 +20,10 @@ ghost use Rattle.mail_c.specs.Numbers.{first_offsets, format_named, no_mail_code
 ghost use Rattle.mail_c.specs.Ranges as read;
 ghost use Rattle.mail_c.specs.Ranges.{EndsDecoded};
 ghost use Rattle.mail_c.specs.Records.{header_block, records};
+ghost use Rattle.mail_c.specs.Recipients.{recipients_read};
 ghost use Rattle.mail_c.specs.Reports.{report};
 ghost use Rattle.mail_c.specs.Strings.{AreTypeStrings, EndsStrings};
-ghost use Rattle.mail_c.specs.Results.{IsJson, content, ids, raw_value, readable, recipients};
+ghost use Rattle.mail_c.specs.Results.{IsJson, content, ids, raw_value, readable};
 ghost use Rattle.mail_c.specs.Results.{text, text_of_html, value};
 ghost use Rattle.mail_html.specs.declared.references.References.{References};
 
@@ -32,6 +33,7 @@ mod codes;
 mod laws;
 mod numbers;
 mod ranges;
+mod recipients;
 mod records;
 mod reports;
 mod results;
@@ -44,6 +46,7 @@ use mail_charsets::AllCharsets;
 use mail_html::References;
 use mail_version::VERSION_NUMBER;
 use ranges::write_decoded;
+use recipients::{RecipientRecord, write_recipients};
 use records::{HeaderRecord, Part};
 use reports::{FieldRecord, write_report};
 use std::alloc::Global;
@@ -244,6 +247,25 @@ pub extern "C" fn rocktray_report(
     write_report(fields, fields_needed, buffer, needed, found)
 }
 
+/// Fills the records of the recipients that a mail reports, and writes their strings.
+#[unsafe(no_mangle)]
+pub extern "C" fn rocktray_recipients(
+    alloc: Global,
+    mail: &[u8],
+    recipients: &mut [RecipientRecord],
+    recipients_needed: &mut usize,
+    buffer: &mut [u8],
+    needed: &mut usize,
+) -> u32
+    ensures { (all : all_charsets.AllCharsets) ×
+        EndsBoth (output recipients.old recipients.new recipients_needed.old recipients_needed.new)
+        (output buffer.old buffer.new needed.old needed.new) result
+        (recipients_read (all_known all) mail.now) }
+{
+    let found = recipients::recipients(alloc, mail, &charsets());
+    write_recipients(recipients, recipients_needed, buffer, needed, found)
+}
+
 /// Fills the records of the addresses in a raw value, and writes their strings.
 #[unsafe(no_mangle)]
 pub extern "C" fn rocktray_addresses(
@@ -410,25 +432,6 @@ pub extern "C" fn rocktray_readable_text(
     let references = References::standard();
     let found = results::readable(alloc, mail, shows_links, &references, &charsets());
     write_result(buffer, needed, found)
-}
-
-/// Writes the recipients of a delivery report, as a line of JSON with one list.
-#[unsafe(no_mangle)]
-pub extern "C" fn rocktray_recipients(
-    alloc: Global,
-    mail: &[u8],
-    buffer: &mut [u8],
-    needed: &mut usize,
-) -> u32
-    ensures { (all : all_charsets.AllCharsets) ×
-        Ends buffer.old buffer.new needed.old needed.new result
-        (λ found. recipients (all_known all) mail.now ≡ found) }
-{
-    write_result(
-        buffer,
-        needed,
-        results::recipients(alloc, mail, &charsets()),
-    )
 }
 
 /// Writes the text of a code.

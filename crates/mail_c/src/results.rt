@@ -3,14 +3,14 @@ ghost use Rattle.std.specs.Prelude.{◌≡◌, ◌++◌, IfOk, OnOk, flat_map, m
 ghost use Rattle.mailparse.specs.Outcome.{Answers, AnswersOrMemory, IsMemory};
 ghost use Rattle.mail_data.specs.lenient.IdViews as ids_seen;
 ghost use Rattle.mail_c.specs.Buffer.{Gives, bytes_found};
-ghost use Rattle.mail_c.specs.Results.{IsJson, bracketed, content, ids, raw_value, recipients};
+ghost use Rattle.mail_c.specs.Results.{IsJson, bracketed, content, ids, raw_value};
 ghost use Rattle.mail_c.specs.Results.{links_if, readable, text, text_in, text_of_html, value};
 
 use mail_data::lenient::{IdRule, body_text, find_ids, lenient_body};
 use mail_data::readable::readable_text;
 use mail_data::reading::read_mail;
 use mail_html::{Links, References, html_text};
-use mail_json::{LineOptions, Origin, write_mail, write_recipients};
+use mail_json::{LineOptions, Origin, write_mail};
 use mailparse::{KnownCharsets, MailHeaderMap, MailParseError, parse_headers};
 use std::alloc::{AllocError, Global};
 use std::borrow::CowStr;
@@ -46,23 +46,6 @@ pub(crate) fn json<K: KnownCharsets>(
             line.push(b'\n')?;
             Ok(Some(line))
         }
-        Err(_) => Err(MailParseError::Memory(AllocError)),
-    }
-}
-
-/// Returns the recipients of a delivery report, as a line of JSON.
-#[tactic(auto, unfolding(crate::specs::Results::recipients))]
-pub(crate) fn recipients<K: KnownCharsets>(
-    alloc: Global,
-    raw: &[u8],
-    known: &K,
-) -> Result<Option<Vec<u8>>, MailParseError>
-    ensures { AnswersOrMemory bytes_found result (recipients (K.known known.now) raw.now) }
-{
-    let mail = read_mail(alloc, raw, NO_LIMIT, known)?;
-    let mut line = Vec::new(alloc);
-    match write_recipients(alloc, &mut line, &mail, known) {
-        Ok(()) => Ok(Some(line)),
         Err(_) => Err(MailParseError::Memory(AllocError)),
     }
 }
