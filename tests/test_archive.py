@@ -584,5 +584,6 @@ def test_real_html(request, tmp_path):
         found, _ = search.found_in(slices, where, None)
         assert found, (path, word)
         shown = client.get(f"/mail/{slices.index(found[0][1])}/{found[0][2]}").text
-        assert word in shown.partition("<pre>")[2].partition("</pre>")[0], (path, word)
+        # as the search ignores case: copies with one id may differ in it
+        assert word.casefold() in shown.partition("<pre>")[2].partition("</pre>")[0].casefold(), (path, word)
     assert len(mails) >= 20, "mails with HTML alone"

@@ -249,7 +249,7 @@ DEVICES = {"CON", "PRN", "AUX", "NUL", *(port + digit for port in ("COM", "LPT")
 RESERVED = re.compile(r'[<>:"/\\|?*\x00-\x1f]|[. ]$')
 NAMES = {
     "NUL.txt": "_NUL.txt", "NUL.tar.gz": "_NUL.tar.gz", "com1": "_com1", "LPT\u00b2.log": "_LPT\u00b2.log", "aux .c": "_aux .c",
-    "a<b>c:d\"e|f?g*h": "a_b_c_d_e_f_g_h", "end.": "end_", "end ": "end_", "null.txt": "null.txt", "COM10": "COM10",
+    "a<b>c:d\"e|f?g*h": "a_b_c_d_e_f_g_h", "end.": "end_", "tail ": "tail_", "null.txt": "null.txt", "COM10": "COM10",
     "r\u00e9sum\u00e9 (1).pdf": "r\u00e9sum\u00e9 (1).pdf", "console.log": "console.log", "a.con": "a.con", "lpt": "lpt",
     "x." + 252 * "y" + " ": "x." + 252 * "y" + "_",
 }

@@ -65,7 +65,7 @@ def refused(arguments, *wanted, data=b""):
     (["extract", "--stdout", "--into", "a"], ("'--stdout' cannot be used with '--into <DIRECTORY>'",)),
     (["extract", "--stdout", "--hash"], ("'--stdout' cannot be used with '--hash'",)),
     (["extract", "--stdout", "--by-hash"], ("'--stdout' cannot be used with '--by-hash'",)),
-    (["extract", "--stdout", "--windows-names"], ("'--windows-names' cannot be used with '--stdout'",)),
+    (["extract", "--windows-names", "--stdout"], ("'--windows-names' cannot be used with '--stdout'",)),
     (["extract", "--stdout", "a", "b"], ("--stdout reads one input",)),
     (["extract", "--stdout", "/"], ("--stdout reads no directories",)),
     (["extract", "--mail", "--mbox=rd"], ("cannot be used with",)),
