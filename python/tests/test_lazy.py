@@ -30,7 +30,7 @@ def part_of_json(part):
         "attachment": part.is_attachment, "extracted": part.is_extracted, "encoding": part.encoding, "start": part.start,
         "end": part.end, "size": part.size, "decoded_size": part.decoded_size, "sha256": None,
         "report": part.report and [[list(pair) for pair in block] for block in part.report],
-        "headers": [[header.name, header.value] for header in part.headers], "text": part.text,
+        "headers": [[header.name, header.value] for header in part.headers], "text": part.text, "html_text": None,
     }  # fmt: skip
     if part.is_damaged:
         with pytest.raises(rocktray.Refused) as caught:
