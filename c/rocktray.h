@@ -319,8 +319,8 @@ uint32_t rocktray_html_text(const void *html, size_t html_length, bool shows_lin
                             size_t *needed);
 
 /* Writes the text to be read of a mail in UTF-8: its plain text, or the text of its HTML as rocktray_html_text writes
- * it. Text is decoded as rocktray_text does. Returns ROCKTRAY_ABSENT if the mail has no text. Refuses as rocktray_json
- * does. */
+ * it, if there is no plain text or it consists of whitespace. Text is decoded as rocktray_text does. Returns
+ * ROCKTRAY_ABSENT if the mail has no text. Refuses as rocktray_json does. */
 uint32_t rocktray_readable_text(const void *mail, size_t mail_length, bool shows_links, void *buffer, size_t capacity,
                                 size_t *needed);
 

@@ -151,6 +151,21 @@ def test_html():
     assert show("-", data=raw) == (0, f"Subject:  Fish\n\n{body}\nPart:     {row}\n")
 
 
+def test_empty_text():
+    """A mail whose plain text is empty is shown by the text of its HTML; without HTML, or if it is a file, by nothing."""
+    def body(*parts):
+        raw = b"".join(b"--b\n" + part + b"\n" for part in parts)
+        status, output = show("-", data=b"Content-Type: multipart/alternative; boundary=b\n\n" + raw + b"--b--\n")
+        assert status == 0
+        return [line for line in output.split("\n") if line.startswith("  ")]
+
+    empty, html = b"\n \n\t\n", b"Content-Type: text/html\n\n<p>Fish</p>\n"
+    no_words = b"Content-Type: text/html\n\n<img src=x>\n"
+    assert body(empty, html) == body(empty, no_words, html) == body(html) == ["  Fish"]
+    assert not [line for line in body(empty, b"Content-Disposition: attachment\n" + html) if line.strip()]
+    assert not [line for line in body(empty, no_words) if line.strip()]
+
+
 def test_refused():
     """Why a mail is refused is in the output, and the status says so."""
     assert show("-", data=b" x") == (3, f"Refused:  {SPACE}\n")

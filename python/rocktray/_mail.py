@@ -393,8 +393,8 @@ class Mail:
         return self._text_of("text/html")
 
     def text_or_html(self, links: bool = False) -> Optional[str]:
-        """The text to be read: the plain text of the mail, or the text of its HTML, or `None`. With `links`, each link of
-        HTML has a number, and the targets follow as footnotes.
+        """The text to be read: the plain text of the mail, or if it has none or it consists of whitespace, the text of
+        its HTML, or `None`. With `links`, each link of HTML has a number, and the targets follow as footnotes.
 
         >>> parse(b"Content-Type: text/html\\n\\n<p>Fish &amp; <b>chips</b>").text_or_html()
         'Fish & chips'

@@ -77,6 +77,8 @@ def test_text_of_html():
     both = b"Content-Type: multipart/alternative; boundary=b\n\n--b\n" + html + b"\n--b\n\n<p>plain\n--b--\n"
     mail = rocktray.parse(both)
     assert mail.text_or_html() == "<p>plain" and [part.text_of_html() for part in mail.walk()] == [None, "café &\nb", None]
+    empty = both.replace(b"\n<p>plain\n", b"\n\xc2\xa0 \n\n")
+    assert (rocktray.parse(empty).text.strip(), rocktray.parse(empty).text_or_html()) == ("", "café &\nb")
     assert rocktray.parse(b"Content-Type: image/png\n\n<p>").text_or_html() is None
     with pytest.raises(rocktray.Refused):
         rocktray.Mail(b" x").text_or_html()

@@ -416,7 +416,8 @@ pub extern "C" fn rocktray_html_text(
     write_result(buffer, needed, found)
 }
 
-/// Writes the text to be read of a mail: its plain text, or the text of its HTML.
+/// Writes the text to be read of a mail: its plain text, or the text of its HTML, if there is no
+/// plain text or it consists of whitespace.
 #[unsafe(no_mangle)]
 pub extern "C" fn rocktray_readable_text(
     alloc: Global,

@@ -142,7 +142,7 @@ fn first_text_of_type<'m, 'a, K: KnownCharsets>(
 
 /// Returns whether a part is a text of this type.
 #[tactic(auto, unfolding(crate::specs::Texts::is_text_of_type))]
-fn is_text_of_type<K: KnownCharsets>(
+pub(crate) fn is_text_of_type<K: KnownCharsets>(
     alloc: Global,
     part: &ParsedMail<'_>,
     may_have_name: bool,
