@@ -557,13 +557,31 @@ def test_parallel(runs):
             assert found.read() == wanted, "GNU parallel: the lines"
 
 
+def test_body():
+    """The text of a mail: HTML beside a plain text that is another version of it is left out, unless that is empty."""
+    loader = importlib.import_module("load_sqlite")
+
+    def texts(*parts):
+        members = ("path", "type", "text", "html_text")
+        return loader.body([dict(zip(members, part)) for part in parts])
+
+    versions, plain, html = ("", "multipart/alternative", None), ("1", "text/plain", "p"), ("2", "text/html", "<i>h", "h")
+    assert texts(versions, plain, html) == "p", "versions of one text"
+    assert texts(versions, ("1", "text/plain", " \n"), html) == texts(html) == "h", "an empty version"
+    assert texts(("", "multipart/mixed", None), plain, html) == "p\nh", "texts of their own"
+    inside = [("1.0", "multipart/alternative", None), ("1.1", "text/plain", "p"), ("1.2", "text/html", "<i>h", "h")]
+    assert texts(("1", "message/rfc822", None), *inside, ("10", "text/html", "<i>x", "x")) == "p\nx", "a forwarded mail"
+    related = [("2", "multipart/related", None), ("2.1", "text/html", "<i>h", "h")]
+    assert texts(versions, plain, *related) == "p", "HTML with images"
+
+
 def html_alone(index):
     """The mails of an index whose only texts are HTML: each with its file, where it starts, and the longest of its words, by
     html.parser."""
     for name in glob.glob(os.path.join(index, "*.jsonl")):
         with open(name, encoding="utf-8") as shard:
             for line in map(json.loads, shard):
-                texts = [part for part in line.get("parts", ()) if part["text"]]
+                texts = [part for part in line.get("parts", ()) if part["text"] and part["text"].strip()]
                 text = "\n".join(by_parser(part["text"]) or "" for part in texts)
                 if {part["type"] for part in texts} == {"text/html"} and (found := re.findall(r"\b[a-zA-Z]+\b", text)):
                     yield line["file"], line["start"], max(found, key=len)

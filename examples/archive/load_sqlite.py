@@ -115,14 +115,19 @@ def mailboxes(value):
 
 
 def body(parts):
-    """Returns the text of a mail: its text parts, or if there are only HTML parts, the text of these."""
-    texts = [part for part in parts if part["text"]]
-    plain = [part["text"] for part in texts if part["type"] != "text/html"]
-    if plain:
-        return "\n".join(plain)
-    if any(part.get("html_text") is None for part in texts):
+    """Returns the text of a mail: its texts, of HTML the text of this; of a multipart/alternative without HTML, if it has
+    plain text."""
+    versions = [part["path"].removesuffix(".0") for part in parts if part["type"] == "multipart/alternative"]
+    texts = []
+    for part in parts:
+        if part["text"] and part["text"].strip():
+            within = next((path for path in versions if not path or part["path"].startswith(path + ".")), None)
+            texts.append((part, within, part["type"] == "text/html"))
+    plain = {within for _, within, is_html in texts if not is_html and within is not None}
+    shown = [part.get("html_text") if is_html else part["text"] for part, within, is_html in texts if not (is_html and within in plain)]
+    if None in shown:
         raise ValueError("a shard has no text of HTML: repeat index_archive.py")
-    return "\n".join(part["html_text"] for part in texts)
+    return "\n".join(shown)
 
 
 def list_id(line):
