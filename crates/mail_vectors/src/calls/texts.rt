@@ -5,7 +5,9 @@ use crate::calls::tables::all_tables;
 use crate::notation::{Answer, Decision, Outcome, Row};
 use mail_data::flowed::{DelSp, flowed_text, unflowed};
 use mail_data::inner_mails::{InnerMail, forwards, inner_mails, places_under};
+use mail_data::readable::readable_text;
 use mail_data::texts::{text_part, text_type};
+use mail_html::{Links, References};
 use mailparse::{KnownCharsets, MailParseError, parse_mail, parse_mail_in};
 
 /// Makes the call of a row, if it is one of these.
@@ -15,6 +17,7 @@ pub fn make(answer: &mut Answer, row: &Row) -> Decision {
         "text_part_with" => find_text(answer, row, &all_tables())?,
         "inner_mail_bytes" | "last_inner_mail" => read_inner(answer, row, &())?,
         "inner_mails" => read_inner(answer, row, &all_tables())?,
+        "readable_text" => read_text(answer, row)?,
         "flowed_text" => read_flowed(answer, row)?,
         "forwards" => say_forwards(answer, row)?,
         "text_type" => answer.put(text_type(row.text(0))),
@@ -40,6 +43,22 @@ fn find_text<K: KnownCharsets>(answer: &mut Answer, row: &Row, known: &K) -> Out
     let mail = parse_mail_in(row.alloc, row.bytes(0), known)?;
     match text_part(row.alloc, &mail, known)? {
         Some(part) => answer.put(part.get_body_in(row.alloc, known)),
+        None => answer.word("none"),
+    }
+    Ok(())
+}
+
+/// `readable_text MAIL => TEXT`, the text to be read under the references of the standard, or `none`.
+fn read_text(answer: &mut Answer, row: &Row) -> Outcome {
+    let mail = parse_mail(row.alloc, row.bytes(0))?;
+    match readable_text(
+        row.alloc,
+        &mail,
+        Links::Omitted,
+        &References::standard(),
+        &(),
+    )? {
+        Some(read) => answer.put(read.text),
         None => answer.word("none"),
     }
     Ok(())
