@@ -51,9 +51,9 @@ pub fn decode_base64(alloc: Global, text: &[u8]) -> Result<Result<Vec<u8>, usize
     ensures { IfOk result (λ decoded. items_or_fault decoded ≡ base64 text.now) }
 {
     if text.len() <= SHORT {
-        return decode_base64_without(alloc, text, RunEnd::LineEnd, &mut [0u8; SHORT]);
+        return decode_base64_without(alloc, &mut [0u8; SHORT], text, RunEnd::LineEnd);
     }
-    decode_base64_without(alloc, text, RunEnd::LineEnd, &mut [0u8; BUFFER])
+    decode_base64_without(alloc, &mut [0u8; BUFFER], text, RunEnd::LineEnd)
 }
 
 /// Returns the bytes that a Base64 body encodes (RFC 2045, section 6.8).
@@ -78,7 +78,7 @@ pub fn decode_base64_body(alloc: Global, body: &[u8]) -> Result<Result<Vec<u8>, 
     ensures { IfOk result
         (λ decoded. items_or_fault decoded ≡ base64 (without_ascii_whitespace body.now)) }
 {
-    decode_base64_without(alloc, body, RunEnd::Whitespace, &mut [0u8; BUFFER])
+    decode_base64_without(alloc, &mut [0u8; BUFFER], body, RunEnd::Whitespace)
 }
 
 /// Returns the bytes of the groups of a text without its absent bytes. Letters are read in place.
@@ -87,9 +87,9 @@ pub fn decode_base64_body(alloc: Global, body: &[u8]) -> Result<Result<Vec<u8>, 
 #[inline(always)]
 fn decode_base64_without(
     alloc: Global,
+    buffer: &mut [u8],
     text: &[u8],
     absent: RunEnd,
-    buffer: &mut [u8],
 ) -> Result<Result<Vec<u8>, usize>, AllocError>
     requires letters { KeepsLetters absent }
     requires padding { KeepsPadding absent }
@@ -140,7 +140,7 @@ fn decode_windows(
         push_runs(&mut letters, &text[at..end], absent)?;
         let whole = letters.len() / 4;
         let window = &letters[..4 * whole];
-        if let Err(group) = decode_groups(&mut bytes, window, groups, &mut full, &mut decoded)? {
+        if let Err(group) = decode_groups(&mut bytes, &mut full, &mut decoded, window, groups)? {
             return Ok(Err(group));
         }
         keep_from(&mut letters, 4 * whole);
@@ -169,10 +169,10 @@ fn keep_from(letters: &mut Vec<u8>, at: usize)
 #[tactic(auto, using(crate::proofs::lemmas::Base64Steps::groups_decoded))]
 fn decode_groups(
     bytes: &mut Vec<u8>,
-    letters: &[u8],
-    first: usize,
     full: &mut Vec<u8>,
     decoded: &mut Vec<u8>,
+    letters: &[u8],
+    first: usize,
 ) -> Result<Result<(), usize>, AllocError>
     requires whole { length letters.now % 4 ≡ 0 }
     requires fits { first + length letters.now / 4 < 2 ^ 64 }
@@ -183,7 +183,7 @@ fn decode_groups(
         Ok(()) => Ok(Ok(())),
         Err(DecodeAllocError::OutOfMemory) => Err(AllocError),
         Err(DecodeAllocError::DecodeError(_)) => {
-            if decode_padded_groups(bytes, letters, full, decoded)? {
+            if decode_padded_groups(bytes, full, decoded, letters)? {
                 return Ok(Ok(()));
             }
             decode_each_group(bytes, letters, first)

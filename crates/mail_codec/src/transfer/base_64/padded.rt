@@ -19,9 +19,9 @@ use std::simd::prelude::*;
 /// are cut. `full` and `decoded` are scratch space that all windows share.
 pub(crate) fn decode_padded_groups(
     bytes: &mut Vec<u8>,
-    letters: &[u8],
     full: &mut Vec<u8>,
     decoded: &mut Vec<u8>,
+    letters: &[u8],
 ) -> Result<bool, AllocError>
     requires whole { length letters.now % 4 ≡ 0 }
     ensures read { IfOk result (λ is_read. is_read ≡ true →
