@@ -1,5 +1,5 @@
 //! Reads a message: its header block, its type, its body and its parts.
-ghost use Rattle.std.specs.Prelude.{◌≡◌, Bool, false, ◌<◌, ◌≤◌, ◌+◌, ◌^◌, ◌∷◌, length, drop, map, slice_range, take, IfOk, IsErr, Ok};
+ghost use Rattle.std.specs.Prelude.{◌≡◌, Bool, false, ◌<◌, ◌≤◌, ◌+◌, ◌^◌, [], ◌∷◌, ◌++◌, length, drop, map, slice_range, take, IfOk, IsErr, Ok, OnOk};
 ghost use Rattle.std.specs.List.{flat_map};
 ghost use Rattle.mail_codec.specs.Charset.{four_charsets};
 ghost use Rattle.mailparse.specs.Block.{header_count, read_headers};
@@ -28,7 +28,7 @@ use limit::{check_headers, less};
 use mail_codec::bytescan::find_byte;
 use mail_codec::charset::KnownCharsets;
 pub use message::{ParsedMail, PartsIterator};
-use std::alloc::Global;
+use std::alloc::{AllocError, Global};
 use types::{DefaultType, line_delimiter_of, parts_default};
 
 /// The number of levels of parts that `parse_mail` reads below a message, and the greatest limit
@@ -334,10 +334,20 @@ fn parse_mail_recursive<'a, M: ReadingManner>(
         let part = &raw[start..part_end];
         let begin = offset + start;
         let read = parse_mail_recursive(alloc, left, part, begin, inner, levels - 1, manner)?;
-        subparts.push(read)?;
+        push_part(&mut subparts, read)?;
         next = after;
     }
     Ok(message_of(raw, offset, headers, ctype, body_offset, end, subparts))
+}
+
+/// Appends a part. What a failed push returns is as large as a part, so it is kept out of the frame
+/// of the function that recurses.
+#[inline(never)]
+fn push_part<'a>(subparts: &mut Vec<ParsedMail<'a>>, part: ParsedMail<'a>) -> Result<(), AllocError>
+    ensures { OnOk result (subparts.new.items ≡ subparts.old.items ++ part.entry ∷ []) }
+{
+    subparts.push(part)?;
+    Ok(())
 }
 
 /// Returns the refusal of the message that starts at `offset` of the mail; if the manner keeps

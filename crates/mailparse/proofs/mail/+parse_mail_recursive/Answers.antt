@@ -304,8 +304,8 @@ loop-next-preserved g t c =
     let left : Leaves limit all_met c.loop-next.left (items_met manner levels digest bytes + more) =
     subst (Leaves limit all_met c.loop-next.left) here
     (subst (λ (o : Option ℕ). Leaves limit all_met c.loop-next.left (met_from manner levels digest (drop 1 line_delimiter) raw o)) c.in-Some-next.is c.loop-next.invariant.counted) in
-    let pushed : map tree_of c.push.new.self.items ≡ map tree_of c.loop-next.subparts.items ++ tree_of part ∷ [] =
-    ap (map tree_of) c.in_ok-push.ensures.items ∙ map-append tree_of c.loop-next.subparts.items (part ∷ []) in
+    let pushed : map tree_of c.push_part.new.subparts.items ≡ map tree_of c.loop-next.subparts.items ++ tree_of part ∷ [] =
+    ap (map tree_of) c.in_ok-push_part.ensures ∙ map-append tree_of c.loop-next.subparts.items (part ∷ []) in
     record {
       within = IfSome_then after c.cut_part-part_end.ensures.bounds.2 (λ x bounds. bounds.1);
       all = ap (λ (ts : List Tree). with_trees ts (parts_from manner levels digest (drop 1 line_delimiter) raw after)) pushed
@@ -315,7 +315,7 @@ loop-next-preserved g t c =
           c.in_ok-read.ensures.read c.in_ok-read.ensures.left;
       placed =
           let placed = subst (λ (o : Option ℕ). ArePlaced manner.whole_lines c.args.offset (drop 1 line_delimiter) raw (first_part_as lines (drop 1 line_delimiter) raw body_offset) o c.loop-next.subparts.items) c.in-Some-next.is c.loop-next.invariant.placed in
-          subst (ArePlaced manner.whole_lines c.args.offset (drop 1 line_delimiter) raw (first_part_as lines (drop 1 line_delimiter) raw body_offset) after) (sym c.in_ok-push.ensures.items)
+          subst (ArePlaced manner.whole_lines c.args.offset (drop 1 line_delimiter) raw (first_part_as lines (drop 1 line_delimiter) raw body_offset) after) (sym c.in_ok-push_part.ensures)
           (placed_step manner.whole_lines c.args.offset (drop 1 line_delimiter) raw (first_part_as lines (drop 1 line_delimiter) raw body_offset) c.loop-next.subparts.items start after part next
           c.in_ok-read.ensures.places placed);
     }
