@@ -1,7 +1,7 @@
 -- Lemmas on the segments of a text.
-use Rattle.std.proofs.Common.{◌≡◌, ◌≢◌, ℕ, suc, ◌+◌, ◌<◌, Bool, true, false, cond, ◌||◌, eqb, List, [], ◌∷◌, ◌++◌, length, take, drop, get_or, refl, sym, ap, subst, ◌∙◌, append_assoc}
+use Rattle.std.proofs.Common.{◌≡◌, ◌≢◌, ℕ, suc, ◌+◌, ◌<◌, Bool, true, false, cond, ◌||◌, eqb, List, [], ◌∷◌, ◌++◌, length, take, drop, get_or, refl, sym, ap, subst, ◌∙◌, append_assoc, take-add}
 use Rattle.std.proofs.lemmas.Bool.{cond-true, cond-false, eqb-true, eqb-false, ne_eqb, false≢true}
-use Rattle.std.proofs.lemmas.List.{append-nil, drop_more}
+use Rattle.std.proofs.lemmas.List.{append-nil, drop_more, drop-drop}
 use Rattle.mail_codec.specs.Ascii.{quote, semicolon, backslash}
 use Rattle.mail_codec.specs.Places.{begins, first_place}
 use Rattle.mailparse.specs.Segments.{IsRunAfter, closing_quote, text_ends, lone_backslash, escaped_byte, plain_byte, IsSegment, segment_ends, other_byte, closed_run, open_run, AreSegments, last_segment, more_segments, QuoteState, outside, quoted, escaped, after, ends, with_front, segments_from, segments}
@@ -213,6 +213,52 @@ reaches_plain (b ∷ bytes) = by_test (eqb b semicolon) (eqb b quote) refl refl 
     by_test false false e f rest =
         at_other b bytes (eqb-false b quote f) (eqb-false b semicolon e) ∙ ap (with_front (b ∷ [])) rest
         ∙ with_front-append (b ∷ []) (take (plain_len bytes) bytes) (segments_from outside (drop (plain_len bytes) bytes))
+
+-- the bytes of a quoted run before all quotes and backslashes stay in it
+pub run_kept : (bytes : List ℕ) (n : ℕ) → n ≡ first_place (begins (λ b. eqb b quote || eqb b backslash)) bytes
+    → segments_from quoted bytes ≡ with_front (take n bytes) (segments_from quoted (drop n bytes))
+run_kept bytes n is = rw is (all bytes)
+  where
+    len : List ℕ → ℕ
+    len = first_place (begins (λ b. eqb b quote || eqb b backslash))
+
+    by_test : (b : ℕ) (bytes : List ℕ) (q s : Bool) → eqb b quote ≡ q → eqb b backslash ≡ s
+        → segments_from quoted bytes ≡ with_front (take (len bytes) bytes) (segments_from quoted (drop (len bytes) bytes))
+        → segments_from quoted (b ∷ bytes)
+        ≡ with_front (take (cond (q || s) 0 (suc (len bytes))) (b ∷ bytes)) (segments_from quoted (drop (cond (q || s) 0 (suc (len bytes))) (b ∷ bytes)))
+    by_test b bytes true s e f rest = sym (with_front-nil quoted (b ∷ bytes))
+    by_test b bytes false true e f rest = sym (with_front-nil quoted (b ∷ bytes))
+    by_test b bytes false false e f rest =
+        at_plain b bytes (eqb-false b quote e) (eqb-false b backslash f) ∙ ap (with_front (b ∷ [])) rest
+        ∙ with_front-append (b ∷ []) (take (len bytes) bytes) (segments_from quoted (drop (len bytes) bytes))
+
+    all : (bytes : List ℕ) → segments_from quoted bytes ≡ with_front (take (len bytes) bytes) (segments_from quoted (drop (len bytes) bytes))
+    all [] = refl
+    all (b ∷ bytes) = by_test b bytes (eqb b quote) (eqb b backslash) refl refl (all bytes)
+
+-- no bytes
+pub none_kept : (w : QuoteState) (bytes : List ℕ) → segments_from w bytes ≡ with_front (take 0 bytes) (segments_from w (drop 0 bytes))
+none_kept w bytes = sym (with_front-nil w bytes)
+
+-- a byte, and the bytes after it that keep the next state
+pub reaches_after : (text : List ℕ) (at n next : ℕ) (w v : QuoteState) (b : ℕ) → next ≡ at + suc n → at < length text → b ≡ get_or text at 0 → false ≡ ends w b
+    → v ≡ after w b → segments_from v (drop (at + 1) text) ≡ with_front (take n (drop (at + 1) text)) (segments_from v (drop n (drop (at + 1) text)))
+    → Reaches text at w → Reaches text next v
+reaches_after text at n next w v b goes lt is e turns kept here =
+    let rest = drop (at + 1) text in
+    let cut : drop at text ≡ b ∷ rest = drop_more text at 0 lt ∙ ap (λ c. c ∷ rest) (sym is) in
+    let front : take next text ≡ take at text ++ (b ∷ take n rest) = ap (λ k. take k text) goes ∙ take-add at (suc n) text ∙ ap (λ x. take at text ++ take (suc n) x) cut in
+    let back : drop next text ≡ drop n rest = ap (λ k. drop k text) goes ∙ sym (drop-drop (suc n) at text) ∙ ap (drop (suc n)) cut in
+    let tail = segments_from v (drop n rest) in
+    let step : segments_from w (b ∷ rest) ≡ with_front (b ∷ take n rest) tail =
+    at_byte w b rest (sym e) ∙ ap (λ u. with_front (b ∷ []) (segments_from u rest)) (sym turns) ∙ ap (with_front (b ∷ [])) kept
+    ∙ with_front-append (b ∷ []) (take n rest) tail in
+    here
+    ∙ ap (λ x. with_front (take at text) (segments_from w x)) cut
+    ∙ ap (with_front (take at text)) step
+    ∙ with_front-append (take at text) (b ∷ take n rest) tail
+    ∙ ap (λ x. with_front x tail) (sym front)
+    ∙ ap (λ x. with_front (take next text) (segments_from v x)) (sym back)
 
 -- two searches find where they end
 pub plain_len-searched : (bytes : List ℕ)

@@ -1,12 +1,13 @@
 //! Splits a text with parameters into segments, and reads quoted texts (RFC 2045, section 5.1).
-ghost use Rattle.std.specs.Prelude.{◌≡◌, ◌==◌, ◌∷◌, ◌<◌, ◌≤◌, false, true, length, IfOk, IfSome, MatchOption};
+ghost use Rattle.std.specs.Prelude.{◌≡◌, ◌==◌, ◌||◌, ◌∷◌, ◌<◌, ◌≤◌, false, true, length, take, drop, IfOk, IfSome, MatchOption};
 ghost use Rattle.std.specs.Str.{chars, encode_utf8_all};
 ghost use Rattle.std.specs.String.{string_bytes};
+ghost use Rattle.mail_codec.specs.Ascii.{backslash, quote};
 ghost use Rattle.mail_codec.specs.Places.{begins, first_place};
-ghost use Rattle.mailparse.specs.Segments.{after, ends, inside_quotes, is_quoted, segments, unescape, without_escapes};
+ghost use Rattle.mailparse.specs.Segments.{after, ends, inside_quotes, is_quoted, segments, segments_from, unescape, with_front, without_escapes};
 ghost use Rattle.mailparse.specs.private.Segments.{plain_len, quote_state, segments_of_rest};
 
-use mail_codec::bytescan::find_byte;
+use mail_codec::bytescan::{find_byte, find_either};
 use std::alloc::{AllocError, Global};
 
 /// The state of a byte in a text with quoted runs.
@@ -55,6 +56,19 @@ impl QuoteState {
             QuoteState::Quoted | QuoteState::Escaped => false,
         }
     }
+
+    /// Returns the number of bytes from this one on that neither end a segment nor change the
+    /// state; only those of a quoted run are counted.
+    fn kept_len(self, bytes: &[u8]) -> usize
+        ensures kept { segments_from (quote_state self) bytes.now ≡ with_front
+            (take result bytes.now) (segments_from (quote_state self) (drop result bytes.now)) }
+        ensures bounds { result ≤ length bytes.now }
+    {
+        match self {
+            QuoteState::Quoted => run_len(bytes),
+            QuoteState::Outside | QuoteState::Escaped => 0,
+        }
+    }
 }
 
 /// Returns the offset of the first `byte`, or the length if it is absent.
@@ -79,6 +93,18 @@ fn plain_len(bytes: &[u8]) -> usize
     length_before(&bytes[..end], b'"')
 }
 
+/// Returns the number of leading bytes that are neither a quote nor a backslash.
+#[tactic(auto, using(crate::proofs::lemmas::Places::searches))]
+fn run_len(bytes: &[u8]) -> usize
+    ensures least { result ≡ first_place (begins (λ b. b == quote || b == backslash)) bytes.now }
+    ensures bounds { result ≤ length bytes.now }
+{
+    match find_either(bytes, b'"', b'\\') {
+        Some(offset) => offset,
+        None => bytes.len(),
+    }
+}
+
 /// Returns the first segment of a text, and the text after its semicolon if it ends in one.
 #[tactic(auto, using(crate::proofs::lemmas::Segments::segment_cuts))]
 pub(super) fn cut_segment(text: &str) -> (&str, Option<&str>)
@@ -87,11 +113,13 @@ pub(super) fn cut_segment(text: &str) -> (&str, Option<&str>)
 {
     let bytes = text.as_bytes();
     let mut state = QuoteState::Outside;
-    for at in plain_len(bytes)..bytes.len() {
+    let mut at = plain_len(bytes);
+    while at < bytes.len() {
         if state.ends(bytes[at]) {
             return (&text[..at], Some(&text[at + 1..]));
         }
         state = state.after(bytes[at]);
+        at += 1 + state.kept_len(&bytes[at + 1..]);
     }
     (text, None)
 }
