@@ -119,9 +119,10 @@ pub fn ids_of<H: MailHeaderMap>(
         ≡ ids_of (needs_at rule) name.now (H.present headers.now)) }
     ensures only_memory { IfErr result IsMemory }
 {
-    let Some(text) = headers.get_first_value_in(alloc, name, &NoCharsets)? else {
+    let Some(header) = headers.get_first_header(name) else {
         return Ok(Vec::new(alloc));
     };
+    let text = header.get_value_ref_in(alloc, &NoCharsets)?;
     Ok(find_ids(alloc, text.as_str(), rule)?)
 }
 

@@ -1,5 +1,7 @@
 //! The file name of a part, however names are read in the texts of its headers.
-ghost use Rattle.std.specs.Prelude.{◌≡◌, List, Option, codes, ℕ, Ok};
+ghost use Rattle.std.specs.Prelude.{◌≡◌, ◌==◌, List, Option, codes, ℕ, Ok};
+ghost use Rattle.std.specs.List.{list_any};
+ghost use Rattle.mail_codec.specs.Ascii.{semicolon};
 ghost use Rattle.mailparse.specs.ContentType.{content_type_in};
 ghost use Rattle.mailparse.specs.Disposition.{disposition_in};
 ghost use Rattle.mailparse.specs.Mail.{root};
@@ -12,6 +14,7 @@ ghost use Rattle.mail_data.specs.RawPaths.{with_paths_escaped};
 use super::no_charsets::NoCharsets;
 use super::paths::with_paths_escaped;
 use super::{filled, shown_name, typed_name};
+use mail_codec::bytescan::find_byte;
 use mail_codec::charset::KnownCharsets;
 use mailparse::{
     MailHeaderMap, MailParseError, ParsedMail, Strict, parse_content_disposition_in,
@@ -42,14 +45,28 @@ impl<'k, K: KnownCharsets> NameReading for Strict<'k, K> {
     ghost typed = { λ s text. typed_name (content_type_in (K.known s.0.now) text) };
 
     fn shown_name(&self, alloc: Global, text: &str) -> Result<Option<String>, MailParseError> {
+        if !has_semicolon(text) {
+            return Ok(None);
+        }
         let disposition = parse_content_disposition_in(alloc, text, self.0)?;
         Ok(shown_name(alloc, &disposition)?)
     }
 
     fn typed_name(&self, alloc: Global, text: &str) -> Result<Option<String>, MailParseError> {
+        if !has_semicolon(text) {
+            return Ok(None);
+        }
         let ctype = parse_content_type_in(alloc, text, self.0)?;
         Ok(typed_name(alloc, &ctype)?)
     }
+}
+
+/// Returns whether a text contains a semicolon; one without has no parameters.
+#[tactic(auto, using(crate::proofs::lemmas::FileTexts::semicolon_found))]
+fn has_semicolon(text: &str) -> bool
+    ensures { result ≡ list_any (λ b. b == semicolon) text.now }
+{
+    find_byte(text.as_bytes(), b';').is_some()
 }
 
 /// Names in which the backslashes of Windows paths are no escapes.
@@ -106,13 +123,11 @@ fn shown_name_of<N: NameReading>(
     ensures { AnswersOrMemory text_found result (Ok (name_from (N.shown reading.now)
         (codes "Content-Disposition") (root (tree_of part.now)))) }
 {
-    let value = part
-        .headers
-        .get_first_value_in(alloc, "Content-Disposition", &NoCharsets)?;
-    match value {
-        Some(value) => reading.shown_name(alloc, value.as_str()),
-        None => Ok(None),
-    }
+    let Some(header) = part.headers.get_first_header("Content-Disposition") else {
+        return Ok(None);
+    };
+    let value = header.get_value_ref_in(alloc, &NoCharsets)?;
+    reading.shown_name(alloc, value.as_str())
 }
 
 /// Returns the file name in the type of a part, with its encoded words as they are.
@@ -124,11 +139,9 @@ fn typed_name_of<N: NameReading>(
     ensures { AnswersOrMemory text_found result (Ok (name_from (N.typed reading.now)
         (codes "Content-Type") (root (tree_of part.now)))) }
 {
-    let value = part
-        .headers
-        .get_first_value_in(alloc, "Content-Type", &NoCharsets)?;
-    match value {
-        Some(value) => reading.typed_name(alloc, value.as_str()),
-        None => Ok(None),
-    }
+    let Some(header) = part.headers.get_first_header("Content-Type") else {
+        return Ok(None);
+    };
+    let value = header.get_value_ref_in(alloc, &NoCharsets)?;
+    reading.typed_name(alloc, value.as_str())
 }
