@@ -16,8 +16,10 @@ use Rattle.mail_check.specs.Bytes.{is_lone_return, is_nul, mixed_line_end}
 use Rattle.mail_check.specs.Lines.{HeaderLine, begins_type, ends_block, has_blank_fold, has_comment_fold, has_high_value}
 use Rattle.mail_check.specs.Lines.{header_lines, is_bad_encoding, is_bad_key, is_composite, is_encoding, is_named}
 use Rattle.mail_check.specs.Lines.{is_other_message, second_named, single_names}
-use Rattle.mail_check.specs.Multiparts.{dash_of, is_bad_boundary, is_close, is_inside, is_tailed}
+use Rattle.mail_check.specs.Multiparts.{dash_of, is_bad_boundary, is_close, is_inside, is_tailed, late_delimiter}
 use Rattle.mail_check.specs.Names.{class_of}
+use Rattle.mail_check.specs.Senders.{is_bad_sender}
+use Rattle.mail_check.specs.Parameters.{has_extended, has_quoted_pair, has_quoted_special, has_word, is_bad_value, strict_value}
 use Rattle.mail_check.specs.declared.names.Class.{Class}
 use Rattle.mail_check.specs.declared.names.Name.{Name}
 use Rattle.mail_check.specs.declared.names.Name.TheVariants as name
@@ -96,6 +98,20 @@ line_findings spot size line =
     ++ (listed_if spot name.CommentFold (has_comment_fold line)
     ++ listed_if spot name.Header8bit (has_high_value line))))
 
+-- a type or a disposition whose value is of this text, if that has the syntax that all programs know
+abbrev pub value_findings : Spot → Option (List ℕ) → List Finding
+value_findings spot None = []
+value_findings spot (Some bytes) =
+    listed_if spot name.QuotedSpecial (has_quoted_special bytes)
+    ++ (listed_if spot name.QuotedPair (has_quoted_pair bytes)
+    ++ (listed_if spot name.ExtendedParameter (has_extended bytes)
+    ++ listed_if spot name.WordParameter (has_word bytes)))
+
+-- a header as a type or a disposition
+abbrev pub parameter_findings : Spot → HeaderLine → List Finding
+parameter_findings spot line =
+    listed_if spot name.TypeSyntax (is_bad_value line) ++ value_findings spot (strict_value line)
+
 -- what one header says of a message of this type
 abbrev pub type_findings : Spot → ContentType → HeaderLine → List Finding
 type_findings spot ctype line =
@@ -111,7 +127,8 @@ abbrev pub header_findings : Place → HeaderLine → List Finding
 header_findings place line =
     let node = root place.part in
     let spot = spot_in place line.start (length line.bytes) in
-    line_findings spot (length node.block) line ++ type_findings spot node.ctype line
+    line_findings spot (length node.block) line
+    ++ (parameter_findings spot line ++ type_findings spot node.ctype line)
 
 -- the second header with a name, if there is one
 abbrev pub repeated : Place → Option HeaderLine → List Finding
@@ -129,12 +146,18 @@ abbrev pub has_none : List HeaderLine → Bool
 has_none [] = true
 has_none (line ∷ lines) = false
 
--- those of all headers, and then of each name that occurs twice
-abbrev pub block_findings : Place → List HeaderLine → List Finding
-block_findings place lines =
+-- the findings of one header of a whole mail
+abbrev pub sender_findings : Place → HeaderLine → List Finding
+sender_findings place line =
+    listed_if (spot_in place line.start (length line.bytes)) name.FromSyntax (is_bad_sender line)
+
+-- those of all headers, then of each name that occurs twice, and then of the senders of a whole mail, before which no message comes
+abbrev pub block_findings : ℕ → Place → List HeaderLine → List Finding
+block_findings number place lines =
     listed_if (spot_in place 0 0) name.NoHeaders (has_none lines)
     ++ (flat_map (header_findings place) lines
-    ++ repeated_findings place lines single_names)
+    ++ (repeated_findings place lines single_names
+    ++ (if number == 0 then flat_map (sender_findings place) lines else [])))
 
 -- ---- the parts of a multipart
 
@@ -142,7 +165,8 @@ block_findings place lines =
 abbrev pub delimiter_findings : Spot → List ℕ → List ℕ → List Finding
 delimiter_findings spot dash text =
     listed spot name.DelimiterInside (first_offset (is_inside dash text) text)
-    ++ listed spot name.DelimiterTail (first_offset (is_tailed dash text) text)
+    ++ (listed spot name.DelimiterTail (first_offset (is_tailed dash text) text)
+    ++ listed spot name.LateDelimiter (late_delimiter dash text))
 
 -- whether it has parts, and a close-delimiter after them
 abbrev pub part_findings : Place → ℕ → List ℕ → List ℕ → List Finding
@@ -206,7 +230,7 @@ message_findings number place =
     let node = root place.part in
     (if number == 0 then byte_findings (spot_in place 0 1) node.bytes else [])
     ++ (listed_if (spot_in place 0 (length node.bytes)) name.Many (is_far number place)
-    ++ (block_findings place (header_lines node)
+    ++ (block_findings number place (header_lines node)
     ++ (multipart_findings place (dash_of node.ctype)
     ++ leaf_findings place)))
 

@@ -3,6 +3,8 @@ pub mod Bytes
 pub mod Lines
 pub mod LineViews
 pub mod Multiparts
+pub mod Parameters
+pub mod Senders
 pub mod Bodies
 pub mod Findings
 pub mod FindingViews

@@ -5,7 +5,7 @@ use Rattle.std.specs.List.{ends_with, list_all}
 use Rattle.mail_codec.specs.Places.{byte_place, has_prefix, is_empty}
 use Rattle.mailparse.specs.ContentType.{ContentType}
 use Rattle.mailparse.specs.Delimiters.{starts_line}
-use Rattle.mail_check.specs.Bytes.{is_line_left}
+use Rattle.mail_check.specs.Bytes.{first_offset, is_line_left}
 use Rattle.mail_check.specs.Lines.{begins_type}
 
 -- a character of a boundary
@@ -62,3 +62,32 @@ module _ (dash text : List ℕ) where
   -- a line starts with it, and `--` follows
   abbrev pub is_close : ℕ → Bool
   is_close p = has_dash p && (starts_line text 0 p && has_prefix (codes "--") (after_dash p))
+
+  -- a delimiter: a line starts with it, and at most `--` follows
+  abbrev pub is_delimiter : ℕ → Bool
+  is_delimiter p =
+      has_dash p
+      && (starts_line text 0 p && is_line_left (without_dashes (after_dash p)))
+
+  -- a delimiter with nothing after it
+  abbrev pub is_open : ℕ → Bool
+  is_open p = has_dash p && (starts_line text 0 p && is_line_left (after_dash p))
+
+  -- a delimiter at an offset or after it
+  abbrev pub is_from : ℕ → ℕ → Bool
+  is_from start p = is_delimiter p && not (nat_lt p start)
+
+  -- a delimiter after an offset
+  abbrev pub is_past : ℕ → ℕ → Bool
+  is_past start p = is_delimiter p && nat_lt start p
+
+  -- the first delimiter after a close-delimiter at an offset, or there if none with nothing after it comes before that
+  abbrev pub late_after : Option ℕ → Option ℕ → Option ℕ
+  late_after opening None = None
+  late_after None (Some close) = first_offset (is_from close) text
+  late_after (Some opening) (Some close) =
+      if nat_lt opening close then first_offset (is_past close) text else first_offset (is_from close) text
+
+  -- the first delimiter at which no part begins or ends
+  abbrev pub late_delimiter : Option ℕ
+  late_delimiter = late_after (first_offset is_open text) (first_offset is_close text)

@@ -18,6 +18,12 @@ text_of name.BlankFold = codes "blank-fold"
 text_of name.CommentFold = codes "comment-fold"
 text_of name.Header8bit = codes "header-8bit"
 text_of name.Duplicate = codes "duplicate"
+text_of name.TypeSyntax = codes "type-syntax"
+text_of name.QuotedSpecial = codes "quoted-special"
+text_of name.QuotedPair = codes "quoted-pair"
+text_of name.ExtendedParameter = codes "extended-parameter"
+text_of name.WordParameter = codes "word-parameter"
+text_of name.FromSyntax = codes "from-syntax"
 text_of name.EncodingSyntax = codes "encoding-syntax"
 text_of name.EncodingOnComposite = codes "encoding-on-composite"
 text_of name.OtherMessage = codes "other-message"
@@ -27,12 +33,20 @@ text_of name.NoDelimiter = codes "no-delimiter"
 text_of name.DelimiterInside = codes "delimiter-inside"
 text_of name.DelimiterTail = codes "delimiter-tail"
 text_of name.NoClose = codes "no-close"
+text_of name.LateDelimiter = codes "late-delimiter"
 text_of name.Base64Syntax = codes "base64-syntax"
 text_of name.QpSyntax = codes "qp-syntax"
 text_of name.QpBlank = codes "qp-blank"
 text_of name.EightBitBody = codes "8bit-body"
 
--- its class
+-- the text of a class
+abbrev pub class_text : Class → List ℕ
+class_text class.Structure = codes "structure"
+class_text class.Bytes = codes "bytes"
+class_text class.Name = codes "name"
+class_text class.Note = codes "note"
+
+-- the class of a name
 abbrev pub class_of : Name → Class
 class_of name.Nul = class.Structure
 class_of name.LoneCr = class.Structure
@@ -45,6 +59,12 @@ class_of name.BlankFold = class.Structure
 class_of name.CommentFold = class.Structure
 class_of name.Header8bit = class.Name
 class_of name.Duplicate = class.Structure
+class_of name.TypeSyntax = class.Structure
+class_of name.QuotedSpecial = class.Name
+class_of name.QuotedPair = class.Name
+class_of name.ExtendedParameter = class.Name
+class_of name.WordParameter = class.Name
+class_of name.FromSyntax = class.Name
 class_of name.EncodingSyntax = class.Bytes
 class_of name.EncodingOnComposite = class.Structure
 class_of name.OtherMessage = class.Structure
@@ -54,12 +74,13 @@ class_of name.NoDelimiter = class.Structure
 class_of name.DelimiterInside = class.Structure
 class_of name.DelimiterTail = class.Structure
 class_of name.NoClose = class.Structure
+class_of name.LateDelimiter = class.Structure
 class_of name.Base64Syntax = class.Bytes
 class_of name.QpSyntax = class.Bytes
 class_of name.QpBlank = class.Bytes
 class_of name.EightBitBody = class.Note
 
--- its sentence
+-- the sentence of a name
 abbrev pub sentence_of : Name → List ℕ
 sentence_of name.Nul = codes "The mail contains a NUL byte: readers in C may end the line or the mail there."
 sentence_of name.LoneCr = codes "A CR has no LF after it: some readers end the line there."
@@ -72,6 +93,12 @@ sentence_of name.BlankFold = codes "A line that continues the header has only sp
 sentence_of name.CommentFold = codes "A closing parenthesis precedes a folding of the addresses or ids: some readers end the headers there."
 sentence_of name.Header8bit = codes "The value of the header has bytes that are not ASCII: readers guess the charset, or remove them."
 sentence_of name.Duplicate = codes "The header is the second of a name that may occur once: readers take the first or the last."
+sentence_of name.TypeSyntax = codes "The type or disposition is not of the plain syntax that all readers know: they read other types, names or parameters."
+sentence_of name.QuotedSpecial = codes "A parameter in quotes has a semicolon, a tab, a line end or spaces at its ends: readers cut it off or remove them."
+sentence_of name.QuotedPair = codes "A parameter has a backslash: readers remove it or take it for a part of the value."
+sentence_of name.ExtendedParameter = codes "A parameter has an asterisk in its name: some readers do not join or decode it."
+sentence_of name.WordParameter = codes "A parameter has an encoded word: some readers decode it, others do not."
+sentence_of name.FromSyntax = codes "The sender is not one address, or a plain name and one in angle brackets: readers take another address, or none."
 sentence_of name.EncodingSyntax = codes "The transfer encoding is not exactly one of the five names: some readers decode the body, others do not."
 sentence_of name.EncodingOnComposite = codes "A multipart or a message is in base64 or quoted-printable: some readers decode it before they split it."
 sentence_of name.OtherMessage = codes "The type begins with message/ but is not one that all readers know: some read a mail in it."
@@ -81,6 +108,7 @@ sentence_of name.NoDelimiter = codes "The multipart has no part: readers show it
 sentence_of name.DelimiterInside = codes "The dash-boundary occurs within a line: some readers take it for a delimiter."
 sentence_of name.DelimiterTail = codes "A line begins with the dash-boundary and goes on: some readers take it for a delimiter."
 sentence_of name.NoClose = codes "The multipart has no close-delimiter: readers differ in where its last part ends, or refuse it."
+sentence_of name.LateDelimiter = codes "A delimiter follows the close-delimiter, or that comes first: readers differ in whether parts begin there."
 sentence_of name.Base64Syntax = codes "The Base64 is not lines of whole groups with padding at the end alone: readers stop, skip or go on."
 sentence_of name.QpSyntax = codes "An equals sign begins no escape in upper case and no soft line break, or a control character occurs: readers keep or drop it."
 sentence_of name.QpBlank = codes "Blanks end a line of quoted-printable, a soft line break ends the body, or a line end is escaped: readers keep or drop it."

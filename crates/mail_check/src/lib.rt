@@ -13,7 +13,9 @@ mod lines;
 mod listing;
 mod multipart;
 mod names;
+mod parameters;
 mod scan;
+mod senders;
 
 pub use listing::{Finding, findings};
 pub use names::{Class, Name};

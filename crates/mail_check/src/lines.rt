@@ -1,6 +1,6 @@
 //! The headers of a message as they are written, and what other programs may read differently in
 //! one of them.
-ghost use Rattle.std.specs.Prelude.{◌≡◌, ◌+◌, ◌^◌, ◌<◌, ◌≤◌, codes, drop, length, map, option_map};
+ghost use Rattle.std.specs.Prelude.{◌≡◌, ◌+◌, ◌^◌, ◌<◌, ◌≤◌, drop, length, map, option_map};
 ghost use Rattle.std.specs.Prelude.{IfOk};
 ghost use Rattle.std.specs.List.{list_all};
 ghost use Rattle.mailparse.specs.Mail.{root};
@@ -67,7 +67,7 @@ fn line_of(at: usize, rest: &[u8]) -> HeaderLine<'_>
 }
 
 /// Returns whether the key of a header is this name, ignoring ASCII case.
-fn is_named(name: &[u8], line: &HeaderLine<'_>) -> bool
+pub(crate) fn is_named(name: &[u8], line: &HeaderLine<'_>) -> bool
     ensures { result ≡ is_named name.now (line_view line.now) }
 {
     line.key.eq_ignore_ascii_case(name)
@@ -175,7 +175,7 @@ pub(crate) fn second_named<'m>(name: &[u8], lines: &[HeaderLine<'m>]) -> Option<
 }
 
 /// Returns the value of a header without blanks before it.
-fn trimmed_value<'m>(line: &HeaderLine<'m>) -> &'m [u8]
+pub(crate) fn trimmed_value<'m>(line: &HeaderLine<'m>) -> &'m [u8]
     ensures { result.now ≡ trimmed_value (line_view line.now) }
 {
     &line.value[blank_count(line.value)..]
@@ -207,11 +207,4 @@ pub(crate) fn is_bad_encoding(line: &HeaderLine<'_>) -> bool
             || has_value(b"binary", line)
             || has_value(b"base64", line)
             || has_value(b"quoted-printable", line))
-}
-
-/// Returns whether a header has the type of its message.
-pub(crate) fn is_type(line: &HeaderLine<'_>) -> bool
-    ensures { result ≡ is_named (codes "Content-Type") (line_view line.now) }
-{
-    is_named(b"Content-Type", line)
 }

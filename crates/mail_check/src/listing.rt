@@ -1,6 +1,6 @@
 //! The findings of a mail.
 ghost use Rattle.std.specs.Prelude.{◌≡◌, ◌++◌, ◌<◌, ◌||◌, ◌==◌, ◌∷◌, if◌then◌else◌, [], flat_map};
-ghost use Rattle.std.specs.Prelude.{length, map, IfErr, IfOk, Ok, OnOk};
+ghost use Rattle.std.specs.Prelude.{length, map, IfErr, IfOk, Ok, OnOk, Some};
 ghost use Rattle.mailparse.specs.Body.{BodyKind};
 ghost use Rattle.mailparse.specs.BodyViews.{Content, IsBody, content_of};
 ghost use Rattle.mailparse.specs.Mail.{body_kind, root};
@@ -13,11 +13,12 @@ ghost use Rattle.mail_check.specs.Findings.{block_findings, byte_findings, delim
 ghost use Rattle.mail_check.specs.Findings.{encoded_findings, finding_at, findings};
 ghost use Rattle.mail_check.specs.Findings.{header_findings, is_far};
 ghost use Rattle.mail_check.specs.Findings.{leaf_findings, line_findings, listed, listed_if};
-ghost use Rattle.mail_check.specs.Findings.{message_findings, multipart_findings, part_findings};
+ghost use Rattle.mail_check.specs.Findings.{message_findings, multipart_findings};
+ghost use Rattle.mail_check.specs.Findings.{parameter_findings, part_findings};
 ghost use Rattle.mail_check.specs.Findings.{has_none, is_single, quoted_findings, repeated};
-ghost use Rattle.mail_check.specs.Findings.{repeated_findings};
+ghost use Rattle.mail_check.specs.Findings.{repeated_findings, sender_findings};
 ghost use Rattle.mail_check.specs.Findings.{spot_in, spot_of_body};
-ghost use Rattle.mail_check.specs.Findings.{type_findings};
+ghost use Rattle.mail_check.specs.Findings.{type_findings, value_findings};
 ghost use Rattle.mail_check.specs.LineViews.{line_view};
 ghost use Rattle.mail_codec.specs.Ascii.{colon};
 ghost use Rattle.mail_codec.specs.Places.{byte_place};
@@ -28,14 +29,19 @@ ghost use Rattle.mail_check.specs.Multiparts.{dash_of};
 use crate::bodies::is_base64_lines;
 use crate::lines::{
     HeaderLine, ends_block, has_blank_fold, has_comment_fold, has_high_value, header_lines,
-    is_bad_encoding, is_bad_key, is_encoding, is_type, second_named,
+    is_bad_encoding, is_bad_key, is_encoding, second_named,
 };
 use crate::multipart::{
     Occurrence, begins_type, dash_of, first_delimiter, is_bad_boundary, is_composite,
-    is_other_message,
+    is_other_message, late_delimiter,
 };
 use crate::names::{Class, Name};
+use crate::parameters::{
+    has_extended, has_parameters, has_quoted_pair, has_quoted_special, has_word, is_type,
+    strict_value,
+};
 use crate::scan::{Pattern, control_byte, earlier, first_match, from_offset, high_byte, later};
+use crate::senders::is_bad_sender;
 use mail_codec::bytescan::find_byte;
 use mail_data::files::is_leaf;
 use mail_data::places::{Place, places};
@@ -125,7 +131,7 @@ fn push_message(
     push_first(alloc, found, place, number)?;
     let spot = spot_in(place, 0, place.part.raw_bytes.len());
     push_if(alloc, found, &spot, Name::Many, is_far(number, place))?;
-    push_block(alloc, found, place)?;
+    push_block(alloc, found, place, number)?;
     push_multipart(alloc, found, place)?;
     push_leaf(alloc, found, place)
 }
@@ -196,23 +202,46 @@ fn dot_count(path: &str) -> usize
     path.as_bytes().iter().filter(|byte| **byte == b'.').count()
 }
 
-/// Appends the findings of the headers of a message.
+/// Appends the findings of the headers of a message, given how many come before it.
 fn push_block(
     alloc: Global,
     found: &mut Vec<Finding>,
     place: &Place<'_, '_>,
+    number: usize,
 ) -> Result<(), AllocError>
     ensures { OnOk result (map finding_view found.new.items
         ≡ map finding_view found.old.items
-        ++ block_findings (place_view place.now)
+        ++ block_findings number (place_view place.now)
         (header_lines (root (tree_of place.now.part.now)))) }
 {
     let lines = header_lines(alloc, place.part)?;
-    push_headers(alloc, found, place, lines.as_slice())
+    push_headers(alloc, found, place, number, lines.as_slice())
 }
 
-/// Appends the findings of these headers of a message.
+/// Appends the findings of these headers of a message, given how many come before it.
 fn push_headers(
+    alloc: Global,
+    found: &mut Vec<Finding>,
+    place: &Place<'_, '_>,
+    number: usize,
+    lines: &[HeaderLine<'_>],
+) -> Result<(), AllocError>
+    ensures { OnOk result (map finding_view found.new.items
+        ≡ map finding_view found.old.items
+        ++ block_findings number (place_view place.now) (map line_view lines.now)) }
+{
+    let spot = spot_in(place, 0, 0);
+    push_if(alloc, found, &spot, Name::NoHeaders, has_none(lines))?;
+    push_lines(alloc, found, place, lines)?;
+    push_repeated(alloc, found, place, lines)?;
+    if number == 0 {
+        push_senders(alloc, found, place, lines)?;
+    }
+    Ok(())
+}
+
+/// Appends the findings of the senders of a mail.
+fn push_senders(
     alloc: Global,
     found: &mut Vec<Finding>,
     place: &Place<'_, '_>,
@@ -220,12 +249,13 @@ fn push_headers(
 ) -> Result<(), AllocError>
     ensures { OnOk result (map finding_view found.new.items
         ≡ map finding_view found.old.items
-        ++ block_findings (place_view place.now) (map line_view lines.now)) }
+        ++ flat_map (sender_findings (place_view place.now)) (map line_view lines.now)) }
 {
-    let spot = spot_in(place, 0, 0);
-    push_if(alloc, found, &spot, Name::NoHeaders, has_none(lines))?;
-    push_lines(alloc, found, place, lines)?;
-    push_repeated(alloc, found, place, lines)
+    for line in lines {
+        let spot = spot_in(place, line.start, line.bytes.len());
+        push_if(alloc, found, &spot, Name::FromSyntax, is_bad_sender(line))?;
+    }
+    Ok(())
 }
 
 /// Returns whether there is no header.
@@ -267,6 +297,7 @@ fn push_header(
     let spot = spot_in(place, line.start, line.bytes.len());
     let size = place.part.get_headers().get_raw_bytes().len();
     push_line(alloc, found, &spot, size, line)?;
+    push_parameters(alloc, found, &spot, line)?;
     push_type(alloc, found, &spot, place.part, line)
 }
 
@@ -299,6 +330,46 @@ fn push_line(
         has_comment_fold(line),
     )?;
     push_if(alloc, found, spot, Name::Header8bit, has_high_value(line))
+}
+
+/// Appends the findings of a header as a type or a disposition.
+fn push_parameters(
+    alloc: Global,
+    found: &mut Vec<Finding>,
+    spot: &Spot<'_>,
+    line: &HeaderLine<'_>,
+) -> Result<(), AllocError>
+    ensures { OnOk result (map finding_view found.new.items
+        ≡ map finding_view found.old.items
+        ++ parameter_findings (spot_view spot.now) (line_view line.now)) }
+{
+    let value = strict_value(line);
+    let is_bad = has_parameters(line) && value.is_none();
+    push_if(alloc, found, spot, Name::TypeSyntax, is_bad)?;
+    match value {
+        Some(bytes) => push_value(alloc, found, spot, bytes),
+        None => Ok(()),
+    }
+}
+
+/// Appends the findings of the parameters of a type or a disposition of the syntax that all
+/// programs know.
+fn push_value(
+    alloc: Global,
+    found: &mut Vec<Finding>,
+    spot: &Spot<'_>,
+    bytes: &[u8],
+) -> Result<(), AllocError>
+    ensures { OnOk result (map finding_view found.new.items
+        ≡ map finding_view found.old.items
+        ++ value_findings (spot_view spot.now) (Some bytes.now)) }
+{
+    let has_special = has_quoted_special(bytes);
+    push_if(alloc, found, spot, Name::QuotedSpecial, has_special)?;
+    push_if(alloc, found, spot, Name::QuotedPair, has_quoted_pair(bytes))?;
+    let is_extended = has_extended(bytes);
+    push_if(alloc, found, spot, Name::ExtendedParameter, is_extended)?;
+    push_if(alloc, found, spot, Name::WordParameter, has_word(bytes))
 }
 
 /// Appends the findings of what a header says of its message.
@@ -497,7 +568,9 @@ fn push_delimiters(
     let inside = first_delimiter(Occurrence::Inside, dash, text);
     push_at(alloc, found, spot, Name::DelimiterInside, inside)?;
     let tailed = first_delimiter(Occurrence::Tailed, dash, text);
-    push_at(alloc, found, spot, Name::DelimiterTail, tailed)
+    push_at(alloc, found, spot, Name::DelimiterTail, tailed)?;
+    let late = late_delimiter(dash, text);
+    push_at(alloc, found, spot, Name::LateDelimiter, late)
 }
 
 /// Appends the findings of the body of a message without parts that is no multipart.

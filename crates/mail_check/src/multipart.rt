@@ -1,15 +1,15 @@
 //! Boundaries and delimiters that other programs may read differently.
-ghost use Rattle.std.specs.Prelude.{◌≡◌, ◌<◌, ◌≤◌, ◌+◌, ◌++◌, codes, drop, length, option_map};
+ghost use Rattle.std.specs.Prelude.{◌≡◌, ◌<◌, ◌≤◌, ◌&&◌, ◌+◌, ◌++◌, codes, drop, length, option_map};
 ghost use Rattle.std.specs.Prelude.{IfOk};
 ghost use Rattle.std.specs.List.{list_all};
 ghost use Rattle.mailparse.specs.Delimiters.{starts_line};
 ghost use Rattle.mailparse.specs.Mail.{root};
 ghost use Rattle.mailparse.specs.Views.{tree_of};
-ghost use Rattle.mail_check.specs.Bytes.{first_offset};
+ghost use Rattle.mail_check.specs.Bytes.{first_offset, is_line_left};
 ghost use Rattle.mail_check.specs.Lines.{begins_type, is_composite, is_known_message};
 ghost use Rattle.mail_check.specs.Lines.{is_other_message};
-ghost use Rattle.mail_check.specs.Multiparts.{dash_of, is_bad_boundary, is_boundary};
-ghost use Rattle.mail_check.specs.Multiparts.{is_boundary_byte, without_dashes};
+ghost use Rattle.mail_check.specs.Multiparts.{after_dash, dash_of, is_bad_boundary, is_boundary};
+ghost use Rattle.mail_check.specs.Multiparts.{is_boundary_byte, late_delimiter, without_dashes};
 ghost use Rattle.mail_check.specs.private.Delimiters.{delimiter_at};
 
 use crate::scan::{from_offset, is_line_left};
@@ -24,8 +24,14 @@ pub(crate) enum Occurrence {
     Inside,
     /// At the start of a line that has more than `--` after it.
     Tailed,
+    /// At the start of a line, with nothing after it.
+    Open,
     /// At the start of a line, with `--` after it.
     Close,
+    /// At an offset or after it, at the start of a line, with at most `--` after it.
+    From(usize),
+    /// The same, after an offset.
+    Past(usize),
 }
 
 /// Returns whether the type of a message begins with a text.
@@ -156,6 +162,20 @@ pub(crate) fn first_delimiter(occurrence: Occurrence, dash: &[u8], text: &[u8]) 
     None
 }
 
+/// Returns the offset of the first delimiter that follows a close-delimiter, or is one that comes
+/// before all delimiters with nothing after them.
+pub(crate) fn late_delimiter(dash: &[u8], text: &[u8]) -> Option<usize>
+    requires some { 0 < length dash.now }
+    ensures { result ≡ late_delimiter dash.now text.now }
+{
+    let opening = first_delimiter(Occurrence::Open, dash, text);
+    let close = first_delimiter(Occurrence::Close, dash, text)?;
+    match opening {
+        Some(opening) if opening < close => first_delimiter(Occurrence::Past(close), dash, text),
+        _ => first_delimiter(Occurrence::From(close), dash, text),
+    }
+}
+
 /// Returns whether the dash-boundary occurs so at an offset.
 fn delimiter_at(occurrence: Occurrence, dash: &[u8], text: &[u8], at: usize) -> bool
     requires within { at < length text.now }
@@ -169,8 +189,20 @@ fn delimiter_at(occurrence: Occurrence, dash: &[u8], text: &[u8], at: usize) -> 
         Occurrence::Tailed => {
             starts_line(text, at) && !is_line_left(without_dashes(after_dash(dash, text, at)))
         }
+        Occurrence::Open => starts_line(text, at) && is_line_left(after_dash(dash, text, at)),
         Occurrence::Close => starts_line(text, at) && after_dash(dash, text, at).starts_with(b"--"),
+        Occurrence::From(start) => is_delimiter(dash, text, at) && at >= start,
+        Occurrence::Past(start) => is_delimiter(dash, text, at) && at > start,
     }
+}
+
+/// Returns whether a line starts at the offset of a dash-boundary, with at most `--` after that.
+fn is_delimiter(dash: &[u8], text: &[u8], at: usize) -> bool
+    requires within { at ≤ length text.now }
+    ensures { result ≡ (starts_line text.now 0 at
+        && is_line_left (without_dashes (after_dash dash.now text.now at))) }
+{
+    starts_line(text, at) && is_line_left(without_dashes(after_dash(dash, text, at)))
 }
 
 /// Returns the bytes after the dash-boundary at an offset.

@@ -1,6 +1,6 @@
 //! The names of findings, with their classes and what they say.
 ghost use Rattle.std.specs.Prelude.{◌≡◌};
-ghost use Rattle.mail_check.specs.Names.{class_of, sentence_of, text_of};
+ghost use Rattle.mail_check.specs.Names.{class_of, class_text, sentence_of, text_of};
 
 /// What a finding is about.
 #[derive(Clone, Copy, Debug, PartialEq, Eq)]
@@ -13,6 +13,30 @@ pub enum Class {
     Name,
     /// A risk, though no two of the readers that were compared differ if nothing else is found.
     Note,
+}
+
+impl Class {
+    /// Returns the class as text, such as `structure`.
+    ///
+    /// Does not allocate.
+    ///
+    /// # Examples
+    ///
+    /// ```rust
+    /// use mail_check::Class;
+    ///
+    /// assert_eq!(rt; Class::Structure.text(), "structure");
+    /// ```
+    pub fn text(self) -> &'static str
+        ensures { result.now ≡ class_text self }
+    {
+        match self {
+            Class::Structure => "structure",
+            Class::Bytes => "bytes",
+            Class::Name => "name",
+            Class::Note => "note",
+        }
+    }
 }
 
 /// What is found. The page FINDINGS.md explains each name.
@@ -40,6 +64,18 @@ pub enum Name {
     Header8bit,
     /// `duplicate`
     Duplicate,
+    /// `type-syntax`
+    TypeSyntax,
+    /// `quoted-special`
+    QuotedSpecial,
+    /// `quoted-pair`
+    QuotedPair,
+    /// `extended-parameter`
+    ExtendedParameter,
+    /// `word-parameter`
+    WordParameter,
+    /// `from-syntax`
+    FromSyntax,
     /// `encoding-syntax`
     EncodingSyntax,
     /// `encoding-on-composite`
@@ -58,6 +94,8 @@ pub enum Name {
     DelimiterTail,
     /// `no-close`
     NoClose,
+    /// `late-delimiter`
+    LateDelimiter,
     /// `base64-syntax`
     Base64Syntax,
     /// `qp-syntax`
@@ -95,6 +133,12 @@ impl Name {
             Name::CommentFold => "comment-fold",
             Name::Header8bit => "header-8bit",
             Name::Duplicate => "duplicate",
+            Name::TypeSyntax => "type-syntax",
+            Name::QuotedSpecial => "quoted-special",
+            Name::QuotedPair => "quoted-pair",
+            Name::ExtendedParameter => "extended-parameter",
+            Name::WordParameter => "word-parameter",
+            Name::FromSyntax => "from-syntax",
             Name::EncodingSyntax => "encoding-syntax",
             Name::EncodingOnComposite => "encoding-on-composite",
             Name::OtherMessage => "other-message",
@@ -104,6 +148,7 @@ impl Name {
             Name::DelimiterInside => "delimiter-inside",
             Name::DelimiterTail => "delimiter-tail",
             Name::NoClose => "no-close",
+            Name::LateDelimiter => "late-delimiter",
             Name::Base64Syntax => "base64-syntax",
             Name::QpSyntax => "qp-syntax",
             Name::QpBlank => "qp-blank",
@@ -136,6 +181,7 @@ impl Name {
             | Name::BlankFold
             | Name::CommentFold
             | Name::Duplicate
+            | Name::TypeSyntax
             | Name::EncodingOnComposite
             | Name::OtherMessage
             | Name::BadBoundary
@@ -143,8 +189,14 @@ impl Name {
             | Name::NoDelimiter
             | Name::DelimiterInside
             | Name::DelimiterTail
-            | Name::NoClose => Class::Structure,
-            Name::Header8bit => Class::Name,
+            | Name::NoClose
+            | Name::LateDelimiter => Class::Structure,
+            Name::Header8bit
+            | Name::QuotedSpecial
+            | Name::QuotedPair
+            | Name::ExtendedParameter
+            | Name::WordParameter
+            | Name::FromSyntax => Class::Name,
             Name::EncodingSyntax | Name::Base64Syntax | Name::QpSyntax | Name::QpBlank =>
                 Class::Bytes,
             Name::EightBitBody => Class::Note,
@@ -198,6 +250,24 @@ impl Name {
             Name::Duplicate => {
                 "The header is the second of a name that may occur once: readers take the first or the last."
             }
+            Name::TypeSyntax => {
+                "The type or disposition is not of the plain syntax that all readers know: they read other types, names or parameters."
+            }
+            Name::QuotedSpecial => {
+                "A parameter in quotes has a semicolon, a tab, a line end or spaces at its ends: readers cut it off or remove them."
+            }
+            Name::QuotedPair => {
+                "A parameter has a backslash: readers remove it or take it for a part of the value."
+            }
+            Name::ExtendedParameter => {
+                "A parameter has an asterisk in its name: some readers do not join or decode it."
+            }
+            Name::WordParameter => {
+                "A parameter has an encoded word: some readers decode it, others do not."
+            }
+            Name::FromSyntax => {
+                "The sender is not one address, or a plain name and one in angle brackets: readers take another address, or none."
+            }
             Name::EncodingSyntax => {
                 "The transfer encoding is not exactly one of the five names: some readers decode the body, others do not."
             }
@@ -222,6 +292,9 @@ impl Name {
             }
             Name::NoClose => {
                 "The multipart has no close-delimiter: readers differ in where its last part ends, or refuse it."
+            }
+            Name::LateDelimiter => {
+                "A delimiter follows the close-delimiter, or that comes first: readers differ in whether parts begin there."
             }
             Name::Base64Syntax => {
                 "The Base64 is not lines of whole groups with padding at the end alone: readers stop, skip or go on."

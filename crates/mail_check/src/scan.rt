@@ -247,7 +247,7 @@ pub(crate) fn control_byte(bytes: &[u8]) -> Option<usize>
 }
 
 /// Returns whether a byte is such a control character.
-fn is_control(byte: u8) -> bool
+pub(crate) fn is_control(byte: u8) -> bool
     ensures { result ≡ is_control byte }
 {
     (byte < 32 && !(byte == b'\t' || byte == b'\n' || byte == b'\r')) || byte == 127
@@ -302,4 +302,11 @@ pub(crate) fn is_line_left(rest: &[u8]) -> bool
     ensures { result ≡ is_line_left rest.now }
 {
     rest.is_empty() || rest.starts_with(b"\n") || rest.starts_with(b"\r\n")
+}
+
+/// Returns whether a byte is a blank.
+pub(crate) fn is_blank(byte: u8) -> bool
+    ensures { result ≡ is_blank byte }
+{
+    byte == b' ' || byte == b'\t'
 }

@@ -5,14 +5,17 @@ use Rattle.std.proofs.Math.Dec.{eqb-suc-zero}
 use Rattle.mail_codec.specs.Places.{has_prefix, place, text_place}
 use Rattle.mail_check.specs.private.Delimiters.{delimiter_at}
 use Rattle.mail_check.specs.declared.multipart.Occurrence.{Occurrence}
-use Rattle.mail_check.specs.declared.multipart.Occurrence.TheVariants.{Inside, Tailed, Close}
+use Rattle.mail_check.specs.declared.multipart.Occurrence.TheVariants.{Inside, Tailed, Open, Close, From, Past}
 use Rattle.mail_check.proofs.lemmas.Bytes.{NoneBefore, and_false, search_found, search_none}
 
 -- a dash-boundary occurs nowhere else than where its bytes are
 no_dash : (occurrence : Occurrence) (dash text : List ℕ) (p : ℕ) → has_prefix dash (drop p text) ≡ false → delimiter_at occurrence dash text p ≡ false
 no_dash Inside dash text p h = and_false _ _ h
 no_dash Tailed dash text p h = and_false _ _ h
+no_dash Open dash text p h = and_false _ _ h
 no_dash Close dash text p h = and_false _ _ h
+no_dash (From start) dash text p h = and_false _ _ (and_false _ _ h)
+no_dash (Past start) dash text p h = and_false _ _ (and_false _ _ h)
 
 -- the place of a text that is not empty
 text_placed : (bytes dash : List ℕ) → 0 < length dash → text_place bytes dash ≡ place (has_prefix dash) bytes

@@ -13,11 +13,13 @@ use Rattle.mail_data.specs.PartPlaces.{Place}
 use Rattle.mail_check.specs.Bodies.{is_base64_lines}
 use Rattle.mail_check.specs.Bytes.{earlier, first_byte, first_offset, is_bad_escape, is_control, is_end_blank, is_escaped_end, is_high, is_lone_return, is_nul, mixed_line_end}
 use Rattle.mail_check.specs.Findings.{Finding, Spot, block_findings, byte_findings, delimiter_findings, encoded_findings, finding_at, has_none, header_findings, is_far, is_single}
-use Rattle.mail_check.specs.Findings.{line_findings, listed, listed_if, message_findings, multipart_findings, part_findings, quoted_findings, repeated}
-use Rattle.mail_check.specs.Findings.{spot_in, spot_of_body, type_findings}
+use Rattle.mail_check.specs.Findings.{line_findings, listed, listed_if, message_findings, multipart_findings, parameter_findings, part_findings, quoted_findings, repeated, sender_findings}
+use Rattle.mail_check.specs.Findings.{spot_in, spot_of_body, type_findings, value_findings}
 use Rattle.mail_check.specs.Lines.{HeaderLine, ends_block, has_blank_fold, has_comment_fold, has_high_value, header_lines, is_bad_encoding, is_bad_key, is_composite, is_encoding, is_named}
 use Rattle.mail_check.specs.Lines.{is_other_message, second_named, single_names}
-use Rattle.mail_check.specs.Multiparts.{dash_of, is_bad_boundary, is_close, is_inside, is_tailed}
+use Rattle.mail_check.specs.Multiparts.{dash_of, is_bad_boundary, is_close, is_inside, is_tailed, late_delimiter}
+use Rattle.mail_check.specs.Senders.{is_bad_sender}
+use Rattle.mail_check.specs.Parameters.{has_extended, has_quoted_pair, has_quoted_special, has_word, is_bad_value, strict_value}
 use Rattle.mail_check.specs.declared.names.Name.{Name}
 use Rattle.mail_check.specs.declared.names.Name.TheVariants as name
 
@@ -61,6 +63,16 @@ on_line spot size line =
     (both spot.path _ _ (on_listed_if spot name.BlankFold (has_blank_fold line))
     (both spot.path _ _ (on_listed_if spot name.CommentFold (has_comment_fold line)) (on_listed_if spot name.Header8bit (has_high_value line)))))
 
+on_value : (spot : Spot) (value : Option (List ℕ)) → On spot.path (value_findings spot value)
+on_value spot None = none spot.path
+on_value spot (Some bytes) =
+    both spot.path _ _ (on_listed_if spot name.QuotedSpecial (has_quoted_special bytes))
+    (both spot.path _ _ (on_listed_if spot name.QuotedPair (has_quoted_pair bytes))
+    (both spot.path _ _ (on_listed_if spot name.ExtendedParameter (has_extended bytes)) (on_listed_if spot name.WordParameter (has_word bytes))))
+
+on_parameters : (spot : Spot) (line : HeaderLine) → On spot.path (parameter_findings spot line)
+on_parameters spot line = both spot.path _ _ (on_listed_if spot name.TypeSyntax (is_bad_value line)) (on_value spot (strict_value line))
+
 on_type : (spot : Spot) (ctype : ContentType) (line : HeaderLine) → On spot.path (type_findings spot ctype line)
 on_type spot ctype line =
     both spot.path _ _ (on_listed_if spot name.EncodingSyntax (is_bad_encoding line))
@@ -76,23 +88,33 @@ on_quoted spot body =
 
 on_delimiters : (spot : Spot) (dash text : List ℕ) → On spot.path (delimiter_findings spot dash text)
 on_delimiters spot dash text =
-    both spot.path _ _ (on_listed spot name.DelimiterInside (first_offset (is_inside dash text) text)) (on_listed spot name.DelimiterTail (first_offset (is_tailed dash text) text))
+    both spot.path _ _ (on_listed spot name.DelimiterInside (first_offset (is_inside dash text) text))
+    (both spot.path _ _ (on_listed spot name.DelimiterTail (first_offset (is_tailed dash text) text)) (on_listed spot name.LateDelimiter (late_delimiter dash text)))
 
 module _ (place : Place) where
   on_header : (line : HeaderLine) → On place.path (header_findings place line)
   on_header line =
       let spot = spot_in place line.start (length line.bytes) in
-      both place.path _ _ (on_line spot (length (root place.part).block) line) (on_type spot (root place.part).ctype line)
+      both place.path _ _ (on_line spot (length (root place.part).block) line)
+      (both place.path _ _ (on_parameters spot line) (on_type spot (root place.part).ctype line))
 
   on_repeated : (line : Option HeaderLine) → On place.path (repeated place line)
   on_repeated None = none place.path
   on_repeated (Some line) = one place.path (finding_at (spot_in place line.start (length line.bytes)) name.Duplicate 0) refl
 
-  on_block : (lines : List HeaderLine) → On place.path (block_findings place lines)
-  on_block lines =
+  on_sender : (line : HeaderLine) → On place.path (sender_findings place line)
+  on_sender line = on_listed_if (spot_in place line.start (length line.bytes)) name.FromSyntax (is_bad_sender line)
+
+  on_either : (is : Bool) (xs : List Finding) → On place.path xs → On place.path (if is then xs else [])
+  on_either true xs h = h
+  on_either false xs h = none place.path
+
+  on_block : (number : ℕ) (lines : List HeaderLine) → On place.path (block_findings number place lines)
+  on_block number lines =
       both place.path _ _ (on_listed_if (spot_in place 0 0) name.NoHeaders (has_none lines))
       (both place.path _ _ (each place.path (header_findings place) on_header lines)
-      (each place.path (λ (n : List ℕ). repeated place (second_named n lines)) (λ n. on_repeated (second_named n lines)) single_names))
+      (both place.path _ _ (each place.path (λ (n : List ℕ). repeated place (second_named n lines)) (λ n. on_repeated (second_named n lines)) single_names)
+      (on_either (number == 0) _ (each place.path (sender_findings place) on_sender lines))))
 
   on_parts : (size : ℕ) (dash text : List ℕ) → On place.path (part_findings place size dash text)
   on_parts size dash text =
@@ -114,14 +136,10 @@ module _ (place : Place) where
   on_encoded in_8bit body = none place.path
   on_encoded in_binary body = none place.path
 
-  on_either : (is : Bool) (xs : List Finding) → On place.path xs → On place.path (if is then xs else [])
-  on_either true xs h = h
-  on_either false xs h = none place.path
-
   pub paths_are_of_parts : (number : ℕ) → On place.path (message_findings number place)
   paths_are_of_parts number =
       let node = root place.part in
       both place.path _ _ (on_either (number == 0) _ (on_bytes (spot_in place 0 1) node.bytes))
       (both place.path _ _ (on_listed_if (spot_in place 0 (length node.bytes)) name.Many (is_far number place))
-      (both place.path _ _ (on_block (header_lines node))
+      (both place.path _ _ (on_block number (header_lines node))
       (both place.path _ _ (on_multipart (dash_of node.ctype)) (on_either (is_single place.part) _ (on_encoded (body_kind node) node.body)))))

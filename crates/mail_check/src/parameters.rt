@@ -1,0 +1,356 @@
+//! Types and dispositions that other programs may read differently.
+ghost use Rattle.std.specs.Prelude.{◌≡◌, ◌||◌, option_map};
+ghost use Rattle.mail_codec.specs.Ascii.{slash};
+ghost use Rattle.mail_codec.specs.Places.{byte_place};
+ghost use Rattle.mail_check.specs.LineViews.{line_view};
+ghost use Rattle.mail_check.specs.Parameters.{after_byte, after_bytes, after_main, after_semicolon};
+ghost use Rattle.mail_check.specs.Parameters.{after_value, has_extended, has_quoted_pair};
+ghost use Rattle.mail_check.specs.Parameters.{has_quoted_special, has_step, has_word, in_quotes};
+ghost use Rattle.mail_check.specs.Parameters.{is_attribute, is_disposition, is_extended};
+ghost use Rattle.mail_check.specs.Parameters.{is_main_type, is_restricted, is_special};
+ghost use Rattle.mail_check.specs.Parameters.{is_special_step, is_star_step, is_step, is_strict};
+ghost use Rattle.mail_check.specs.Parameters.{is_type, may_end, strict_value, value_of};
+ghost use Rattle.mail_check.specs.declared.parameters.ValueState.TheVariants.{Attribute, Start};
+
+use crate::lines::{HeaderLine, is_named, trimmed_value};
+use crate::scan::{is_blank, is_control};
+use mail_codec::bytescan::{find, find_byte};
+
+/// What was read of a value with parameters, from its subtype or disposition onwards.
+#[derive(Clone, Copy)]
+pub(crate) enum ValueState {
+    /// Nothing.
+    Start,
+    /// A part of the subtype or disposition.
+    Token,
+    /// A semicolon after it, or after a parameter.
+    Semicolon,
+    /// Blanks after a semicolon.
+    Blank,
+    /// A CR after a semicolon and blanks.
+    Return,
+    /// A line end there.
+    Feed,
+    /// Blanks after that.
+    Fold,
+    /// A part of the name of a parameter.
+    Attribute,
+    /// An asterisk of the name, and asterisks and digits.
+    Star,
+    /// The equals sign after a name.
+    Equals,
+    /// The equals sign after a name with an asterisk.
+    StarEquals,
+    /// A part of a value that is not in quotes.
+    Text,
+    /// A part of such a value after a name with an asterisk.
+    Extended,
+    /// The quotation mark before a value.
+    Opened,
+    /// A part of a value in quotes.
+    Quoted,
+    /// A part of it that ends with a space.
+    Space,
+    /// A part of it that ends with a backslash.
+    Escaped,
+    /// The quotation mark after a value.
+    Closed,
+    /// Something else.
+    Wrong,
+}
+
+/// A step through a value at which programs differ.
+#[derive(Clone, Copy)]
+pub(crate) enum Step {
+    /// A byte in quotes: a semicolon, a tab, a byte of a line end, or a space at their ends.
+    Special,
+    /// The asterisk of a name.
+    Starred,
+}
+
+/// Returns whether a header is a type or a disposition.
+pub(crate) fn has_parameters(line: &HeaderLine<'_>) -> bool
+    ensures { result ≡ (is_type (line_view line.now) || is_disposition (line_view line.now)) }
+{
+    is_type(line) || is_disposition(line)
+}
+
+/// Returns whether a header has the type of its message.
+pub(crate) fn is_type(line: &HeaderLine<'_>) -> bool
+    ensures { result ≡ is_type (line_view line.now) }
+{
+    is_named(b"Content-Type", line)
+}
+
+/// Returns whether a header has the disposition of its message.
+fn is_disposition(line: &HeaderLine<'_>) -> bool
+    ensures { result ≡ is_disposition (line_view line.now) }
+{
+    is_named(b"Content-Disposition", line)
+}
+
+/// Returns the value of a header from its subtype or disposition onwards, if it has the syntax that
+/// all programs read.
+pub(crate) fn strict_value<'m>(line: &HeaderLine<'m>) -> Option<&'m [u8]>
+    ensures { option_map (λ bytes. bytes.now) result ≡ strict_value (line_view line.now) }
+{
+    match value_of(line) {
+        Some(bytes) if is_strict(bytes) => Some(bytes),
+        _ => None,
+    }
+}
+
+/// Returns the value of a header from its subtype or disposition onwards.
+fn value_of<'m>(line: &HeaderLine<'m>) -> Option<&'m [u8]>
+    ensures { option_map (λ bytes. bytes.now) result ≡ value_of (line_view line.now) }
+{
+    let value = trimmed_value(line);
+    if is_type(line) {
+        return subtype_of(value);
+    }
+    if is_disposition(line) {
+        Some(value)
+    } else {
+        None
+    }
+}
+
+/// Returns the bytes of a type after its slash, if it has a main type that all programs know.
+#[tactic(auto, using(crate::proofs::lemmas::Parameters::slash_within))]
+fn subtype_of(value: &[u8]) -> Option<&[u8]>
+    ensures { option_map (λ bytes. bytes.now) result
+        ≡ after_main value.now (byte_place value.now slash) }
+{
+    let at = find_byte(value, b'/')?;
+    if is_main_type(&value[..at]) {
+        Some(&value[at + 1..])
+    } else {
+        None
+    }
+}
+
+/// Returns whether a text is a main type that all programs know.
+fn is_main_type(text: &[u8]) -> bool
+    ensures { result ≡ is_main_type text.now }
+{
+    text.eq_ignore_ascii_case(b"text")
+        || text.eq_ignore_ascii_case(b"image")
+        || text.eq_ignore_ascii_case(b"audio")
+        || text.eq_ignore_ascii_case(b"video")
+        || text.eq_ignore_ascii_case(b"application")
+        || text.eq_ignore_ascii_case(b"multipart")
+        || text.eq_ignore_ascii_case(b"message")
+        || text.eq_ignore_ascii_case(b"font")
+        || text.eq_ignore_ascii_case(b"model")
+}
+
+/// Returns whether bytes are a subtype or a disposition with parameters.
+#[tactic(auto, unfolding(crate::specs::Parameters::is_strict))]
+fn is_strict(bytes: &[u8]) -> bool
+    ensures { result ≡ is_strict bytes.now }
+{
+    let mut state = ValueState::Start;
+    for byte in bytes {
+        state = after_byte(state, *byte);
+    }
+    may_end(state)
+}
+
+/// Returns whether a value in quotes has a semicolon, a tab or a line end, or a space at its start
+/// or end.
+pub(crate) fn has_quoted_special(bytes: &[u8]) -> bool
+    ensures { result ≡ has_quoted_special bytes.now }
+{
+    has_step(Step::Special, bytes)
+}
+
+/// Returns whether a backslash is in quotes.
+pub(crate) fn has_quoted_pair(bytes: &[u8]) -> bool
+    ensures { result ≡ has_quoted_pair bytes.now }
+{
+    find_byte(bytes, b'\\').is_some()
+}
+
+/// Returns whether the name of a parameter has an asterisk.
+pub(crate) fn has_extended(bytes: &[u8]) -> bool
+    ensures { result ≡ has_extended bytes.now }
+{
+    has_step(Step::Starred, bytes)
+}
+
+/// Returns whether a value looks as if it had an encoded word.
+pub(crate) fn has_word(bytes: &[u8]) -> bool
+    ensures { result ≡ has_word bytes.now }
+{
+    find(bytes, b"=?").is_some()
+}
+
+/// Returns whether a step is among those through some bytes.
+fn has_step(step: Step, bytes: &[u8]) -> bool
+    ensures { result ≡ has_step step Start bytes.now }
+{
+    let mut state = ValueState::Start;
+    for byte in bytes {
+        if is_step(step, state, *byte) {
+            return true;
+        }
+        state = after_byte(state, *byte);
+    }
+    false
+}
+
+/// Returns whether a byte after a state is such a step.
+fn is_step(step: Step, state: ValueState, byte: u8) -> bool
+    ensures { result ≡ is_step step state byte }
+{
+    match step {
+        Step::Special => is_special_step(state, byte),
+        Step::Starred => is_star_step(state, byte),
+    }
+}
+
+/// Returns whether a byte after a state is one in quotes that is special, or a space at their start
+/// or end.
+fn is_special_step(state: ValueState, byte: u8) -> bool
+    ensures { result ≡ is_special_step state byte }
+{
+    match state {
+        ValueState::Opened => byte == b' ' || is_special(byte),
+        ValueState::Space => byte == b'"' || is_special(byte),
+        ValueState::Quoted | ValueState::Escaped => is_special(byte),
+        _ => false,
+    }
+}
+
+/// Returns whether a byte is a semicolon, a tab or one of a line end.
+fn is_special(byte: u8) -> bool
+    ensures { result ≡ is_special byte }
+{
+    byte == b';' || byte == b'\t' || byte == b'\n' || byte == b'\r'
+}
+
+/// Returns whether a byte after a state is the asterisk of a name.
+fn is_star_step(state: ValueState, byte: u8) -> bool
+    ensures { result ≡ is_star_step state byte }
+{
+    match state {
+        ValueState::Attribute => byte == b'*',
+        _ => false,
+    }
+}
+
+/// Returns the state after one more byte.
+fn after_byte(state: ValueState, byte: u8) -> ValueState
+    ensures { result ≡ after_byte state byte }
+{
+    match state {
+        ValueState::Start if byte.is_ascii_alphanumeric() => ValueState::Token,
+        ValueState::Token if is_restricted(byte) => ValueState::Token,
+        ValueState::Text if is_attribute(byte) => ValueState::Text,
+        ValueState::Extended if is_extended(byte) => ValueState::Extended,
+        ValueState::Token | ValueState::Text | ValueState::Extended | ValueState::Closed => {
+            after_value(byte)
+        }
+        ValueState::Semicolon | ValueState::Blank => after_semicolon(byte),
+        ValueState::Return if byte == b'\n' => ValueState::Feed,
+        ValueState::Fold if is_attribute(byte) => ValueState::Attribute,
+        ValueState::Feed | ValueState::Fold if is_blank(byte) => ValueState::Fold,
+        ValueState::Attribute => after_attribute(byte),
+        ValueState::Star if byte == b'*' || byte.is_ascii_digit() => ValueState::Star,
+        ValueState::Star if byte == b'=' => ValueState::StarEquals,
+        ValueState::Equals if is_attribute(byte) => ValueState::Text,
+        ValueState::StarEquals if is_extended(byte) => ValueState::Extended,
+        ValueState::Equals | ValueState::StarEquals if byte == b'"' => ValueState::Opened,
+        ValueState::Opened | ValueState::Quoted | ValueState::Space => in_quotes(byte),
+        ValueState::Escaped if byte == b' ' => ValueState::Space,
+        ValueState::Escaped if byte > b' ' && byte <= b'~' => ValueState::Quoted,
+        _ => ValueState::Wrong,
+    }
+}
+
+/// Returns the state after a value and a byte.
+fn after_value(byte: u8) -> ValueState
+    ensures { result ≡ after_value byte }
+{
+    match byte {
+        b';' => ValueState::Semicolon,
+        _ => ValueState::Wrong,
+    }
+}
+
+/// Returns the state after a semicolon, blanks and a byte.
+fn after_semicolon(byte: u8) -> ValueState
+    ensures { result ≡ after_semicolon byte }
+{
+    if is_attribute(byte) {
+        return ValueState::Attribute;
+    }
+    match byte {
+        b' ' | b'\t' => ValueState::Blank,
+        b'\n' => ValueState::Feed,
+        b'\r' => ValueState::Return,
+        _ => ValueState::Wrong,
+    }
+}
+
+/// Returns the state after a part of a name and a byte.
+fn after_attribute(byte: u8) -> ValueState
+    ensures { result ≡ after_byte Attribute byte }
+{
+    if is_attribute(byte) {
+        return ValueState::Attribute;
+    }
+    match byte {
+        b'*' => ValueState::Star,
+        b'=' => ValueState::Equals,
+        _ => ValueState::Wrong,
+    }
+}
+
+/// Returns the state after a quotation mark, a part of a value and a byte.
+fn in_quotes(byte: u8) -> ValueState
+    ensures { result ≡ in_quotes byte }
+{
+    match byte {
+        b'"' => ValueState::Closed,
+        b'\\' => ValueState::Escaped,
+        b' ' => ValueState::Space,
+        byte if is_control(byte) => ValueState::Wrong,
+        _ => ValueState::Quoted,
+    }
+}
+
+/// Returns whether a value may end in a state.
+fn may_end(state: ValueState) -> bool
+    ensures { result ≡ may_end state }
+{
+    matches!(
+        state,
+        ValueState::Token
+            | ValueState::Semicolon
+            | ValueState::Text
+            | ValueState::Extended
+            | ValueState::Closed
+    )
+}
+
+/// Returns whether a byte is a character of a subtype or a disposition.
+fn is_restricted(byte: u8) -> bool
+    ensures { result ≡ is_restricted byte }
+{
+    byte.is_ascii_alphanumeric() || find_byte(b"!#$&-^_.+", byte).is_some()
+}
+
+/// Returns whether a byte is a character of the name of a parameter.
+fn is_attribute(byte: u8) -> bool
+    ensures { result ≡ is_attribute byte }
+{
+    is_restricted(byte) || find_byte(b"`{|}~", byte).is_some()
+}
+
+/// Returns whether a byte is a character of a value after a name with an asterisk.
+fn is_extended(byte: u8) -> bool
+    ensures { result ≡ is_extended byte }
+{
+    is_attribute(byte) || find_byte(b"*'%", byte).is_some()
+}
