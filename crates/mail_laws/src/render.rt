@@ -114,25 +114,25 @@ pub fn render(alloc: Global, outline: &Outline) -> Result<Vec<u8>, MailParseErro
     ensures { ReadsBytes result (Ok (rendered (outline_tree outline.now))) }
 {
     let mut bytes = Vec::new(alloc);
-    push_outline(alloc, outline, &mut bytes)?;
+    push_outline(alloc, &mut bytes, outline)?;
     Ok(bytes)
 }
 
 /// Appends an outline: its header block, and then its body or its parts.
-fn push_outline(alloc: Global, outline: &Outline, bytes: &mut Vec<u8>) -> Result<(), AllocError>
+fn push_outline(alloc: Global, bytes: &mut Vec<u8>, outline: &Outline) -> Result<(), AllocError>
     ensures written { OnOk result (bytes.new.items
         ≡ bytes.old.items ++ rendered (outline_tree outline.now)) }
 {
-    push_header_block(alloc, &outline.headers, bytes)?;
+    push_header_block(alloc, bytes, &outline.headers)?;
     match &outline.kind {
         OutlineKind::Leaf(body) => bytes.extend_from_slice(body.as_slice()),
         OutlineKind::Branch { boundary, parts } => {
             for part in parts {
-                push_delimiter(boundary.as_slice(), b"\r\n", bytes)?;
-                push_outline(alloc, part, bytes)?;
+                push_delimiter(bytes, boundary.as_slice(), b"\r\n")?;
+                push_outline(alloc, bytes, part)?;
                 bytes.extend_from_slice(b"\r\n")?;
             }
-            push_delimiter(boundary.as_slice(), b"--\r\n", bytes)
+            push_delimiter(bytes, boundary.as_slice(), b"--\r\n")
         }
     }
 }
@@ -140,14 +140,14 @@ fn push_outline(alloc: Global, outline: &Outline, bytes: &mut Vec<u8>) -> Result
 /// Appends a header block: each header in order, and the blank line.
 fn push_header_block(
     alloc: Global,
-    headers: &Vec<(Vec<u8>, Vec<u8>)>,
     bytes: &mut Vec<u8>,
+    headers: &Vec<(Vec<u8>, Vec<u8>)>,
 ) -> Result<(), AllocError>
     ensures written { OnOk result (bytes.new.items
         ≡ bytes.old.items ++ header_block (written_headers (headers_seen headers.now))) }
 {
     for header in headers {
-        push_header(alloc, header.0.as_slice(), header.1.as_slice(), bytes)?;
+        push_header(alloc, bytes, header.0.as_slice(), header.1.as_slice())?;
     }
     bytes.extend_from_slice(b"\r\n")
 }
@@ -155,21 +155,21 @@ fn push_header_block(
 /// Appends a header: its key, `: `, its written value and CR LF.
 fn push_header(
     alloc: Global,
+    bytes: &mut Vec<u8>,
     key: &[u8],
     value: &[u8],
-    bytes: &mut Vec<u8>,
 ) -> Result<(), AllocError>
     ensures written { OnOk result (bytes.new.items ≡ bytes.old.items
         ++ header_line (record { key = key.now; value = written_bytes value.now })) }
 {
     bytes.extend_from_slice(key)?;
     bytes.extend_from_slice(b": ")?;
-    push_value(alloc, value, bytes)?;
+    push_value(alloc, bytes, value)?;
     bytes.extend_from_slice(b"\r\n")
 }
 
 /// Appends the written value of a header: bytes that are not UTF-8 as they are.
-fn push_value(alloc: Global, value: &[u8], bytes: &mut Vec<u8>) -> Result<(), AllocError>
+fn push_value(alloc: Global, bytes: &mut Vec<u8>, value: &[u8]) -> Result<(), AllocError>
     ensures written { OnOk result (bytes.new.items
         ≡ bytes.old.items ++ written_bytes value.now) }
 {
@@ -181,7 +181,7 @@ fn push_value(alloc: Global, value: &[u8], bytes: &mut Vec<u8>) -> Result<(), Al
 }
 
 /// Appends a dash-boundary and the rest of its line.
-fn push_delimiter(boundary: &[u8], rest: &[u8], bytes: &mut Vec<u8>) -> Result<(), AllocError>
+fn push_delimiter(bytes: &mut Vec<u8>, boundary: &[u8], rest: &[u8]) -> Result<(), AllocError>
     ensures written { OnOk result (bytes.new.items
         ≡ bytes.old.items ++ (dash_boundary boundary.now ++ rest.now)) }
 {
