@@ -4,7 +4,8 @@
  *                         pointers with length 0, and each allocation refused in turn
  *   check threads FILE..  eight threads, each over all cases and files, with the results of one
  *   check lines FILE..    the line of each mail, or that of its refusal, as rocktray json --mail writes it
- *   check stack FILE..    the bytes of stack that calls on ranges, calls on mails and rocktray_json change at most
+ *   check stack KB FILE.. the bytes of stack that calls on ranges, calls on mails and rocktray_json change at most, each
+ *                         in a thread with a stack of that many KB, which ends the program if that is too little
  *   check records FILE..  the records of each mail and what the calls on ranges read of it, as test_c.py reads them
  *
  * The first two end in `N passed, N failed`.
@@ -18,6 +19,7 @@
 #include <stdlib.h>
 #include <string.h>
 #include <strings.h>
+#include <sys/mman.h>
 
 #define THREADS 8
 
@@ -1073,7 +1075,8 @@ static int check_threads(char **names)
 
 /* Stack. */
 
-#define STACK (1 << 20)
+/* the bytes before a stack that cannot be used */
+#define GUARD (1 << 16)
 
 /* A mail with 100 levels of parts, the last of which has an encoded name and text in a charset of several bytes. */
 static struct bytes deepest_mail(void)
@@ -1146,25 +1149,28 @@ static void *run_ranges(void *unused)
     return unused;
 }
 
-/* The bytes of a stack that a thread changes. */
-static size_t stack_of(void *(*run)(void *))
+/* The bytes of a stack of this size that a thread changes. */
+static size_t stack_of(void *(*run)(void *), size_t size)
 {
     pthread_t thread;
     pthread_attr_t attributes;
     size_t unused = 0;
-    uint8_t *stack = aligned_alloc(4096, STACK);
-    memset(stack, 0xA5, STACK);
+    uint8_t *block = mmap(NULL, GUARD + size, PROT_READ | PROT_WRITE, MAP_PRIVATE | MAP_ANONYMOUS, -1, 0);
+    uint8_t *stack = block + GUARD;
+    if (block == MAP_FAILED || mprotect(block, GUARD, PROT_NONE))
+        exit(1);
+    memset(stack, 0xA5, size);
     pthread_attr_init(&attributes);
-    if (pthread_attr_setstack(&attributes, stack, STACK) || pthread_create(&thread, &attributes, run, NULL))
+    if (pthread_attr_setstack(&attributes, stack, size) || pthread_create(&thread, &attributes, run, NULL))
         exit(1);
     pthread_join(thread, NULL);
-    while (unused < STACK && stack[unused] == 0xA5)
+    while (unused < size && stack[unused] == 0xA5)
         unused++;
-    free(stack);
-    return STACK - unused;
+    munmap(block, GUARD + size);
+    return size - unused;
 }
 
-static int write_stack(char **names)
+static int write_stack(size_t size, char **names)
 {
     while (names[count_of_files])
         count_of_files++;
@@ -1173,7 +1179,8 @@ static int write_stack(char **names)
         files[i] = read_file(names[i]);
     files[count_of_files++] = deepest_mail();
     files[count_of_files++] = forwarded_mail();
-    printf("ranges %zu, mails %zu, lines %zu\n", stack_of(run_ranges), stack_of(run_mails), stack_of(run_lines));
+    printf("ranges %zu, mails %zu, lines %zu\n", stack_of(run_ranges, size), stack_of(run_mails, size),
+           stack_of(run_lines, size));
     return 0;
 }
 
@@ -1185,8 +1192,8 @@ int main(int argc, char **argv)
         check_threads(argv + 2);
     else if (argc > 1 && strcmp(argv[1], "lines") == 0)
         return write_lines(argv + 2);
-    else if (argc > 1 && strcmp(argv[1], "stack") == 0)
-        return write_stack(argv + 2);
+    else if (argc > 2 && strcmp(argv[1], "stack") == 0)
+        return write_stack(strtoul(argv[2], NULL, 10) << 10, argv + 3);
     else if (argc > 1 && strcmp(argv[1], "records") == 0)
         return write_records(argv + 2);
     else

@@ -218,18 +218,19 @@ def test_exports(c_library):
 
 
 def test_stack(c_library, hostile, tmp_path):
-    """The calls need no more stack than rocktray.h says."""
+    """The calls need no more stack than rocktray.h says, and a thread with that much can make each of them."""
     kit = os.path.dirname(subprocess.run(["rt", "doc"], capture_output=True, text=True, check=True).stdout.strip())
     gcc(*STRICT, "-O1", f"-I{c_library}/include", "-o", tmp_path / "check", TOP / "c" / "check.c",
         "-Wl,--wrap=malloc,--wrap=realloc,--wrap=free", TOP / "crates" / "mail_c" / "out" / "libmail_c.a",
         f"{kit}/c/liblibc_c.a", "-lpthread")
-    said = run([tmp_path / "check", "stack", *SAMPLES, *hostile[:300]]).stdout.decode()
+    said = run([tmp_path / "check", "stack", "1024", *SAMPLES, *hostile[:300]]).stdout.decode()
     used = [int(number) for number in re.findall(r"\d+", said)]
     header = (TOP / "c" / "rocktray.h").read_text()
     mails, ranges = (1024 * int(number) for number in re.findall(r"up to (\d+) KB", header))
     assert len(used) == 3 and used[0] <= ranges and max(used[1:]) <= mails, said
     page = (TOP / "docs" / "C.md").read_text()
     assert [1024 * int(number) for number in re.findall(r"up to (\d+) KB", page)] == [ranges, mails]
+    assert run([tmp_path / "check", "stack", str(mails // 1024), *SAMPLES, *hostile[:300]]).returncode == 0
 
 
 # reads a mail of many parts, or of many headers, and prints how many bytes of memory each of them took
