@@ -83,7 +83,13 @@ uint32_t run(struct request *request, void *buffer, size_t capacity, size_t *nee
 /* What a call without a result returns: None if the code is ROCKTRAY_ABSENT, otherwise NULL, with an exception. */
 PyObject *no_result(uint32_t code);
 
-/* The result of a call as a text or as bytes, given a guess of its length; those `and_back` give its input back. */
+/* makes an object of these bytes */
+typedef PyObject *(*maker)(const char *, Py_ssize_t);
+
+/* The result of a call as an object that `make` makes, as a text, or as bytes, given a guess of its length; those
+ * `and_back` give its input back. */
+PyObject *result_of(struct request *request, size_t guess, maker make);
+PyObject *result_and_back(struct request *request, size_t guess, maker make);
 PyObject *text_of(struct request *request, size_t guess);
 PyObject *text_and_back(struct request *request, size_t guess);
 PyObject *bytes_and_back(struct request *request, size_t guess);
@@ -94,11 +100,31 @@ PyObject *sized_bytes_and_back(struct request *request, size_t size);
 /* Appends an item, which it takes over, to a list. Returns 0, or -1 for an error, also if the item is NULL. */
 int append(PyObject *list, PyObject *item);
 
+/* Makes a pair, which takes over both objects, also if one is NULL: a tuple, or an instance of this type of tuples. */
+PyObject *pair_of(PyTypeObject *type, PyObject *first, PyObject *second);
+
+/* A maker: the seconds since 1970 in the text of a date, and the offset of its zone, or None if that is unknown. */
+PyObject *date_of(const char *text, Py_ssize_t length);
+
+/* Takes a type, which is `base` or one made of it. Returns 0, or -1 for an error. */
+int take_type(PyTypeObject **type, PyObject *object, PyTypeObject *base);
+
 /* The state of the module: its types. */
 struct types {
-    PyObject *reading, *header;
+    PyObject *reading, *header, *node;
 };
-extern PyType_Spec reading_spec, header_spec;
+extern PyType_Spec reading_spec, header_spec, node_spec;
+
+/* What is decoded of a part of a reading: its type, the charset and the parameters; the name of its disposition, or
+ * None; its file name, or None; its text, or None if it is no text. */
+PyObject *type_of_part(PyObject *reading, const struct rocktray_part *part);
+PyObject *disposition_of_part(PyObject *reading, const struct rocktray_part *part);
+PyObject *file_name_of_part(PyObject *reading, const struct rocktray_part *part);
+PyObject *text_of_part(PyObject *reading, const struct rocktray_part *part);
+
+/* The parts of a reading as nodes of this type, given the path of the part with the mail and the index of the first. */
+PyObject *nodes_of(PyObject *reading, PyObject *data, const struct rocktray_part *parts, size_t count,
+                   PyTypeObject *type, PyObject *path, Py_ssize_t first);
 
 /* read(data[, start, end], limit): reads a mail. */
 PyObject *read_mail(PyObject *module, PyObject *const *arguments, Py_ssize_t count);

@@ -132,8 +132,6 @@ static uint32_t fill(struct request *request, size_t guess, struct few few, char
     return code;
 }
 
-typedef PyObject *(*maker)(const char *, Py_ssize_t);
-
 static PyObject *result_in(struct request *request, size_t guess, maker make, struct few few)
 {
     char *buffer;
@@ -157,8 +155,7 @@ static PyObject *short_result_of(struct request *request, size_t guess, maker ma
     return result_in(request, guess, make, (struct few){ few, SHORT });
 }
 
-/* The result of a call as an object that `make` makes. */
-static PyObject *result_of(struct request *request, size_t guess, maker make)
+PyObject *result_of(struct request *request, size_t guess, maker make)
 {
     return (guess <= SHORT ? short_result_of : long_result_of)(request, guess, make);
 }
@@ -173,18 +170,21 @@ PyObject *text_of(struct request *request, size_t guess)
     return result_of(request, guess, decoded);
 }
 
-PyObject *text_and_back(struct request *request, size_t guess)
+PyObject *result_and_back(struct request *request, size_t guess, maker make)
 {
-    PyObject *made = text_of(request, guess);
+    PyObject *made = result_of(request, guess, make);
     give_back(&request->input);
     return made;
 }
 
+PyObject *text_and_back(struct request *request, size_t guess)
+{
+    return result_and_back(request, guess, decoded);
+}
+
 PyObject *bytes_and_back(struct request *request, size_t guess)
 {
-    PyObject *made = result_of(request, guess, PyBytes_FromStringAndSize);
-    give_back(&request->input);
-    return made;
+    return result_and_back(request, guess, PyBytes_FromStringAndSize);
 }
 
 PyObject *sized_bytes_and_back(struct request *request, size_t size)
@@ -204,6 +204,19 @@ int append(PyObject *list, PyObject *item)
     int result = item ? PyList_Append(list, item) : -1;
     Py_XDECREF(item);
     return result;
+}
+
+PyObject *pair_of(PyTypeObject *type, PyObject *first, PyObject *second)
+{
+    PyObject *pair = !first || !second ? NULL : type ? PyType_GenericAlloc(type, 2) : PyTuple_New(2);
+    if (pair) {
+        PyTuple_SetItem(pair, 0, first);
+        PyTuple_SetItem(pair, 1, second);
+        return pair;
+    }
+    Py_XDECREF(first);
+    Py_XDECREF(second);
+    return NULL;
 }
 
 /* Arguments. */
@@ -230,6 +243,15 @@ int take_name(const uint8_t **name, size_t *length, PyObject *object)
     *name = (const uint8_t *)at;
     *length = (size_t)count;
     return 0;
+}
+
+int take_type(PyTypeObject **type, PyObject *object, PyTypeObject *base)
+{
+    *type = (PyTypeObject *)object;
+    if (PyType_Check(object) && PyType_IsSubtype(*type, base))
+        return 0;
+    PyErr_SetString(PyExc_TypeError, "another type is needed");
+    return -1;
 }
 
 /* Takes the UTF-8 of a text, which is not given back. Returns 0, or -1 for an error. */
@@ -327,21 +349,22 @@ static PyObject *readable_text(PyObject *module, PyObject *const *arguments, Py_
     return text_and_back(&it, it.input.length);
 }
 
+PyObject *date_of(const char *text, Py_ssize_t length)
+{
+    int64_t seconds = 0, offset = 0;
+    bool is_zone_known = false;
+    uint32_t code = rocktray_date_and_offset(text, (size_t)length, &seconds, &offset, &is_zone_known);
+    if (code != ROCKTRAY_DONE)
+        return no_result(code);
+    return pair_of(NULL, PyLong_FromLongLong(seconds),
+                   is_zone_known ? PyLong_FromLongLong(offset) : Py_NewRef(Py_None));
+}
+
 static PyObject *date(PyObject *module, PyObject *text)
 {
     struct input input;
-    int64_t seconds = 0, offset = 0;
-    bool is_zone_known = false;
-    uint32_t code;
     (void)module;
-    if (take_text(&input, text) < 0)
-        return NULL;
-    code = rocktray_date_and_offset(input.at, input.length, &seconds, &offset, &is_zone_known);
-    if (code != ROCKTRAY_DONE)
-        return no_result(code);
-    if (!is_zone_known)
-        return Py_BuildValue("LO", (long long)seconds, Py_None);
-    return Py_BuildValue("LL", (long long)seconds, (long long)offset);
+    return take_text(&input, text) < 0 ? NULL : date_of((const char *)input.at, (Py_ssize_t)input.length);
 }
 
 /* a mailbox that is searched, and where its mails are */
@@ -464,8 +487,11 @@ static int fill_module(PyObject *module)
     struct types *types = PyModule_GetState(module);
     types->reading = PyType_FromSpec(&reading_spec);
     types->header = PyType_FromSpec(&header_spec);
-    return types->reading && types->header && PyModule_AddObjectRef(module, "Reading", types->reading) == 0 &&
-                   PyModule_AddObjectRef(module, "Header", types->header) == 0
+    types->node = PyType_FromSpec(&node_spec);
+    return types->reading && types->header && types->node &&
+                   PyModule_AddObjectRef(module, "Reading", types->reading) == 0 &&
+                   PyModule_AddObjectRef(module, "Header", types->header) == 0 &&
+                   PyModule_AddObjectRef(module, "Node", types->node) == 0
                ? 0
                : -1;
 }
@@ -476,6 +502,7 @@ static void free_module(void *module)
     if (types) {
         Py_CLEAR(types->reading);
         Py_CLEAR(types->header);
+        Py_CLEAR(types->node);
     }
 }
 

@@ -21,7 +21,7 @@
 /* a mail that was read; it never changes */
 struct reading {
     PyObject_HEAD
-    PyObject *data, *header_type;
+    PyObject *data, *header_type, *node_type;
     size_t part_count, header_count;
     struct rocktray_part *parts; /* in one block with the headers */
     struct rocktray_header_record *headers;
@@ -122,6 +122,7 @@ static PyObject *reading_of(const struct types *types, PyObject *data, const str
     }
     reading->data = Py_NewRef(data);
     reading->header_type = Py_NewRef(types->header);
+    reading->node_type = Py_NewRef(types->node);
     reading->part_count = records->part_count;
     reading->header_count = records->header_count;
     reading->parts = records->parts;
@@ -277,6 +278,7 @@ static void reading_free(PyObject *self)
     PyTypeObject *type = Py_TYPE(self);
     Py_XDECREF(reading->data);
     Py_XDECREF(reading->header_type);
+    Py_XDECREF(reading->node_type);
     free(reading->parts);
     ((freefunc)PyType_GetSlot(type, Py_tp_free))(self);
     Py_DECREF(type);
@@ -548,16 +550,6 @@ static PyObject *header_of(PyTypeObject *type, PyObject *self, const struct rock
     return (PyObject *)header;
 }
 
-/* Takes a type of headers, which is ours or one made of it. Returns 0, or -1 for an error. */
-static int take_type(PyTypeObject **type, PyObject *self, PyObject *object)
-{
-    *type = (PyTypeObject *)object;
-    if (PyType_Check(object) && PyType_IsSubtype(*type, (PyTypeObject *)((struct reading *)self)->header_type))
-        return 0;
-    PyErr_SetString(PyExc_TypeError, "a type of headers is needed");
-    return -1;
-}
-
 /* headers(part, type): the headers, as objects of this type. */
 static PyObject *reading_headers(PyObject *self, PyObject *const *arguments, Py_ssize_t count)
 {
@@ -566,7 +558,8 @@ static PyObject *reading_headers(PyObject *self, PyObject *const *arguments, Py_
     PyTypeObject *type;
     PyObject *list, *header;
     size_t k;
-    if (!is_count(count, 2) || !(part = part_at(self, arguments[0])) || take_type(&type, self, arguments[1]) < 0 ||
+    if (!is_count(count, 2) || !(part = part_at(self, arguments[0])) ||
+        take_type(&type, arguments[1], (PyTypeObject *)((struct reading *)self)->header_type) < 0 ||
         take_mail(&it.input, self) < 0)
         return NULL;
     list = PyList_New((Py_ssize_t)part->header_count);
@@ -681,14 +674,12 @@ static PyObject *type_of(struct request *it, const struct rocktray_header_record
     return made;
 }
 
-/* type(part): the type, the charset and the parameters of a part. */
-static PyObject *reading_type(PyObject *self, PyObject *index)
+PyObject *type_of_part(PyObject *self, const struct rocktray_part *part)
 {
     struct request it = { .number = 0 };
-    const struct rocktray_part *part = part_at(self, index);
     const struct rocktray_header_record *header;
     PyObject *made;
-    if (!part || take_mail(&it.input, self) < 0)
+    if (take_mail(&it.input, self) < 0)
         return NULL;
     header = first_named(self, &it.input, part, "content-type");
     if (header)
@@ -701,16 +692,19 @@ static PyObject *reading_type(PyObject *self, PyObject *index)
     return made;
 }
 
-/* disposition(part): the name of the disposition of a part, or None. */
-static PyObject *reading_disposition(PyObject *self, PyObject *index)
+/* type(part): the type, the charset and the parameters of a part. */
+static PyObject *reading_type(PyObject *self, PyObject *index)
+{
+    const struct rocktray_part *part = part_at(self, index);
+    return part ? type_of_part(self, part) : NULL;
+}
+
+PyObject *disposition_of_part(PyObject *self, const struct rocktray_part *part)
 {
     static const char *const names[] = { NULL, "inline", "attachment", "form-data" };
     struct request it = { .number = 0 };
-    const struct rocktray_part *part = part_at(self, index);
     const struct rocktray_header_record *header;
     PyObject *made, *name;
-    if (!part)
-        return NULL;
     if (part->disposition < ROCKTRAY_OTHERWISE)
         return Py_BuildValue("s", names[part->disposition]);
     if (take_mail(&it.input, self) < 0)
@@ -724,13 +718,18 @@ static PyObject *reading_disposition(PyObject *self, PyObject *index)
     return name;
 }
 
-/* file_name(part): the file name of a part, or None. */
-static PyObject *reading_file_name(PyObject *self, PyObject *index)
+/* disposition(part): the name of the disposition of a part, or None. */
+static PyObject *reading_disposition(PyObject *self, PyObject *index)
+{
+    const struct rocktray_part *part = part_at(self, index);
+    return part ? disposition_of_part(self, part) : NULL;
+}
+
+PyObject *file_name_of_part(PyObject *self, const struct rocktray_part *part)
 {
     struct request it = { .call = call_file_name };
-    const struct rocktray_part *part = part_at(self, index);
     const struct rocktray_header_record *type, *disposition;
-    if (!part || take_mail(&it.input, self) < 0)
+    if (take_mail(&it.input, self) < 0)
         return NULL;
     type = first_named(self, &it.input, part, "content-type");
     disposition = first_named(self, &it.input, part, "content-disposition");
@@ -740,18 +739,27 @@ static PyObject *reading_file_name(PyObject *self, PyObject *index)
     return text_and_back(&it, 0);
 }
 
-/* The display name and the address of an element; text that is no address is a name. */
-static PyObject *address_of(const struct found *found, const struct rocktray_address *address)
+/* file_name(part): the file name of a part, or None. */
+static PyObject *reading_file_name(PyObject *self, PyObject *index)
+{
+    const struct rocktray_part *part = part_at(self, index);
+    return part ? file_name_of_part(self, part) : NULL;
+}
+
+/* The display name and the address of an element, as an instance of this type; text that is no address is a name. */
+static PyObject *address_of(PyTypeObject *type, const struct found *found, const struct rocktray_address *address)
 {
     const char *at = found->buffer + address->address_start, *name = found->buffer + address->name_start;
     Py_ssize_t length = (Py_ssize_t)(address->address_end - address->address_start);
     if (address->kind == ROCKTRAY_UNKNOWN)
-        return Py_BuildValue("Ns", PyUnicode_DecodeLatin1(at, length, NULL), "");
-    return Py_BuildValue("s#s#", name, (Py_ssize_t)(address->name_end - address->name_start), at, length);
+        return pair_of(type, PyUnicode_DecodeLatin1(at, length, NULL), PyUnicode_FromStringAndSize("", 0));
+    return pair_of(type, PyUnicode_DecodeUTF8(name, (Py_ssize_t)(address->name_end - address->name_start), NULL),
+                   PyUnicode_DecodeUTF8(at, length, NULL));
 }
 
 /* Appends the addresses in a header to a list. Returns 0, or -1 for an error. */
-static int append_addresses(PyObject *list, struct request *it, const struct rocktray_header_record *header)
+static int append_addresses(PyObject *list, PyTypeObject *type, struct request *it,
+                            const struct rocktray_header_record *header)
 {
     struct found found;
     uint32_t code;
@@ -767,28 +775,140 @@ static int append_addresses(PyObject *list, struct request *it, const struct roc
     for (k = 0; result == 0 && k < found.record_count; k++) {
         const struct rocktray_address *address = (const struct rocktray_address *)found.records + k;
         if (address->kind != ROCKTRAY_GROUP)
-            result = append(list, address_of(&found, address));
+            result = append(list, address_of(type, &found, address));
     }
     forget(&found);
     return result;
 }
 
-/* addresses(part, name): the mailboxes in the headers with this name, those in groups too. */
+/* addresses(part, name[, type]): the mailboxes in the headers with this name, those in groups too, as tuples or as
+ * instances of this type of tuples. */
 static PyObject *reading_addresses(PyObject *self, PyObject *const *arguments, Py_ssize_t count)
 {
     struct request it = { .number = 0 };
     const struct rocktray_header_record *header = NULL;
     const struct rocktray_part *part;
+    PyTypeObject *type = NULL;
     PyObject *list;
-    if (!is_count(count, 2) || !(part = part_at(self, arguments[0])) ||
-        take_name(&it.other, &it.other_length, arguments[1]) < 0 || take_mail(&it.input, self) < 0)
+    if ((count != 3 && !is_count(count, 2)) || !(part = part_at(self, arguments[0])) ||
+        take_name(&it.other, &it.other_length, arguments[1]) < 0 ||
+        (count == 3 && take_type(&type, arguments[2], &PyTuple_Type) < 0) || take_mail(&it.input, self) < 0)
         return NULL;
     list = PyList_New(0);
     while (list && (header = next_named(self, &it.input, part, header ? header + 1 : NULL, it.other, it.other_length)))
-        if (append_addresses(list, &it, header) < 0)
+        if (append_addresses(list, type, &it, header) < 0)
             Py_CLEAR(list);
     give_back(&it.input);
     return list;
+}
+
+/* Dates and message ids. */
+
+/* date(part): what date_of makes of the value of the first Date, or None if there is none. */
+static PyObject *reading_date(PyObject *self, PyObject *index)
+{
+    struct request it = { .call = call_value };
+    const struct rocktray_part *part = part_at(self, index);
+    const struct rocktray_header_record *header;
+    if (!part || take_mail(&it.input, self) < 0)
+        return NULL;
+    header = first_named(self, &it.input, part, "date");
+    if (!header) {
+        give_back(&it.input);
+        Py_RETURN_NONE;
+    }
+    point(&it.input, header->value_start, header->value_end);
+    return result_and_back(&it, 0, date_of);
+}
+
+CALL(ids, INPUT, it->choice)
+
+/* A maker: the ids as a list, each of which is between `<` and `>`. */
+static PyObject *list_of_ids(const char *at, Py_ssize_t length)
+{
+    const char *end = at + length, *close;
+    PyObject *list = PyList_New(0);
+    for (; list && at < end; at = close + 1) {
+        for (close = at; close < end - 1 && (close[0] != '>' || close[1] != '<'); close++)
+            ;
+        if (append(list, PyUnicode_DecodeUTF8(at + 1, close - at - 1, NULL)) < 0)
+            Py_CLEAR(list);
+    }
+    return list;
+}
+
+/* Whether a byte is a blank, which continues a line. */
+static bool is_blank_at(const uint8_t *at, const uint8_t *end)
+{
+    return at < end && (*at == ' ' || *at == '\t');
+}
+
+/* Writes a raw value to a buffer, with a space for each line end and the blanks after it. Returns the end. */
+static uint8_t *unfold(uint8_t *to, const uint8_t *at, const uint8_t *end)
+{
+    while (at < end) {
+        const uint8_t *feed = at + (*at == '\r');
+        if (feed < end && *feed == '\n' && is_blank_at(feed + 1, end)) {
+            for (at = feed + 1; is_blank_at(at, end); at++)
+                ;
+            *to++ = ' ';
+        } else {
+            *to++ = *at++;
+        }
+    }
+    return to;
+}
+
+/* Writes these bytes as the UTF-8 of Latin-1 to a buffer. Returns the end. */
+static uint8_t *widen(uint8_t *to, const uint8_t *at, const uint8_t *end)
+{
+    for (; at < end; at++) {
+        if (*at >= 0x80)
+            *to++ = 0xc0 | *at >> 6;
+        *to++ = *at >= 0x80 ? 0x80 | (*at & 0x3f) : *at;
+    }
+    return to;
+}
+
+/* The ids in a raw value, given a buffer of three times its length. Bytes that are not UTF-8 are Latin-1. */
+static PyObject *ids_in(struct request *it, uint8_t *buffer)
+{
+    uint8_t *end = unfold(buffer, it->input.at, it->input.at + it->input.length), *other = buffer;
+    size_t needed;
+    it->input.at = buffer;
+    it->input.length = (size_t)(end - buffer);
+    while (other < end && *other < 0x80)
+        other++;
+    if (other < end && call_ids(it, NULL, 0, &needed) == ROCKTRAY_NOT_UTF8) {
+        it->input.length = (size_t)(widen(end, buffer, end) - end);
+        it->input.at = end;
+    }
+    return result_of(it, it->input.length, list_of_ids);
+}
+
+/* ids(part, name, needs_at): the message ids in the first header with this name. It is unfolded, and no encoded word in
+ * it is decoded: ids contain none. */
+static PyObject *reading_ids(PyObject *self, PyObject *const *arguments, Py_ssize_t count)
+{
+    struct request it = { .call = call_ids };
+    const struct rocktray_header_record *header;
+    const struct rocktray_part *part;
+    uint8_t few[SHORT], *buffer = few;
+    PyObject *made;
+    if (!is_count(count, 3) || !(part = part_at(self, arguments[0])) ||
+        take_name(&it.other, &it.other_length, arguments[1]) < 0 || take_mail(&it.input, self) < 0)
+        return NULL;
+    it.choice = arguments[2] == Py_True;
+    header = next_named(self, &it.input, part, NULL, it.other, it.other_length);
+    if (header)
+        point(&it.input, header->value_start, header->value_end);
+    if (header && 3 * it.input.length > SHORT)
+        buffer = malloc(3 * it.input.length);
+    made = !header ? PyList_New(0) : buffer ? ids_in(&it, buffer) : PyErr_NoMemory();
+    if (buffer != few)
+        free(buffer);
+    give_back(&it.input);
+    return made;
 }
 
 /* Reports. */
@@ -956,6 +1076,14 @@ static int begin_text(struct request *it, PyObject *self, const struct rocktray_
     return 0;
 }
 
+PyObject *text_of_part(PyObject *self, const struct rocktray_part *part)
+{
+    struct request it = { .call = call_body_text };
+    if (!(part->flags & ROCKTRAY_IS_TEXT))
+        Py_RETURN_NONE;
+    return begin_text(&it, self, part) < 0 ? NULL : text_and_back(&it, it.input.length + it.input.length / 8);
+}
+
 /* text(part): the text of a body, and whether the body is damaged. */
 static PyObject *reading_text(PyObject *self, PyObject *index)
 {
@@ -972,7 +1100,21 @@ static PyObject *reading_charset(PyObject *self, PyObject *index)
     return begin_text(&it, self, part_at(self, index)) < 0 ? NULL : text_and_back(&it, 32);
 }
 
+/* nodes(type, path, first): the parts as nodes of this type, given the path of the part with the mail and the index of
+ * the first. */
+static PyObject *reading_nodes(PyObject *self, PyObject *const *arguments, Py_ssize_t count)
+{
+    struct reading *reading = (struct reading *)self;
+    PyTypeObject *type;
+    size_t first;
+    if (!is_count(count, 3) || take_type(&type, arguments[0], (PyTypeObject *)reading->node_type) < 0 ||
+        take_size(&first, arguments[2]) < 0)
+        return NULL;
+    return nodes_of(self, reading->data, reading->parts, reading->part_count, type, arguments[1], (Py_ssize_t)first);
+}
+
 static PyMethodDef methods[] = {
+    { "nodes", FAST(reading_nodes), METH_FASTCALL, NULL },
     { "part", reading_part, METH_O, NULL },
     { "value", FAST(reading_value), METH_FASTCALL, NULL },
     { "values", FAST(reading_values), METH_FASTCALL, NULL },
@@ -982,6 +1124,8 @@ static PyMethodDef methods[] = {
     { "disposition", reading_disposition, METH_O, NULL },
     { "file_name", reading_file_name, METH_O, NULL },
     { "addresses", FAST(reading_addresses), METH_FASTCALL, NULL },
+    { "date", reading_date, METH_O, NULL },
+    { "ids", FAST(reading_ids), METH_FASTCALL, NULL },
     { "report", reading_report, METH_O, NULL },
     { "body", FAST(reading_body), METH_FASTCALL, NULL },
     { "body_size", reading_body_size, METH_O, NULL },

@@ -3,6 +3,7 @@
 from typing import Dict, List, Optional, Tuple, Type, TypeVar, Union, overload
 
 from ._library import Bytes
+from ._part import Header as _PartHeader
 
 def version() -> int: ...
 def reason(code: int, /) -> str: ...
@@ -50,7 +51,49 @@ class Header:
     @property
     def raw(self) -> bytes: ...
 
+class Node:
+    """A part of a mail or of a mail inside it. What is decoded of it is found when it is first asked for, and kept."""
+
+    data: Bytes
+    """The bytes of the mail, in which all offsets are counted."""
+    reading: Reading
+    number: int
+    """The number of the part in its reading."""
+    index: int
+    """The number of the part in the mail, which counts those of mails inside it too."""
+    path: str
+    inside: Optional[str]
+    is_encoded: bool
+    """Whether the part is inside an encoded mail."""
+    parent: Optional[int]
+    """The index of the node that contains this one."""
+    children: List[int]
+    headers: Optional[List[_PartHeader]]
+    """The headers, if they are known."""
+    start: int
+    end: int
+    body_start: int
+    body_end: int
+    encoding: int
+    flags: int
+    _size: Optional[Tuple[int, bool]]
+    """The number of bytes that can be read of the decoded body, and whether it is damaged, if they are known."""
+
+    @property
+    def type(self) -> Tuple[str, str, Dict[str, str]]:
+        """The type, the charset and the parameters."""
+
+    @property
+    def file_name(self) -> Optional[str]: ...
+    @property
+    def disposition(self) -> Optional[str]: ...
+    @property
+    def text(self) -> Optional[str]:
+        """The text, if the part is a text and no attachment."""
+
 _Header = TypeVar("_Header", bound=Header)
+_Node = TypeVar("_Node", bound=Node)
+_Pair = TypeVar("_Pair", bound=Tuple[str, str])
 
 class Reading:
     """A mail that was read: the records of its parts and headers. Its length is the number of parts. Parts and the
@@ -58,6 +101,9 @@ class Reading:
     """
 
     def __len__(self) -> int: ...
+    def nodes(self, type: Type[_Node], path: str, first: int, /) -> List[_Node]:
+        """The parts as nodes, given the path of the part with the mail, and the index of the first."""
+
     def part(self, part: int, /) -> Part:
         """The members of struct rocktray_part; the parent of the mail itself is -1."""
 
@@ -68,7 +114,20 @@ class Reading:
     def type(self, part: int, /) -> Tuple[str, str, Dict[str, str]]: ...
     def disposition(self, part: int, /) -> Optional[str]: ...
     def file_name(self, part: int, /) -> Optional[str]: ...
+    @overload
     def addresses(self, part: int, name: bytes, /) -> List[Tuple[str, str]]: ...
+    @overload
+    def addresses(self, part: int, name: bytes, type: Type[_Pair], /) -> List[_Pair]:
+        """The same as instances of a type of tuples."""
+
+    def date(self, part: int, /) -> Optional[Tuple[int, Optional[int]]]:
+        """What `date` returns for the first Date, or `None` if there is none."""
+
+    def ids(self, part: int, name: bytes, needs_at: bool, /) -> List[str]:
+        """The message ids in the first header with this name. It is unfolded, and no encoded word in it is decoded: ids
+        contain none.
+        """
+
     def report(self, part: int, /) -> Optional[List[List[Tuple[str, str]]]]:
         """The blocks of the report that a part is, but for those at the end that have no fields."""
 

@@ -2,7 +2,6 @@
 
 from __future__ import annotations
 
-import re
 from typing import TYPE_CHECKING, Any, Iterator, List, Optional, Tuple, Union
 
 try:
@@ -25,8 +24,6 @@ MOST_ITEMS = 1_000_000
 UNLIMITED = 2**63 - 1
 # the most mails of a mailbox that are found by one call
 MOST = 1000
-# where a value goes on in the next line
-_FOLDING = re.compile(r"\r?\n[ \t]+")
 
 
 class Refused(ValueError):
@@ -81,17 +78,6 @@ def ids(text: str, needs_at: bool) -> List[str]:
     """The message ids in a text."""
     found = _engine.ids(text, needs_at)
     return found[1:-1].split("><") if found else []
-
-
-def ids_in(raw: Optional[bytes], needs_at: bool) -> List[str]:
-    """The message ids in the raw value of a header. It is unfolded, and no encoded word in it is decoded: ids contain none."""
-    if raw is None:
-        return []
-    try:
-        text = raw.decode()
-    except UnicodeDecodeError:
-        text = raw.decode("latin-1")
-    return ids(_FOLDING.sub(" ", text), needs_at)
 
 
 _next_mail = _engine.mails

@@ -12,9 +12,9 @@ from typing import cast, overload
 from . import _engine, _library
 from ._engine import Reading
 from ._library import MOST_ITEMS, UNLIMITED, Refused
-from ._node import IS_ATTACHMENT, IS_EXTRACTED, IS_MAIL, IS_TEXT, Node, add_inside, nodes_of
+from ._node import IS_ATTACHMENT, IS_EXTRACTED, IS_MAIL, IS_TEXT, Node, add_inside
 from ._part import Header, Part
-from ._values import Address, Recipient, new_address, time_of
+from ._values import Address, Recipient, time_of
 
 if TYPE_CHECKING:
     from ._library import Bytes
@@ -127,7 +127,7 @@ class Mail:
         known = self._known
         if name not in known:
             read = self._read
-            known[name] = (read if isinstance(read, Reading) else self._reading).value(0, name, 0)
+            known[name] = (read if type(read) is Reading else self._reading).value(0, name, 0)
         return known[name]  # type: ignore[no-any-return]
 
     def _addresses(self, name: str) -> List[Address]:
@@ -135,14 +135,13 @@ class Mail:
         known = self._known
         if name not in known:
             read = self._read
-            found = (read if isinstance(read, Reading) else self._reading).addresses(0, name.encode())
-            known[name] = [new_address(pair) for pair in found]
+            known[name] = (read if type(read) is Reading else self._reading).addresses(0, name.encode(), Address)
         return known[name].copy()  # type: ignore[no-any-return]
 
-    def _ids(self, name: str, needs_at: bool) -> List[str]:
+    def _ids(self, name: bytes, needs_at: bool) -> List[str]:
         """The ids in the first header with this name."""
-        self._reading
-        return _library.ids_in(_library.raw_header(self._data, name), needs_at)
+        read = self._read
+        return (read if type(read) is Reading else self._reading).ids(0, name, needs_at)
 
     @property
     def error(self) -> Optional[str]:
@@ -209,13 +208,13 @@ class Mail:
 
     def _read_date(self) -> Tuple[Optional[datetime], Optional[str], bool]:
         """The time in the first Date, what is wrong in it, and whether its zone is known or it is none."""
-        value, is_zone_known = self._value(b"date"), True
-        if value is None:
-            return None, None, True
+        reading, is_zone_known = self._reading, True
         try:
-            seconds, offset = _engine.date(value)
-            is_zone_known = offset is not None
-            return time_of(seconds, offset), None, is_zone_known
+            found = reading.date(0)
+            if found is None:
+                return None, None, True
+            is_zone_known = found[1] is not None
+            return time_of(*found), None, is_zone_known
         except Refused as error:
             return None, error.text, is_zone_known
 
@@ -245,18 +244,18 @@ class Mail:
     @property
     def message_id(self) -> Optional[str]:
         """The mail's own id, without angle brackets, or `None`."""
-        found = self._ids("message-id", False)
+        found = self._ids(b"message-id", False)
         return found[0] if found else None
 
     @property
     def in_reply_to(self) -> List[str]:
         """The ids in In-Reply-To."""
-        return self._ids("in-reply-to", True)
+        return self._ids(b"in-reply-to", True)
 
     @property
     def references(self) -> List[str]:
         """The ids in References, in order."""
-        return self._ids("references", True)
+        return self._ids(b"references", True)
 
     @property
     def bounced_id(self) -> Optional[str]:
@@ -326,7 +325,7 @@ class Mail:
         """The mail itself and its parts."""
         own = self._own
         if own is None:
-            own = self._own = nodes_of(self._data, self._reading)
+            own = self._own = self._reading.nodes(Node, "", 0)
         return own
 
     @property

@@ -127,8 +127,7 @@ class Part:
     @property
     def content_id(self) -> Optional[str]:
         """The id in the first Content-ID, without angle brackets, or `None`. HTML refers to it by `cid:`."""
-        values = (it.raw for it in self.headers if it.name.lower() == "content-id")
-        found = _library.ids_in(next(values, None), False)
+        found = self._node.reading.ids(self._node.number, b"content-id", False)
         return found[0] if found else None
 
     @property
@@ -171,9 +170,10 @@ class Part:
     def headers(self) -> List[Header]:
         """The headers, in order."""
         node = self._node
-        if node.headers is None:
-            node.headers = node.reading.headers(node.number, Header)
-        return node.headers.copy()
+        headers = node.headers
+        if headers is None:
+            headers = node.headers = node.reading.headers(node.number, Header)
+        return headers.copy()
 
     def header(self, name: str, number: int = 0) -> Optional[str]:
         """The value of the header with this name and number, counting from 0, or `None`."""

@@ -11,6 +11,10 @@ from . import _engine, _library
 from ._library import Refused
 
 _EPOCH = datetime(1970, 1, 1, tzinfo=timezone.utc)
+# the seconds that `datetime` can have
+_FIRST, _LAST = (
+    (time.replace(tzinfo=timezone.utc) - _EPOCH) // timedelta(seconds=1) for time in (datetime.min, datetime.max)
+)
 
 # what needs quotes in a display name, and what could begin a line or move a terminal
 _SPECIAL = re.compile(r'[][()<>@,:;".\\]')
@@ -36,10 +40,6 @@ class Address(NamedTuple):
         return _CONTROL.sub("\ufffd", text)
 
 
-# makes an address of a pair, at less cost than Address(*pair)
-new_address = functools.partial(tuple.__new__, Address)
-
-
 class Recipient(NamedTuple):
     """A recipient of a delivery report (RFC 3464). A missing field is `None`."""
 
@@ -50,14 +50,21 @@ class Recipient(NamedTuple):
     diagnostic_code: Optional[str]
 
 
+@functools.lru_cache(maxsize=1024)
+def _epoch_in(offset: int) -> datetime:
+    """The local time of 1970 in the zone with this offset, or in UTC if that is a day or more."""
+    return _EPOCH.astimezone(timezone(timedelta(seconds=offset))) if offset and abs(offset) < 86400 else _EPOCH
+
+
 def time_of(seconds: int, offset: Optional[int]) -> datetime:
     """The time of a date that is read, in its zone, or in UTC if that is unknown or a day or more away. Raises `Refused`
     if it is after the last year of Python's `datetime`."""
-    zone = timezone(timedelta(seconds=offset)) if offset and abs(offset) < 86400 else timezone.utc
     try:
-        return (_EPOCH + timedelta(seconds=seconds)).astimezone(zone)
+        if _FIRST <= seconds <= _LAST:
+            return _epoch_in(offset or 0) + timedelta(0, seconds)
     except OverflowError:
-        raise Refused("the date is after the year 9999", _library.DATE_YEAR) from None
+        pass
+    raise Refused("the date is after the year 9999", _library.DATE_YEAR)
 
 
 def read_date(text: str) -> datetime:
