@@ -18,3 +18,5 @@ pub mod Refused
 pub mod FileNames
 pub mod Agreement
 pub mod Shown
+pub mod Values
+pub mod ValueViews

@@ -23,6 +23,7 @@ mod windows;
 
 use crate::places::push_places;
 use left_over::left_over_text;
+pub(crate) use left_over::text_of_octets;
 use mail_codec::charset::KnownCharsets;
 use mailparse::{
     DispositionType, MailParseError, ParsedContentDisposition, ParsedContentType, ParsedMail,

@@ -13,6 +13,7 @@ mod refused;
 mod repairs;
 mod shown;
 mod texts;
+mod values;
 
 pub use base64::{Base64Front, base64_front};
 pub(crate) use comments::without_comments;
@@ -26,3 +27,4 @@ pub use manner::Lenient;
 pub use refused::refusal;
 pub use shown::{after_block, is_undivided};
 pub use texts::{BodyText, body_text, charset_used, lenient_text};
+pub use values::lenient_header_text;

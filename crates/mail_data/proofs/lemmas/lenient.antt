@@ -9,3 +9,4 @@ pub mod Repairs
 pub mod Texts
 pub mod Agreement
 pub mod Shown
+pub mod Values

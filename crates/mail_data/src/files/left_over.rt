@@ -33,7 +33,7 @@ fn untagged(value: &str) -> &str
 
 /// Returns the text of bytes in an unknown charset.
 #[tactic(auto, unfolding(crate::specs::Files::text_of_octets))]
-fn text_of_octets(alloc: Global, bytes: &[u8]) -> Result<String, AllocError>
+pub(crate) fn text_of_octets(alloc: Global, bytes: &[u8]) -> Result<String, AllocError>
     ensures { IfOk result (λ text. string_bytes text ≡ text_of_octets bytes.now) }
 {
     match str::from_utf8(bytes) {

@@ -5,8 +5,10 @@ ghost use Rattle.mailparse.specs.Block.{HeaderList, read_headers};
 ghost use Rattle.mailparse.specs.ContentType.{content_type_in};
 ghost use Rattle.mailparse.specs.Mail.{kept_message, root};
 ghost use Rattle.mailparse.specs.Refusal.{Refusal, recursion_limit};
+ghost use Rattle.mailparse.specs.Value.{IsPlain, lenient_value_in};
 ghost use Rattle.mail_data.specs.lenient.Agreement.{is_strict};
 ghost use Rattle.mail_data.specs.lenient.Manner.{lenient_type_in};
+ghost use Rattle.mail_data.specs.lenient.Values.{header_text};
 ghost use Rattle.mail_data.specs.lenient.Refused.{kept_for};
 
 /// Says that a type is read leniently as the port reads it, if it has no comment, lacks nothing,
@@ -14,6 +16,13 @@ ghost use Rattle.mail_data.specs.lenient.Refused.{kept_for};
 pub fn types_agree()
     ensures { (known : Charsets) (text : List ℕ) → is_strict known text ≡ true →
         lenient_type_in known text ≡ content_type_in known text }
+{}
+
+/// Says that a plain header value, of printable ASCII that does not begin with a space and contains
+/// no `=?`, is read leniently as the port reads it.
+pub fn plain_values_agree()
+    ensures { (known : Charsets) (value : List ℕ) → IsPlain value →
+        header_text known value ≡ lenient_value_in known value }
 {}
 
 /// Says that a message that was kept, which has no block and all its bytes as its body, is reported
