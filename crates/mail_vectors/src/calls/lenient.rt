@@ -9,10 +9,12 @@ use crate::calls::tables::all_tables;
 use crate::notation::{Answer, Decision, FORM, Outcome, Row, Show};
 use mail_data::lenient::{
     ContentFault, DateError, IdRule, Lenient, base64_front, body_text, date_and_offset_of, date_of,
-    find_ids, lenient_body, lenient_content, lenient_file_name, refusal, zoned_date_of,
+    find_ids, lenient_body, lenient_content, lenient_file_name, lenient_header_text, refusal,
+    zoned_date_of,
 };
 use mailparse::body::Body;
 use mailparse::{KnownCharsets, MAX_LEVELS, ParsedMail, parse_mail, parse_mail_as};
+use std::alloc::AllocError;
 
 /// Makes the call of a row, if it is one of these.
 pub fn make(answer: &mut Answer, row: &Row) -> Decision {
@@ -24,6 +26,7 @@ pub fn make(answer: &mut Answer, row: &Row) -> Decision {
         "find_ids" => answer.put(find_ids(row.alloc, row.text(0), IdRule::WithAt)),
         "find_any_ids" => answer.put(find_ids(row.alloc, row.text(0), IdRule::Any)),
         "lenient_nodes" | "lenient_file_names" => read_parts(answer, row, &all_tables())?,
+        "lenient_header_text" => answer.put(header_text(row)),
         "date_of" => write_date(answer, date_of(row.text(0))),
         "zoned_date_of" => write_date(answer, zoned_date_of(row.text(0))),
         "date_and_offset_of" => write_date(answer, date_and_offset_of(row.text(0))),
@@ -66,6 +69,11 @@ fn read_text(answer: &mut Answer, row: &Row) -> Outcome {
     answer.put(read.charset.as_str());
     answer.put(read.is_damaged);
     Ok(())
+}
+
+/// `lenient_header_text VALUE => TEXT`, under all tables.
+fn header_text(row: &Row) -> Result<String, AllocError> {
+    lenient_header_text(row.alloc, row.bytes(0), &all_tables())
 }
 
 /// `lenient_content MAIL => BYTES GROUP IGNORED` of the whole mail, GROUP the index of the group
