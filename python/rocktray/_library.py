@@ -15,6 +15,7 @@ if TYPE_CHECKING:
     Bytes = Union[bytes, bytearray, memoryview, mmap.mmap]
 
 NO_MEMORY = 2
+TOO_DEEP = 18
 NOT_BASE64 = 19
 TOO_MANY = 22
 DATE_YEAR = 34
@@ -72,6 +73,15 @@ def header(mail: Bytes, name: str, number: int = 0) -> Optional[str]:
 def raw_header(part: Bytes, name: str, number: int = 0) -> Optional[bytes]:
     """The raw value of that header."""
     return _engine.raw_header(part, name.encode(), number)
+
+
+def block_refusal(part: Bytes) -> str:
+    """Why the header block of a part is refused, otherwise that the part is too deep."""
+    try:
+        raw_header(part, "")
+    except Refused as error:
+        return error.text
+    return _engine.reason(TOO_DEEP)
 
 
 def ids(text: str, needs_at: bool) -> List[str]:

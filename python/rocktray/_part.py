@@ -141,6 +141,16 @@ class Part:
         return bool(self._node.flags & IS_EXTRACTED)
 
     @property
+    def refusal(self) -> Optional[str]:
+        """Why the part is plain text without headers: its headers cannot be read, or it is too deep. Otherwise `None`.
+
+        >>> next(parse(b"A: b\\n\\rx").walk()).refusal
+        'Headers were followed by an unexpected lone CR character!'
+        """
+        node = self._node
+        return _library.block_refusal(self.raw) if node.start == node.body_start < node.end else None
+
+    @property
     def encoding(self) -> str:
         """The transfer encoding of the body, such as 'base64'."""
         return ENCODINGS[self._node.encoding]

@@ -12,6 +12,7 @@ use Rattle.mail_data.specs.Files.{filled, name_in, no_charsets}
 use Rattle.mail_data.specs.QuotedLines as quoted
 use Rattle.mail_data.specs.Reading.{mail_reading}
 use Rattle.mail_data.specs.lenient.Content.{lenient_content}
+use Rattle.mail_data.specs.lenient.Manner.{lenient_type_in}
 use Rattle.mail_data.specs.lenient.Texts.{text_read}
 use Rattle.mail_c.specs.Buffer.{Found, IsFilled, IsKept, Output, fits, written_code}
 use Rattle.mail_c.specs.Codes.{no_memory}
@@ -52,9 +53,9 @@ module _ (known : Charsets) where
   unfoldable pub value : List ℕ → Found
   value raw = Ok (Some (lenient_value_in known raw))
 
-  -- the type that a raw value gives
+  -- the type that a raw value gives, read leniently
   abbrev pub type_of : List ℕ → ContentType
-  type_of raw = content_type_in known (lenient_value_in known raw)
+  type_of raw = lenient_type_in known (lenient_value_in known raw)
 
   -- the file name in the raw values of a disposition and of a type, which are cut into parameters while their encoded words stay as they are,
   -- so that none can end a parameter or begin one

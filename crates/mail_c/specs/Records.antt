@@ -9,10 +9,10 @@ use Rattle.mailparse.specs.Disposition.{Disposition, Kind, inline, attachment, f
 use Rattle.mailparse.specs.Header.{header_length, key_end, value_end, value_start}
 use Rattle.mailparse.specs.Mail.{Forest, Node, Tree, no_parts, part_and, root, shown_as_in, tree, trees_within}
 use Rattle.mailparse.specs.Map.{first_with_key}
-use Rattle.mailparse.specs.Placement.{Placement, placements}
+use Rattle.mailparse.specs.Placement.{Placement}
 use Rattle.mail_data.specs.Files.{is_leaf, is_shown}
 use Rattle.mail_data.specs.InnerMails.{forwards}
-use Rattle.mail_data.specs.Reading.{mail_reading}
+use Rattle.mail_data.specs.Reading.{mail_placements, mail_reading}
 use Rattle.mail_data.specs.lenient.Encoding.{lenient_body_kind}
 use Rattle.mail_json.specs.Part.{is_attachment, is_read}
 use Rattle.mail_c.specs.Codes.{coded, too_many}
@@ -151,7 +151,7 @@ module _ (known : Charsets) where
 
   -- the records of a mail that was read
   abbrev pub mail_records : Result Tree ℕ → Result (List Part × List HeaderRecord) ℕ
-  mail_records (Ok mail) = Ok (records_in (items_of (trees_within mail) (placements 0 mail) (families 0 none 0 mail)))
+  mail_records (Ok mail) = Ok (records_in (items_of (trees_within mail) (mail_placements mail) (families 0 none 0 mail)))
   mail_records (Err code) = Err code
 
   -- the records of a mail and of its parts, each before its own parts, and of all their headers; or the code of the refusal, as

@@ -3,10 +3,11 @@ ghost use Rattle.std.specs.Prelude.{◌≡◌, Bool, List, Ok, Some, codes, map}
 ghost use Rattle.mail_codec.specs.Charset.{Charsets};
 ghost use Rattle.mail_data.specs.Files.{file_name};
 ghost use Rattle.mail_data.specs.PartPlaces.{places};
+ghost use Rattle.mail_data.specs.lenient.Manner.{lenient_type_of};
 ghost use Rattle.mailparse.specs.Header.{Header};
-ghost use Rattle.mailparse.specs.Mail.{Node, Tree, node_type, trees_within};
+ghost use Rattle.mailparse.specs.Mail.{Node, Tree, trees_within};
 ghost use Rattle.mailparse.specs.Map.{first_with_key};
-ghost use Rattle.mailparse.specs.Placement.{placements};
+ghost use Rattle.mail_data.specs.Reading.{mail_placements};
 ghost use Rattle.mail_c.specs.Laws.{of_item, of_place};
 ghost use Rattle.mail_c.specs.Ranges as read;
 ghost use Rattle.mail_c.specs.Records.{families, items_of, none};
@@ -19,13 +20,13 @@ ghost use Rattle.mail_c.specs.Records.{families, items_of, none};
 #[tactic(auto, using(crate::proofs::lemmas::Laws::json_agrees))]
 pub fn records_say_what_the_json_says()
     ensures messages { (mail : Tree) →
-        map of_item (items_of (trees_within mail) (placements 0 mail) (families 0 none 0 mail))
-        ≡ map of_place (places mail (placements 0 mail)) }
+        map of_item (items_of (trees_within mail) (mail_placements mail) (families 0 none 0 mail))
+        ≡ map of_place (places mail (mail_placements mail)) }
     ensures file_names { (known : Charsets) (node : Node) (disposition ctype : Header) →
         first_with_key (codes "Content-Disposition") node.headers ≡ Some disposition →
         first_with_key (codes "Content-Type") node.headers ≡ Some ctype →
         read.file_name known disposition.value ctype.value ≡ Ok (file_name known node) }
     ensures types { (known : Charsets) (in_digest : Bool) (headers : List Header)
         (ctype : Header) → first_with_key (codes "Content-Type") headers ≡ Some ctype →
-        read.type_of known ctype.value ≡ node_type known in_digest headers }
+        read.type_of known ctype.value ≡ lenient_type_of known in_digest headers }
 {}

@@ -17,7 +17,7 @@ use crate::codes::NO_MEMORY;
 use crate::results::{NO_LIMIT, text_in};
 use mail_data::bounce::original_message_id;
 use mail_data::files::{NoCharsets, named_file, safe_file_name};
-use mail_data::lenient::{charset_used, lenient_content, lenient_text};
+use mail_data::lenient::{charset_used, lenient_content, lenient_text, lenient_type};
 use mail_data::mailbox::quoted;
 use mail_data::reading::read_mail;
 use mailparse::body::Body;
@@ -40,7 +40,7 @@ pub(crate) fn value<K: KnownCharsets>(
     Ok(Some(text.into_bytes()))
 }
 
-/// Returns the type in a raw value.
+/// Returns the type in a raw value, read leniently.
 pub(crate) fn type_of<K: KnownCharsets>(
     alloc: Global,
     raw: &[u8],
@@ -50,7 +50,7 @@ pub(crate) fn type_of<K: KnownCharsets>(
         (Ok (type_of (K.known known.now) raw.now)) }
 {
     let text = value_text_in(alloc, raw, known)?;
-    parse_content_type_in(alloc, text.as_str(), known)
+    Ok(lenient_type(alloc, text.as_str(), known)?)
 }
 
 /// Returns the file name in the raw values of a disposition and of a type.

@@ -13,6 +13,7 @@ use Rattle.mailparse.specs.Mail.{Node, Tree, Forest, tree, no_parts, part_and, r
 use Rattle.mailparse.specs.Map.{first_value_in}
 use Rattle.mailparse.specs.Pairs.{Texts}
 use Rattle.mailparse.specs.Value.{lenient_value_in}
+use Rattle.mail_data.specs.lenient.Refused.{was_kept}
 use Rattle.mail_codec.specs.declared.charset.built_in.Charset.TheVariants.{Windows1252}
 use Rattle.percent_encoding.specs.Percent.{percent_decode}
 
@@ -72,14 +73,19 @@ abbrev pub is_leaf : Tree → Bool
 is_leaf (tree node no_parts) = true
 is_leaf (tree node (part_and t ts)) = false
 
--- a message is a text that mail readers show: plain text, including `text` without a subtype and an
--- empty type, or HTML
+-- a type is that of a text that mail readers show: plain text, including `text` without a subtype
+-- and an empty type, or HTML
+abbrev pub is_shown_type : List ℕ → Bool
+is_shown_type mimetype =
+    is_empty mimetype
+    || bytes_eq mimetype (codes "text/plain")
+    || bytes_eq mimetype (codes "text/html")
+    || bytes_eq mimetype (codes "text")
+
+-- a message is such a text, and was not kept although its headers could not be read: it may be a
+-- file then
 abbrev pub is_shown : Node → Bool
-is_shown node =
-    is_empty node.ctype.mimetype
-    || bytes_eq node.ctype.mimetype (codes "text/plain")
-    || bytes_eq node.ctype.mimetype (codes "text/html")
-    || bytes_eq node.ctype.mimetype (codes "text")
+is_shown node = not (was_kept node) && is_shown_type node.ctype.mimetype
 
 -- a disposition and a type are those of a file: the disposition is `attachment`, or there is a file
 -- name

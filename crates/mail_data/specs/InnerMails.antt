@@ -12,7 +12,7 @@ use Rattle.mailparse.specs.Placement.{Placement, placements, placements_as}
 use Rattle.mailparse.specs.Refusal.{Reads, Refusal}
 use Rattle.mail_data.specs.Files.{is_leaf, path_under, with_paths}
 use Rattle.mail_data.specs.PartPlaces.{Place, placed}
-use Rattle.mail_data.specs.Reading.{mail_reading}
+use Rattle.mail_data.specs.Reading.{mail_placements, mail_reading}
 use Rattle.mail_data.specs.lenient.Content.{message_content}
 use Rattle.mail_data.specs.lenient.Encoding.{lenient_body_kind}
 
@@ -141,10 +141,10 @@ module _ (known : Charsets) where
 -- The same as the programs read mails, each with a limit of its own on its messages, parts and headers.
 module _ (known : Charsets) (limit : ℕ) where
   abbrev pub inner_mails_within : ℕ → List ℕ → Option ℕ → Tree → List Placement → List InnerMail
-  inner_mails_within = inner_mails_by (mail_reading known limit) (placements 0)
+  inner_mails_within = inner_mails_by (mail_reading known limit) mail_placements
 
   abbrev pub mails_below : ℕ → List ℕ → Option ℕ → Reads Tree → List InnerMail
-  mails_below = mails_below_by (mail_reading known limit) (placements 0)
+  mails_below = mails_below_by (mail_reading known limit) mail_placements
 
   abbrev pub mails_in_place : ℕ → Option ℕ → Place → List InnerMail
-  mails_in_place = mails_in_place_by (mail_reading known limit) (placements 0)
+  mails_in_place = mails_in_place_by (mail_reading known limit) mail_placements

@@ -8,7 +8,8 @@ ghost use Rattle.mailparse.specs.Views as views;
 ghost use Rattle.mailparse.specs.Views.{content_type, kind, tree_of};
 ghost use Rattle.mail_data.specs.Files.{attachments, describes_attachment, file_name, filled};
 ghost use Rattle.mail_data.specs.Files.{is_attachment_disposition};
-ghost use Rattle.mail_data.specs.Files.{is_attachment, is_extracted, is_leaf, is_shown, name_among};
+ghost use Rattle.mail_data.specs.Files.{is_attachment, is_extracted, is_leaf, is_shown};
+ghost use Rattle.mail_data.specs.Files.{is_shown_type, name_among};
 ghost use Rattle.mail_data.specs.Files.{name_in, path_under, shown_name, typed_name};
 ghost use Rattle.mail_data.specs.Files.{whole_path};
 ghost use Rattle.mail_data.specs.FileViews.{attachment_view};
@@ -21,6 +22,7 @@ mod no_charsets;
 mod paths;
 mod windows;
 
+use crate::lenient::was_kept;
 use crate::places::push_places;
 use left_over::left_over_text;
 pub(crate) use left_over::text_of_octets;
@@ -387,9 +389,10 @@ pub fn is_extracted<K: KnownCharsets>(
     is_attachment(alloc, part, known)
 }
 
-/// Returns whether the type of a part is that of a text that mail readers show: `text/plain` or
+/// Returns whether a part is a text that mail readers show: its type is `text/plain` or
 /// `text/html`, or `text` alone or an empty type, which count as plain text (RFC 2045, section
-/// 5.2). Does not allocate.
+/// 5.2). A message that was kept although its headers could not be read, by `lenient::refusal`, is
+/// none, since it may be a file. Does not allocate.
 ///
 /// # Examples
 ///
@@ -403,7 +406,13 @@ pub fn is_extracted<K: KnownCharsets>(
 pub fn is_shown(part: &ParsedMail<'_>) -> bool
     ensures { result ≡ is_shown (root (tree_of part.now)) }
 {
-    let mimetype = part.ctype.mimetype.as_str();
+    !was_kept(part) && is_shown_type(part.ctype.mimetype.as_str())
+}
+
+/// Returns whether a type is that of a text that mail readers show.
+fn is_shown_type(mimetype: &str) -> bool
+    ensures { result ≡ is_shown_type mimetype.now }
+{
     mimetype.is_empty() || mimetype == "text/plain" || mimetype == "text/html" || mimetype == "text"
 }
 

@@ -6,14 +6,13 @@ use Rattle.std.specs.List.{All, list_all}
 use Rattle.std.specs.Option.{option_map_or}
 use Rattle.mail_codec.specs.Charset.{Charsets}
 use Rattle.mailparse.specs.Mail.{Tree}
-use Rattle.mailparse.specs.Placement.{placements}
 use Rattle.mailparse.specs.Refusal.{Reads}
 use Rattle.mail_data.specs.FileNames.{IsSafeName}
 use Rattle.mail_data.specs.InnerMails.{InnerMail, inner_mails_within}
 use Rattle.mail_data.specs.Mailbox.{Entry, front_length}
 use Rattle.mail_data.specs.MailboxFormats.{entries_in, mail_in}
 use Rattle.mail_data.specs.PartPlaces.{places}
-use Rattle.mail_data.specs.Reading.{mail_reading}
+use Rattle.mail_data.specs.Reading.{mail_placements, mail_reading}
 use Rattle.mail_data.specs.declared.mailbox.formats.Format.{Format}
 use Rattle.mail_json.specs.FileLine.{FileLine}
 use Rattle.mail_json.specs.JsonLines.{format_of, is_mailbox}
@@ -104,8 +103,8 @@ module _ (file : Option (List ℕ)) where
       -- the chosen files of a mail are saved and have lines, and then those of each mail inside it; or the mail has a line, if it is refused
       abbrev pub IsMailOf : Option ℕ → Reads Tree → Saves
       IsMailOf number (Ok t) =
-          Then (AreFiles number (chosen options.choice (wanted_among known Own (places t (placements 0 t)))))
-          (AreInside number (inner_mails_within known options.limit 100 [] (Some 0) t (placements 0 t)))
+          Then (AreFiles number (chosen options.choice (wanted_among known Own (places t (mail_placements t)))))
+          (AreInside number (inner_mails_within known options.limit 100 [] (Some 0) t (mail_placements t)))
       IsMailOf number (Err refusal) = Only (refused_line number None (refusal_text refusal) ∷ [])
 
       -- the same of the bytes of a mail

@@ -3,10 +3,9 @@ use Rattle.std.specs.Prelude.{◌≡◌, ◌<◌, ℕ, Bool, true, false, List, 
 use Rattle.std.specs.Io.KnownBytes.{Appends, Consumes, IsAtEnd}
 use Rattle.mail_codec.specs.Charset.{Charsets}
 use Rattle.mailparse.specs.Mail.{Tree}
-use Rattle.mailparse.specs.Placement.{placements}
 use Rattle.mailparse.specs.Refusal.{Reads}
 use Rattle.mail_data.specs.MailboxFormats.{entries_in, mail_in}
-use Rattle.mail_data.specs.Reading.{mail_reading}
+use Rattle.mail_data.specs.Reading.{mail_placements, mail_reading}
 use Rattle.mail_data.specs.declared.mailbox.formats.Format.{Format}
 use Rattle.mail_json.specs.JsonLines.{format_of, is_mailbox}
 use Rattle.mail_program.specs.Fault.{IsFault}
@@ -28,7 +27,7 @@ fails_if_full (file ∷ files) = true
 module _ (known : Charsets) (limit : ℕ) (choice : Choice) where
   -- the files of a mail that the choice keeps, with those of the mails inside it; a refused mail has none
   abbrev pub read_files : Reads Tree → List Wanted
-  read_files (Ok t) = chosen choice (wanted_files known limit t (placements 0 t))
+  read_files (Ok t) = chosen choice (wanted_files known limit t (mail_placements t))
   read_files (Err refusal) = []
 
   abbrev pub mail_files : List ℕ → List Wanted

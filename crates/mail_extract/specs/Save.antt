@@ -4,12 +4,12 @@ use Rattle.std.specs.Option.{option_map_or}
 use Rattle.std.specs.Result.{result_ok}
 use Rattle.mail_codec.specs.Charset.{Charsets}
 use Rattle.mailparse.specs.Mail.{Node, Tree, root}
-use Rattle.mailparse.specs.Placement.{Placement, placements}
+use Rattle.mailparse.specs.Placement.{Placement}
 use Rattle.mail_data.specs.Files.{is_extracted}
 use Rattle.mail_data.specs.InnerMails.{InnerMail, forwards, inner_mails_within, places_under}
 use Rattle.mail_data.specs.PartPlaces.{Place, places}
 use Rattle.mail_data.specs.RawPaths.{file_name_or_path}
-use Rattle.mail_data.specs.Reading.{mail_reading}
+use Rattle.mail_data.specs.Reading.{mail_placements, mail_reading}
 use Rattle.mail_data.specs.lenient.Content.{Content}
 use Rattle.mail_extract.specs.Choice.{Choice, keeps}
 use Rattle.mail_extract.specs.Content.{content}
@@ -107,7 +107,7 @@ module _ (known : Charsets) where
   -- the files of a mail inside a mail, if it is not refused, also for this limit
   abbrev pub wanted_inside : ℕ → InnerMail → List Wanted
   wanted_inside limit inner =
-      option_map_or (λ t. wanted_among Inside (places_under inner.path t (placements 0 t))) (result_ok (mail_reading known limit inner.bytes)) []
+      option_map_or (λ t. wanted_among Inside (places_under inner.path t (mail_placements t))) (result_ok (mail_reading known limit inner.bytes)) []
 
   -- the files of a mail whose parts have these placements, and then those of the mails inside it, each with this limit
   abbrev pub wanted_files : ℕ → Tree → List Placement → List Wanted

@@ -42,16 +42,15 @@ use std::io::{self, ErrorKind, Read, Write};
 /// # Examples
 ///
 /// ```rust
-/// use mail_data::reading::DEFAULT_LIMIT;
 /// use mail_extract::{Choice, Disk, Hashing, Naming, SaveOptions, Source, Target, extract_input};
 /// use mail_json::InputKind;
 /// use mail_program::Outcome;
 ///
-/// let mut reader = b" no mail".as_slice();
+/// let mut reader = b"A: one header too many\n\n".as_slice();
 /// let mut out = Vec::new(alloc);
 /// let mut target = Target { directory: Disk { rt: &rt, path: "." }, number: 2 };
 /// let options = SaveOptions {
-///     limit: DEFAULT_LIMIT,
+///     limit: 1,
 ///     hashing: Hashing::Off,
 ///     naming: Naming::BySender,
 ///     choice: Choice { path: None, mimetype: None, name: None },

@@ -1,9 +1,9 @@
 //! Saving the files of a mail and of the mails inside it, each of which is read in its place.
 ghost use Rattle.std.specs.List.{AllByRecursion};
 ghost use Rattle.std.specs.Prelude.{◌≡◌, IfErr, IfOk, Ok, false, map, option_map};
-ghost use Rattle.mailparse.specs.Placement.{placements};
 ghost use Rattle.mailparse.specs.Views.{placements_of, tree_of};
 ghost use Rattle.mail_data.specs.InnerMails.{mails_in_place};
+ghost use Rattle.mail_data.specs.Reading.{mail_placements};
 ghost use Rattle.mail_json.specs.DecodedViews.{IsDecoded, decoded_place};
 ghost use Rattle.mail_extract.specs.ChoiceViews.{options_view};
 ghost use Rattle.mail_extract.specs.Input.{AreInside, Ends, IsMailOf, Saved};
@@ -44,7 +44,7 @@ pub(crate) fn extract_mail<W: Write, D: Directory, K: KnownCharsets>(
     number: Option<usize>,
     source: Source<'_, K>,
 ) -> Result<Outcome, Fault>
-    requires placed { placements_of mail.now ≡ placements 0 (tree_of mail.now) }
+    requires placed { placements_of mail.now ≡ mail_placements (tree_of mail.now) }
     ensures { Ends (D.held target.old.directory) (D.held target.new.directory)
         (W.contents out.old) (W.contents out.new) target.old.number target.new.number result
         (IsMailOf (option_map (λ name. name.now) source.entry.file) D.can_fail

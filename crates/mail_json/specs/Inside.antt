@@ -4,22 +4,21 @@ use Rattle.std.specs.Option.{option_map_or}
 use Rattle.std.specs.Result.{result_ok}
 use Rattle.mail_codec.specs.Charset.{Charsets}
 use Rattle.mailparse.specs.Mail.{Tree}
-use Rattle.mailparse.specs.Placement.{placements}
 use Rattle.mailparse.specs.Refusal.{Reads, Refusal}
 use Rattle.mail_data.specs.InnerMails.{InnerMail, inner_mails_within, mails_in_place, places_under}
 use Rattle.mail_data.specs.PartPlaces.{Place}
-use Rattle.mail_data.specs.Reading.{mail_reading}
+use Rattle.mail_data.specs.Reading.{mail_placements, mail_reading}
 
 -- the parts of a mail inside, with their paths in the whole mail; of one that is refused none
 abbrev pub parts_of_read : List ℕ → Reads Tree → List Place
-parts_of_read path read = option_map_or (λ mail. places_under path mail (placements 0 mail)) (result_ok read) []
+parts_of_read path read = option_map_or (λ mail. places_under path mail (mail_placements mail)) (result_ok read) []
 
 abbrev pub parts_inside : Charsets → ℕ → InnerMail → List Place
 parts_inside known limit inner = parts_of_read inner.path (mail_reading known limit inner.bytes)
 
 -- the mails inside a mail, and those inside them, each with this limit
 abbrev pub mails_inside : Charsets → ℕ → Tree → List InnerMail
-mails_inside known limit mail = inner_mails_within known limit 100 [] (Some 0) mail (placements 0 mail)
+mails_inside known limit mail = inner_mails_within known limit 100 [] (Some 0) mail (mail_placements mail)
 
 -- the mails in parts of a mail, and those inside them, at most `most` mails deep, given the offset of the mail that
 -- contains the parts

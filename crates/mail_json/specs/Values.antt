@@ -11,7 +11,6 @@ use Rattle.mailparse.specs.Disposition.{Disposition}
 use Rattle.mailparse.specs.Header.{Header, key_text}
 use Rattle.mailparse.specs.Mail.{Node, Tree, root, shown_as_in}
 use Rattle.mailparse.specs.Map.{first_with_key}
-use Rattle.mailparse.specs.Placement.{placements}
 use Rattle.mailparse.specs.Refusal.{Reads, Refusal}
 use Rattle.mailparse.specs.Value.{lenient_value_in}
 use Rattle.mail_data.specs.Archive.{ids_of}
@@ -21,6 +20,7 @@ use Rattle.mail_data.specs.PartPlaces.{Place, places}
 use Rattle.mail_data.specs.lenient.Date.{Dated, Zoned, zoned_date_of}
 use Rattle.mail_data.specs.lenient.Content.{Content}
 use Rattle.mail_data.specs.lenient.Encoding.{lenient_body_kind}
+use Rattle.mail_data.specs.lenient.Refused.{kept_for}
 use Rattle.mail_data.specs.lenient.Texts.{text_read}
 use Rattle.mail_address.specs.Addresses.{Element, Single, single, group}
 use Rattle.mail_address.specs.Headers.{addresses_of}
@@ -30,6 +30,7 @@ use Rattle.mail_json.specs.Addresses.{canonical, name_of, unless_empty}
 use Rattle.mail_json.specs.Body.{encoding_text}
 use Rattle.mail_json.specs.Fields.{content_id, date_fault_text, disposition_name, value_of}
 use Rattle.mail_data.specs.InnerMails.{InnerMail}
+use Rattle.mail_data.specs.Reading.{mail_placements}
 use Rattle.mail_json.specs.Inside.{Listed, mails_inside, parts_inside, without_bytes}
 use Rattle.mail_json.specs.Origin.{Origin}
 use Rattle.mail_json.specs.Part.{Lists, content_if, hash_of, html_shown, is_attachment, is_read, path_shown, place_in, recipients_if, report_if, text_shown}
@@ -84,6 +85,10 @@ parameter_member pair = (pair.0, string pair.1)
 abbrev pub type_members : List ℕ → List ℕ → List (List ℕ × List ℕ) → List Member
 type_members mimetype charset pairs =
     one (codes "type") (string mimetype) ++ one (codes "charset") (string charset) ++ one (codes "params") (object_of (map parameter_member pairs))
+
+-- the member of the refusal of a part that was kept
+abbrev pub refusal_members : Node → List Member
+refusal_members node = one (codes "refusal") (string_or_null (option_map refusal_text (kept_for node)))
 
 -- the members of the offsets of a part, given those in its mail, and the offset at which that begins
 abbrev pub bounds_in : Option ℕ → ℕ → ℕ → List Member
@@ -273,7 +278,7 @@ module _ (options : Options) where
       ++ disposition_members options.known disposition node ++ one (codes "attachment") (boolean (is_attachment place.part disposition))
       ++ one (codes "extracted") (boolean (is_extracted options.known place.part))
       ++ one (codes "encoding") (string (encoding_text (lenient_body_kind node)))
-      ++ bounds_in start place.placement.whole.start place.placement.whole.end ++ one (codes "size") (number_value (length node.body))
+      ++ bounds_in start place.placement.whole.start place.placement.whole.end ++ one (codes "size") (number_value (length node.body)) ++ refusal_members node
 
   abbrev pub part_members : Option (List ℕ) → Option ℕ → Place → List (List ℕ × List ℕ) → List Member
   part_members inside start place pairs =
@@ -301,7 +306,7 @@ module _ (options : Options) where
   -- values are the objects of the parts of a mail that begins at this offset, and then of those of the mails inside
   abbrev pub ArePartValues : ℕ → Tree → List Json → Type 0
   ArePartValues start mail values =
-      (parts : List Json) × (others : List Json) × AreValues (IsPartValue None (Some start)) (places mail (placements 0 mail)) parts
+      (parts : List Json) × (others : List Json) × AreValues (IsPartValue None (Some start)) (places mail (mail_placements mail)) parts
       × AreInsideValues start (mails_inside options.known options.limit mail) others × (values ≡ parts ++ others)
 
   -- a value is the object of a mail with this origin

@@ -4,10 +4,9 @@ ghost use Rattle.std.specs.List.{AllByRecursion};
 ghost use Rattle.std.specs.Prelude.{IfErr, IfOk, OnOk};
 ghost use Rattle.mailparse.specs.Mail.{Tree};
 ghost use Rattle.mailparse.specs.Outcome.{AnswersOrMemory, IsMemory, refusal_of};
-ghost use Rattle.mailparse.specs.Placement.{placements};
 ghost use Rattle.mailparse.specs.Views.{placements_of, tree_of};
 ghost use Rattle.mail_data.specs.InnerMails.{mails_in_place, places_under};
-ghost use Rattle.mail_data.specs.Reading.{mail_reading};
+ghost use Rattle.mail_data.specs.Reading.{mail_placements, mail_reading};
 ghost use Rattle.mail_data.specs.PartPlaces.{places};
 ghost use Rattle.mail_data.specs.PlaceViews.{place_view};
 ghost use Rattle.mail_json.specs.Inside.{mails_among, mails_inside, without_bytes};
@@ -71,11 +70,11 @@ pub(crate) fn write_parts<W: Write, K: KnownCharsets>(
 ) -> Result<(), Fault>
     requires { AllByRecursion (IsDecoded options.decodes_bodies) parts.now }
     ensures written { (mail : Tree) →
-        map decoded_place parts.now ≡ places mail (placements 0 mail) →
+        map decoded_place parts.now ≡ places mail (mail_placements mail) →
         WritesOne (W.contents out.old) (W.contents out.new) result (listed text_of [])
         (ArePartValues (options_of (K.known known.now) options.entry) origin mail) }
     ensures listed { (mail : Tree) →
-        map decoded_place parts.now ≡ places mail (placements 0 mail) →
+        map decoded_place parts.now ≡ places mail (mail_placements mail) →
         OnOk result (map inside_view mails.new.items ≡ map inside_view mails.old.items
         ++ map without_bytes (mails_inside (K.known known.now) options.entry.limit mail)) }
 {
@@ -199,7 +198,7 @@ fn read_boxed<'a, K: KnownCharsets>(
     ensures read { AnswersOrMemory (λ mail. tree_of mail.value) result
         (mail_reading (K.known known.now) limit raw.now) }
     ensures places { IfOk result (λ mail.
-        placements_of mail.value ≡ placements 0 (tree_of mail.value)) }
+        placements_of mail.value ≡ mail_placements (tree_of mail.value)) }
 {
     let mail = read_mail(alloc, raw, limit, known)?;
     Ok(boxed(alloc, mail)?)

@@ -37,7 +37,9 @@ use std::io::Write;
 ///
 /// let mut out = Vec::new(alloc);
 /// let options = LineOptions::new();
-/// let written = write_single(alloc, &mut out, b" refused", None, options, &())?;
+/// let mut strict = options;
+/// strict.limit = 1;
+/// let written = write_single(alloc, &mut out, b"A: b\n\nHi", None, strict, &())?;
 /// assert_eq!(rt; written, Written::WithErrors);
 /// let line = b"{\"schema\":5,\"file\":null,\"number\":null,\"start\":0,\"end\":8,\"error\":";
 /// assert!(rt; out.as_slice().starts_with(line));

@@ -2,8 +2,8 @@
 ghost use Rattle.std.specs.List.{AllByRecursion};
 ghost use Rattle.std.specs.Prelude.{◌≡◌, codes, map, option_map, true, IfErr, IfOk};
 ghost use Rattle.mailparse.specs.Mail.{root, trees_within};
-ghost use Rattle.mailparse.specs.Placement.{placements};
 ghost use Rattle.mailparse.specs.Views.{placements_of, tree_of};
+ghost use Rattle.mail_data.specs.Reading.{mail_placements};
 ghost use Rattle.mail_data.specs.lenient.Date.{zoned_date_of};
 ghost use Rattle.mail_json.specs.Fields.{date_fault_text, value_of};
 ghost use Rattle.mail_json.specs.Origin.{origin_of};
@@ -41,7 +41,8 @@ use mailparse::{KnownCharsets, MailHeaderMap, ParsedMail};
 use std::alloc::Global;
 use std::io::Write;
 
-/// Writes the object of a mail with this origin, without a line end. The mail is as it was parsed.
+/// Writes the object of a mail with this origin, without a line end. The mail is as `read_mail`
+/// returned it.
 ///
 /// # Errors
 ///
@@ -51,10 +52,10 @@ use std::io::Write;
 /// # Examples
 ///
 /// ```rust
+/// use mail_data::reading::{DEFAULT_LIMIT, read_mail};
 /// use mail_json::{LineOptions, Origin, write_mail};
-/// use mailparse::parse_mail;
 ///
-/// let mail = parse_mail(alloc, b"Subject: Hi\n\nHello\n")?;
+/// let mail = read_mail(alloc, b"Subject: Hi\n\nHello\n", DEFAULT_LIMIT, &())?;
 /// let origin = Origin { file: None, number: None, start: 0, end: 19 };
 /// let mut out = Vec::new(alloc);
 /// write_mail(alloc, &mut out, &mail, &origin, LineOptions::new(), &())?;
@@ -68,7 +69,7 @@ pub fn write_mail<W: Write, K: KnownCharsets>(
     options: LineOptions<'_>,
     known: &K,
 ) -> Result<(), Fault>
-    requires placed { placements_of mail.now ≡ placements 0 (tree_of mail.now) }
+    requires placed { placements_of mail.now ≡ mail_placements (tree_of mail.now) }
     ensures { WritesOne (W.contents out.old) (W.contents out.new) result text_of
         (IsMailValue (options_of (K.known known.now) options.entry) (origin_of origin.now)
         (tree_of mail.now)) }

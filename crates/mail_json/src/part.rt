@@ -9,6 +9,7 @@ ghost use Rattle.mailparse.specs.Outcome.{IsMemory};
 ghost use Rattle.mailparse.specs.Views as views;
 ghost use Rattle.mailparse.specs.Views.{content_type, tree_of};
 ghost use Rattle.mail_data.specs.lenient.ContentViews.{content_view};
+ghost use Rattle.mail_data.specs.lenient.Refused.{kept_for};
 ghost use Rattle.mail_data.specs.PlaceViews.{place_view};
 ghost use Rattle.mail_data.specs.Files.{is_leaf, is_shown};
 ghost use Rattle.mail_data.specs.ReportViews.{block_view};
@@ -19,12 +20,12 @@ ghost use Rattle.mail_json.specs.DecodedViews.{IsDecoded, decoded_place};
 ghost use Rattle.mail_json.specs.LineViews.{line_bytes};
 ghost use Rattle.mail_json.specs.Members.{AddsMembers, BeginsMembers};
 ghost use Rattle.mail_program.specs.Fault.{IsEnd};
+ghost use Rattle.mail_program.specs.Refusal.{refusal_text};
 ghost use Rattle.mail_json.specs.Printed.{comma, listed, member_text, object_of, one, text_of};
 ghost use Rattle.mail_json.specs.Values.{AreValues, IsPartValue, body_members, bounds_in};
 ghost use Rattle.mail_json.specs.Values.{damaged_members, decoded_members, shown_members};
 ghost use Rattle.mail_json.specs.Values.{disposition_members, header_value, no_text_members};
-ghost use Rattle.mail_json.specs.Values.{parameter_member};
-ghost use Rattle.mail_json.specs.Values.{size_members};
+ghost use Rattle.mail_json.specs.Values.{parameter_member, refusal_members, size_members};
 ghost use Rattle.mail_program.specs.Streams.{Writes};
 ghost use Rattle.mail_json.specs.Written.{WritesOne};
 
@@ -44,7 +45,7 @@ use mail_data::files::{
     describes_attachment, file_name, is_attachment_disposition, is_leaf, is_shown,
 };
 use mail_data::flowed::unflowed_of;
-use mail_data::lenient::{Content, charset_used, lenient_text};
+use mail_data::lenient::{Content, charset_used, lenient_text, refusal};
 use mail_data::places::Place;
 use mail_data::reports::{Block, has_report, read_blocks};
 use mail_data::texts::text_type;
@@ -165,6 +166,7 @@ fn write_object<W: Write, K: KnownCharsets>(
     add_text(out, key!("encoding"), encoding_name(&decoded.body))?;
     write_bounds(out, place, form.start)?;
     add_number(out, key!("size"), decoded.body.get_raw().len())?;
+    write_refusal(alloc, out, part)?;
     write_decoded_size(alloc, out, content)?;
     let hash = hash_of(alloc, content, is_hashed(options.hashes, extracted))?;
     add_optional(out, key!("sha256"), hash.as_deref())?;
@@ -211,6 +213,27 @@ fn write_bounds<W: Write>(
     add_number_or_null(out, key!("start"), place_in(start, place.byte_range.start))?;
     add_number_or_null(out, key!("end"), place_in(start, place.byte_range.end))?;
     Ok(())
+}
+
+/// Writes the refusal of a part that was kept, or `null` for any other part.
+fn write_refusal<W: Write>(alloc: Global, out: &mut W, part: &ParsedMail<'_>) -> Result<(), Fault>
+    ensures { AddsMembers (W.contents out.old) (W.contents out.new) result
+        (refusal_members (root (tree_of part.now))) }
+{
+    let text = refusal_shown(alloc, part)?;
+    add_optional(out, key!("refusal"), text.as_deref())?;
+    Ok(())
+}
+
+/// Returns the text of the refusal of a part that was kept, or `None` for any other part.
+fn refusal_shown(alloc: Global, part: &ParsedMail<'_>) -> Result<Option<String>, AllocError>
+    ensures { IfOk result (λ text. text_found text
+        ≡ option_map refusal_text (kept_for (root (tree_of part.now)))) }
+{
+    match refusal(alloc, part)? {
+        Some(error) => refusal_of(alloc, &error),
+        None => Ok(None),
+    }
 }
 
 /// Returns whether a part is saved when the files of a mail are extracted.

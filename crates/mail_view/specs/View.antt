@@ -4,11 +4,12 @@ use Rattle.std.specs.Str.Lines.{lines}
 use Rattle.mail_codec.specs.Charset.{Charsets}
 use Rattle.mailparse.specs.Mail.{Node, Tree, root}
 use Rattle.mailparse.specs.Map.{all_values_in}
-use Rattle.mailparse.specs.Placement.{placements}
 use Rattle.mail_data.specs.Files.{file_name, is_leaf}
 use Rattle.mail_data.specs.PartPlaces.{Place, places}
 use Rattle.mail_data.specs.Readable.{readable_text}
+use Rattle.mail_data.specs.Reading.{mail_placements}
 use Rattle.mail_data.specs.lenient.Content.{message_content}
+use Rattle.mail_data.specs.lenient.Refused.{was_kept}
 use Rattle.mail_data.specs.lenient.Texts.{BodyText}
 use Rattle.mail_html.specs.declared.links.Links.TheVariants.{Footnotes}
 use Rattle.mail_html.specs.declared.references.References.{References}
@@ -23,9 +24,12 @@ abbrev pub text_line : List ℕ → Line
 text_line [] = empty
 text_line (b ∷ bs) = line Text (b ∷ bs)
 
--- the size of the decoded body of a part, and whether it is damaged
+-- the size of the decoded body of a part, and whether it is damaged; and whether its headers could not be read
+abbrev pub decoded_size : Node → List ℕ
+decoded_size node = let content = message_content node in size_text (length content.bytes) (is_some content.fault)
+
 abbrev pub part_size : Node → List ℕ
-part_size node = let content = message_content node in size_text (length content.bytes) (is_some content.fault)
+part_size node = if was_kept node then decoded_size node ++ codes ", headers not read" else decoded_size node
 
 -- the lines of the text of a mail, after an empty line
 abbrev pub body_lines : Option BodyText → List Line
@@ -63,7 +67,7 @@ module _ (references : References) (known : Charsets) where
   abbrev pub view_lines : Tree → List Line
   view_lines mail =
       header_lines known (root mail) ++ (body_lines (readable_text known Footnotes references mail)
-      ++ (empty ∷ flat_map (part_lines known) (places mail (placements 0 mail))))
+      ++ (empty ∷ flat_map (part_lines known) (places mail (mail_placements mail))))
 
   -- the text of a mail as it is shown
   unfoldable pub view_text : Tree → List ℕ

@@ -73,9 +73,9 @@ pub fn write_title<W: Write>(alloc: Global, out: &mut W, name: &str) -> Result<(
 /// assert_eq!(rt; outcome, Outcome::Clean);
 /// assert!(rt; out.as_slice().starts_with(b"Subject:  Hi\n"));
 /// let mut out = Vec::new(alloc);
-/// let outcome = write_single(alloc, &mut out, b" Hi", DEFAULT_LIMIT, &references, &())?;
+/// let outcome = write_single(alloc, &mut out, mail, 1, &references, &())?;
 /// assert_eq!(rt; outcome, Outcome::Refused);
-/// assert!(rt; out.as_slice().starts_with(b"Refused:  Header cannot start with a space"));
+/// assert!(rt; out.as_slice().starts_with(b"Refused:  Too many parts and headers"));
 /// ```
 pub fn write_single<W: Write, K: KnownCharsets>(
     alloc: Global,

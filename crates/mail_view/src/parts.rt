@@ -6,12 +6,12 @@ ghost use Rattle.mailparse.specs.Views.{placements_of, tree_of};
 ghost use Rattle.mail_data.specs.PartPlaces.{places};
 ghost use Rattle.mail_data.specs.PlaceViews.{place_view};
 ghost use Rattle.mail_view.specs.Line.{empty, line_text, lines_text};
-ghost use Rattle.mail_view.specs.View.{part_lines, part_size, part_text};
+ghost use Rattle.mail_view.specs.View.{decoded_size, part_lines, part_size, part_text};
 
 use crate::line::{Prefix, push_empty_line, push_line};
 use crate::row::{row_of, size_text};
 use mail_data::files::{file_name, is_leaf};
-use mail_data::lenient::{lenient_body, lenient_content};
+use mail_data::lenient::{lenient_body, lenient_content, was_kept};
 use mail_data::places::{Place, places};
 use mailparse::{KnownCharsets, MailParseError, ParsedMail};
 use std::alloc::Global;
@@ -75,9 +75,21 @@ fn part_text<K: KnownCharsets>(
     )?)
 }
 
-/// Returns the size of the decoded body of a part as text, and whether it is damaged.
+/// Returns the size of the decoded body of a part as text, whether it is damaged, and whether the
+/// headers of the part could not be read.
 fn part_size(alloc: Global, part: &ParsedMail<'_>) -> Result<String, MailParseError>
     ensures { GivesText result (part_size (root (tree_of part.now))) }
+{
+    let mut size = decoded_size(alloc, part)?;
+    if was_kept(part) {
+        size.push_str(", headers not read")?;
+    }
+    Ok(size)
+}
+
+/// Returns the size of the decoded body of a part as text, and whether it is damaged.
+fn decoded_size(alloc: Global, part: &ParsedMail<'_>) -> Result<String, MailParseError>
+    ensures { GivesText result (decoded_size (root (tree_of part.now))) }
 {
     let body = lenient_body(alloc, part)?;
     let content = lenient_content(alloc, &body)?;

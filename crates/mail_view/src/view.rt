@@ -1,8 +1,8 @@
 //! A mail as text for people.
 ghost use Rattle.std.specs.Prelude.{◌≡◌};
 ghost use Rattle.mailparse.specs.Outcome.{GivesText};
-ghost use Rattle.mailparse.specs.Placement.{placements};
 ghost use Rattle.mailparse.specs.Views.{placements_of, tree_of};
+ghost use Rattle.mail_data.specs.Reading.{mail_placements};
 ghost use Rattle.mail_program.specs.Streams.{Writes};
 ghost use Rattle.mail_view.specs.View.{view_text};
 
@@ -18,10 +18,10 @@ use std::io::Write;
 /// Returns a mail as text for people: its addresses, its date and its subject, the text to be read
 /// with the targets of links, and its parts with their sizes and the names of their files.
 ///
-/// The mail is as it was parsed, in the charsets `known`, and HTML under these references. Each
-/// line is empty, begins with a fixed text such as `Subject:  `, or is one of the text of the mail,
-/// which begins with two spaces. A character that would move the cursor of a terminal, end a line
-/// or change the direction of text is shown as U+FFFD, and a tab as four spaces. Allocates the
+/// The mail is as `read_mail` returned it, in the charsets `known`, and HTML under these references.
+/// Each line is empty, begins with a fixed text such as `Subject:  `, or is one of the text of the
+/// mail, which begins with two spaces. A character that would move the cursor of a terminal, end a
+/// line or change the direction of text is shown as U+FFFD, and a tab as four spaces. Allocates the
 /// text, and the decoded bodies one after another.
 ///
 /// # Errors
@@ -31,12 +31,12 @@ use std::io::Write;
 /// # Examples
 ///
 /// ```rust
+/// use mail_data::reading::{DEFAULT_LIMIT, read_mail};
 /// use mail_html::References;
 /// use mail_view::view_of;
-/// use mailparse::parse_mail;
 ///
 /// let raw = b"From: =?utf-8?q?=C3=89va?= <eva@example.org>\nSubject: Hi\x1B[2J\n\nFrom: me\n\n\tyes";
-/// let mail = parse_mail(alloc, raw)?;
+/// let mail = read_mail(alloc, raw, DEFAULT_LIMIT, &())?;
 /// let text = "From:     Éva <eva@example.org>\nSubject:  Hi\u{fffd}[2J\n\n  From: me\n\n      yes\n\n\
 ///     Part:     1     text/plain                14 bytes\n";
 /// assert_eq!(rt; view_of(alloc, &mail, &References::standard(), &())?.as_str(), text);
@@ -48,7 +48,7 @@ pub fn view_of<K: KnownCharsets>(
     references: &References<'_>,
     known: &K,
 ) -> Result<String, MailParseError>
-    requires placed { placements_of mail.now ≡ placements 0 (tree_of mail.now) }
+    requires placed { placements_of mail.now ≡ mail_placements (tree_of mail.now) }
     ensures { GivesText result (view_text references.now (K.known known.now) (tree_of mail.now)) }
 {
     let mut shown = String::new(alloc);
@@ -70,11 +70,11 @@ pub fn view_of<K: KnownCharsets>(
 /// # Examples
 ///
 /// ```rust
+/// use mail_data::reading::{DEFAULT_LIMIT, read_mail};
 /// use mail_html::References;
 /// use mail_view::write_view;
-/// use mailparse::parse_mail;
 ///
-/// let mail = parse_mail(alloc, b"Subject: Hi\n\nHello\n")?;
+/// let mail = read_mail(alloc, b"Subject: Hi\n\nHello\n", DEFAULT_LIMIT, &())?;
 /// let mut out = Vec::new(alloc);
 /// write_view(alloc, &mut out, &mail, &References::standard(), &())?;
 /// assert!(rt; out.as_slice().starts_with(b"Subject:  Hi\n\n  Hello\n\nPart:     1"));
@@ -86,7 +86,7 @@ pub fn write_view<W: Write, K: KnownCharsets>(
     references: &References<'_>,
     known: &K,
 ) -> Result<(), Fault>
-    requires placed { placements_of mail.now ≡ placements 0 (tree_of mail.now) }
+    requires placed { placements_of mail.now ≡ mail_placements (tree_of mail.now) }
     ensures { Writes (W.contents out.old) (W.contents out.new) result
         (view_text references.now (K.known known.now) (tree_of mail.now)) }
 {

@@ -5,10 +5,12 @@ use Rattle.std.specs.Prelude.{codes}
 use Rattle.mail_codec.specs.Charset.{Charsets}
 use Rattle.mailparse.specs.Header.{Header}
 use Rattle.mailparse.specs.Map.{first_with_key}
-use Rattle.mailparse.specs.Mail.{Forest, Node, Tree, no_parts, node_type, part_and, tree, trees_in, trees_within}
-use Rattle.mailparse.specs.Placement.{Placement, placements}
+use Rattle.mailparse.specs.Mail.{Forest, Node, Tree, no_parts, part_and, tree, trees_in, trees_within}
+use Rattle.mailparse.specs.Placement.{Placement}
 use Rattle.mail_data.specs.Files.{file_name, parts_with_paths, path_under, whole_path, with_paths}
 use Rattle.mail_data.specs.PartPlaces.{placed, places}
+use Rattle.mail_data.specs.Reading.{mail_placements}
+use Rattle.mail_data.specs.lenient.Manner.{lenient_type_of}
 use Rattle.mail_c.specs.Laws.{of_item, of_place}
 use Rattle.mail_c.specs.Ranges as read
 use Rattle.mail_c.specs.Records.{Family, families, families_in, items_of, none}
@@ -47,13 +49,13 @@ same-messages (m ∷ messages) (range ∷ ranges) [] same = absurd (omega (arith
 same-messages (m ∷ messages) (range ∷ ranges) (family ∷ have) same =
     ap (λ (xs : List (Tree × Placement)). (m.1, range) ∷ xs) (same-messages messages ranges have (omega (arith, same)))
 
-pub items_places : (mail : Tree) → map of_item (items_of (trees_within mail) (placements 0 mail) (families 0 none 0 mail)) ≡ map of_place (places mail (placements 0 mail))
+pub items_places : (mail : Tree) → map of_item (items_of (trees_within mail) (mail_placements mail) (families 0 none 0 mail)) ≡ map of_place (places mail (mail_placements mail))
 items_places mail =
     let messages = with_paths (whole_path mail) mail in
     let trees = paths-trees (whole_path mail) mail in
     let size : length (families 0 none 0 mail) ≡ length messages = length-families 0 none 0 mail ∙ ap (λ (ts : List Tree). length ts) (sym trees) ∙ length-map messages (λ (p : List ℕ × Tree). p.1) in
-    ap (λ (ts : List Tree). map of_item (items_of ts (placements 0 mail) (families 0 none 0 mail))) (sym trees)
-    ∙ same-messages messages (placements 0 mail) (families 0 none 0 mail) size
+    ap (λ (ts : List Tree). map of_item (items_of ts (mail_placements mail) (families 0 none 0 mail))) (sym trees)
+    ∙ same-messages messages (mail_placements mail) (families 0 none 0 mail) size
 
 -- the file name that is read of the first headers of a message is that of the message
 pub names_agree : (known : Charsets) (node : Node) (d t : Header) → first_with_key (codes "Content-Disposition") node.headers ≡ Some d
@@ -63,8 +65,8 @@ names_agree known node d t disposed typed = rw (disposed, typed) refl
 
 -- the type that is read of its first `Content-Type` is that which the message is read by
 pub types_agree : (known : Charsets) (in_digest : Bool) (headers : List Header) (t : Header) → first_with_key (codes "Content-Type") headers ≡ Some t
-    → read.type_of known t.value ≡ node_type known in_digest headers
-unfolding node_type
+    → read.type_of known t.value ≡ lenient_type_of known in_digest headers
+unfolding lenient_type_of
 types_agree known in_digest headers t typed = rw typed refl
 
 -- records and JSON

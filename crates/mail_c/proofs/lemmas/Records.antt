@@ -6,14 +6,13 @@ use Rattle.mailparse.specs.Mail.{Tree, trees_within}
 use Rattle.mailparse.specs.Limit.{headers_met}
 use Rattle.mailparse.specs.Placement.{Placement}
 use Rattle.mailparse.specs.Ranges.{Range}
-use Rattle.mail_data.specs.Reading.{mail_reading}
+use Rattle.mail_data.specs.Reading.{mail_placements, mail_reading}
 use Rattle.mail_data.specs.lenient.Encoding.{lenient_body_kind}
 use Rattle.mailparse.specs.Views.{placement_of, tree_of}
 use Rattle.mail_codec.specs.Charset.{Charsets}
 use Rattle.mail_c.specs.Buffer.{EndsBoth, EndsItems, Output, WritesBoth, WritesItems, seen}
 use Rattle.mailparse.specs.Block.{HeaderList, read_headers}
 use Rattle.mailparse.specs.Outcome.{IsRefusalOrMemory}
-use Rattle.mailparse.specs.Placement.{placements}
 use Rattle.mailparse.specs.Refusal.{Reads}
 use Rattle.mailparse.specs.declared.error.MailParseError.{MailParseError}
 use Rattle.mailparse.specs.declared.error.MailParseError.TheVariants.{QuotedPrintableDecodeError, Base64DecodeError, EncodingError, Generic, Memory}
@@ -61,7 +60,7 @@ refused_code (Memory e) given code h is = inl is
 
 -- the records of a mail that was read
 pub records_are : (known : Charsets) (limit : ℕ) (raw : List ℕ) (t : Tree) (ranges : List Placement) (found : List Part × List HeaderRecord)
-    → mail_reading known limit raw ≡ Ok t → ranges ≡ placements 0 t → found ≡ records_in known (items_of (trees_within t) ranges (families 0 none 0 t))
+    → mail_reading known limit raw ≡ Ok t → ranges ≡ mail_placements t → found ≡ records_in known (items_of (trees_within t) ranges (families 0 none 0 t))
     → ◌≡◌ {A = Result (List Part × List HeaderRecord) ℕ} (Ok found) (records known limit raw)
 unfolding records
 records_are known limit raw t ranges found read at is =

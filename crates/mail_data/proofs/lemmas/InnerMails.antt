@@ -8,13 +8,13 @@ use Rattle.std.proofs.lemmas.List.{append-nil}
 use Rattle.mail_codec.specs.Charset.{Charsets}
 use Rattle.mailparse.specs.Mail.{Tree, root}
 use Rattle.mailparse.specs.Outcome.{IsMemory, IsRefusalOrMemory, refusal_of}
-use Rattle.mailparse.specs.Placement.{Placement, placements}
+use Rattle.mailparse.specs.Placement.{Placement}
 use Rattle.mailparse.specs.Refusal.{Reads, Refusal, generic, encoding, base64_fault}
 use Rattle.mailparse.specs.declared.error.MailParseError.{MailParseError}
 use Rattle.mailparse.specs.declared.error.MailParseError.TheVariants.{QuotedPrintableDecodeError, Base64DecodeError, EncodingError, Generic, Memory}
 use Rattle.mail_data.specs.InnerMails.{Forwarded, InnerMail, forwarded, holds_mail, inner_mails_by, is_plain, mail_bytes, mail_read_by, mail_start, mails_below, mails_below_by, mails_in_place, mails_in_place_by, places_under}
 use Rattle.mail_data.specs.PartPlaces.{Place}
-use Rattle.mail_data.specs.Reading.{mail_reading}
+use Rattle.mail_data.specs.Reading.{mail_placements, mail_reading}
 use Rattle.mail_data.specs.lenient.Encoding.{lenient_body_kind}
 
 -- a mail inside, given its fields
@@ -80,12 +80,12 @@ forwarded_read_by reads placed most start at place bytes read h e = elim (cases_
 -- the same as the programs read mails
 pub not_forwarded : (known : Charsets) (limit most : ℕ) (start : Option ℕ) (place : Place) → ◌≡◌ {A = Option Forwarded} None (forwarded start place)
     → mails_in_place known limit most start place ≡ []
-not_forwarded known limit = not_forwarded_by (mail_reading known limit) (placements 0)
+not_forwarded known limit = not_forwarded_by (mail_reading known limit) mail_placements
 
 pub forwarded_read : (known : Charsets) (limit most : ℕ) (start at : Option ℕ) (place : Place) (bytes : List ℕ) (read : Reads Tree)
     → ◌≡◌ {A = Option Forwarded} (Some (forwarded_with bytes at)) (forwarded start place) → mail_reading known limit bytes ≡ read
     → mails_in_place known limit most start place ≡ inner_with place.path bytes at (result_err read) ∷ mails_below known limit most place.path at read
-forwarded_read known limit = forwarded_read_by (mail_reading known limit) (placements 0)
+forwarded_read known limit = forwarded_read_by (mail_reading known limit) mail_placements
 
 -- the refusal in an error that is not out of memory
 refused-is : (e : MailParseError) (given : Reads Tree) → (IsMemory e → ⊥) → IsRefusalOrMemory e given

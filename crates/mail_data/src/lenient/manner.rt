@@ -86,9 +86,26 @@ fn type_of<K: KnownCharsets>(
     }
 }
 
-/// Returns the type in the value of a `Content-Type`.
+/// Returns the type in the value of a `Content-Type` (RFC 2045, section 5.1), as `Lenient` reads it:
+/// without comments, with what its parameters lack, and with a name that can be read.
+///
+/// Allocates the type, and copies of the value.
+///
+/// # Errors
+///
+/// `AllocError` if it runs out of memory.
+///
+/// # Examples
+///
+/// ```rust
+/// use mail_data::lenient::lenient_type;
+///
+/// let ctype = lenient_type(alloc, "text/html (x) charset=\"koi8-r", &())?;
+/// assert_eq!(rt; ctype.mimetype.as_str(), "text/html");
+/// assert_eq!(rt; ctype.charset.as_str(), "koi8-r");
+/// ```
 #[tactic(auto, unfolding(crate::specs::lenient::Manner::lenient_type_in))]
-fn lenient_type<K: KnownCharsets>(
+pub fn lenient_type<K: KnownCharsets>(
     alloc: Global,
     text: &str,
     known: &K,

@@ -46,8 +46,20 @@ pub fn refusal(alloc: Global, mail: &ParsedMail<'_>) -> Result<Option<MailParseE
     }
 }
 
-/// Returns whether a message was kept.
-fn was_kept(mail: &ParsedMail<'_>) -> bool
+/// Returns whether a message or part was kept by a manner that keeps refused messages, such as
+/// `Lenient`: it has bytes but no header block, not even a blank line (RFC 5322, section 2.1).
+/// `refusal` returns why. Does not allocate.
+///
+/// # Examples
+///
+/// ```rust
+/// use mail_data::lenient::{Lenient, was_kept};
+/// use mailparse::parse_mail_as;
+///
+/// assert!(rt; was_kept(&parse_mail_as(alloc, b" Subject: Hi\n\n", 100, &Lenient(&()))?));
+/// assert!(rt; !was_kept(&parse_mail_as(alloc, b"Subject: Hi\n\n", 100, &Lenient(&()))?));
+/// ```
+pub fn was_kept(mail: &ParsedMail<'_>) -> bool
     ensures { result ≡ was_kept (root (tree_of mail.now)) }
 {
     mail.get_headers().get_raw_bytes().is_empty() && !mail.raw_bytes.is_empty()

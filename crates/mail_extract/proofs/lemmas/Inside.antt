@@ -5,10 +5,9 @@ use Rattle.std.proofs.lemmas.List.Concat.{flat_map-cons}
 use Rattle.std.specs.Prelude.{flat_map}
 use Rattle.mail_codec.specs.Charset.{Charsets}
 use Rattle.mailparse.specs.Mail.{Tree}
-use Rattle.mailparse.specs.Placement.{placements}
 use Rattle.mail_data.specs.InnerMails.{Forwarded, InnerMail, forwarded, mails_in_place, places_under}
 use Rattle.mail_data.specs.PartPlaces.{Place, places}
-use Rattle.mail_data.specs.Reading.{mail_reading}
+use Rattle.mail_data.specs.Reading.{mail_placements, mail_reading}
 use Rattle.mail_data.proofs.lemmas.InnerMails.{forwarded_read, forwarded_with, inner_with}
 use Rattle.mailparse.specs.Refusal.{Refusal}
 use Rattle.mail_json.specs.Inside.{mails_among, mails_inside}
@@ -60,11 +59,11 @@ module _ (file : Option (List ℕ)) (can_fail : List File → Bool) (options : O
 
   module _ (most : ℕ) (start at : Option ℕ) (place : Place) (bytes : List ℕ) (is : ◌≡◌ {A = Option Forwarded} (Some (forwarded_with bytes at)) (forwarded start place)) where
     -- a mail that is read: its files, and then those of the mails inside it
-    read-first : (mail : Tree) (parts : List Place) → mail_reading known options.limit bytes ≡ Ok mail → parts ≡ places_under place.path mail (placements 0 mail)
+    read-first : (mail : Tree) (parts : List Place) → mail_reading known options.limit bytes ≡ Ok mail → parts ≡ places_under place.path mail (mail_placements mail)
         → Implies (Then (Files parts) (AreInside file can_fail options known number (mails_among known options.limit most at parts))) (AreInside file can_fail options known number (mails_in_place known options.limit most start place))
     read-first mail parts read same = λ files from lines next now h.
         let inner = inner_with place.path bytes at None in
-        let under = places_under place.path mail (placements 0 mail) in
+        let under = places_under place.path mail (mail_placements mail) in
         let own = ap (λ (ps : List Place). chosen options.choice (wanted_among known Inside ps)) same ∙ ap (chosen options.choice) (sym (inside_read known options.limit inner mail read)) in
         let first = subst (λ (ws : List Wanted). AreFiles file can_fail options number ws files from h.2 h.1 h.0) own h.4 in
         let others = subst (λ (ps : List Place). AreInside file can_fail options known number (mails_among known options.limit most at ps) h.0 h.1 h.3 next now) same h.5 in
@@ -72,7 +71,7 @@ module _ (file : Option (List ℕ)) (can_fail : List File → Bool) (options : O
         (h.0, h.1, h.2, h.3, (h.0, h.1, h.2, [], first, (refl, refl, refl), sym (append-nil h.2)), others, h.6)
 
     pub inside_saved : (held_old held_mid held_new : Option (List File)) (old mid new : Option (List ℕ)) (from middle next : ℕ) (a b both : Outcome) (mail : Tree) (parts again : List Place)
-        → mail_reading known options.limit bytes ≡ Ok mail → parts ≡ places_under place.path mail (placements 0 mail) → again ≡ parts → both ≡ worse a b
+        → mail_reading known options.limit bytes ≡ Ok mail → parts ≡ places_under place.path mail (mail_placements mail) → again ≡ parts → both ≡ worse a b
         → Saved held_old held_mid old mid from middle a (Files parts) → Saved held_mid held_new mid new middle next b (AreInside file can_fail options known number (mails_among known options.limit most at again))
         → Saved held_old held_new old new from next both (AreInside file can_fail options known number (mails_in_place known options.limit most start place))
     inside_saved held_old held_mid held_new old mid new from middle next a b both mail parts again read same e is_both own others =
@@ -101,13 +100,13 @@ module _ (file : Option (List ℕ)) (can_fail : List File → Bool) (options : O
 
   -- a whole mail: its files, and then those of the mails inside it
   pub mail_saved : (held_old held_mid held_new : Option (List File)) (old mid new : Option (List ℕ)) (from middle next : ℕ) (a b both : Outcome) (mail : Tree) (parts again : List Place)
-      → parts ≡ places mail (placements 0 mail) → again ≡ parts → both ≡ worse a b
+      → parts ≡ places mail (mail_placements mail) → again ≡ parts → both ≡ worse a b
       → Saved held_old held_mid old mid from middle a (AreFiles file can_fail options number (chosen options.choice (wanted_among known Own parts)))
       → Saved held_mid held_new mid new middle next b (AreInside file can_fail options known number (mails_among known options.limit 100 (Some 0) again))
       → Saved held_old held_new old new from next both (IsMailOf file can_fail options known number (Ok mail))
   mail_saved held_old held_mid held_new old mid new from middle next a b both mail parts again same e is_both own others =
       let inside : mails_among known options.limit 100 (Some 0) again ≡ mails_inside known options.limit mail = ap (mails_among known options.limit 100 (Some 0)) (e ∙ same) ∙ among_whole known options.limit mail in
-      saved_then held_old held_mid held_new old mid new from middle next a b both (AreFiles file can_fail options number (chosen options.choice (wanted_among known Own (places mail (placements 0 mail)))))
+      saved_then held_old held_mid held_new old mid new from middle next a b both (AreFiles file can_fail options number (chosen options.choice (wanted_among known Own (places mail (mail_placements mail)))))
       (AreInside file can_fail options known number (mails_inside known options.limit mail)) is_both
       (subst (λ (ps : List Place). Saved held_old held_mid old mid from middle a (AreFiles file can_fail options number (chosen options.choice (wanted_among known Own ps)))) same own)
       (subst (λ (ms : List InnerMail). Saved held_mid held_new mid new middle next b (AreInside file can_fail options known number ms)) inside others)

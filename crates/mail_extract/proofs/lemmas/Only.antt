@@ -10,11 +10,10 @@ use Rattle.std.proofs.lemmas.List.{append-nil, length-append}
 use Rattle.std.proofs.lemmas.List.Concat.{flat_map-cons}
 use Rattle.mail_codec.specs.Charset.{Charsets}
 use Rattle.mailparse.specs.Mail.{Tree}
-use Rattle.mailparse.specs.Placement.{placements}
 use Rattle.mailparse.specs.Refusal.{Reads, Refusal}
 use Rattle.mail_data.specs.InnerMails.{InnerMail, inner_mails_within}
 use Rattle.mail_data.specs.PartPlaces.{places}
-use Rattle.mail_data.specs.Reading.{mail_reading}
+use Rattle.mail_data.specs.Reading.{mail_placements, mail_reading}
 use Rattle.mail_data.specs.Mailbox.{Entry, front_length}
 use Rattle.mail_data.specs.MailboxFormats.{entries_in, mail_in}
 use Rattle.mail_data.specs.declared.mailbox.formats.Format.{Format}
@@ -309,9 +308,9 @@ module _ (file : Option (List ℕ)) (options : Options) (by_sender : options.nam
   keeps_mail : (number : Option ℕ) (read : Reads Tree) (files now : List File) (from next : ℕ) (lines : List FileLine)
       → IsMailOf file fails_if_full options known number read files from lines next now → Keeps files (read_files known options.limit options.choice read) lines now
   keeps_mail number (Ok t) files now from next lines h =
-      let own = wanted_among known Own (places t (placements 0 t)) in
-      let mails = inner_mails_within known options.limit 100 [] (Some 0) t (placements 0 t) in
-      subst (λ (ls : List FileLine). Keeps files (chosen options.choice (wanted_files known options.limit t (placements 0 t))) ls now) (sym h.6)
+      let own = wanted_among known Own (places t (mail_placements t)) in
+      let mails = inner_mails_within known options.limit 100 [] (Some 0) t (mail_placements t) in
+      subst (λ (ls : List FileLine). Keeps files (chosen options.choice (wanted_files known options.limit t (mail_placements t))) ls now) (sym h.6)
       (subst (λ (ws : List Wanted). Keeps files ws (h.2 ++ h.3) now) (chosen_all known options.limit options.choice own mails)
       (keeps_then files h.0 now (chosen options.choice own) (chosen_inside known options.limit options.choice mails) h.2 h.3 (keeps_files number files h.0 _ from h.2 h.1 h.4) (keeps_inside number mails h.0 now h.1 next h.3 h.5)))
   keeps_mail number (Err refusal) files now from next lines h =

@@ -10,11 +10,10 @@ use Rattle.std.specs.Option.{option_map_or}
 use Rattle.std.specs.Result.{result_ok}
 use Rattle.mail_codec.specs.Charset.{Charsets}
 use Rattle.mailparse.specs.Mail.{Tree}
-use Rattle.mailparse.specs.Placement.{placements}
 use Rattle.mailparse.specs.Refusal.{Reads, Refusal}
 use Rattle.mail_data.specs.InnerMails.{InnerMail, places_under}
 use Rattle.mail_data.specs.PartPlaces.{Place}
-use Rattle.mail_data.specs.Reading.{mail_reading}
+use Rattle.mail_data.specs.Reading.{mail_placements, mail_reading}
 use Rattle.mail_data.specs.lenient.Content.{Content}
 use Rattle.mail_extract.specs.Choice.{Choice}
 use Rattle.mail_data.specs.Files.{is_extracted}
@@ -130,14 +129,14 @@ chosen_all known limit choice own mails =
 
 -- the files of a mail inside a mail that was read so
 pub inside_read : (known : Charsets) (limit : ℕ) (inner : InnerMail) (t : Tree) → mail_reading known limit inner.bytes ≡ Ok t
-    → wanted_inside known limit inner ≡ wanted_among known Inside (places_under inner.path t (placements 0 t))
+    → wanted_inside known limit inner ≡ wanted_among known Inside (places_under inner.path t (mail_placements t))
 inside_read known limit inner t e =
-    ap (λ (r : Reads Tree). option_map_or (λ u. wanted_among known Inside (places_under inner.path u (placements 0 u))) (result_ok r) []) e
+    ap (λ (r : Reads Tree). option_map_or (λ u. wanted_among known Inside (places_under inner.path u (mail_placements u))) (result_ok r) []) e
 
 -- a refused mail has none
 pub inside_refused : (known : Charsets) (limit : ℕ) (inner : InnerMail) (refusal : Refusal) → mail_reading known limit inner.bytes ≡ Err refusal → wanted_inside known limit inner ≡ []
 inside_refused known limit inner refusal e =
-    ap (λ (r : Reads Tree). option_map_or (λ u. wanted_among known Inside (places_under inner.path u (placements 0 u))) (result_ok r) []) e
+    ap (λ (r : Reads Tree). option_map_or (λ u. wanted_among known Inside (places_under inner.path u (mail_placements u))) (result_ok r) []) e
 
 -- no number is below the first
 pub taken_start : (can_fail : List File → Bool) (naming : Naming) (name : List ℕ) (files : List File) (from : ℕ) → AreTaken can_fail naming name files from from

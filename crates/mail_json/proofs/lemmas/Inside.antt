@@ -12,10 +12,9 @@ use Rattle.mail_codec.specs.Charset.{Charsets}
 use Rattle.mail_data.specs.InnerMails.{Forwarded, InnerMail, forwarded, inner_mails_within, mails_in_place, path_within, places_under}
 use Rattle.mail_data.specs.Files.{path_under, with_paths}
 use Rattle.mail_data.specs.PartPlaces.{Place, placed, places}
-use Rattle.mail_data.specs.Reading.{mail_reading}
+use Rattle.mail_data.specs.Reading.{mail_placements, mail_reading}
 use Rattle.mail_data.proofs.lemmas.InnerMails.{forwarded_read, forwarded_with, inner_with, not_forwarded}
 use Rattle.mail_program.specs.declared.fault.Fault.{Fault}
-use Rattle.mailparse.specs.Placement.{placements}
 use Rattle.mail_json.specs.Inside.{Listed, mails_among, mails_inside, parts_of_read, without_bytes}
 use Rattle.mail_json.specs.Part.{place_in}
 use Rattle.mail_json.specs.Printed.{after_commas, listed, text_of}
@@ -29,7 +28,7 @@ use Rattle.mail_json.proofs.lemmas.Part.{Completes}
 use Rattle.mail_json.proofs.lemmas.Written.{appends_as}
 
 -- a mail that is read, and one that is refused
-parts-read : (path : List ℕ) (given : Reads Tree) (mail : Tree) → given ≡ Ok mail → places_under path mail (placements 0 mail) ≡ parts_of_read path given
+parts-read : (path : List ℕ) (given : Reads Tree) (mail : Tree) → given ≡ Ok mail → places_under path mail (mail_placements mail) ≡ parts_of_read path given
 parts-read path given mail e = ap (λ (r : Reads Tree). parts_of_read path r) (sym e)
 
 parts-refused : (path : List ℕ) (given : Reads Tree) (refusal : Refusal) → given ≡ Err refusal → [] ≡ parts_of_read path given
@@ -43,7 +42,7 @@ listed_with path start refusal = record { path = path; start = start; refusal = 
 
 -- the mails inside a mail are those among its parts
 below_among : (known : Charsets) (limit most : ℕ) (path : List ℕ) (at : Option ℕ) (mail : Tree)
-    → inner_mails_within known limit most path at mail (placements 0 mail) ≡ mails_among known limit most at (places_under path mail (placements 0 mail))
+    → inner_mails_within known limit most path at mail (mail_placements mail) ≡ mails_among known limit most at (places_under path mail (mail_placements mail))
 below_among known limit zero path at mail = refl
 below_among known limit (suc most) path at mail = refl
 
@@ -51,7 +50,7 @@ below_among known limit (suc most) path at mail = refl
 pub read_is : (known : Charsets) (limit most : ℕ) (start at : Option ℕ) (place : Place) (bytes : List ℕ) (mail : Tree)
     → ◌≡◌ {A = Option Forwarded} (Some (forwarded_with bytes at)) (forwarded start place) → mail_reading known limit bytes ≡ Ok mail
     → mails_in_place known limit most start place
-    ≡ inner_with place.path bytes at None ∷ mails_among known limit most at (places_under place.path mail (placements 0 mail))
+    ≡ inner_with place.path bytes at None ∷ mails_among known limit most at (places_under place.path mail (mail_placements mail))
 read_is known limit most start at place bytes mail h e =
     forwarded_read known limit most start at place bytes (Ok mail) h e
     ∙ ap (λ (mails : List InnerMail). inner_with place.path bytes at None ∷ mails) (below_among known limit most place.path at mail)
@@ -88,8 +87,8 @@ module _ (options : Options) (origin most : ℕ) (start : Option ℕ) (place : P
   -- one whose mail is read
   pub read_written : {T : Type 0} (at : Option ℕ) (bytes : List ℕ) (mail : Tree) (found again : List Place) (old mid new : Option (List ℕ)) (r : Result T Fault) (first : List Json)
       → ◌≡◌ {A = Option Forwarded} (Some (forwarded_with bytes at)) (forwarded start place)
-      → mail_reading options.known options.limit bytes ≡ Ok mail → found ≡ places_under place.path mail (placements 0 mail)
-      → again ≡ places_under place.path mail (placements 0 mail) → AreValues (IsPartValue options (Some place.path) (place_in at origin)) found first → Appends old mid (listed text_of (codes ",") first)
+      → mail_reading options.known options.limit bytes ≡ Ok mail → found ≡ places_under place.path mail (mail_placements mail)
+      → again ≡ places_under place.path mail (mail_placements mail) → AreValues (IsPartValue options (Some place.path) (place_in at origin)) found first → Appends old mid (listed text_of (codes ",") first)
       → WroteOne mid new r (after_commas text_of) (AreInsideValues options origin (mails_among options.known options.limit most at again))
       → WroteOne old new r (after_commas text_of) (AreInsideValues options origin mails)
   read_written at bytes mail found again old mid new (Ok done) first h e same same_again is p rest =
@@ -106,7 +105,7 @@ module _ (options : Options) (origin most : ℕ) (start : Option ℕ) (place : P
 
   pub read_listed : {T E : Type 0} (at : Option ℕ) (bytes : List ℕ) (mail : Tree) (found : List Place) (old mid new : List Listed) (r : Result T E)
       → ◌≡◌ {A = Option Forwarded} (Some (forwarded_with bytes at)) (forwarded start place)
-      → mail_reading options.known options.limit bytes ≡ Ok mail → found ≡ places_under place.path mail (placements 0 mail)
+      → mail_reading options.known options.limit bytes ≡ Ok mail → found ≡ places_under place.path mail (mail_placements mail)
       → mid ≡ old ++ listed_with place.path at None ∷ [] → OnOk r (new ≡ mid ++ map without_bytes (mails_among options.known options.limit most at found))
       → OnOk r (new ≡ old ++ map without_bytes mails)
   read_listed at bytes mail found old mid new (Ok done) h e same one rest =
@@ -172,18 +171,18 @@ among_none known limit most start found e = rw e refl
 -- ---- the whole mail
 
 -- a whole mail and its parts are those below no path
-places_whole : (mail : Tree) → places_under [] mail (placements 0 mail) ≡ places mail (placements 0 mail)
+places_whole : (mail : Tree) → places_under [] mail (mail_placements mail) ≡ places mail (mail_placements mail)
 unfolding places_under path_within path_under
 places_whole (tree node no_parts) =
-    ap (λ (path : List ℕ). placed (with_paths path (tree node no_parts)) (placements 0 (tree node no_parts))) (decimal_digit 1 (omega arith))
+    ap (λ (path : List ℕ). placed (with_paths path (tree node no_parts)) (mail_placements (tree node no_parts))) (decimal_digit 1 (omega arith))
 places_whole (tree node (part_and first others)) = refl
 
-pub among_whole : (known : Charsets) (limit : ℕ) (mail : Tree) → mails_among known limit 100 (Some 0) (places mail (placements 0 mail)) ≡ mails_inside known limit mail
+pub among_whole : (known : Charsets) (limit : ℕ) (mail : Tree) → mails_among known limit 100 (Some 0) (places mail (mail_placements mail)) ≡ mails_inside known limit mail
 among_whole known limit mail =
     ap (λ (xs : List Place). mails_among known limit 100 (Some 0) xs) (sym (places_whole mail)) ∙ sym (below_among known limit 100 [] (Some 0) mail)
 
 pub parts_written : {T : Type 0} (options : Options) (origin : ℕ) (mail : Tree) (found again : List Place) (old mid new : Option (List ℕ)) (r : Result T Fault) (parts : List Json)
-    → found ≡ places mail (placements 0 mail) → again ≡ places mail (placements 0 mail) → AreValues (IsPartValue options None (Some origin)) found parts → Appends old mid (listed text_of [] parts)
+    → found ≡ places mail (mail_placements mail) → again ≡ places mail (mail_placements mail) → AreValues (IsPartValue options None (Some origin)) found parts → Appends old mid (listed text_of [] parts)
     → WroteOne mid new r (after_commas text_of) (AreInsideValues options origin (mails_among options.known options.limit 100 (Some 0) again)) → IfErr r IsEnd
     → WritesOne old new r (listed text_of []) (ArePartValues options origin mail)
 parts_written options origin mail found again old mid new (Ok done) parts same same_again is p rest failed =
@@ -196,7 +195,7 @@ parts_written options origin mail found again old mid new (Ok done) parts same s
     )
 parts_written options origin mail found again old mid new (Err fault) parts same same_again is p rest failed = failed
 
-pub whole_listed : {T E : Type 0} (known : Charsets) (limit : ℕ) (mail : Tree) (found : List Place) (old new : List Listed) (r : Result T E) → found ≡ places mail (placements 0 mail)
+pub whole_listed : {T E : Type 0} (known : Charsets) (limit : ℕ) (mail : Tree) (found : List Place) (old new : List Listed) (r : Result T E) → found ≡ places mail (mail_placements mail)
     → OnOk r (new ≡ old ++ map without_bytes (mails_among known limit 100 (Some 0) found)) → OnOk r (new ≡ old ++ map without_bytes (mails_inside known limit mail))
 whole_listed known limit mail found old new (Ok done) same h =
     h ∙ ap (λ (xs : List Place). old ++ map without_bytes (mails_among known limit 100 (Some 0) xs)) same

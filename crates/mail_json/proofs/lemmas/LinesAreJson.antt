@@ -12,7 +12,6 @@ use Rattle.mail_codec.specs.Charset.{Charsets}
 use Rattle.mailparse.specs.ContentType.{ContentType}
 use Rattle.mailparse.specs.Header.{Header, key_text}
 use Rattle.mailparse.specs.Mail.{Node, Tree, root, shown_as_in}
-use Rattle.mailparse.specs.Placement.{placements}
 use Rattle.mailparse.specs.Refusal.{Reads, Refusal}
 use Rattle.mailparse.specs.Value.{lenient_value_in}
 use Rattle.mail_data.specs.Archive.{ids_of}
@@ -22,7 +21,7 @@ use Rattle.mail_data.specs.Mailbox.{front_length}
 use Rattle.mail_data.specs.MailboxFormats.{entries_in, mail_in}
 use Rattle.mail_data.specs.MailboxParts.{Placed, in_range, part_start, placed_from}
 use Rattle.mail_data.specs.PartPlaces.{Place, places}
-use Rattle.mail_data.specs.Reading.{mail_reading}
+use Rattle.mail_data.specs.Reading.{mail_placements, mail_reading}
 use Rattle.mail_data.specs.declared.mailbox.formats.Format.{Format}
 use Rattle.mail_data.specs.lenient.Date.{Dated, Zoned, zoned_date_of}
 use Rattle.mail_data.specs.lenient.Content.{Content}
@@ -143,7 +142,7 @@ module _ (options : Options) where
       let rest : AreGood 3 (size ++ one (codes "sha256") hash ++ one (codes "report") report ++ one (codes "headers") headers ++ text) =
       members_then 3 (size ++ one (codes "sha256") hash ++ one (codes "report") report ++ one (codes "headers") headers) text listed (body_good 3 options.known options.joins_flowed options.html shows node.ctype content) in
       named_good (part_distinct inside start place pairs content hash report headers shows)
-      (string_good 3 _, (optional_good 3 inside, (string_good 3 node.ctype.mimetype, (string_good 3 node.ctype.charset, (params_good 2 pairs ordered, (optional_good 3 _, (optional_good 3 _, (optional_good 3 _, (flag_good 3 attached, (flag_good 3 extracted, (string_good 3 _, (number_or_null_good 3 _, (number_or_null_good 3 _, (number_good 3 (length node.body), rest))))))))))))))
+      (string_good 3 _, (optional_good 3 inside, (string_good 3 node.ctype.mimetype, (string_good 3 node.ctype.charset, (params_good 2 pairs ordered, (optional_good 3 _, (optional_good 3 _, (optional_good 3 _, (flag_good 3 attached, (flag_good 3 extracted, (string_good 3 _, (number_or_null_good 3 _, (number_or_null_good 3 _, (number_good 3 (length node.body), (optional_good 3 _, rest)))))))))))))))
 
   parts_good : (inside : Option (List ℕ)) (start : Option ℕ) (all : List Place) (values : List Json) → AreValues (IsPartValue options inside start) all values
       → AllByRecursion (IsGood 4) values
@@ -241,7 +240,7 @@ mail_good options origin mail value is =
     let listed : AreGood 5 (own ++ one (codes "recipients") recipients ++ one (codes "parts") parts) =
     members_then 5 (own ++ one (codes "recipients") recipients) (one (codes "parts") parts) reported (
       list_good 4 is.0 (subst (AllByRecursion (IsGood 4)) (sym found.4)
-          (all_then (IsGood 4) found.0 found.1 (parts_good options None (Some origin.start) (places mail (placements 0 mail)) found.0 found.2)
+          (all_then (IsGood 4) found.0 found.1 (parts_good options None (Some origin.start) (places mail (mail_placements mail)) found.0 found.2)
           (inside_good options origin.start (mails_inside known options.limit mail) found.1 found.3))),
       tt,
     ) in

@@ -7,7 +7,7 @@ use Rattle.mail_data.specs.lenient.Date.{Dated, Zoned, zoned_date_of}
 use Rattle.mail_data.specs.declared.lenient.date.error.DateError.{DateError}
 use Rattle.mail_data.specs.PartPlaces.{places}
 use Rattle.mailparse.specs.Mail.{Tree, tree}
-use Rattle.mailparse.specs.Placement.{placements}
+use Rattle.mail_data.specs.Reading.{mail_placements}
 use Rattle.mail_json.specs.Fields.{date_fault_text}
 use Rattle.mail_json.specs.Options.{Options}
 use Rattle.mail_json.specs.Printed.{after_commas, listed, one, seconds_value, text_of}
@@ -24,7 +24,7 @@ pub date_read : (found : Option (List ℕ)) (date : List ℕ) (read : Zoned) →
 date_read found date read e f = ap (λ (o : Option (List ℕ)). date_members (option_map zoned_date_of o)) e ∙ ap (λ (d : Dated Zoned). date_members (Some d)) f
 
 -- the list of the first parts, of which there is one, and of others
-pub parts_first : (options : Options) (inside : Option (List ℕ)) (start : Option ℕ) (mail : Tree) (parts others : List Json) → AreValues (IsPartValue options inside start) (places mail (placements 0 mail)) parts
+pub parts_first : (options : Options) (inside : Option (List ℕ)) (start : Option ℕ) (mail : Tree) (parts others : List Json) → AreValues (IsPartValue options inside start) (places mail (mail_placements mail)) parts
     → listed text_of [] parts ++ after_commas text_of others ≡ listed text_of [] (parts ++ others)
 parts_first options inside start (tree node forest) parts others is =
     subst (λ ps. listed text_of [] ps ++ after_commas text_of others ≡ listed text_of [] (ps ++ others)) (sym is.4)

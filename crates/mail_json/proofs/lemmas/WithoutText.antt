@@ -4,12 +4,12 @@ use Rattle.std.specs.Prelude.{codes, option_map, ◌&&◌}
 use Rattle.json.specs.Json.{Json, null, object, array, Members, item, member}
 use Rattle.json.specs.Value.{items_of}
 use Rattle.mailparse.specs.Mail.{Tree, root, shown_as_in}
-use Rattle.mailparse.specs.Placement.{placements}
 use Rattle.mailparse.specs.Refusal.{Reads, Refusal}
 use Rattle.mail_data.specs.Bounce.{original_message_id}
 use Rattle.mail_data.specs.Files.{is_extracted}
 use Rattle.mail_data.specs.InnerMails.{InnerMail}
 use Rattle.mail_data.specs.PartPlaces.{Place, places}
+use Rattle.mail_data.specs.Reading.{mail_placements}
 use Rattle.mail_data.specs.lenient.Content.{message_content}
 use Rattle.mail_data.specs.lenient.Date.{Dated, Zoned, zoned_date_of}
 use Rattle.mail_data.specs.lenient.Texts.{text_read}
@@ -117,7 +117,7 @@ module _ (options : Options) where
   mail_whole origin mail value is =
       let known = options.known in
       let found = is.1 in
-      let parts = parts_whole None (Some origin.start) (places mail (placements 0 mail)) found.0 found.2 in
+      let parts = parts_whole None (Some origin.start) (places mail (mail_placements mail)) found.0 found.2 in
       let others = insides_whole origin.start (mails_inside known options.limit mail) found.1 found.3 in
       let all = parts.0 ++ others.0 in
       let same : is.0 ≡ map object_without_text all =

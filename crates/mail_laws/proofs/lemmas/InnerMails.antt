@@ -14,12 +14,15 @@ use Rattle.mailparse.specs.Placement.{Placement, placements, placements_as}
 use Rattle.mailparse.specs.Ranges.{Range, Apart, moved, slice}
 use Rattle.mailparse.specs.Refusal.{Reads}
 use Rattle.mail_data.specs.Files.{parts_with_paths, path_under, with_paths}
-use Rattle.mail_data.specs.InnerMails.{InnerMail, holds_mail, inner_mails, inner_mails_as, inner_mails_by, is_plain, mail_bytes, mail_start, places_under}
+use Rattle.mail_data.specs.InnerMails.{InnerMail, holds_mail, inner_mails, inner_mails_as, inner_mails_by, inner_mails_within, is_plain, mail_bytes, mail_start, places_under}
 use Rattle.mail_data.specs.PartPlaces.{Place, placed}
+use Rattle.mail_data.specs.Reading.{mail_placements, mail_reading}
 use Rattle.mail_data.specs.lenient.Content.{lenient_content}
 use Rattle.mail_data.specs.lenient.Encoding.{lenient_body_kind}
+use Rattle.mail_data.specs.lenient.Manner.{lenient}
 use Rattle.mail_laws.specs.InnerMails.{AreAt}
 use Rattle.mail_laws.specs.RangeTree.{RangeTree, range_tree, RangeForest, no_ranges, ranges_and, range_root, tree_there, wholes, AreNested, AllNested, wholes_and_bodies, wholes_and_bodies_in, ranges_as}
+use Rattle.mail_laws.proofs.lemmas.Limits.{read_without}
 use Rattle.mail_laws.proofs.lemmas.Placement.{placements_as-bodies, placements_as-bytes, placements_as-ranges}
 use Rattle.mail_laws.proofs.lemmas.RangeTree.{Apart-order, ranges_as-nested, ranges_as-there, slice-moved}
 use Rattle.mailparse.proofs.lemmas.Refusal.{read_map}
@@ -235,3 +238,14 @@ pub inner_mails-at : (known : Charsets) (input : List ℕ) (mail : Tree) → len
     → AllByRecursion (λ inner. AreAt input inner.start inner.bytes) (inner_mails known 100 [] (Some 0) mail (placements 0 mail))
 unfolding read_mail_in
 inner_mails-at known input mail small read = inner_mails_as-at (strict known) input mail small read
+
+-- as the programs read mails
+read_leniently : (known : Charsets) (limit : ℕ) (bytes : List ℕ) (t : Tree) → mail_reading known limit bytes ≡ Ok t → read_mail_as (lenient known) 100 bytes ≡ Ok t
+unfolding mail_reading
+read_leniently known limit bytes t read = read_without (lenient known) 100 limit bytes t read
+
+pub inner_mails_within-at : (known : Charsets) (limit : ℕ) (input : List ℕ) (mail : Tree) → length input < 2 ^ 64 → mail_reading known limit input ≡ Ok mail
+    → AllByRecursion (λ inner. AreAt input inner.start inner.bytes) (inner_mails_within known limit 100 [] (Some 0) mail (mail_placements mail))
+inner_mails_within-at known limit input mail small read =
+    mails-at input small (mail_reading known limit) mail_placements (λ bytes t h. placements-within (lenient known) 100 bytes t (read_leniently known limit bytes t h))
+    (λ bytes t h. placements_as-bodies (lenient known) 100 bytes t (read_leniently known limit bytes t h)) 100 [] (Some 0) input mail read (whole-at input)

@@ -6,11 +6,13 @@ ghost use Rattle.mailparse.specs.Mail.{Tree, nodes, read_mail_as, read_mail_in};
 ghost use Rattle.mailparse.specs.Manner.{Manner};
 ghost use Rattle.mailparse.specs.Placement.{placements, placements_as};
 ghost use Rattle.mailparse.specs.Ranges.{moved, slice};
-ghost use Rattle.mail_data.specs.InnerMails.{inner_mails, inner_mails_as};
+ghost use Rattle.mail_data.specs.InnerMails.{inner_mails, inner_mails_as, inner_mails_within};
+ghost use Rattle.mail_data.specs.Reading.{mail_placements, mail_reading};
 ghost use Rattle.mail_laws.specs.InnerMails.{AreAt};
 
 /// Each mail inside a mail, and inside those, that has an offset is at this offset of the input, in
-/// every manner of reading. Only an input of 2^64 bytes or more would be an exception.
+/// every manner of reading, and as the programs read mails. Only an input of 2^64 bytes or more
+/// would be an exception.
 pub fn inner_mails_are_at_their_offsets()
     ensures read { (manner : Manner) (input : List ℕ) (mail : Tree) → length input < 2 ^ 64 →
         read_mail_as manner 100 input ≡ Ok mail →
@@ -20,6 +22,10 @@ pub fn inner_mails_are_at_their_offsets()
         read_mail_in known 100 input ≡ Ok mail →
         AllByRecursion (λ inner. AreAt input inner.start inner.bytes) (inner_mails known 100 []
         (Some 0) mail (placements 0 mail)) }
+    ensures programs { (known : Charsets) (limit : ℕ) (input : List ℕ) (mail : Tree) →
+        length input < 2 ^ 64 → mail_reading known limit input ≡ Ok mail →
+        AllByRecursion (λ inner. AreAt input inner.start inner.bytes) (inner_mails_within known limit
+        100 [] (Some 0) mail (mail_placements mail)) }
 {}
 
 /// The offsets of the parts of a mail that is at an offset of the input, added to that, are those of

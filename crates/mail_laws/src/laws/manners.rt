@@ -7,14 +7,21 @@ ghost use Rattle.mailparse.specs.Mail.{Tree, nodes, read_mail_as, read_mail_in, 
 ghost use Rattle.mailparse.specs.Manner.{Manner};
 ghost use Rattle.mailparse.specs.Placement.{placements_as};
 ghost use Rattle.mailparse.specs.Ranges.{Apart, slice};
-ghost use Rattle.mailparse.specs.Refusal.{too_many_items};
+ghost use Rattle.mailparse.specs.Refusal.{Refusal, too_many_items};
+ghost use Rattle.mail_data.specs.Reading.{mail_reading};
 ghost use Rattle.mail_laws.specs.Manners.{AreReadAlike};
 ghost use Rattle.mail_laws.specs.RangeTree.{AreNested, RangeTree, blocks_and_bodies, range_root, ranges_as, read_there, wholes_and_bodies};
 
-/// A manner that keeps refused messages refuses no mail.
+/// A manner that keeps refused messages refuses no mail, and with a limit on messages and headers
+/// only for that. So the programs and the C library read.
 pub fn nothing_is_refused()
-    ensures { (manner : Manner) (greatest : ℕ) (mail : List ℕ) → manner.keeps_refused ≡ true →
+    ensures read { (manner : Manner) (greatest : ℕ) (mail : List ℕ) → manner.keeps_refused ≡ true →
         IsOk (read_mail_as manner greatest mail) }
+    ensures limited { (manner : Manner) (greatest most : ℕ) (mail : List ℕ) (refusal : Refusal) →
+        manner.keeps_refused ≡ true → read_mail_within manner greatest most mail ≡ Err refusal →
+        refusal ≡ too_many_items }
+    ensures programs { (known : Charsets) (limit : ℕ) (mail : List ℕ) (refusal : Refusal) →
+        mail_reading known limit mail ≡ Err refusal → refusal ≡ too_many_items }
 {}
 
 /// A mail that is read without a limit on messages and headers is read the same with it, unless its

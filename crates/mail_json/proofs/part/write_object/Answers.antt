@@ -60,7 +60,7 @@ returns g c =
     let hash-is = value_renamed string_or_null _ _ c.in_ok-add_optional-2.ensures hashed in
     let headers-are = valued _ _ _ _ _ refl c.in_ok-write_word-3.ensures list in
     let body-is = renamed (c.in_ok-write_part_text.ensures read) (ap (λ is. body_members known options.joins_flowed options.html is node.ctype (content_if c.args.form.options.decodes_bodies node)) shows) in
-    let front = path-is ⨾ c.in_ok-add_optional.ensures ⨾ type-is ⨾ charset-is ⨾ params-are ⨾ disposition-is ⨾ attachment-is ⨾ extracted-is ⨾ encoding-is ⨾ c.in_ok-write_bounds.ensures ⨾ size-is in
+    let front = path-is ⨾ c.in_ok-add_optional.ensures ⨾ type-is ⨾ charset-is ⨾ params-are ⨾ disposition-is ⨾ attachment-is ⨾ extracted-is ⨾ encoding-is ⨾ c.in_ok-write_bounds.ensures ⨾ size-is ⨾ c.in_ok-write_refusal.ensures in
     let members = part_members options inside c.args.form.start place params.0 in
     writes_one text_of (IsPartValue options inside c.args.form.start place) _ _ c.write_word-4.result (object_of members)
     (params.0, subst (λ (t : ContentType). Lists t.params params.0) (ctype-out m) params.1, refl)

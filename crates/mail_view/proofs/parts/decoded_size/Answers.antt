@@ -5,7 +5,7 @@ use Rattle.mailparse.specs.Views.{tree_of}
 use Rattle.mail_data.specs.lenient.ContentViews.{content_view, fault_view}
 use Rattle.mail_data.specs.lenient.Encoding.{lenient_body_kind}
 use Rattle.mail_view.proofs.lemmas.Parts.{ok_as, size_made, some_mapped}
-use Rattle.mail_view.proofs.parts.part_size.Goals as goal
+use Rattle.mail_view.proofs.parts.decoded_size.Goals as goal
 
 pub returns : goal.returns
 returns c =
