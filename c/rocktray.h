@@ -60,10 +60,11 @@ enum rocktray_code {
     ROCKTRAY_NO_MEMORY = 2,
     ROCKTRAY_ABSENT = 3,
 
-    /* Why a mail is refused. */
+    /* Why a header block is refused. */
     ROCKTRAY_LEADING_SPACE = 16,        /* a space where a header should begin */
     ROCKTRAY_LONE_CARRIAGE_RETURN = 17, /* a CR without LF where a header should begin */
-    ROCKTRAY_TOO_DEEP = 18,             /* a part more than 100 levels deep */
+    /* Why a part was kept as plain text, if its block is not refused. No call of this version returns it. */
+    ROCKTRAY_TOO_DEEP = 18,             /* it is more than 100 levels deep */
     /* Why a body, a name or a text is refused. */
     ROCKTRAY_NOT_BASE64 = 19,
     ROCKTRAY_NOT_UTF8 = 20,
@@ -185,21 +186,22 @@ _Static_assert(sizeof(struct rocktray_field) == 40, "five numbers of 64 bits");
 
 /* Reads a mail and fills a record for it and for each of its parts, each before its own parts and in their order, and a
  * record for each of their headers, in the order of the parts. A capacity is a number of records, and so is a length.
- * Refuses with ROCKTRAY_LEADING_SPACE, _LONE_CARRIAGE_RETURN or _TOO_DEEP, and with ROCKTRAY_TOO_MANY if there are more
- * than `limit` parts and headers together; SIZE_MAX is no limit. */
+ * A part whose headers cannot be read, or more than 100 levels deep, is kept as plain text without headers: its body
+ * starts where it starts. Refuses with ROCKTRAY_TOO_MANY if there are more than `limit` parts and headers together;
+ * SIZE_MAX is no limit. */
 uint32_t rocktray_parts(const void *mail, size_t mail_length, size_t limit, struct rocktray_part *parts,
                         size_t parts_capacity, size_t *parts_needed, struct rocktray_header_record *headers,
                         size_t headers_capacity, size_t *headers_needed);
 
 /* The same for the headers of a mail or a part alone: only the header block is read. Offsets are counted from `part`.
- * `limit` is the greatest number of headers. */
+ * `limit` is the greatest number of headers. Refuses a block with ROCKTRAY_LEADING_SPACE or _LONE_CARRIAGE_RETURN. */
 uint32_t rocktray_headers(const void *part, size_t part_length, size_t limit, struct rocktray_header_record *headers,
                           size_t headers_capacity, size_t *headers_needed);
 
 /* Writes the value of a header in UTF-8, given its raw value: unfolded, with its encoded words decoded. */
 uint32_t rocktray_value(const void *raw_value, size_t raw_value_length, void *buffer, size_t capacity, size_t *needed);
 
-/* Reads the raw value of a Content-Type. Writes strings in UTF-8 one after another to the buffer, and the end of each
+/* Reads the raw value of a Content-Type leniently. Writes strings in UTF-8 one after another to the buffer, and the end of each
  * to `ends`: first the type in lower case, as text/plain; then the charset, us-ascii if none is given; then each
  * parameter: its name in lower case, and its value. Parameters are in the order of their names. String k is
  * buffer[k ? ends[k - 1] : 0] to buffer[ends[k] - 1]. */
@@ -236,13 +238,13 @@ uint32_t rocktray_body_charset(uint64_t encoding, const void *body, size_t body_
  * message/feedback-report or message/disposition-notification (RFC 3464, 6533, 5965, 8098). `part` is the part's own
  * bytes. Fills a record for each field, in their order, and writes their strings to the buffer. The blocks of a report,
  * which empty lines separate, are counted from 0; one whose fields cannot be read has none. Returns ROCKTRAY_ABSENT if
- * the type of the part is another one. Refuses as rocktray_json does. */
+ * the type of the part is another one. Refuses no part. */
 uint32_t rocktray_report(const void *part, size_t part_length, struct rocktray_field *fields, size_t fields_capacity,
                          size_t *fields_needed, void *buffer, size_t capacity, size_t *needed);
 
 /* Reads the recipients that a mail reports: those of the delivery reports anywhere in it (RFC 3464, 6533), and then
  * those in its headers X-Failed-Recipients, of whom only the address is known. Fills a record for each, and writes
- * their strings to the buffer. A mail that is no such report has none. Refuses as rocktray_json does. */
+ * their strings to the buffer. A mail that is no such report has none. Refuses no mail. */
 uint32_t rocktray_recipients(const void *mail, size_t mail_length, struct rocktray_recipient *recipients,
                              size_t recipients_capacity, size_t *recipients_needed, void *buffer, size_t capacity,
                              size_t *needed);
@@ -254,7 +256,7 @@ uint32_t rocktray_addresses(const void *raw_value, size_t raw_value_length, stru
                             size_t *needed);
 
 /* Writes the id of the mail that a delivery report is about, with no angle brackets. Returns ROCKTRAY_ABSENT if the
- * mail is no such report or does not give the id. Refuses as rocktray_json does. */
+ * mail is no such report or does not give the id. Refuses no mail. */
 uint32_t rocktray_bounced_id(const void *mail, size_t mail_length, void *buffer, size_t capacity, size_t *needed);
 
 /* Writes a mail of a mailbox in the format mboxrd without the `>` that its writer put before lines `From `. */
@@ -263,17 +265,16 @@ uint32_t rocktray_unquoted(const void *mail, size_t mail_length, void *buffer, s
 /* Writes a mail as one line of JSON, LF included, as `rocktray json` does: headers, dates, ids, and all parts
  * with their types, texts and offsets (docs/mail_json.schema.json). The bytes of a part are mail[start] to
  * mail[end - 1], by the members `start` and `end` of its object. Both are null for parts of a forwarded mail that is
- * encoded: decode that mail by rocktray_content first. Refuses with ROCKTRAY_LEADING_SPACE, _LONE_CARRIAGE_RETURN or
- * _TOO_DEEP. */
+ * encoded: decode that mail by rocktray_content first. Refuses no mail. */
 uint32_t rocktray_json(const void *mail, size_t mail_length, void *buffer, size_t capacity, size_t *needed);
 
 /* Writes the decoded bytes of the body of a mail or a part, without its transfer encoding: the file, if it is one.
- * `part` is the part's own bytes. Refuses as rocktray_json does, and with ROCKTRAY_NOT_BASE64. */
+ * `part` is the part's own bytes. Refuses with ROCKTRAY_NOT_BASE64. */
 uint32_t rocktray_content(const void *part, size_t part_length, void *buffer, size_t capacity, size_t *needed);
 
 /* Writes the text of the body of a mail or a part in UTF-8. It is decoded leniently: bytes outside the alphabet of
  * Base64 are ignored, damaged Base64 is decoded up to the damage, and text without a known charset is decoded as UTF-8
- * if it is valid, and otherwise as windows-1252. Refuses as rocktray_json does. */
+ * if it is valid, and otherwise as windows-1252. Refuses no mail. */
 uint32_t rocktray_text(const void *part, size_t part_length, void *buffer, size_t capacity, size_t *needed);
 
 /* Writes the value of a header in UTF-8: unfolded, with its encoded words decoded. `number` selects one of the headers
@@ -320,11 +321,11 @@ uint32_t rocktray_html_text(const void *html, size_t html_length, bool shows_lin
 
 /* Writes the text to be read of a mail in UTF-8: its plain text, or the text of its HTML as rocktray_html_text writes
  * it, if there is no plain text or it consists of whitespace. Text is decoded as rocktray_text does. Returns
- * ROCKTRAY_ABSENT if the mail has no text. Refuses as rocktray_json does. */
+ * ROCKTRAY_ABSENT if the mail has no text. Refuses no mail. */
 uint32_t rocktray_readable_text(const void *mail, size_t mail_length, bool shows_links, void *buffer, size_t capacity,
                                 size_t *needed);
 
-/* Writes the text of a code, in English. For a refused mail it is the text in the line of rocktray json. */
+/* Writes the text of a code, in English. For a refused mail or part it is the text in the line of rocktray json. */
 uint32_t rocktray_reason(uint32_t code, void *buffer, size_t capacity, size_t *needed);
 
 #ifdef __cplusplus

@@ -63,7 +63,7 @@ SMALL = (
     b"From: Bo <bo@example.net>\nSubject: Re: Zebra crossing\nMessage-ID: <2@small>\nIn-Reply-To: <1@small>\n"
     b"Date: Tue, 4 Mar 2025 10:00:00 +0000\nContent-Type: text/html\n\n"
     b"<style>dodo</style><p title='okapi > kakapo'>So is the <b>aur</b>ochs,<br>the kak&aacute;po&hellip;<!-- moa > huia --></p>\n",
-    b" refused\n",
+    b"A:\n" * 1_000_000,
     b"From: \x1b[31mCai@example.net\nSubject: =?utf-8?q?Zebra=0Aforged?=\nMessage-ID: <3@small>\nReferences: <0@small> <2@small>\n\n.\n",
 )
 UNREAD = "mails/no.mbox"

@@ -1,6 +1,6 @@
 """The files that `rocktray extract` saves, and its lines, beside what Python's email and hashlib make of the mails.
 
-The mails are those of samples/, except parts.eml, whose line `--bX` is no delimiter for Python, and made ones.
+The mails are those of samples/, and made ones, some of which try to hide a file from readers.
 """
 
 import base64
@@ -89,7 +89,7 @@ def mails(tmp_path_factory):
     directory = tmp_path_factory.mktemp("made")
     for name, make in MADE.items():
         (directory / f"{name}.eml").write_bytes(make())
-    return [path for path in SAMPLES if path.name != "parts.eml"] + sorted(directory.iterdir())
+    return [*SAMPLES, *sorted(directory.iterdir())]
 
 
 @pytest.fixture(scope="module")
@@ -318,11 +318,63 @@ def test_refused_mails_inside(tmp_path):
     """A mail inside that is refused has its line in the place of the lines of its files."""
     forwarded = b"Content-Type: message/rfc822\n\n"
     image = multipart(b"c", b"Content-Type: image/png\n\nimage")
-    (tmp_path / "mail").write_bytes(multipart(b"b", forwarded + b" x\n", forwarded + image, b"Content-Type: image/gif\n\nlast"))
-    ended = run([*command("extract"), "--into", tmp_path, tmp_path / "mail"])
+    many = b"".join(b"A: %d\n" % number for number in range(9))
+    (tmp_path / "mail").write_bytes(multipart(b"b", forwarded + many, forwarded + image, b"Content-Type: image/gif\n\nlast"))
+    ended = run([*command("extract"), "--into", tmp_path, "--max-items", "9", tmp_path / "mail"])
     lines = [json.loads(line) for line in ended.stdout.splitlines()]
     paths = [(line["path"], line["saved"] is None) for line in lines]
     assert (ended.returncode, paths) == (3, [("1", False), ("2", False), ("3", False), ("1", True), ("2.1", False)])
+
+
+HIDDEN = b"Content-Disposition: attachment; filename=a.exe\n\nMZ"
+FILE = ("2", "a.exe", b"MZ")
+# mails whose file a reader misses that takes a type by the letter, refuses a mail for one part, or cuts at lines that
+# only begin with a delimiter; the names and bytes of their files by hand (RFC 2045, sections 5.1 and 5.2; RFC 2046,
+# section 5.1.1; RFC 2231)
+TRICKS = {
+    "a comment after the boundary": (b'multipart/mixed; boundary="b" (x)', b"\nHi", HIDDEN, [FILE]),
+    "a comment before the type": (b"(x) multipart/mixed; boundary=b", b"\nHi", HIDDEN, [FILE]),
+    "no semicolon": (b"multipart/mixed boundary=b", b"\nHi", HIDDEN, [FILE]),
+    "no semicolon after quotes": (b'multipart/mixed; x="y"boundary=b', b"\nHi", HIDDEN, [FILE]),
+    "no closing quote": (b'multipart/mixed; boundary="b', b"\nHi", HIDDEN, [FILE]),
+    "an extended boundary": (b"multipart/mixed; boundary*=us-ascii''b", b"\nHi", HIDDEN, [FILE]),
+    "an extended boundary without a charset": (b"multipart/mixed; boundary*=b", b"\nHi", HIDDEN, [FILE]),
+    "an extended boundary in an unknown charset": (b"multipart/mixed; boundary*=x''b", b"\nHi", HIDDEN, [FILE]),
+    "a boundary in sections": (b'multipart/mixed; boundary*0="b"; boundary*1=""', b"\nHi", HIDDEN, [FILE]),
+    "a charset that is extended": (b"multipart/mixed; charset*=x'y'z; boundary=b", b"\nHi", HIDDEN, [FILE]),
+    "a line that begins with the delimiter": (b"multipart/mixed; boundary=b", b"\nHi\n--bc", HIDDEN, [FILE]),
+    "a boundary that begins another one": (
+        b"multipart/mixed; boundary=b", b"\nHi", b"Content-Type: multipart/mixed; boundary=bc\n\n--bc\n" + HIDDEN + b"\n--bc--",
+        [("2.1", "a.exe", b"MZ")],
+    ),
+    "a space before the headers of another part": (
+        b"multipart/mixed; boundary=b", b" A: b\n\nHi", HIDDEN, [("1", "unnamed.txt", b" A: b\n\nHi"), FILE],
+    ),
+    "a space before the headers of the file": (
+        b"multipart/mixed; boundary=b", b"\nHi", b" " + HIDDEN, [("2", "unnamed.txt", b" " + HIDDEN)],
+    ),
+    "a CR in the headers of the file": (
+        b"multipart/mixed; boundary=b", b"\nHi", HIDDEN.replace(b"\n\n", b"\n\r"),
+        [("2", "unnamed.txt", HIDDEN.replace(b"\n\n", b"\n\r"))],
+    ),
+}
+
+
+@pytest.mark.parametrize("name", TRICKS)
+def test_tricks(name, tmp_path):
+    """No trick hides a file from `extract` and `json`."""
+    ctype, first, second, files = TRICKS[name]
+    mail = b"Content-Type: " + ctype + b"\n\n" + b"".join(b"--b\n" + part + b"\n" for part in (first, second)) + b"--b--\n"
+    ended = run([*command("extract"), "--into", tmp_path], mail)
+    lines = [json.loads(line) for line in ended.stdout.splitlines()]
+    assert (ended.returncode, ended.stderr) == (0, b"")
+    assert [(line["path"], line["saved"], (tmp_path / line["saved"]).read_bytes()) for line in lines] == files
+    ended = run([*command("json"), "--hash"], mail)
+    parts = [part for part in json.loads(ended.stdout)["parts"] if part["extracted"]]
+    assert ended.returncode == 0
+    assert [(part["path"], part["sha256"]) for part in parts] == [(path, hashlib.sha256(body).hexdigest()) for path, _, body in files]
+    assert [part["file_name"] for part in parts] == [None if name == "unnamed.txt" else name for _, name, _ in files]
+    assert [part["refusal"] is not None for part in parts] == [name == "unnamed.txt" for _, name, _ in files]
 
 
 def test_lines_follow_their_files(tmp_path):
@@ -406,12 +458,12 @@ def test_stdout_damaged(tmp_path):
 
 def test_stdout_of_a_mailbox():
     """All mails of a mailbox are looked at: a file of another one is another file, and a refused mail is reported."""
-    one, none, refused = parted(), b"Subject: x\n\n", b" x\n"
+    one, none, refused = parted(), b"Subject: x\n\n", b"A: b\n" * 99
     for mails, status, body in (
         ((none, one, none), 0, b"jpeg"), ((one, one), 1, b""), ((none, none), 1, b""), ((refused, one), 3, b"jpeg"),
     ):
         mailbox = b"".join(FROM + mail + b"\n" for mail in mails)
-        ended = run([*command("extract"), "--stdout", "--only", "3"], mailbox)
+        ended = run([*command("extract"), "--stdout", "--only", "3", "--max-items", "99"], mailbox)
         assert (ended.returncode, ended.stdout) == (status, body), mails
         assert bool(ended.stderr) == bool(status), mails
 
@@ -419,9 +471,9 @@ def test_stdout_of_a_mailbox():
 def test_lines_are_escaped():
     """A line escapes what a line of JSON escapes: every control character, and the separators of lines and paragraphs."""
     label = "".join(map(chr, [*range(1, 32), 34, 92, *range(127, 161), 0x2028, 0x2029, 0x1F600]))
-    for data in (parted(), b" refused"):
-        ended = run([*command("extract"), "--label", label, "--only", "2", "--by-hash"], data, cwd="/proc")
-        other = run([*command("json"), "--label", label], data)
+    for data in (parted(), b"A: b\n" * 99):
+        ended = run([*command("extract"), "--label", label, "--only", "2", "--by-hash", "--max-items", "99"], data, cwd="/proc")
+        other = run([*command("json"), "--label", label, "--max-items", "99"], data)
         text = ended.stdout.decode()
         assert text.count("\n") == 1 and text.endswith("\n") and not any(c < " " or c == "\x7f" for c in text[:-1])
         assert not any(c in text for c in map(chr, [*range(128, 160), 0x2028, 0x2029]))

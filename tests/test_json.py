@@ -30,7 +30,7 @@ MEMBERS = ORIGIN + [
 ]
 PART_MEMBERS = [
     "path", "inside", "type", "charset", "params", "disposition", "file_name", "content_id", "attachment", "extracted",
-    "encoding", "start", "end", "size", "decoded_size", "error", "sha256", "report", "headers", "text", "html_text",
+    "encoding", "start", "end", "size", "refusal", "decoded_size", "error", "sha256", "report", "headers", "text", "html_text",
     "text_charset", "damaged",
 ]
 # texts in the charsets of several bytes
@@ -41,6 +41,7 @@ TEXTS = {
 OPTIONAL = {"date_zone_unknown", "date_error", "error", "text_charset", "damaged"}
 # what no text escapes: the replacement character, marks that turn the direction of writing, four bytes of UTF-8
 SHOWN = "a\ufffd\u200f\u202e\ufeff\U0001f600\U0010ffff/..z"
+MANY = "Too many parts and headers"
 SPACE = "Header cannot start with a space; it is likely an overhanging line from a previous header"
 HIDDEN = re.compile("[\x00-\x1f\x7f-\x9f\u2028\u2029]")
 
@@ -113,14 +114,13 @@ def compare(data, what):
 
 
 def test_samples():
-    """Compares the mails of samples/, but for parts.eml, whose line `--bX` is no delimiter for Python."""
-    names = set(os.listdir(os.path.join(TOP, "samples"))) - {"parts.eml"}
-    for name in sorted(names):
+    """Compares the mails of samples/."""
+    for name in sorted(os.listdir(os.path.join(TOP, "samples"))):
         with open(os.path.join(TOP, "samples", name), "rb") as file:
             compare(file.read(), name)
     with open(os.path.join(TOP, "samples", "parts.eml"), "rb") as file:
         parts = objects([], file.read(), 0, "parts.eml")[0]["parts"]
-    assert [(part["path"], part["text"]) for part in parts] == [("", None), ("1", "one"), ("2", "two")], "parts.eml"
+    assert [part["path"] for part in parts] == ["", "1"], "parts.eml, whose line `--bX` is no delimiter"
 
 
 def test_characters():
@@ -175,8 +175,11 @@ def test_faults():
     found = objects([], b"", 0, "no bytes")[0]
     assert (found["subject"], found["date"], found["references"]) == (None, None, []), "no bytes"
     assert found["parts"][0]["headers"] == [], "no bytes"
-    found = objects([], b" x", 3, "a refused mail")
-    assert [(value["start"], value["end"], value["error"]) for value in found] == [(0, 2, SPACE)], "a refused mail"
+    found = objects(["--max-items", "2"], b"A: b\nC: d\n\n", 3, "a refused mail")
+    assert [(value["start"], value["end"], value["error"]) for value in found] == [(0, 11, MANY)], "a refused mail"
+    found = objects([], b" x", 0, "a mail that is kept")[0]["parts"]
+    kept = [(part["path"], part["type"], part["refusal"], part["headers"], part["text"], part["extracted"]) for part in found]
+    assert kept == [("1", "text/plain", SPACE, [], " x", True)], "a mail that is kept"
     raw = b"From: =?utf-8?q?a=2C?=\n <a@b>\nTo: \xe9\nReply-To: c@d\nBcc: e@f\nSender: g@h\n\n"
     found = objects([], raw, 0, "raw values")[0]["raw"]
     wanted = {
@@ -209,7 +212,7 @@ def test_addresses():
 
 
 def test_forwarded():
-    """Mails inside mails: their parts, their ranges, and those that are encoded or refused."""
+    """Mails inside mails: their parts, their ranges, and those that are encoded or kept."""
     inner = b"Subject: in\nContent-Type: multipart/mixed; boundary=c\n\n--c\n\ntext\n--c\nContent-Disposition: attachment\n\nfile\n--c--\n"
     part = b"--b\nContent-Type: message/%b\nContent-Transfer-Encoding: %b\n\n%b\n"
     start = b"Content-Type: multipart/mixed; boundary=b\n\n"
@@ -217,13 +220,13 @@ def test_forwarded():
     data += part % (b"rfc822", b"7bit", b" x") + part % (b"rfc822", b"7bit", b"Subject: one\n\nbody") + b"--b--\n"
     found = objects([], FROM + data, 0, "mails inside")[0]
     at = [len(FROM) + data.index(mark) for mark in (b"Subject: in", b" x", b"Subject: one")]
-    wanted = [("1", at[0], None), ("2", None, None), ("3", at[1], SPACE), ("4", at[2], None)]
+    wanted = [("1", at[0], None), ("2", None, None), ("3", at[1], None), ("4", at[2], None)]
     assert [(mail["path"], mail["start"], mail["error"]) for mail in found["forwarded"]] == wanted, "mails inside"
-    paths = ["", "1", "2", "3", "4", "1.0", "1.1", "1.2", "2.0", "2.1", "2.2", "4.1"]
+    paths = ["", "1", "2", "3", "4", "1.0", "1.1", "1.2", "2.0", "2.1", "2.2", "3.1", "4.1"]
     assert [part_["path"] for part_ in found["parts"]] == paths, "parts of mails inside"
-    inside = [None] * 5 + ["1"] * 3 + ["2"] * 3 + ["4"]
+    inside = [None] * 5 + ["1"] * 3 + ["2"] * 3 + ["3", "4"]
     assert [part_["inside"] for part_ in found["parts"]] == inside, "what contains the mails inside"
-    for path, text, object_ in zip(paths[5:], [None, "text", None, None, "text", None, "body"], found["parts"][5:]):
+    for path, text, object_ in zip(paths[5:], [None, "text", None, None, "text", None, " x", "body"], found["parts"][5:]):
         assert (object_["text"], object_["attachment"]) == (text, path in ("1.2", "2.2")), f"a part of a mail inside, {path}"
         assert (object_["start"] is None) == path.startswith("2"), f"the range of a part of a mail inside, {path}"
     whole = found["parts"][5]
@@ -377,12 +380,12 @@ def test_extracted():
         (b"", False), (b"Content-Type: text", False), (b"Content-Type: text/html", False), (b"Content-Type: Text/Plain; charset=x", False),
         (b"Content-Type: text/html; name=a", True), (b"Content-Disposition: attachment", True), (b"Content-Disposition: inline", False),
         (b"Content-Disposition: inline; filename=a", True), (b"Content-Type: text/calendar", True), (b"Content-Type: image/png", True),
-        (b"Content-Type: message/rfc822", True), (b"Content-Type: message/delivery-status", True), (b"Content-Type: x", True),
+        (b"Content-Type: message/rfc822", True), (b"Content-Type: message/delivery-status", True), (b"Content-Type: x", False),
         (b"Content-Type: multipart/mixed; boundary=b", True), (b"Content-Type: multipart/mixed", True),
     ):
         part = objects([], head + b"\n\nx\n", 0, repr(head))[0]["parts"][0]
         assert part["extracted"] == wanted, repr(head)
-    samples = [path.read_bytes() for path in SAMPLES if path.name != "parts.eml"]
+    samples = [path.read_bytes() for path in SAMPLES]
     samples.append(multipart(b"whole", *(b"Content-Type: message/rfc822\n\n" + data for data in samples)))
     for data in samples:
         found = objects(["--hash"], data, 0, repr(data))[0]["parts"]
@@ -409,8 +412,8 @@ def test_no_text(hostile):
     damaged = head + b"Content-Transfer-Encoding: base64\n\nZm9v*\n--b\n" + report_part(b"delivery-status", STATUS) + b"--b--\n"
     inside = b"Content-Type: message/rfc822\nContent-Transfer-Encoding: base64\n\n" + base64.encodebytes(damaged)
     for data, status in (
-        (b"", 0), (b" x", 3), (damaged, 0), (inside, 0), (b"X-Failed-Recipients: a@b\n\n", 0),
-        (FROM + damaged + b"\n" + FROM + b" x\n\n" + FROM + inside, 3),
+        (b"", 0), (b" x", 0), (damaged, 0), (inside, 0), (b"X-Failed-Recipients: a@b\n\n", 0),
+        (FROM + damaged + b"\n" + FROM + b" x\n\n" + FROM + inside, 0),
     ):
         found = [list(value.items()) for value in objects(["--no-text"], data, status, repr(data))]
         assert found == [without_text(line) for line in run([], data).stdout.splitlines()], repr(data)
@@ -484,8 +487,10 @@ def test_levels():
     found = objects([], nested(100), 0, "100 levels")[0]["parts"]
     assert len(found) == 101, "100 levels"
     assert (found[-1]["path"], found[-1]["text"]) == (".".join(["1"] * 100), "end"), "100 levels"
-    found = objects([], nested(101), 3, "101 levels")
-    assert [value.get("error") for value in found] == ["Recursion limit reached"], "101 levels"
+    found = objects([], nested(101), 0, "101 levels")[0]["parts"]
+    assert len(found) == 102, "101 levels"
+    assert (found[-1]["refusal"], found[-1]["text"]) == ("Recursion limit reached", "\nend"), "101 levels"
+    assert [part["refusal"] for part in found[:-1]] == [None] * 101, "101 levels"
 
 
 def test_many():
@@ -506,10 +511,10 @@ def made(random_, end, path, levels):
         return raw, [(path, raw, 0)]
     boundary = b"b%d" % levels
     start = b"Content-Type: multipart/mixed; boundary=" + boundary + end + end
-    raw = start + random_.choice([b"", b"preamble" + end, end + b"--bx%b" % boundary + end])
+    raw = start + random_.choice([b"", b"preamble" + end, b"--%bx" % boundary + end, end + b"--bx%b" % boundary + end])
     places = []
     for number in range(1, random_.randrange(2, 5)):
-        raw += b"--" + boundary + random_.choice([b"", b" ", b"x"]) + end
+        raw += b"--" + boundary + random_.choice([b"", b" ", b"\t"]) + end
         part, inside = made(random_, end, f"{path}.{number}" if path else str(number), levels - 1)
         places += [(path_, raw_, len(raw) + at) for path_, raw_, at in inside]
         raw += part + end
@@ -564,7 +569,7 @@ def test_mailboxes():
         (FROM[:-1], 0, [None]),
         (FROM + b"\n" + FROM + b"Subject: 2\n", 0, [None, "2"]),
         (FROM + b"Subject: 1\n\nFrom the start I knew\n\n" + FROM + b"Subject: 2\n\n", 0, ["1", "2"]),
-        (FROM + b"Subject: 1\n\n>From x\n\n" + FROM + b" x\n\n" + FROM + b"Subject: 3\n\n", 3, ["1", SPACE, "3"]),
+        (FROM + b"Subject: 1\n\n>From x\n\n" + FROM + b" x\n\n" + FROM + b"Subject: 3\n\n", 0, ["1", None, "3"]),
         (b"\n\n" + FROM + b"Subject: 1\n\n", 0, ["1"]),
         (b"Subject: 1\n\none\n", 3, ["The mailbox does not begin with a separator"]),
     ):
@@ -625,7 +630,7 @@ def begin(data, line):
 
 
 def made_mailbox(random_):
-    """A mailbox of short mails, some of them refused or not separated, perhaps after other lines."""
+    """A mailbox of short mails, some of them without headers or not separated, perhaps after other lines."""
     end = random_.choice([b"\n", b"\r\n"])
     fronts = [b"", b"", b"", end, b"junk" + end, b"Subject: 1" + end + end + b"one" + end + end]
     data = random_.choice(fronts)

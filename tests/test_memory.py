@@ -29,7 +29,7 @@ REFUSED = {
     "part_with_space": b"Content-Type: multipart/mixed; boundary=b\n\n--b\n x\n--b\n\rz\n--b--\n",
 }
 MAILS = {path.stem: path.read_bytes() for path in SAMPLES} | REFUSED
-# two files of one name, one of them damaged; a refused mail; a file without a name; and forwarded mails
+# two files of one name, one of them damaged; a mail without headers that can be read; a file without a name; and forwarded mails
 FILES_OF_MAILS = (
     multipart(
         b"b", b"\nText\n", b'Content-Disposition: attachment; filename="../a.tar.gz"\n\none',

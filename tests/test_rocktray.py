@@ -280,8 +280,8 @@ def test_inputs_of_each(name, shows, tmp_path):
         assert all(f"rocktray: {top}/{number}.eml: the input is " in said for number in range(len(FOREIGN))), said
         assert f"{top}/caf\\xE9.eml: the name is not UTF-8" in said and f"{top}/lost.eml: No such file" in said
         assert ("1 subdirectory was skipped" in said) == (not recursive)
-    for data, status in ((mail % (b"a", b"b"), 0), (b" refused", 3)):
-        assert run(command(name), data, cwd=tmp_path).returncode == status
+    for data, status in ((mail % (b"a", b"b"), 0), (b"A: b\n" * 9, 3)):
+        assert run([*command(name), "--max-items", "9"], data, cwd=tmp_path).returncode == status
     assert run([*command(name), "no/such", f"{top}/b.eml"], cwd=tmp_path).returncode == 1
 
 

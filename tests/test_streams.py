@@ -88,8 +88,8 @@ def test_output(runner, redirection, arguments, why):
 def test_pipes(runner, tmp_path, count):
     """A pipe whose reader is gone before the first write, or after some bytes: nothing is reported, since scripts cut off
     output on purpose."""
-    refused = runner.name in ("extract", "show")
-    (tmp_path / "mail").write_bytes((FROM + b" x\n\n") * 4000 if refused else b"A: b\n" * 100_000)
+    is_boxed = runner.name in ("extract", "show")
+    (tmp_path / "mail").write_bytes((FROM + b" x\n\n") * 4000 if is_boxed else b"A: b\n" * 100_000)
     reader, writer = os.pipe()
     with open(tmp_path / "mail" if count else MAIL, "rb") as file:
         if not count:
@@ -112,7 +112,7 @@ def test_silent(runner, redirection):
 
 def test_silent_refusal(runner, tmp_path):
     """A refused mail, and standard error is full."""
-    (tmp_path / "refused").write_bytes(b" x")
+    (tmp_path / "refused").write_bytes(b" x" if runner.name == "mail_show" else b"A: b\n" * 1_000_000)
     assert runner.run("< refused 2> /dev/full") == (REFUSED[runner.name], "")
 
 

@@ -20,7 +20,7 @@ SPECIALS = re.compile(r'[()<>\[\]:;@\\,"]')
 DIRECTIONS = {"LRE", "RLE", "LRO", "RLO", "PDF", "LRI", "RLI", "FSI", "PDI"}
 # the marks, which have the class of a letter or a number
 MARKS = {"ARABIC LETTER MARK", "LEFT-TO-RIGHT MARK", "RIGHT-TO-LEFT MARK"}
-SPACE = "Header cannot start with a space; it is likely an overhanging line from a previous header"
+MANY = "Too many parts and headers"
 
 
 def is_hidden(character):
@@ -98,7 +98,7 @@ def is_safe(output):
     return not any(is_hidden(c) for line in lines for c in line) and all(not it or it.startswith(PREFIXES) for it in lines)
 
 
-@pytest.mark.parametrize("path", [path for path in SAMPLES if path.stem not in ("bounce", "digest", "parts")], ids=lambda it: it.stem)
+@pytest.mark.parametrize("path", [path for path in SAMPLES if path.stem not in ("bounce", "digest")], ids=lambda it: it.stem)
 def test_samples(path):
     """Each sample that Python reads as this project does: it enters forwarded mails and keeps text around parts."""
     assert show(path) == (0, view(path.read_bytes()))
@@ -168,14 +168,19 @@ def test_empty_text():
 
 def test_refused():
     """Why a mail is refused is in the output, and the status says so."""
-    assert show("-", data=b" x") == (3, f"Refused:  {SPACE}\n")
+    assert show("--max-items", "1", "-", data=b"A: b\n\n") == (3, f"Refused:  {MANY}\n")
+
+
+def test_headers_not_read():
+    """The line of a part whose headers could not be read says so."""
+    assert show("-", data=b" x") == (0, f"\n   x\n\nPart:     1     {'text/plain':24}  2 bytes, headers not read\n")
 
 
 def test_mailbox():
     """The mails of a mailbox, each after its number; one that is refused is reported."""
     one = b"Subject: one\n\n-- mail 3 --\n"
-    status, output = show("-", data=FROM + one + b"\n" + FROM + b" x\n")
-    assert (status, output) == (3, f"-- mail 1 --\n{view(one)}\n-- mail 2 --\nRefused:  {SPACE}\n\n")
+    status, output = show("--max-items", "2", "-", data=FROM + one + b"\n" + FROM + b"A: b\nC: d\n")
+    assert (status, output) == (3, f"-- mail 1 --\n{view(one)}\n-- mail 2 --\nRefused:  {MANY}\n\n")
 
 
 def test_files(tmp_path):

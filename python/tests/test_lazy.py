@@ -28,7 +28,7 @@ def part_of_json(part):
         "path": part.path, "inside": part.inside, "type": part.content_type, "charset": part.charset, "params": part.params,
         "disposition": part.disposition, "file_name": part.file_name, "content_id": part.content_id,
         "attachment": part.is_attachment, "extracted": part.is_extracted, "encoding": part.encoding, "start": part.start,
-        "end": part.end, "size": part.size, "decoded_size": part.decoded_size, "sha256": None,
+        "end": part.end, "size": part.size, "refusal": part.refusal, "decoded_size": part.decoded_size, "sha256": None,
         "report": part.report and [[list(pair) for pair in block] for block in part.report],
         "headers": [[header.name, header.value] for header in part.headers], "text": part.text, "html_text": None,
     }  # fmt: skip

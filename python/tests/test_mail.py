@@ -81,7 +81,8 @@ def test_text_of_html():
     assert (rocktray.parse(empty).text.strip(), rocktray.parse(empty).text_or_html()) == ("", "café &\nb")
     assert rocktray.parse(b"Content-Type: image/png\n\n<p>").text_or_html() is None
     with pytest.raises(rocktray.Refused):
-        rocktray.Mail(b" x").text_or_html()
+        rocktray.Mail(b"A: b\n\n", limit=1).text_or_html()
+    assert rocktray.Mail(b" x").text_or_html() == " x"
 
 
 def test_forwarded():
@@ -135,15 +136,24 @@ def test_empty_mail():
 
 
 def test_refusals():
-    with pytest.raises(rocktray.Refused, match="lone CR") as caught:
-        rocktray.parse(b"A: b\n\rx")
-    assert caught.value.number == 17
-    with pytest.raises(rocktray.Refused, match="Recursion limit reached"):
-        rocktray.parse(b"".join(b"Content-Type: multipart/mixed; boundary=b%03d\n\n--b%03d\n" % (i, i) for i in range(101)))
+    with pytest.raises(rocktray.Refused, match="Too many") as caught:
+        rocktray.parse(b"A: b\n\n", limit=1)
+    assert caught.value.number == 22
     mail = rocktray.parse(b"Content-Type: application/x\nContent-Transfer-Encoding: base64\n\nZm9v*mFy")
     with pytest.raises(rocktray.Refused, match="Base64 decode error: group 1 is no Base64 group"):
         next(mail.walk()).content
     assert isinstance(caught.value, ValueError)
+
+
+def test_kept_parts():
+    """A part whose headers cannot be read, and one that is too deep, is plain text without headers."""
+    mail = rocktray.parse(b"A: b\n\rx")
+    part = next(mail.walk())
+    assert "lone CR" in part.refusal and (part.content_type, part.text, part.headers) == ("text/plain", "A: b\n\rx", [])
+    assert (mail.message_id, mail.references, mail.header("a"), rocktray.Mail(mail.raw).header("a")) == (None, [], None, None)
+    deep = b"".join(b"Content-Type: multipart/mixed; boundary=b%03d\n\n--b%03d\n" % (i, i) for i in range(101))
+    parts = list(rocktray.parse(deep + b"end").walk())
+    assert [part.refusal for part in parts] == [None] * 101 + ["Recursion limit reached"] and parts[-1].text == "end"
 
 
 def test_to_email(samples):
@@ -171,13 +181,12 @@ def test_pickling(samples):
 
 
 def test_hostile_mails(hostile):
-    refused = 0
+    kept = 0
     for raw in hostile:
-        try:
-            read_all(rocktray.parse(raw))
-        except rocktray.Refused:
-            refused += 1
-    assert 0 < refused < len(hostile)
+        mail = rocktray.parse(raw)
+        read_all(mail)
+        kept += any(part.refusal for part in mail.walk())
+    assert 0 < kept < len(hostile)
 
 
 def test_threads(hostile):
@@ -224,10 +233,10 @@ def test_memory(samples):
 def test_mailbox_continues_after_a_refusal(tmp_path):
     path = tmp_path / "box"
     line = b"From a Fri Jul  8 12:08:34 2011\n"
-    path.write_bytes(line + b" refused\n\n" + line + b"Subject: 2\n\n")
-    with rocktray.open_mailbox(path) as mails:
+    path.write_bytes(line + b"A: 1\nB: 2\n\n" + line + b"Subject: 2\n\n")
+    with rocktray.open_mailbox(path, limit=2) as mails:
         first, second = mails
-    assert "cannot start with a space" in first.error
+    assert first.error == "Too many parts and headers"
     with pytest.raises(rocktray.Refused):
         first.subject
     assert second.error is None and second.subject == "2"

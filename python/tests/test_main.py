@@ -33,7 +33,7 @@ def test_mailbox(tmp_path):
 def test_refused_and_missing(tmp_path):
     """The next file is read all the same."""
     refused, good = tmp_path / "refused.eml", tmp_path / "good.eml"
-    refused.write_bytes(b" x\n\n")
+    refused.write_bytes(b"A:\n" * 1_000_000)
     good.write_bytes(b"Subject: Hi\n\n")
     lines, errors, status = run(refused, good)
     assert (list(lines[0]), lines[1]["subject"], errors, status) == (["error"], "Hi", "", 3)

@@ -83,18 +83,18 @@ def test_what_a_user_changes():
 def test_refused_mails_of_a_mailbox(tmp_path):
     """The loop of the page goes on, and an error names the mail."""
     line = b"From a Fri Jul  8 12:08:34 2011\n"
-    (tmp_path / "box").write_bytes(line + b"Subject: 1\n\n" + line + b" refused\n\n" + line + b"Subject: 3\n\n")
+    (tmp_path / "box").write_bytes(line + b"Subject: 1\n\n" + line + b"A: 1\nB: 2\n\n" + line + b"Subject: 3\n\n")
     read, refused = [], []
-    for mail in rocktray.open_mailbox(tmp_path / "box"):
+    for mail in rocktray.open_mailbox(tmp_path / "box", limit=2):
         if mail.error:
             refused.append(mail)
             continue
         read.append(mail.subject)
     assert (read, len(refused)) == (["1", "3"], 1)
-    with pytest.raises(rocktray.Refused, match=r"space.* \(the mail at 76 of its mailbox\)") as caught:
+    with pytest.raises(rocktray.Refused, match=r"Too many.* \(the mail at 76 of its mailbox\)") as caught:
         refused[0].subject
     again = pickle.loads(pickle.dumps(caught.value))
-    assert (again.place, again.number, str(again), again.text) == ((76, 85), 16, str(caught.value), refused[0].error)
+    assert (again.place, again.number, str(again), again.text) == ((76, 86), 22, str(caught.value), refused[0].error)
 
 
 def test_mails_too_deep_have_a_header():
