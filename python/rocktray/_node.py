@@ -14,8 +14,6 @@ if TYPE_CHECKING:
 IDENTITIES = (0, 1, 2)
 ENCODINGS = ("7bit", "8bit", "binary", "quoted-printable", "base64")
 IS_LEAF, IS_ATTACHMENT, IS_EXTRACTED, IS_TEXT, IS_MAIL = 1, 2, 4, 8, 16
-# the index of the number of headers in a record
-HEADER_COUNT = 7
 # how many mails may be inside one another, and the most numbers in the path of a part whose mail is read
 LEVELS = 100
 
