@@ -2,6 +2,7 @@ pub mod Addresses
 pub mod Input
 pub mod Line
 pub mod Names
+pub mod Report
 pub mod Row
 pub mod View
 pub mod Visible

@@ -6,7 +6,7 @@ use Rattle.mail_address.specs.Tokens.{delete}
 use Rattle.mail_codec.specs.Ascii.{line_feed, space}
 use Rattle.mail_view.specs.Visible.{is_hidden, visible}
 use Rattle.mail_view.specs.declared.line.Prefix.{Prefix}
-use Rattle.mail_view.specs.declared.line.Prefix.TheVariants.{Title, Refused, From, ReplyTo, To, Cc, Date, Subject, Text, Part}
+use Rattle.mail_view.specs.declared.line.Prefix.TheVariants.{Title, Refused, From, ReplyTo, To, Cc, Date, Subject, Text, Part, Found, Before, Bytes, After}
 
 -- the fixed text at the front of a line
 abbrev pub prefix_text : Prefix → List ℕ
@@ -20,6 +20,10 @@ prefix_text Date = codes "Date:     "
 prefix_text Subject = codes "Subject:  "
 prefix_text Text = codes "  "
 prefix_text Part = codes "Part:     "
+prefix_text Found = codes "Found:    "
+prefix_text Before = codes "Before:   "
+prefix_text Bytes = codes "Bytes:    "
+prefix_text After = codes "After:    "
 
 -- a line: an empty one, or a text after a prefix
 pub data Line : Type 0 where

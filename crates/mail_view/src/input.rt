@@ -9,6 +9,7 @@ ghost use Rattle.mail_view.specs.Input.{WritesWith, front_lines, front_outcome};
 ghost use Rattle.mail_view.specs.Input.{mailbox_lines, mailbox_outcome, mails_lines, mails_outcome};
 ghost use Rattle.mail_view.specs.Input.{single_lines, single_outcome, title};
 ghost use Rattle.mail_view.specs.Line.{empty, line, line_text, lines_text};
+ghost use Rattle.mail_view.specs.declared.line.Prefix.TheVariants.{Refused};
 
 use crate::line::{Prefix, push_line};
 use crate::view::write_view;
@@ -46,6 +47,31 @@ pub fn write_title<W: Write>(alloc: Global, out: &mut W, name: &str) -> Result<(
     let mut text = String::from_str(alloc, name)?;
     text.push_str(" --")?;
     write_line(alloc, out, Prefix::Title, text.as_str())
+}
+
+/// Writes a line that says why a mail is refused.
+///
+/// Allocates the line.
+///
+/// # Errors
+///
+/// `Fault::Output` if a write fails, and `Fault::Mail` with `MailParseError::Memory` if it runs out
+/// of memory.
+///
+/// # Examples
+///
+/// ```rust
+/// use mail_view::write_refusal;
+///
+/// let mut out = Vec::new(alloc);
+/// write_refusal(alloc, &mut out, "no header")?;
+/// assert_eq!(rt; str::from_utf8(out.as_slice())?, "Refused:  no header\n");
+/// ```
+pub fn write_refusal<W: Write>(alloc: Global, out: &mut W, reason: &str) -> Result<(), Fault>
+    ensures { Writes (W.contents out.old) (W.contents out.new) result
+        (line_text (line Refused reason.now)) }
+{
+    write_line(alloc, out, Prefix::Refused, reason)
 }
 
 /// Writes an input that is one mail, as `view_of` returns it, or a line that says why it is
@@ -98,7 +124,7 @@ pub fn write_single<W: Write, K: KnownCharsets>(
             let Some(reason) = refusal_of(alloc, &error)? else {
                 return Err(Fault::Mail(error));
             };
-            write_line(alloc, out, Prefix::Refused, reason.as_str())?;
+            write_refusal(alloc, out, reason.as_str())?;
             Ok(Outcome::Refused)
         }
     }
@@ -160,7 +186,7 @@ fn write_front<W: Write>(alloc: Global, out: &mut W, front: &[u8]) -> Result<Out
         return Ok(Outcome::Clean);
     }
     let reason = "The mailbox does not begin with a separator";
-    write_line(alloc, out, Prefix::Refused, reason)?;
+    write_refusal(alloc, out, reason)?;
     write_empty_line(out)?;
     Ok(Outcome::Refused)
 }

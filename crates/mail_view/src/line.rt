@@ -28,6 +28,14 @@ pub enum Prefix {
     Text,
     /// Before the description of a part.
     Part,
+    /// Before the name of a finding.
+    Found,
+    /// Before the bytes before a finding.
+    Before,
+    /// Before the bytes of a finding.
+    Bytes,
+    /// Before the bytes after a finding.
+    After,
 }
 
 /// Returns the text of a prefix.
@@ -45,6 +53,10 @@ fn prefix_text(prefix: Prefix) -> &'static str
         Prefix::Subject => "Subject:  ",
         Prefix::Text => "  ",
         Prefix::Part => "Part:     ",
+        Prefix::Found => "Found:    ",
+        Prefix::Before => "Before:   ",
+        Prefix::Bytes => "Bytes:    ",
+        Prefix::After => "After:    ",
     }
 }
 

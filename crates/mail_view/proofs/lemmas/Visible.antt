@@ -9,7 +9,7 @@ use Rattle.std.specs.Str.{chars, encode_utf8_all}
 use Rattle.mail_view.specs.Visible.{is_hidden, shown_character, visible}
 use Rattle.mail_view.specs.Line.{Line, empty, line, IsShown, AreSafeLines, BeginsFixed, line_content, line_text, lines_text, prefix_text}
 use Rattle.mail_view.specs.declared.line.Prefix.{Prefix}
-use Rattle.mail_view.specs.declared.line.Prefix.TheVariants.{Title, Refused, From, ReplyTo, To, Cc, Date, Subject, Text, Part}
+use Rattle.mail_view.specs.declared.line.Prefix.TheVariants.{Title, Refused, From, ReplyTo, To, Cc, Date, Subject, Text, Part, Found, Before, Bytes, After}
 
 encode_append : (cs ds : List ℕ) → encode_utf8_all (cs ++ ds) ≡ encode_utf8_all cs ++ encode_utf8_all ds
 encode_append [] ds = refl
@@ -67,6 +67,10 @@ prefix_shown Date = (prefix_text Date, refl, refl)
 prefix_shown Subject = (prefix_text Subject, refl, refl)
 prefix_shown Text = (prefix_text Text, refl, refl)
 prefix_shown Part = (prefix_text Part, refl, refl)
+prefix_shown Found = (prefix_text Found, refl, refl)
+prefix_shown Before = (prefix_text Before, refl, refl)
+prefix_shown Bytes = (prefix_text Bytes, refl, refl)
+prefix_shown After = (prefix_text After, refl, refl)
 
 content_safe : (l : Line) → IsShown (line_content l) × BeginsFixed (line_content l)
 content_safe empty = (shown_nil, inl refl)
