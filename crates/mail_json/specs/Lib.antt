@@ -20,4 +20,5 @@ pub mod Range
 pub mod Values
 pub mod WithoutText
 pub mod Reports
+pub mod FindingsLine
 pub mod DecodedViews

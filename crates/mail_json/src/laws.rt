@@ -8,7 +8,9 @@ ghost use Rattle.mail_codec.specs.Places.{values_below};
 ghost use Rattle.mail_data.specs.declared.mailbox.formats.Format.{Format};
 ghost use Rattle.mailparse.specs.Mail.{Tree};
 ghost use Rattle.mailparse.specs.Refusal.{Reads};
+ghost use Rattle.mail_check.specs.Findings.{Finding};
 ghost use Rattle.mail_json.specs.FileLine.{FileLine, file_line_value};
+ghost use Rattle.mail_json.specs.FindingsLine.{findings_value};
 ghost use Rattle.mail_json.specs.JsonText.{character_text, json_text};
 ghost use Rattle.mail_data.specs.MailboxOffsets.{IsThere};
 ghost use Rattle.mail_data.specs.MailboxParts.{Placed};
@@ -33,7 +35,8 @@ pub fn strings_are_characters()
 /// `json` reads the text before the LF as a value in which no object has a key twice. No other byte
 /// of the line is a control: it is neither below the space nor DEL. For the line of a mail, or of
 /// its refusal, the value is what `IsLineValue` gives, for that of an input that could not be read
-/// it is `unread_value`, and for that of a file `file_line_value`.
+/// it is `unread_value`, for that of a file `file_line_value`, and for that of the findings of a mail
+/// `findings_value`.
 pub fn lines_are_json()
     ensures line { (options : Options) (origin : Origin) (mail : Reads Tree) (is_clean : Bool)
         (text : List ℕ) → IsLineOf options origin mail is_clean text →
@@ -51,6 +54,9 @@ pub fn lines_are_json()
     ensures file { (line : FileLine) → (object : List ℕ)
         × IsJsonLine (file_line_value line) object
         × (line_of (file_line_value line) ≡ object ++ codes "\n") }
+    ensures findings { (origin : Origin) (findings : List Finding) → (object : List ℕ)
+        × IsJsonLine (findings_value origin findings) object
+        × (line_of (findings_value origin findings) ≡ object ++ codes "\n") }
 {}
 
 /// If bodies are not decoded, the line of a mail is its whole line without what needs that.

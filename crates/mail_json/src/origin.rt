@@ -48,12 +48,28 @@ fn write_file<W: Write>(out: &mut W, file: Option<&str>) -> Result<(), Fault>
     Ok(())
 }
 
-/// Writes the line of an error.
-pub(crate) fn write_error<W: Write>(
-    out: &mut W,
-    origin: &Origin<'_>,
-    error: &str,
-) -> Result<(), Fault>
+/// Writes the line of a mail that is refused. Does not allocate.
+///
+/// # Errors
+///
+/// `Fault::Output` if a write fails.
+///
+/// # Examples
+///
+/// ```rust
+/// use mail_json::{Origin, write_error};
+///
+/// let origin = Origin {
+///     file: Some("in.eml"),
+///     number: None,
+///     start: 0,
+///     end: 8,
+/// };
+/// let mut out = Vec::new(alloc);
+/// write_error(&mut out, &origin, "no header")?;
+/// assert!(rt; out.as_slice().ends_with(b"\"start\":0,\"end\":8,\"error\":\"no header\"}\n"));
+/// ```
+pub fn write_error<W: Write>(out: &mut W, origin: &Origin<'_>, error: &str) -> Result<(), Fault>
     ensures { Writes (W.contents out.old) (W.contents out.new) result
         (line_of (error_value (origin_of origin.now) error.now)) }
 {

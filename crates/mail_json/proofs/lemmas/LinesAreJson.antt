@@ -30,7 +30,9 @@ use Rattle.mail_address.specs.Addresses.{Element, single, group}
 use Rattle.mail_address.specs.Headers.{addresses_of}
 use Rattle.mail_address.specs.Mailbox.{Parts}
 use Rattle.mail_json.specs.Fields.{value_of}
+use Rattle.mail_check.specs.Findings.{Finding}
 use Rattle.mail_json.specs.FileLine.{FileLine, file_line_value}
+use Rattle.mail_json.specs.FindingsLine.{finding_value, findings_value}
 use Rattle.mail_data.specs.InnerMails.{InnerMail}
 use Rattle.mail_json.specs.Selection.{AreChosenOf, OnlyIf}
 use Rattle.mail_json.specs.JsonLines.{AreLines, AreMailboxLines, IsFront, IsLineOf, format_of, is_mailbox, origin_at}
@@ -260,6 +262,16 @@ pub file_is_json : (line : FileLine) → (object : List ℕ) × IsJsonLine (file
 file_is_json line =
     let good : IsGood 1 (file_line_value line) = named_good refl (optional_good 0 line.file, (number_or_null_good 0 line.number, (optional_good 0 line.path, (optional_good 0 line.saved, (number_or_null_good 0 line.size, (optional_good 0 line.sha256, (optional_good 0 line.error, tt))))))) in
     (text_of (file_line_value line), json_line 1 (file_line_value line) (omega arith) good, refl)
+
+finding_good : (d : ℕ) (finding : Finding) → IsGood (suc d) (finding_value finding)
+finding_good d finding = named_good refl (string_good d _, (string_good d _, (string_good d _, (number_good d _, (number_good d _, (string_good d _, tt))))))
+
+pub findings_are_json : (origin : Origin) (findings : List Finding)
+    → (object : List ℕ) × IsJsonLine (findings_value origin findings) object × (line_of (findings_value origin findings) ≡ object ++ codes "\n")
+findings_are_json origin findings =
+    let good : IsGood 3 (findings_value origin findings) =
+    named_good refl (number_good 2 5, (optional_good 2 origin.file, (number_or_null_good 2 origin.number, (number_good 2 origin.start, (number_good 2 origin.end, (mapped_good 1 finding_value (finding_good 0) findings, tt)))))) in
+    (text_of (findings_value origin findings), json_line 3 (findings_value origin findings) (omega arith) good, refl)
 
 pub unread_is_json : (file : Option (List ℕ)) (text : List ℕ)
     → (object : List ℕ) × IsJsonLine (unread_value file text) object × (line_of (unread_value file text) ≡ object ++ codes "\n")
