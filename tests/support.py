@@ -11,7 +11,7 @@ import pytest
 
 TOP = Path(__file__).resolve().parent.parent
 SAMPLES = sorted((TOP / "samples").glob("*.eml"))
-SUBCOMMANDS = ("extract", "json", "show")
+SUBCOMMANDS = ("check", "extract", "json", "show")
 FROM = b"From a@b Thu Jan  1 00:00:00 1970\n"
 sys.path[:0] = [str(TOP / "oracle"), str(TOP / "bench"), str(TOP / "tools")]
 

@@ -18,7 +18,7 @@ import zipfile
 
 import pytest
 
-from support import FROM, LOGIC, SAMPLES, TOP, VERSION, command, multipart, program, run, text_of
+from support import FROM, LOGIC, SAMPLES, SUBCOMMANDS, TOP, VERSION, command, multipart, program, run, text_of
 
 MAIL = b"Subject: %b\n\none\n"
 HELP = "For more information, try '--help'."
@@ -72,6 +72,8 @@ def refused(arguments, *wanted, data=b""):
     (["json", "--max-items", "0", "a"], ("invalid value '0' for '--max-items <N>'",)),
     (["show", "--max-items=-1", "a"], ("invalid value '-1' for '--max-items <N>'",)),
     (["extract", "--max-items", "many", "a"], ("invalid value 'many' for '--max-items <N>'",)),
+    (["check", "--class", "text", "a"], ("invalid value 'text' for '--class <CLASS>'", "structure, bytes, name, note")),
+    (["check", "--quiet", "--json", "a"], ("'--quiet' cannot be used with '--json'",)),
     (["json", ""], ("INPUT",)),
     (["json", "--x\x1b[2J\x9b\nforged"], ("unexpected argument",)),
 ])
@@ -329,5 +331,5 @@ def test_max_items_by_default():
 def test_statuses():
     """The help of each subcommand has the statuses of that of the program."""
     table = text_of("docs/usage.txt").split("Exit status:")[1]
-    for name in ("json", "show", "extract"):
+    for name in SUBCOMMANDS:
         assert run([program("rocktray"), name, "--help"]).stdout.decode().endswith(f"Exit status:{table}"), name

@@ -21,9 +21,9 @@ MISSING = "No such file or directory (os error 2)"
 FULL = "No space left on device (os error 28)"
 LARGE = "File too large (os error 27)"
 MAIL = TOP / "samples" / "attachment.eml"
-PROGRAMS = ("mail_show", "json", "extract", "show")
+PROGRAMS = ("mail_show", "json", "extract", "show", "check")
 # the exit status of a refused mail
-REFUSED = {"mail_show": 1, "json": 3, "extract": 3, "show": 3}
+REFUSED = {"mail_show": 1, "json": 3, "extract": 3, "show": 3, "check": 3}
 
 
 class Runner:
@@ -36,7 +36,7 @@ class Runner:
         self.input = "standard input" if name in SUBCOMMANDS else "input failed"
         if name == "extract":
             self.command += ["--into", str(self.into())]
-        if name == "show":
+        if name in ("show", "check"):
             self.command.append("-")
 
     def into(self):
@@ -88,7 +88,7 @@ def test_output(runner, redirection, arguments, why):
 def test_pipes(runner, tmp_path, count):
     """A pipe whose reader is gone before the first write, or after some bytes: nothing is reported, since scripts cut off
     output on purpose."""
-    is_boxed = runner.name in ("extract", "show")
+    is_boxed = runner.name in ("extract", "show", "check")
     (tmp_path / "mail").write_bytes((FROM + b" x\n\n") * 4000 if is_boxed else b"A: b\n" * 100_000)
     reader, writer = os.pipe()
     with open(tmp_path / "mail" if count else MAIL, "rb") as file:

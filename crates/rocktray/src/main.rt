@@ -1,6 +1,7 @@
 //! Reads mails: `rocktray SUBCOMMAND [OPTION..] [INPUT..]`.
 #![tactic(auto)]
 
+mod check;
 mod extract;
 mod inputs;
 mod json;
@@ -14,7 +15,7 @@ use clap::{ArgMatches, Error};
 use inputs::names_of;
 use mail_inputs::{PROGRAM, arguments, shown};
 use mail_program::{Fault, status_of};
-use options::{EXTRACT, JSON, SHOW, command};
+use options::{CHECK, EXTRACT, JSON, SHOW, command};
 use release::{COMMIT, LOGIC};
 use std::alloc::{AllocError, Global};
 use std::env::Env;
@@ -69,6 +70,7 @@ fn run<'a>(
         JSON => json::run(rt, matches, names.as_slice(), terminals),
         SHOW => show::run(rt, matches, names.as_slice()),
         EXTRACT => extract::run(rt, matches, names.as_slice()),
+        CHECK => check::run(rt, matches, names.as_slice()),
         _ => Ok(ExitCode::from(2)),
     }
 }

@@ -6,6 +6,9 @@ use mail_inputs::PROGRAM;
 use mail_version::VERSION;
 use std::alloc::{AllocError, Global};
 
+/// The subcommand that reports where programs may read a mail differently.
+pub const CHECK: &str = "check";
+
 /// The subcommand that saves files.
 pub const EXTRACT: &str = "extract";
 
@@ -19,6 +22,8 @@ pub const SHOW: &str = "show";
 pub mod ids {
     pub const BY_HASH: &str = "by-hash";
 
+    pub const CLASS: &str = "class";
+
     pub const FLOWED: &str = "flowed";
 
     pub const HASH: &str = "hash";
@@ -28,6 +33,8 @@ pub mod ids {
     pub const INPUTS: &str = "inputs";
 
     pub const INTO: &str = "into";
+
+    pub const JSON: &str = "json";
 
     pub const LABEL: &str = "label";
 
@@ -47,6 +54,8 @@ pub mod ids {
 
     pub const PROGRESS: &str = "progress";
 
+    pub const QUIET: &str = "quiet";
+
     pub const RECURSIVE: &str = "recursive";
 
     pub const STDOUT: &str = "stdout";
@@ -59,6 +68,9 @@ pub mod ids {
 /// The formats of mailboxes that `--mbox` names: mboxo, mboxrd, and mboxcl or mboxcl2.
 pub const FORMATS: [&str; 3] = ["o", "rd", "cl"];
 
+/// The classes of findings.
+const CLASSES: [&str; 4] = ["structure", "bytes", "name", "note"];
+
 /// The end of a help: a text, and then the exit statuses of all subcommands.
 macro_rules! with_statuses {
     ($text:literal) => {
@@ -69,7 +81,7 @@ Exit status:
   0  all was read, and written or saved
   1  something could not be read, written or saved
   2  the arguments are wrong
-  3  mails were refused, or files were damaged"
+  3  mails were refused, files were damaged, or something was found"
         )
     };
 }
@@ -136,6 +148,26 @@ error has the lines of the files if anything is wrong.
 "
 );
 
+/// The end of the help of the subcommand `check`.
+const AFTER_CHECK: &str = with_statuses!(
+    "\
+Without an INPUT, and for `-`, standard input is read. Of a directory each file is read, or the
+mails of a Maildir. After `--` no argument is an option.
+
+An input that begins with a separator of a mailbox is a mailbox, any other is one mail, unless an
+option says which it is. --mbox=rd is the mboxrd format, whose quoted lines lose a `>`, and
+--mbox=cl the mboxcl or mboxcl2 format, with Content-Length.
+
+Of each finding its name, its class, its part and its bytes in the mail are written, and a sentence
+that says what programs read. Bytes that are no printable ASCII are escaped. A mail without a
+finding has no text, and with --json a line whose list is empty. Mails inside a mail are not read.
+
+The class structure says that programs may find other parts, bytes that they may decode others, and
+name that they may read another file name, sender or subject. A note is a risk without that.
+
+"
+);
+
 /// Returns the command line of the program.
 ///
 /// # Errors
@@ -153,7 +185,8 @@ pub fn command<'a>(alloc: Global) -> Result<Command<'a>, AllocError> {
         .arg_required_else_help(true)
         .subcommand(json(alloc)?)?
         .subcommand(show(alloc)?)?
-        .subcommand(extract(alloc)?)
+        .subcommand(extract(alloc)?)?
+        .subcommand(check(alloc)?)
 }
 
 /// Returns the command line of the subcommand `json`.
@@ -216,6 +249,40 @@ fn extract<'a>(alloc: Global) -> Result<Command<'a>, AllocError> {
         ))?
         .arg(windows_names(alloc)?)?;
     choosing(alloc, command)
+}
+
+/// Returns the command line of the subcommand `check`.
+fn check<'a>(alloc: Global) -> Result<Command<'a>, AllocError> {
+    let command = Command::new(alloc, CHECK)
+        .display_name("rocktray check")?
+        .about("Reports where other programs may read a mail differently")
+        .after_help(AFTER_CHECK);
+    reading(alloc, command)?
+        .arg(class(alloc))?
+        .arg(flag(alloc, ids::JSON, "Write a line of JSON for each mail"))?
+        .arg(quiet(alloc)?)
+}
+
+/// Returns the option that says which findings are reported.
+fn class<'a>(alloc: Global) -> Arg<'a> {
+    value(
+        alloc,
+        ids::CLASS,
+        "CLASS",
+        "Report only the findings of this class; may be given several times",
+    )
+    .action(ArgAction::Append)
+    .value_parser(CLASSES.as_slice())
+}
+
+/// Returns the option that writes nothing.
+fn quiet<'a>(alloc: Global) -> Result<Arg<'a>, AllocError> {
+    flag(
+        alloc,
+        ids::QUIET,
+        "Write nothing: the exit status says whether something was found",
+    )
+    .conflicts_with(ids::JSON)
 }
 
 /// Adds the options that say which files are saved.

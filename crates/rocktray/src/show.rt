@@ -15,7 +15,7 @@ use std::rt::Files;
 
 /// Whether each file has its name before it.
 #[derive(Clone, Copy, Debug, PartialEq, Eq)]
-enum Titles {
+pub enum Titles {
     /// None has it.
     Omitted,
     /// Each has it.
@@ -93,7 +93,7 @@ pub fn run<'a, R: Files + Input + Print + Eprint + AllocGlobal>(
 }
 
 /// Returns whether each file has its name before it: if several inputs are named, or a directory.
-fn titles_of(rt: &impl Files, names: &[Name<'_>]) -> Titles {
+pub fn titles_of(rt: &impl Files, names: &[Name<'_>]) -> Titles {
     match names {
         [] => Titles::Omitted,
         [Name::Path(path)] if is_directory(rt, path) => Titles::Written,

@@ -1,0 +1,279 @@
+//! The subcommand that reports where programs may read a mail differently.
+
+use crate::inputs::{inputs_of, kind_of, known_kind, limit_of};
+use crate::options::ids;
+use crate::show::{Titles, titles_of};
+use clap::ArgMatches;
+use mail_charsets::AllCharsets;
+use mail_check::{Finding, findings};
+use mail_data::mailbox::quoted::unquoted;
+use mail_data::mailbox::{Format, MailboxEntry, read_mailbox};
+use mail_inputs::{Consumer, Content, Name, read_inputs};
+use mail_json::{InputKind, Origin, is_mailbox, write_error, write_findings, write_unread};
+use mail_program::{Fault, Outcome, is_all_whitespace, read_input, refusal_of};
+use mail_view::{write_refusal, write_report, write_title};
+use mailparse::{MAX_LEVELS, Strict, parse_mail_within};
+use std::alloc::{AllocError, Global};
+use std::io::{self, BufWriter, Read, Write};
+use std::process::ExitCode;
+use std::rt::Files;
+
+/// What is written of a mail.
+#[derive(Clone, Copy, Debug, PartialEq, Eq)]
+enum Form {
+    /// Its findings as text, if it has any.
+    Text,
+    /// A line of JSON.
+    Json,
+    /// Nothing.
+    Silent,
+}
+
+/// Reports what is found in the mails of inputs.
+#[derive(Drop)]
+struct Check<'c, W> {
+    out: W,
+    kind: InputKind,
+    /// The greatest number of messages, parts and headers in a mail that is not refused.
+    limit: usize,
+    form: Form,
+    titles: Titles,
+    /// The classes that are reported; all if there is none.
+    classes: &'c [&'c str],
+}
+
+/// A mail of an input.
+#[derive(Clone, Copy)]
+struct Mail<'m> {
+    raw: &'m [u8],
+    origin: Origin<'m>,
+}
+
+impl<'c, W: Write> Consumer for Check<'c, W> {
+    fn read<R: Files + Eprint + AllocGlobal, I: Read>(
+        &mut self,
+        rt: &R,
+        reader: &mut I,
+        name: Option<&str>,
+        content: Content,
+    ) -> Result<Outcome, Fault> {
+        let alloc = rt.alloc();
+        let input = read_input(alloc, reader)?;
+        let kind = known_kind(self.kind, content);
+        if is_mailbox(kind, input.as_slice()) {
+            return self.check_mailbox(alloc, input.as_slice(), name, kind.format());
+        }
+        let origin = Origin {
+            file: name,
+            number: None,
+            start: 0,
+            end: input.len(),
+        };
+        let raw = input.as_slice();
+        self.check_mail(alloc, &Mail { raw, origin })
+    }
+
+    /// Standard error has the report too.
+    fn report(&mut self, _alloc: Global, name: Option<&str>, why: &str) -> Result<(), Fault> {
+        match self.form {
+            Form::Json => write_unread(&mut self.out, name, why),
+            Form::Text | Form::Silent => Ok(()),
+        }
+    }
+}
+
+impl<'c, W: Write> Check<'c, W> {
+    /// Reports what is found in the mails of a mailbox.
+    fn check_mailbox(
+        &mut self,
+        alloc: Global,
+        input: &[u8],
+        name: Option<&str>,
+        format: Format,
+    ) -> Result<Outcome, Fault> {
+        let mails = read_mailbox(input, format);
+        let front = mails.front();
+        let mut outcome = self.check_front(alloc, front, name)?;
+        let mut start = front.len();
+        let mut number: usize = 0;
+        for entry in mails {
+            number = number.saturating_add(1);
+            start = start.saturating_add(entry.separator().len());
+            let end = start.saturating_add(entry.mail().len());
+            let origin = Origin {
+                file: name,
+                number: Some(number),
+                start,
+                end,
+            };
+            outcome = outcome.and(self.check_entry(alloc, &entry, origin, format)?);
+            start = end.saturating_add(entry.ending().len());
+        }
+        Ok(outcome)
+    }
+
+    /// Reports text before the first mail of a mailbox, unless it is whitespace.
+    fn check_front(
+        &mut self,
+        alloc: Global,
+        front: &[u8],
+        name: Option<&str>,
+    ) -> Result<Outcome, Fault> {
+        if is_all_whitespace(front) {
+            return Ok(Outcome::Clean);
+        }
+        let origin = Origin {
+            file: name,
+            number: None,
+            start: 0,
+            end: front.len(),
+        };
+        self.refuse(
+            alloc,
+            &origin,
+            "The mailbox does not begin with a separator",
+        )?;
+        Ok(Outcome::Refused)
+    }
+
+    /// Reports what is found in a mail of a mailbox in a format.
+    fn check_entry(
+        &mut self,
+        alloc: Global,
+        entry: &MailboxEntry<'_>,
+        origin: Origin<'_>,
+        format: Format,
+    ) -> Result<Outcome, Fault> {
+        match format {
+            Format::Plain | Format::Counted => {
+                let raw = entry.mail();
+                self.check_mail(alloc, &Mail { raw, origin })
+            }
+            Format::Quoted => {
+                let mail = unquoted(alloc, entry.mail())?;
+                let raw = mail.as_slice();
+                self.check_mail(alloc, &Mail { raw, origin })
+            }
+        }
+    }
+
+    /// Reports what is found in a mail, or why it is refused. The mail is read strictly, since the
+    /// findings are those of the tree that the port gives.
+    fn check_mail(&mut self, alloc: Global, mail: &Mail<'_>) -> Result<Outcome, Fault> {
+        let charsets = AllCharsets::standard();
+        match parse_mail_within(alloc, mail.raw, MAX_LEVELS, self.limit, &Strict(&charsets)) {
+            Ok(parsed) => {
+                let found = chosen(alloc, findings(alloc, &parsed)?, self.classes)?;
+                self.write_found(alloc, mail, found.as_slice())?;
+                Ok(if found.is_empty() {
+                    Outcome::Clean
+                } else {
+                    Outcome::Refused
+                })
+            }
+            Err(error) => {
+                let Some(reason) = refusal_of(alloc, &error)? else {
+                    return Err(Fault::Mail(error));
+                };
+                self.refuse(alloc, &mail.origin, reason.as_str())?;
+                Ok(Outcome::Refused)
+            }
+        }
+    }
+
+    /// Writes what was found in a mail.
+    fn write_found(
+        &mut self,
+        alloc: Global,
+        mail: &Mail<'_>,
+        found: &[Finding],
+    ) -> Result<(), Fault> {
+        match self.form {
+            Form::Json => write_findings(alloc, &mut self.out, &mail.origin, found),
+            Form::Text if !found.is_empty() => {
+                self.write_titles(alloc, &mail.origin)?;
+                write_report(alloc, &mut self.out, mail.raw, found)
+            }
+            Form::Text | Form::Silent => Ok(()),
+        }
+    }
+
+    /// Writes why a mail is refused.
+    fn refuse(&mut self, alloc: Global, origin: &Origin<'_>, why: &str) -> Result<(), Fault> {
+        match self.form {
+            Form::Json => write_error(&mut self.out, origin, why),
+            Form::Text => {
+                self.write_titles(alloc, origin)?;
+                write_refusal(alloc, &mut self.out, why)?;
+                self.out.write_all(b"\n")?;
+                Ok(())
+            }
+            Form::Silent => Ok(()),
+        }
+    }
+
+    /// Writes the name of the input of a mail, if it has one that is written, and the number of the
+    /// mail in its mailbox.
+    fn write_titles(&mut self, alloc: Global, origin: &Origin<'_>) -> Result<(), Fault> {
+        if let (Titles::Written, Some(name)) = (self.titles, origin.file) {
+            write_title(alloc, &mut self.out, name)?;
+        }
+        if let Some(number) = origin.number {
+            let text = format!(in alloc; "mail {number}")?;
+            write_title(alloc, &mut self.out, text.as_str())?;
+        }
+        Ok(())
+    }
+}
+
+/// Returns the findings of these classes; all if there is no class.
+fn chosen(
+    alloc: Global,
+    found: Vec<Finding>,
+    classes: &[&str],
+) -> Result<Vec<Finding>, AllocError> {
+    if classes.is_empty() {
+        return Ok(found);
+    }
+    let mut kept = Vec::new(alloc);
+    for finding in found {
+        if classes.contains(&finding.class.text()) {
+            kept.push(finding)?;
+        }
+    }
+    Ok(kept)
+}
+
+/// Reports what is found in the mails of these inputs, and returns the exit status.
+///
+/// # Errors
+///
+/// A fault that ends the run.
+pub fn run<'a, R: Files + Input + Print + Eprint + AllocGlobal>(
+    rt: &R,
+    matches: &ArgMatches<'a>,
+    names: &[Name<'a>],
+) -> Result<ExitCode, Fault> {
+    let mut check = Check {
+        out: BufWriter::new(rt.alloc(), io::writer(rt))?,
+        kind: kind_of(matches),
+        limit: limit_of(matches),
+        form: form_of(matches),
+        titles: titles_of(rt, names),
+        classes: matches.get_strs(ids::CLASS).unwrap_or(&[]),
+    };
+    let outcome = read_inputs(rt, &mut check, inputs_of(matches, names))?;
+    check.out.flush()?;
+    Ok(outcome.status())
+}
+
+/// Returns what the options say is written of a mail.
+fn form_of(matches: &ArgMatches<'_>) -> Form {
+    if matches.get_flag(ids::QUIET) {
+        Form::Silent
+    } else if matches.get_flag(ids::JSON) {
+        Form::Json
+    } else {
+        Form::Text
+    }
+}

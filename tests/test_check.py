@@ -1,0 +1,113 @@
+"""What `rocktray check` writes: the findings of the rows of the suite, which are those of a model in Python."""
+
+import json
+
+import pytest
+
+from support import FROM, TOP, command, run
+
+from suite import DATA, rows_in
+
+ROWS = [(row.inputs[0], row.wanted) for row in rows_in(f"{DATA}/findings.txt")]
+CLASSES = ("structure", "bytes", "name", "note")
+
+
+def check(data, *arguments):
+    """A run of the subcommand on this input, with an exit status that says that mails were read."""
+    ended = run([*command("check"), *arguments, "-"], data)
+    assert ended.returncode in (0, 3) and not ended.stderr
+    return ended
+
+
+def found(line):
+    """The findings of a line as the items of a row."""
+    return [item for it in line["findings"] for item in (it["name"].encode(), str(it["start"]), str(it["end"]), it["path"].encode())]
+
+
+def escaped(data):
+    """Bytes as they are shown."""
+    plain = {0x0A: "\\n", 0x0D: "\\r", 0x09: "\\t", 0x5C: "\\\\"}
+    return "".join(plain.get(byte) or (chr(byte) if 0x20 <= byte < 0x7F else f"\\x{byte:02x}") for byte in data)
+
+
+def sections(text):
+    """The names of findings in the page FINDINGS.md, with their classes."""
+    parts = text.split("\n### ")[1:]
+    return {part.split("\n")[0]: part.split("\nClass ")[1].split(".")[0] for part in parts}
+
+
+@pytest.mark.quick
+def test_page():
+    """The page has a section for each name of the rows, and its class."""
+    names = {wanted[0].decode() for _, wanted in ROWS if wanted}
+    assert set(sections((TOP / "docs" / "FINDINGS.md").read_text())) == names
+
+
+@pytest.mark.parametrize("raw, wanted", ROWS)
+def test_json(raw, wanted):
+    """The line of a mail has the findings of its row, with the classes of the page."""
+    ended = check(raw, "--json", "--label", "a\x1b.eml")
+    line = json.loads(ended.stdout)
+    head = {"schema": 5, "file": "a\x1b.eml", "number": None, "start": 0, "end": len(raw)}
+    assert {key: line[key] for key in line if key != "findings"} == head
+    assert found(line) == wanted and ended.returncode == (3 if wanted else 0)
+    classes = sections((TOP / "docs" / "FINDINGS.md").read_text())
+    assert all(it["class"] == classes[it["name"]] and it["sentence"].endswith(".") for it in line["findings"])
+
+
+@pytest.mark.parametrize("raw, wanted", ROWS)
+def test_text(raw, wanted):
+    """The text of a mail has its findings, with the bytes around them."""
+    ended = check(raw)
+    line = json.loads(check(raw, "--json").stdout)
+    text = ""
+    for it in line["findings"]:
+        part = f"part {it['path']}" if it["path"] else "the mail"
+        start, end = it["start"], it["end"]
+        text += f"Found:    {it['name']} ({it['class']}), {part}, bytes {start} to {end}\n  {it['sentence']}\n"
+        text += f"Before:   {escaped(raw[max(0, start - 32):start])}\nBytes:    {escaped(raw[start:end][:64])}\n"
+        text += f"After:    {escaped(raw[end:end + 32])}\n\n"
+    assert ended.stdout.decode() == text and ended.returncode == (3 if wanted else 0)
+
+
+def test_classes():
+    """Only the findings of the classes that are named count."""
+    raw = b"A: b\nSubject: a\nSubject: caf\xc3\xa9\n\nHi\0\xc3\n"
+    by_class = {name: [it["name"] for it in json.loads(check(raw, "--json", "--class", name).stdout)["findings"]] for name in CLASSES}
+    assert by_class == {"structure": ["nul", "duplicate"], "bytes": [], "name": ["header-8bit"], "note": ["8bit-body"]}
+    for words, status in (((), 3), (("bytes",), 0), (("bytes", "note"), 3)):
+        ended = check(raw, "--quiet", *(word for name in words for word in ("--class", name)))
+        assert (ended.stdout, ended.returncode) == (b"", status), words
+
+
+def test_mailbox():
+    """Each mail of a mailbox has its number and its offsets, and text before the first separator is refused."""
+    mails = [b"A: b\n\none\n", b"A: b\n\na\0b\n", b" no\n\nx\n", b"A: b\n\n>From \0\n"]
+    raw = b"lost\n" + b"".join(FROM + mail + b"\n" for mail in mails)
+    lines = [json.loads(line) for line in check(raw, "--json", "--mbox").stdout.splitlines()]
+    assert [line["number"] for line in lines] == [None, 1, 2, 3, 4]
+    assert all(raw[line["start"]:line["end"]].rstrip() == mail.rstrip() for line, mail in zip(lines[1:], mails))
+    assert [("error" in line, found(line)[:1] if "findings" in line else None) for line in lines] == [
+        (True, None), (False, []), (False, [b"nul"]), (True, None), (False, [b"nul"])]
+    text = check(raw, "--mbox").stdout.decode()
+    assert [line for line in text.splitlines() if line.startswith("-- ")] == ["-- mail 2 --", "-- mail 3 --", "-- mail 4 --"]
+    assert text.count("Refused:  ") == 2 and "Bytes:    \\x00\n" in text
+    lines = [json.loads(line) for line in check(raw, "--json", "--mbox=rd").stdout.splitlines()]
+    assert lines[4]["findings"][0]["start"] == len(b"A: b\n\nFrom ")
+
+
+def test_files(tmp_path):
+    """Each of several files with findings has its name before them."""
+    (tmp_path / "a.eml").write_bytes(b"A: b\n\none\n")
+    (tmp_path / "b\n.eml").write_bytes(b"A: b\n\na\rb\n")
+    ended = run([*command("check"), str(tmp_path)])
+    assert ended.returncode == 3 and ended.stdout.startswith(f"-- {tmp_path}/b\ufffd.eml --\nFound:    lone-cr".encode())
+    assert ended.stdout.count(b"-- ") == 1
+    assert run([*command("check"), str(tmp_path / "a.eml")]).stdout == b""
+
+
+def test_hostile():
+    """No byte of a mail moves the cursor of a terminal or ends a line."""
+    raw = bytes(range(256)) + b"\n\n" + bytes(reversed(range(256))) * 2
+    text = check(b"A: b\nX: " + raw, "--mail").stdout
+    assert text and all(byte == 0x0A or 0x20 <= byte < 0x7F for byte in text)
