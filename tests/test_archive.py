@@ -63,7 +63,7 @@ SMALL = (
     b"From: Bo <bo@example.net>\nSubject: Re: Zebra crossing\nMessage-ID: <2@small>\nIn-Reply-To: <1@small>\n"
     b"Date: Tue, 4 Mar 2025 10:00:00 +0000\nContent-Type: text/html\n\n"
     b"<style>dodo</style><p title='okapi > kakapo'>So is the <b>aur</b>ochs,<br>the kak&aacute;po&hellip;<!-- moa > huia --></p>\n",
-    b"A:\n" * 1_000_000,
+    b" kept\n",
     b"From: \x1b[31mCai@example.net\nSubject: =?utf-8?q?Zebra=0Aforged?=\nMessage-ID: <3@small>\nReferences: <0@small> <2@small>\n\n.\n",
 )
 UNREAD = "mails/no.mbox"
@@ -87,13 +87,14 @@ def make_archive(directory):
     """Makes the archive; returns the calls of rocktray json that read it."""
     mails = os.path.join(directory, "mails")
     write(f"{mails}/all.mbox", mailbox(SCALE))
+    write(f"{mails}/many.eml", b"A:\n" * 1_000_000)
     write(f"{mails}/one.eml", b"Subject: one\nMessage-ID: <one>\n\nunique\n")
     write(f"{mails}/small.mbox", b"".join(FROM + mail + b"\n" for mail in SMALL))
     for name in (".Sent/cur/1:2,S", ".old/a", "cur/10:2,", "cur/2:2,S", "new/1", "tmp/3", "cur/.x", "index"):
         write(f"{mails}/people/ana/{name}", FROM + b"Message-ID: <" + name.encode() + b">\n\nx\n")
     write(f"{mails}/.hidden/x")
     return [
-        ["--part", "1/1", *(f"{mails}/{name}" for name in ("all.mbox", "one.eml", "small.mbox"))],
+        ["--part", "1/1", *(f"{mails}/{name}" for name in ("all.mbox", "many.eml", "one.eml", "small.mbox"))],
         ["--mail", f"{mails}/people/ana/.Sent/cur/1:2,S"],
         ["--part", "1/1", f"{mails}/people/ana/.old/a"],
         ["--mail", *(f"{mails}/people/ana/{name}" for name in ("cur/10:2,", "cur/2:2,S", "new/1"))],
@@ -196,7 +197,7 @@ def wanted(directory):
     """The lines of one process over the archive."""
     calls = make_archive(directory)
     lines = b"".join(run([program("rocktray"), "json", "--html-text", *arguments]).stdout for arguments in calls)
-    assert lines.count(b"\n") == MAILS + 10
+    assert lines.count(b"\n") == MAILS + 11
     write(os.path.join(directory, "rocktray"), STAND_IN.format(directory=directory, json=program("rocktray")).encode())
     os.chmod(os.path.join(directory, "rocktray"), 0o755)
     return lines
@@ -362,7 +363,7 @@ def check_loaded(runs, mails):
 
 def test_loaded(runs):
     """The shards are loaded."""
-    check_loaded(runs, MAILS + 9)
+    check_loaded(runs, MAILS + 10)
 
 
 def test_searched(runs):
@@ -403,7 +404,7 @@ def test_changed(runs):
     assert runs.index("killed", "--bytes", "2000000") == (0, ""), "a mailbox has changed"
     after = shards(runs.path("killed"))
     assert (len(before.items() - after.items()), len(after.items() - before.items())) == (1, 1), "old and new shards"
-    assert " mails loaded" in check_loaded(runs, MAILS + 9), "a mailbox has changed"
+    assert " mails loaded" in check_loaded(runs, MAILS + 10), "a mailbox has changed"
     assert runs.search("quagga") == [], "what is gone"
     assert runs.search("okapi") == ["Changed"], "what is new"
 
@@ -451,7 +452,7 @@ def test_older_database(runs):
     assert runs.call("load_sqlite.py", "killed", "db").returncode == 1, "a damaged shard"
     assert search.version_of(path) == 1, "a damaged shard: the older database stays"
     write(shard, whole)
-    check_loaded(runs, MAILS + 9)
+    check_loaded(runs, MAILS + 10)
     assert search.version_of(path) == search.VERSION and not glob.glob(runs.path("db/*.new*")), "the older database is replaced"
     assert runs.search("okapi") == ["Changed"], "a database that is loaded anew"
 

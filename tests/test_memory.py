@@ -163,8 +163,8 @@ def json_line():
     part = {
         "path": "1", "inside": None, "type": "text/plain", "charset": "us-ascii", "params": {}, "disposition": None,
         "file_name": None, "content_id": None, "attachment": False, "extracted": False, "encoding": "7bit", "start": 0,
-        "end": size, "size": 4, "decoded_size": 4, "sha256": None, "report": None, "headers": [["Subject", SUBJECT]] * COUNT,
-        "text": "body", "html_text": None, "text_charset": "utf-8",
+        "end": size, "size": 4, "refusal": None, "decoded_size": 4, "sha256": None, "report": None,
+        "headers": [["Subject", SUBJECT]] * COUNT, "text": "body", "html_text": None, "text_charset": "utf-8",
     }
     lists = ("from", "to", "cc", "bcc", "reply_to", "sender")
     mail = {"schema": 5, "file": None, "number": None, "start": 0, "end": size, "subject": SUBJECT}
