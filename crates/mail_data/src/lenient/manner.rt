@@ -66,7 +66,9 @@ impl<'k, K: KnownCharsets> ReadingManner for Lenient<'k, K> {
     }
 }
 
-/// Returns the type of a message with these headers.
+/// Returns the type of a message with these headers. It is not inlined, so that the frame of the
+/// reader of a message, which calls itself for each level, stays small.
+#[inline(never)]
 #[tactic(auto, unfolding(crate::specs::lenient::Manner::lenient_type_of))]
 fn type_of<K: KnownCharsets>(
     alloc: Global,
