@@ -17,11 +17,10 @@ use crate::folding::{push_without_white, unfolded};
 use crate::mailbox::{after_white, is_dotted, within_ends};
 use crate::phrase_words::encoded_len;
 use crate::plain::dot_atom_len;
-use crate::tokens::{Kind, Span, front_token, is_all_white, is_atom_byte, run, step};
+use crate::tokens::{Kind, Span, front_token, is_atom_byte, run};
 use mail_codec::charset::{KnownCharsets, decode_latin1};
 use mailparse::{MailParseError, value_text_in};
 use std::alloc::{AllocError, Global};
-use std::str;
 
 /// Appends the bytes without each backslash that quotes the byte after it.
 fn push_unquoted(text: &mut Vec<u8>, bytes: &[u8]) -> Result<(), AllocError>
@@ -51,23 +50,17 @@ fn push_meaning(text: &mut Vec<u8>, kind: Kind, bytes: &[u8]) -> Result<(), Allo
     }
 }
 
-/// Returns the length of the token at the front.
-#[tactic(auto, unfolding(crate::specs::Text::front_len))]
-fn front_len(bytes: &[u8]) -> usize
-    ensures value { result ≡ front_len bytes.now }
-    ensures bounds { result ≤ length bytes.now }
-    ensures some { 0 < length bytes.now → 0 < result }
-{
-    front_token(bytes).len
-}
-
-/// Appends the meaning of the token at the front.
+/// Appends the meaning of the token at the front, and returns its length.
 #[tactic(auto, unfolding(crate::specs::Text::front_len, crate::specs::Text::front_meaning))]
-fn push_front(text: &mut Vec<u8>, bytes: &[u8]) -> Result<(), AllocError>
-    ensures { OnOk result (text.new.items ≡ text.old.items ++ front_meaning bytes.now) }
+fn push_front(text: &mut Vec<u8>, bytes: &[u8]) -> Result<usize, AllocError>
+    ensures pushed { OnOk result
+        (text.new.items ≡ text.old.items ++ front_meaning bytes.now) }
+    ensures len { IfOk result (λ len. len ≡ front_len bytes.now) }
+    ensures bounds { IfOk result (λ len. len ≤ length bytes.now) }
 {
     let token = front_token(bytes);
-    push_meaning(text, token.kind, &bytes[..token.len])
+    push_meaning(text, token.kind, &bytes[..token.len])?;
+    Ok(token.len)
 }
 
 /// Appends the meaning of a token of an address: without folding in a quoted string, and without
@@ -90,13 +83,21 @@ fn push_address_meaning(
     }
 }
 
-/// Appends the meaning of the token at the front of an address.
+/// Appends the meaning of the token at the front of an address, and returns its length.
 #[tactic(auto, unfolding(crate::specs::Text::front_len, crate::specs::Text::address_front))]
-fn push_address_front(alloc: Global, text: &mut Vec<u8>, bytes: &[u8]) -> Result<(), AllocError>
-    ensures { OnOk result (text.new.items ≡ text.old.items ++ address_front bytes.now) }
+fn push_address_front(
+    alloc: Global,
+    text: &mut Vec<u8>,
+    bytes: &[u8],
+) -> Result<usize, AllocError>
+    ensures pushed { OnOk result
+        (text.new.items ≡ text.old.items ++ address_front bytes.now) }
+    ensures len { IfOk result (λ len. len ≡ front_len bytes.now) }
+    ensures bounds { IfOk result (λ len. len ≤ length bytes.now) }
 {
     let token = front_token(bytes);
-    push_address_meaning(alloc, text, token.kind, &bytes[..token.len])
+    push_address_meaning(alloc, text, token.kind, &bytes[..token.len])?;
+    Ok(token.len)
 }
 
 /// Returns a local part or a domain without quotes, comments, whitespace and folding.
@@ -107,59 +108,43 @@ fn bare(alloc: Global, bytes: &[u8]) -> Result<Vec<u8>, AllocError>
     let mut text = Vec::new(alloc);
     let mut rest = bytes;
     'tokens: while !rest.is_empty() {
-        push_address_front(alloc, &mut text, rest)?;
-        rest = &rest[front_len(rest)..];
+        let len = push_address_front(alloc, &mut text, rest)?;
+        rest = &rest[len..];
     }
     Ok(text)
 }
 
-/// Returns the length of the word at the front of a phrase.
-fn front_word_len(bytes: &[u8]) -> usize
-    ensures value { result ≡ front_word_len bytes.now }
-    ensures bounds { result ≤ length bytes.now }
-{
-    let len = encoded_len(bytes);
-    if len == 0 { front_len(bytes) } else { len }
-}
-
-/// Returns the length of that word, or of the whitespace and comments at the front.
-#[tactic(auto, unfolding(crate::specs::Text::word_or_white_len))]
-fn word_or_white_len(bytes: &[u8]) -> usize
-    ensures value { result ≡ word_or_white_len bytes.now }
-    ensures bounds { result ≤ length bytes.now }
-{
-    if step(Span::White, bytes) == 0 {
-        front_word_len(bytes)
-    } else {
-        run(Span::White, bytes)
-    }
-}
-
-/// Appends the meaning of the word at the front of a phrase: an encoded word stays as it is.
-fn push_front_word(text: &mut Vec<u8>, bytes: &[u8]) -> Result<(), AllocError>
-    ensures { OnOk result (text.new.items ≡ text.old.items ++ front_word bytes.now) }
+/// Appends the meaning of the word at the front of a phrase, and returns its length: an encoded word
+/// stays as it is.
+fn push_front_word(text: &mut Vec<u8>, bytes: &[u8]) -> Result<usize, AllocError>
+    ensures pushed { OnOk result (text.new.items ≡ text.old.items ++ front_word bytes.now) }
+    ensures len { IfOk result (λ len. len ≡ front_word_len bytes.now) }
+    ensures bounds { IfOk result (λ len. len ≤ length bytes.now) }
 {
     let len = encoded_len(bytes);
     if len == 0 {
         return push_front(text, bytes);
     }
-    text.extend_from_slice(&bytes[..len])
+    text.extend_from_slice(&bytes[..len])?;
+    Ok(len)
 }
 
 /// Appends the meaning of the front of a phrase: a space for whitespace and comments, except at the
-/// end.
-#[tactic(auto, unfolding(crate::specs::Text::word_or_space))]
-fn push_word(text: &mut Vec<u8>, bytes: &[u8]) -> Result<(), AllocError>
-    ensures { OnOk result (text.new.items ≡ text.old.items ++ word_or_space bytes.now) }
+/// end. Returns the length of that front.
+fn push_word(text: &mut Vec<u8>, bytes: &[u8]) -> Result<usize, AllocError>
+    requires { 0 < length bytes.now }
+    ensures pushed { OnOk result (text.new.items ≡ text.old.items ++ word_or_space bytes.now) }
+    ensures len { IfOk result (λ len. len ≡ word_or_white_len bytes.now) }
+    ensures bounds { IfOk result (λ len. len ≤ length bytes.now) }
 {
-    if is_all_white(bytes) {
-        return Ok(());
-    }
-    if step(Span::White, bytes) == 0 {
+    let white = run(Span::White, bytes);
+    if white == 0 {
         return push_front_word(text, bytes);
     }
-    text.push(b' ')?;
-    Ok(())
+    if white < bytes.len() {
+        text.push(b' ')?;
+    }
+    Ok(white)
 }
 
 /// Returns the text of a phrase, before its encoded words are decoded.
@@ -177,8 +162,8 @@ fn words_text(alloc: Global, phrase: &[u8]) -> Result<Vec<u8>, AllocError>
     let mut text = Vec::with_capacity(alloc, phrase.len())?;
     let mut rest = phrase;
     'words: while !rest.is_empty() {
-        push_word(&mut text, rest)?;
-        rest = &rest[word_or_white_len(rest)..];
+        let len = push_word(&mut text, rest)?;
+        rest = &rest[len..];
     }
     Ok(text)
 }
@@ -257,12 +242,12 @@ fn address_bytes(alloc: Global, local_part: &[u8], domain: &[u8]) -> Result<Vec<
 }
 
 /// Returns bytes as text: as UTF-8, or as Latin-1 if they are not valid UTF-8.
-fn bytes_text(alloc: Global, bytes: &[u8]) -> Result<String, AllocError>
-    ensures { IfOk result (λ text. string_bytes text ≡ value_text bytes.now) }
+fn bytes_text(alloc: Global, bytes: Vec<u8>) -> Result<String, AllocError>
+    ensures { IfOk result (λ text. string_bytes text ≡ value_text bytes.items) }
 {
-    match str::from_utf8(bytes) {
-        Ok(text) => Ok(String::from_str(alloc, text)?),
-        Err(_) => Ok(decode_latin1(alloc, bytes)?.into_owned(alloc)?),
+    match String::from_utf8(bytes) {
+        Ok(text) => Ok(text),
+        Err(error) => Ok(decode_latin1(alloc, error.as_bytes())?.into_owned(alloc)?),
     }
 }
 
@@ -271,7 +256,7 @@ pub(crate) fn bare_text(alloc: Global, bytes: &[u8]) -> Result<String, AllocErro
     ensures { IfOk result (λ text. string_bytes text ≡ bare_text bytes.now) }
 {
     let text = bare(alloc, bytes)?;
-    bytes_text(alloc, text.as_slice())
+    bytes_text(alloc, text)
 }
 
 /// Returns an address in canonical form, as text.
@@ -284,7 +269,7 @@ pub(crate) fn address_text(
         string_bytes text ≡ value_text (address_bytes local_part.now domain.now)) }
 {
     let bytes = address_bytes(alloc, local_part, domain)?;
-    Ok(bytes_text(alloc, bytes.as_slice())?)
+    bytes_text(alloc, bytes)
 }
 
 /// Returns the text of a phrase. Its encoded words are decoded last, in the known charsets.
