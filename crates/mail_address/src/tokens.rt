@@ -120,11 +120,15 @@ fn is_special(byte: u8) -> bool
     )
 }
 
-/// Returns whether a byte may be in an atom.
+/// Returns whether a byte may be in an atom. Most bytes of addresses are letters in lower case,
+/// which need one test.
 #[tactic(auto, unfolding(crate::specs::Tokens::is_atom_byte))]
 pub(crate) fn is_atom_byte(byte: u8) -> bool
     ensures { result ≡ is_atom_byte byte }
 {
+    if byte.is_ascii_lowercase() {
+        return true;
+    }
     b' ' < byte && byte != 127 && !is_special(byte)
 }
 

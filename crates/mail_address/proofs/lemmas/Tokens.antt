@@ -1,7 +1,20 @@
 -- Lemmas on tokens and runs of them.
-use Rattle.std.proofs.Common.{◌≡◌, ℕ, zero, suc, ◌+◌, ◌-◌, ◌<◌, ◌≤◌, ◌≢◌, Bool, true, false, cond, eqb, List, [], ◌∷◌, ◌++◌, length, drop, refl, sym, ap, ◌∙◌, arith, length-drop}
-use Rattle.std.proofs.lemmas.Bool.{false≢true, ne_eqb}
+use Rattle.std.proofs.Common.{◌≡◌, ℕ, zero, suc, ◌+◌, ◌-◌, ◌<◌, ◌≤◌, ◌≢◌, Bool, true, false, cond, ◌&&◌, eqb, List, [], ◌∷◌, ◌++◌, length, drop, refl, sym, ap, ◌∙◌, arith, length-drop}
+use Rattle.std.proofs.lemmas.Bool.{agree_below, agree_below_at, and_parts, false≢true, ne_eqb}
+use Rattle.std.specs.Char.{is_ascii_lowercase}
 use Rattle.mail_address.specs.Tokens.{far, far_within, is_atom_byte, is_white}
+
+-- ---- bytes of atoms
+
+lowercase_atoms : agree_below (λ b. is_ascii_lowercase b && is_atom_byte b) is_ascii_lowercase 256 ≡ true
+unfolding is_atom_byte
+lowercase_atoms = refl
+
+-- a letter in lower case
+pub lowercase_atom : (b : ℕ) → b < 256 → is_ascii_lowercase b ≡ true → true ≡ is_atom_byte b
+lowercase_atom b low is =
+    let both = agree_below_at (λ k. is_ascii_lowercase k && is_atom_byte k) is_ascii_lowercase 256 b lowercase_atoms low in
+    sym (and_parts (is_ascii_lowercase b) (is_atom_byte b) (both ∙ is)).1
 
 -- ---- a step that is repeated until it takes no byte
 
