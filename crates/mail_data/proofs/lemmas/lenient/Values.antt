@@ -11,7 +11,7 @@ use Rattle.std.proofs.Math.Seq.{take-add}
 use Rattle.std.proofs.Math.ListN.{drop_of_length-le}
 use Rattle.mail_codec.specs.Charset.{Charsets, text_of}
 use Rattle.mail_codec.specs.Places.{begins, first_place, has_prefix, place, text_place, trimmed_at_start}
-use Rattle.mail_codec.proofs.lemmas.Places.{first_place-≤, first_place-here, first_place-past, first_place-passes}
+use Rattle.mail_codec.proofs.lemmas.Places.{first_place-here, first_place-past, first_place-passes}
 use Rattle.mail_codec.proofs.lemmas.PlacesSearches.{place_none, place_some}
 use Rattle.mail_codec.specs.declared.charset.built_in.Charset.TheVariants.{Windows1252}
 use Rattle.mailparse.specs.Value.{IsPlain, lenient_value_in}
@@ -20,7 +20,7 @@ use Rattle.mailparse.proofs.lemmas.ValuePlain.{plain_utf8, unfolded_value-plain}
 use Rattle.mail_data.specs.Files.{text_of_octets}
 use Rattle.mail_data.specs.lenient.ValueViews.{word_view}
 use Rattle.mail_data.specs.declared.lenient.values.EncodedWord.{EncodedWord}
-use Rattle.mail_data.specs.lenient.Values.{Head, Word, Pieces, last, piece, with_text, if_known, head_of, word_head, pieces_at, pieces, word_of, header_text, is_blank, is_fold, is_folded_feed, shown, unfolded}
+use Rattle.mail_data.specs.lenient.Values.{Head, Pieces, last, piece, with_text, if_known, head_of, pieces_at, pieces, word_of, header_text, is_blank, is_fold, is_folded_feed, shown, unfolded}
 
 -- ---- text in front
 
