@@ -10,7 +10,7 @@ use Rattle.std.proofs.lemmas.List.{append-nil, drop-drop, take-append-drop, take
 use Rattle.std.proofs.Math.Seq.{take-add}
 use Rattle.std.proofs.Math.ListN.{drop_of_length-le}
 use Rattle.mail_codec.specs.Charset.{Charsets, text_of}
-use Rattle.mail_codec.specs.Places.{begins, first_place, has_prefix, place, text_place, trimmed_at_start}
+use Rattle.mail_codec.specs.Places.{begins, first_place, has_prefix, text_place, trimmed_at_start}
 use Rattle.mail_codec.proofs.lemmas.Places.{first_place-here, first_place-past, first_place-passes}
 use Rattle.mail_codec.proofs.lemmas.PlacesSearches.{place_none, place_some}
 use Rattle.mail_codec.specs.declared.charset.built_in.Charset.TheVariants.{Windows1252}
