@@ -443,7 +443,7 @@ def test_older_database(runs):
     with contextlib.closing(sqlite3.connect(path)) as db:
         db.executescript("drop table copies; pragma user_version = 1")
     ended = runs.call("search.py", "db", "zebra")
-    wanted = b"search.py: db is of another version than 3: run load_sqlite.py again\n"
+    wanted = b"search.py: db is of another version than 4: run load_sqlite.py again\n"
     assert (ended.returncode, ended.stdout, ended.stderr) == (2, b"", wanted), "an older database is searched"
     shard = next(iter(shards(runs.path("killed"))))
     with open(shard, "rb") as file:
@@ -488,9 +488,13 @@ def test_latest(tmp_path_factory, monkeypatch, common, cost):
             wanted = [line["message_id"][0] for line in mails if meets(line)]
             wheres = [it._replace(cost=cost) if isinstance(it, search.Among) else it for it in wheres]
             for first, last in ((0, 20), (25, 50)):
-                chosen, total = search.latest(slices, wheres, last)
+                chosen, total, is_whole = search.latest(slices, wheres, last)
                 found = [mail["message_id"] for mail, _, _ in search.mails_of(slices, chosen, first, last)]
-                assert (found, total) == (wanted[first:last], len(wanted)), wheres
+                assert (found, total, is_whole) == (wanted[first:last], len(wanted), True), wheres
+                chosen, total, is_whole = search.latest(slices, wheres, last, 30)
+                found = [mail["message_id"] for mail, _, _ in search.mails_of(slices, chosen, first, last)]
+                assert found == wanted[first:last], (wheres, "some are counted")
+                assert total == len(wanted) if is_whole else 30 <= total <= len(wanted), (wheres, "some are counted")
             assert [mail["message_id"] for mail, _, _ in search.found_in(slices, wheres, None)[0]] == wanted, wheres
 
 

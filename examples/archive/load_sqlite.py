@@ -4,9 +4,9 @@
 OUT is the directory of index_archive.py. DATABASE is a directory of databases, the slices, which are loaded in
 parallel, and of one with the threads; search.py searches them all. A mail has one row however many copies the archive
 has of it: mails with the same message id are copies of one mail. All copies of a mail are in one slice. A shard is
-loaded into a slice in one transaction. Shards that are already loaded are skipped, and those that OUT/MANIFEST no
-longer names are removed, so an interrupted run can be continued. A database of an older version is made anew. The
-tables of a slice:
+loaded into a slice in one transaction; the words of its mails and most indexes follow when all rows are there. Shards
+that are already loaded are skipped, those that OUT/MANIFEST no longer names are removed, and missing words are added,
+so an interrupted run can be continued. A database of an older version is made anew. The tables of a slice:
 
   mails        each mail, with what its first copy says
   copies       the copies of a mail: each is in `file` from `start` to `end`; `flags` are those of a Maildir
@@ -16,6 +16,7 @@ tables of a slice:
   attachments  the files of a mail, as `rocktray extract` saves them, each with its SHA-256 if the lines have it
   texts        the words of subject, sender, recipients and body
   shards       the loaded shards
+  indexed      the last mail whose words are in `texts`
 
 threads.sqlite has the table `threads`: each message id with its parent, if it has one, the top of its thread, and its
 date; and the tables `months` and `senders`: the numbers of mails of each month, and of the most frequent senders.
@@ -24,6 +25,7 @@ import argparse
 import collections
 import concurrent.futures
 import contextlib
+import functools
 import gc
 import glob
 import json
@@ -48,22 +50,27 @@ create table if not exists shards(name text primary key) without rowid;
 create table if not exists mails(
     id integer primary key, message_id text, date integer, sender text, recipients text, subject text, list_id text, body text);
 create unique index if not exists mails_by_message_id on mails(message_id);
-create index if not exists mails_by_date on mails(date);
-create index if not exists mails_by_list_id on mails(list_id);
-create index if not exists mails_by_sender on mails(sender);
 create table if not exists copies(mail integer, shard text, file text, start integer, "end" integer, flags text);
-create index if not exists copies_by_mail on copies(mail);
-create index if not exists copies_by_shard on copies(shard);
 create table if not exists refused(shard text, file text, start integer, "end" integer, error text);
 create table if not exists recipients(mail integer, address text, name text, primary key(mail, address)) without rowid;
-create index if not exists recipients_by_address on recipients(address);
 create table if not exists links(mail integer, position integer, id text, primary key(mail, position)) without rowid;
 create table if not exists attachments(
     mail integer, number integer, path text, name text, type text, size integer, start integer, "end" integer, sha256 text,
     primary key(mail, number)) without rowid;
+create virtual table if not exists texts using fts5(subject, sender, recipients, body, content=mails, content_rowid=id, columnsize=0);
+create table if not exists indexed(mail integer);
+insert into indexed select 0 where not exists (select 1 from indexed);
+"""
+# made when the rows are there, which is faster
+INDEXES = """
+create index if not exists mails_by_date on mails(date);
+create index if not exists mails_by_list_id on mails(list_id);
+create index if not exists mails_by_sender on mails(sender);
+create index if not exists copies_by_mail on copies(mail);
+create index if not exists copies_by_shard on copies(shard);
+create index if not exists recipients_by_address on recipients(address);
 create index if not exists attachments_by_sha256 on attachments(sha256);
 create index if not exists attachments_by_type on attachments(type);
-create virtual table if not exists texts using fts5(subject, sender, recipients, body, content=mails, content_rowid=id);
 """
 THREADS = """
 begin;
@@ -79,15 +86,13 @@ THREADS_LOADED = (
     "create unique index threads_by_message_id on threads(message_id)", "create index threads_by_top on threads(top)",
     f"pragma user_version = {VERSION}", "commit",
 )
-# the numbers of mails, by month and by sender
-COUNTS = (
-    "select strftime('%Y-%m', date, 'unixepoch'), count(*) from mails where date is not null group by 1",
-    "select sender, count(*) from mails where sender != '' group by 1",
-)
+MONTH = "select strftime('%Y-%m', ? * 86400, 'unixepoch')"
 SENDERS = 1000
 # the number of bytes of words that are sorted in memory
 BUFFER = "insert into texts(texts, rank) values('hashsize', 100000000)"
 WORDS = "id, subject, sender, recipients, body from mails"
+# the number of mails whose words are inserted in one transaction
+WORDED = 100_000
 # the number of the form of the lines
 LINES = 5
 FLAGS = re.compile(r":2,([A-Za-z]+)$")
@@ -133,7 +138,7 @@ def body(parts):
 def list_id(line):
     """Returns the id of the mailing list, without its angle brackets, or None."""
     for name, value in line["parts"][0]["headers"]:
-        if name.lower() == "list-id":
+        if len(name) == 7 and name.lower() == "list-id":
             found = LIST_ID.search(value)
             return (found[1] if found else value.strip()).lower() or None
     return None
@@ -158,6 +163,13 @@ def read_line(line):
         raise ValueError(f"a shard is damaged ({fault}): remove it, and repeat index_archive.py") from None
 
 
+@functools.lru_cache(maxsize=1)
+def flags_of(file):
+    """Returns the flags that the name of a file of a Maildir has, or None. The mails of a mailbox have one file."""
+    flags = FLAGS.search(file or "")
+    return flags[1] if flags else None
+
+
 def deal(path, shard, count, scratch):
     """Reads a shard, and writes what each of `count` slices gets of it to a file. Returns the names of the files."""
     dealt = [([], []) for _ in range(count)]
@@ -165,14 +177,13 @@ def deal(path, shard, count, scratch):
         for line in map(read_line, lines):
             if line["schema"] != LINES:
                 raise ValueError(f"{path} has lines of schema {line['schema']}, not {LINES}: repeat index_archive.py")
-            flags = FLAGS.search(line["file"] or "")
             origin = (line["file"], line["start"], line["end"])
             key = line.get("message_id") or [f"{origin[0]}:{origin[1]}"]
             mails, refused = dealt[zlib.crc32(key[0].encode()) % count]
             if "error" in line:
                 refused.append((shard, *origin, line["error"]))
             else:
-                mails.append(((*origin, flags[1] if flags else None), mail_of(line)))
+                mails.append(((*origin, flags_of(line["file"])), mail_of(line)))
     names = [os.path.join(scratch, f"{shard}.{number}") for number in range(count)]
     for name, part in zip(names, dealt):
         with open(name, "wb") as file:
@@ -203,7 +214,7 @@ def insert(db, shard, mails, refused):
     """Inserts what a slice gets of a shard. Returns the number of copies."""
     ids = json.dumps([row[0] for _, (row, *_) in mails if row[0] is not None])
     known = dict(db.execute("select message_id, id from mails where message_id in (select value from json_each(?))", (ids,)))
-    first = fresh = db.execute("select coalesce(max(id), 0) + 1 from mails").fetchone()[0]
+    fresh = db.execute("select max((select coalesce(max(id), 0) from mails), mail) + 1 from indexed").fetchone()[0]
     rows, copies, recipients, links, files = [], [], [], [], []
     for origin, (row, to, ids, attached) in mails:
         number = known.get(row[0]) if row[0] is not None else None
@@ -218,9 +229,19 @@ def insert(db, shard, mails, refused):
     for table, width, given in (("mails", 8, rows), ("copies", 6, copies), ("recipients", 3, recipients), ("links", 3, links), ("attachments", 9, files)):
         db.executemany(f"insert into {table} values({','.join('?' * width)})", given)
     db.executemany("insert into refused values(?, ?, ?, ?, ?)", refused)
-    db.execute(f"insert into texts(rowid, subject, sender, recipients, body) select {WORDS} where id >= ?", (first,))
     db.execute("insert into shards values(?)", (shard,))
     return len(copies) + len(refused)
+
+
+def insert_words(db):
+    """Inserts the words of the mails that have none yet, and makes the indexes."""
+    last, end = db.execute("select mail, (select coalesce(max(id), 0) from mails) from indexed").fetchone()
+    while last < end:
+        first, last = last, min(last + WORDED, end)
+        with db:
+            db.execute(f"insert into texts(rowid, subject, sender, recipients, body) select {WORDS} where id > ? and id <= ?", (first, last))
+            db.execute("update indexed set mail = ?", (last,))
+    db.executescript(INDEXES)
 
 
 def opened(path):
@@ -250,6 +271,8 @@ def load(path, stale, fresh):
     of copies that were inserted."""
     total = 0
     with contextlib.closing(opened(path)) as db:
+        if stale:
+            insert_words(db)  # since those of the mails that are removed must be there
         for shard in stale:
             with db:
                 remove(db, shard)
@@ -261,13 +284,10 @@ def load(path, stale, fresh):
     return total
 
 
-def sent(db):
-    """Returns what the mails of a slice say of themselves, for threads."""
-    links = {}
-    for mail, one in db.execute("select mail, id from links order by mail, position"):
-        links.setdefault(mail, []).append(one)
-    columns = "select id, message_id, date, subject from mails where message_id is not null"
-    return [(one, date, *threads.base_subject(subject or ""), tuple(links.get(mail, ()))) for mail, one, date, subject in db.execute(columns)]
+def load_words(path):
+    """Inserts the words that a slice lacks."""
+    with contextlib.closing(opened(path)) as db:
+        insert_words(db)
 
 
 def set_version(path, version):
@@ -277,19 +297,32 @@ def set_version(path, version):
 
 
 def overview(path):
-    """Returns of a slice the numbers of mails, by month and by sender, and what its mails say of themselves."""
+    """Returns of a slice the numbers of mails, by month and by sender, and what its mails say of themselves, in order, as
+    bytes of `marshal`."""
+    links, mails, days, senders = {}, [], collections.Counter(), collections.Counter()
     with contextlib.closing(sqlite3.connect(path)) as db:
-        return [dict(db.execute(query)) for query in COUNTS], sent(db)
+        for mail, one in db.execute("select mail, id from links order by mail, position"):
+            links.setdefault(mail, []).append(one)
+        for mail, one, date, sender, subject in db.execute("select id, message_id, date, sender, subject from mails"):
+            if one is not None:
+                mails.append((one, date, *threads.base_subject(subject or ""), tuple(links.get(mail, ()))))
+            if date is not None:
+                days[date // 86400] += 1
+            senders[sender] += 1
+        months = collections.Counter()
+        for day, count in days.items():
+            months[db.execute(MONTH, (day,)).fetchone()[0]] += count
+    del months[None], senders[""]
+    return marshal.dumps((dict(months), dict(senders), sorted(mails, key=threads.order_of)))
 
 
-def load_threads(path, slices, pool):
+def load_threads(path, overviews):
     """Makes the threads and the numbers of all mails anew."""
-    counts, mails = (collections.Counter(), collections.Counter()), []
-    for some, fresh in pool.map(overview, slices):
-        for count, one in zip(counts, some):
-            count.update(one)
-        mails += map(threads.Sent._make, fresh)
-    months, senders = counts
+    months, senders, mails = collections.Counter(), collections.Counter(), []
+    for some in map(marshal.loads, overviews):
+        months.update(some[0])
+        senders.update(some[1])
+        mails += map(threads.Sent._make, some[2])
     parents = threads.trees(mails)
     tops = threads.tops_of(parents)
     dates = {one.id: one.date for one in mails}
@@ -327,23 +360,26 @@ def replace_slices(paths, fresh):
 
 
 def load_index(given, named, paths, pool, scratch):
-    """Loads the shards, and makes the threads anew if something has changed. Returns the number of copies that were
-    inserted."""
+    """Loads the shards, then their words, and makes the threads anew if something has changed. Returns the number of copies
+    that were inserted."""
     trees = os.path.join(given.database, "threads.sqlite")
     is_older = any(os.path.exists(path) and version_of(path) != VERSION for path in paths)
     loaded_into = [f"{path}.new" for path in paths] if is_older else paths
     total = load_all(given, named, loaded_into, trees, pool, scratch)
+    is_changed = version_of(trees) != VERSION
+    overviews = pool.map(overview, loaded_into if is_changed else ())
+    words = pool.map(load_words, loaded_into)  # while the threads are made here
+    if is_changed:
+        load_threads(trees, overviews)
+    collections.deque(words, maxlen=0)  # raises what a call has raised
     if is_older:
         replace_slices(paths, loaded_into)
-    if version_of(trees) != VERSION:
-        load_threads(trees, paths, pool)
     return total
 
 
 def prepare():
-    """Leaves Ctrl-C to the process that waits for this one, which makes no cycles of objects and needs not look for them."""
+    """Leaves Ctrl-C to the process that waits for this one."""
     signal.signal(signal.SIGINT, signal.SIG_IGN)
-    gc.disable()
 
 
 def interruptible(given, named, paths):
@@ -365,6 +401,7 @@ def main():
     parser.add_argument("--slices", type=int, default=os.cpu_count(), help="the number of slices of a new database")
     given = parser.parse_args()
     begun = time.monotonic()
+    gc.disable()  # here and in the processes of the pool: no cycles of objects are made
     try:
         with open(os.path.join(given.out, "MANIFEST"), encoding="utf-8") as manifest:
             named = [line["shard"] for line in map(json.loads, manifest) if "shard" in line]

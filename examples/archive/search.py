@@ -38,7 +38,7 @@ from typing import NamedTuple
 from program import rocktray
 
 # the version of the tables of load_sqlite.py
-VERSION = 3
+VERSION = 4
 COLUMNS = ("message_id", "date", "time", "sender", "recipients", "subject", "list_id", "files", "copies", "file", "start", "end")
 FOUND = """
 select message_id, date, datetime(date, 'unixepoch'), sender, recipients, subject, list_id,
@@ -49,6 +49,8 @@ where mails.id in (select value from json_each(?))
 """
 # the number of mails above which it is faster to look through all mails in the order of time
 COMMON = 5000
+# more mails than there are
+ALL = 1 << 62
 NEVER = float("-inf")
 HIDDEN = re.compile("[\x00-\x1f\x7f-\x9f\u2028\u2029\u202a-\u202e\u2066-\u2069]")
 SEPARATOR = re.compile(rb"^(>*From )", re.MULTILINE)
@@ -79,7 +81,7 @@ def quoted(text):
 
 class Among(NamedTuple):
     """The condition that a mail is among those of another table: the queries of their numbers and of one mail, with their
-    values; and how many numbers are read in the time that the query of one mail takes."""
+    values; and how many mails are listed in the time that the query of one mail takes."""
 
     numbers: str
     one: str
@@ -89,13 +91,13 @@ class Among(NamedTuple):
 
 def with_words(query):
     """Returns the condition that a mail has words, by a query of FTS5."""
-    return Among("select rowid from texts where texts match ?", "select 1 from texts where texts match ? and rowid = mails.id", (query,), 300)
+    return Among("select rowid as number from texts where texts match ?", "select 1 from texts where texts match ? and rowid = mails.id", (query,), 100)
 
 
 def with_file(condition, *values):
     """Returns the condition that a mail has a file with a condition."""
     one = f"select 1 from attachments where mail = mails.id and {condition}"
-    return Among(f"select distinct mail from attachments where {condition}", one, values, 10)
+    return Among(f"select distinct mail as number from attachments where {condition}", one, values, 10)
 
 
 def conditions(given):
@@ -174,36 +176,60 @@ def in_all(slices, ask):
         return list(pool.map(ask, slices))
 
 
-def plan_of(db, wheres, most):
-    """Returns the conditions on the mails of a slice as one, with its values, and the number of mails that meet them, or None
-    if they are best counted by listing them all."""
+class Count(NamedTuple):
+    """The number of mails that meet a condition; if not all of them were counted, the number of those that were. `guess` is
+    about how many there are."""
+
+    mails: int
+    is_whole: bool
+    guess: int
+
+
+def count_of(db, among, every, counted):
+    """Counts the mails of a slice of `every` mails that meet a condition, at most `counted` of them."""
+    query = f"select count(*), max(number) from (select number from ({among.numbers}) limit ?)"
+    count, last = db.execute(query, (*among.values, counted)).fetchone()
+    is_whole = count < counted
+    return Count(count, is_whole, count if is_whole else count * every // last)
+
+
+def latest_by_date(db, among, most, every, guess):
+    """Returns the latest mails of a slice that meet a condition, at most `most`: looks at the mails in the order of time, up
+    to a few times as many as there should be to look at. Returns None if it has not found as many."""
+    first, values = "", ()
+    if (window := 4 * most * every // max(guess, 1)) < every:
+        first, values = "and date >= (select date from mails order by date desc limit 1 offset ?)", (window,)
+    query = f"select date, id from mails where exists ({among.one}) {first} order by date desc limit ?"
+    rows = db.execute(query, (*among.values, *values, most)).fetchall()
+    return rows if len(rows) == most else None
+
+
+def latest_in(db, wheres, most, counted):
+    """Returns what `latest` does, for a slice."""
     tables, columns = ([it for it in wheres if isinstance(it, Among) == is_table] for is_table in (True, False))
-    counts = [db.execute(f"select count(*) from ({it.numbers})", it.values).fetchone()[0] for it in tables]
-    is_only = len(wheres) == len(tables) == 1
     every = db.execute("select coalesce(max(id), 0) from mails").fetchone()[0]
-    if is_only and most is not None and counts[0] ** 2 > tables[0].cost * most * every:
-        parts = [f"exists ({tables[0].one})"]
-    else:
-        parts = [f"{'+' * (count > COMMON)}mails.id in ({it.numbers})" for it, count in zip(tables, counts)]
+    counts = [count_of(db, it, every, counted) for it in tables]
+    is_only = len(wheres) == len(tables) == 1
+    if is_only and most is not None and counts[0].guess ** 2 > tables[0].cost * most * every:
+        rows = latest_by_date(db, tables[0], most, every, counts[0].guess)
+        if rows is not None:
+            return rows, counts[0].mails, counts[0].is_whole
+    parts = [f"{'+' * (count.guess > COMMON)}mails.id in ({it.numbers})" for it, count in zip(tables, counts)]
     where = " and ".join([*parts, *(condition for condition, *_ in columns)]) or "true"
     values = [value for it in tables for value in it.values] + [value for _, *some in columns for value in some]
-    if not tables:
-        return where, values, db.execute(f"select count(*) from mails where {where}", values).fetchone()[0]
-    return where, values, counts[0] if is_only else None
+    limit = -1 if most is None or (tables and not is_only) else most
+    rows = db.execute(f"select date, id from mails where {where} order by date desc limit ?", (*values, limit)).fetchall()
+    if is_only:
+        return rows, counts[0].mails, counts[0].is_whole
+    total = len(rows) if tables else db.execute(f"select count(*) from mails where {where}", values).fetchone()[0]
+    return rows[:most], total, True
 
 
-def latest(slices, wheres, most):
-    """Returns of each slice the latest mails that meet the conditions, at most `most`, each by its date and its number, and
-    how many there are in all slices."""
-
-    def ask(db):
-        where, values, total = plan_of(db, wheres, most)
-        limit = -1 if most is None or total is None else most
-        rows = db.execute(f"select date, id from mails where {where} order by date desc limit ?", (*values, limit)).fetchall()
-        return rows[:most], len(rows) if total is None else total
-
-    answers = in_all(slices, ask)
-    return [rows for rows, _ in answers], sum(total for _, total in answers)
+def latest(slices, wheres, most, counted=ALL):
+    """Returns of each slice the latest mails that meet the conditions, at most `most`, each by its date and its number; how
+    many there are in all slices, of a frequent word at most `counted` of each slice; and whether none are more."""
+    answers = in_all(slices, lambda db: latest_in(db, wheres, most, counted))
+    return [rows for rows, _, _ in answers], sum(total for _, total, _ in answers), all(is_whole for _, _, is_whole in answers)
 
 
 def mails_of(slices, chosen, first, last):
@@ -220,7 +246,7 @@ def mails_of(slices, chosen, first, last):
 
 def found_in(slices, wheres, limit):
     """Returns the mails of all slices that meet the conditions, the latest first, and their number without the limit."""
-    chosen, total = latest(slices, wheres, limit)
+    chosen, total, _ = latest(slices, wheres, limit)
     return mails_of(slices, chosen, 0, limit), total
 
 

@@ -24,6 +24,11 @@ class Sent(NamedTuple):
     references: "tuple[str, ...]"
 
 
+def order_of(mail):
+    """Returns the key of the order of mails: those without a date are last. A tuple of the members of `Sent` has one too."""
+    return NEVER if mail[1] is None else mail[1], mail
+
+
 def base_subject(subject):
     """Returns a subject without `Re:` and the like, and whether it is one of a reply."""
     rest, is_reply = subject, False
@@ -100,7 +105,7 @@ def by_subject(parents, mails):
 def trees(mails):
     """Returns the parent of each id, or None at the top of a thread. Of mails with one id the first in order counts."""
     of = {}
-    for mail in sorted(mails, key=lambda it: (NEVER if it.date is None else it.date, it)):
+    for mail in sorted(mails, key=order_of):
         of.setdefault(mail.id, mail)
     ordered = list(of.values())
     ranks = {one: rank for rank, one in enumerate(of)}

@@ -31,7 +31,10 @@ PAGE = 25
 # the most refused mails that are listed
 REFUSED = 1000
 # the number of the latest mails that are counted beside a search
-COUNTED = 400
+COUNTED = 200
+# the most pages of a search, and the number of mails above which those with a word are not counted
+PAGES = 400
+MANY = 40_000
 POLICY = "default-src 'none'; style-src 'self'; img-src 'self'; form-action 'self'; base-uri 'none'; frame-ancestors 'none'"
 HEADERS = {
     "Content-Security-Policy": POLICY,
@@ -210,17 +213,17 @@ def create_app(directory, program, hosts=None):
     @app.get("/")
     def index():
         words = {key: flask.request.args[key] for key in ("q", "to", "has", "year", "sender", "list", "type") if flask.request.args.get(key)}
-        page = max(1, min(flask.request.args.get("page", 1, type=int), 400))
+        page = max(1, min(flask.request.args.get("page", 1, type=int), PAGES))
         wheres = wheres_of(words)
         with archive.slices() as slices:
             try:
-                chosen, total = search.latest(slices, wheres, max(page * PAGE, COUNTED // len(slices)))
+                chosen, total, is_whole = search.latest(slices, wheres, max(page * PAGE, COUNTED // len(slices)), -(-MANY // len(slices)))
                 found, facets = search.mails_of(slices, chosen, (page - 1) * PAGE, page * PAGE), facets_of(slices, chosen)
             except sqlite3.OperationalError:
-                return flask.render_template("index.html", words=words, wrong=True, mails=[], total=0, facets={}, page=1, pages=1)
+                return flask.render_template("index.html", words=words, wrong=True, mails=[], total=0, is_whole=True, facets={}, page=1, pages=1)
             mails = [{**mail, "files": json.loads(mail["files"]), "slice": slices.index(db), "id": number} for mail, db, number in found]
-        pages = min(-(-total // PAGE), 400)
-        return flask.render_template("index.html", words=words, mails=mails, total=total, facets=facets, counted=COUNTED, page=page, pages=pages)
+        pages = min(-(-total // PAGE), PAGES)
+        return flask.render_template("index.html", words=words, mails=mails, total=total, is_whole=is_whole, facets=facets, counted=COUNTED, page=page, pages=pages)
 
     @app.get("/mail/<int:number>/<int:mail>")
     def mail(number, mail):
