@@ -452,10 +452,10 @@ def parse(raw: "Bytes", limit: Optional[int] = MOST_ITEMS) -> Mail:
 
     >>> parse(b"Subject: Hi\\n\\nHello").subject
     'Hi'
-    >>> parse(b" Subject: Hi\\n\\nHello")
+    >>> parse(b"Subject: Hi\\n\\nHello", limit=1)
     Traceback (most recent call last):
         ...
-    rocktray.Refused: Header cannot start with a space; it is likely an overhanging line from a previous header
+    rocktray.TooMany: Too many parts and headers
     """
     mail = Mail(raw, None, limit)
     mail._reading

@@ -100,4 +100,4 @@ def test_refused_mails_of_a_mailbox(tmp_path):
 def test_mails_too_deep_have_a_header():
     raw = b"Subject: deep\n" + b"".join(b"Content-Type: multipart/mixed; boundary=b%03d\n\n--b%03d\n" % (i, i) for i in range(101))
     mail = rocktray.Mail(raw)
-    assert mail.error == "Recursion limit reached" and mail["Subject"] == "deep"
+    assert mail.error is None and mail["Subject"] == "deep"
