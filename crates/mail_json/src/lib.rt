@@ -33,7 +33,6 @@ pub use mail::write_mail;
 pub use options::{InputKind, LineOptions, Source};
 pub use origin::{Origin, write_error, write_unread};
 pub use part::{is_attachment, is_read};
-pub use reports::write_recipients;
 pub use selection::{NextMail, Selection};
 pub use stream::{Unwatched, Wanted, Watch, first_wanted, is_mailbox, read_until, write_input};
 pub use written::Written;
