@@ -15,7 +15,8 @@ ghost use Rattle.mail_json.specs.Values.{block_value, pair_value, recipients_val
 ghost use Rattle.mail_program.specs.Streams.{Writes};
 
 use crate::decoded::Decoded;
-use crate::json_text::{write_text, write_word};
+use crate::escapes::write_escaped;
+use crate::json_text::write_word;
 use crate::lists::{ListItem, write_list};
 use crate::members::{add_optional, first_key, key};
 use mail_data::bounce::{Recipient, add_failed, add_reported};
@@ -159,9 +160,9 @@ pub(crate) fn write_pair<W: Write>(out: &mut W, name: &str, value: &str) -> Resu
     ensures { Writes (W.contents out.old) (W.contents out.new) result
         (text_of (pair_value (name.now, value.now))) }
 {
-    write_word(out, "[")?;
-    write_text(out, name)?;
-    write_word(out, ",")?;
-    write_text(out, value)?;
-    write_word(out, "]")
+    write_word(out, "[\"")?;
+    write_escaped(out, name.as_bytes())?;
+    write_word(out, "\",\"")?;
+    write_escaped(out, value.as_bytes())?;
+    write_word(out, "\"]")
 }

@@ -7,8 +7,9 @@ use Rattle.std.specs.Io.KnownBytes.{Appends}
 use Rattle.json.specs.Json.{Json}
 use Rattle.json.specs.Value.{items_of}
 use Rattle.mail_program.specs.declared.fault.Fault.{Fault}
-use Rattle.mail_json.specs.JsonText.{json_text}
+use Rattle.mail_json.specs.JsonText.{escaped, json_text}
 use Rattle.mail_json.specs.Printed.{Member, after_commas, begun, items_text, line_of, list_of, listed, member_text, members_after, members_of, members_text, object_of, one, text_of}
+use Rattle.mail_json.specs.Values.{pair_value}
 use Rattle.mail_program.specs.Streams.{Writes}
 use Rattle.mail_json.proofs.lemmas.Plain.{are_plain, json_text-plain}
 use Rattle.mail_json.proofs.lemmas.Written.{appends_as, writes_as, writes_then}
@@ -61,9 +62,15 @@ list-closed [] = refl
 list-closed (j ∷ js) =
     ap (λ t. 91 ∷ t) (append_assoc (text_of j) (after_commas text_of js) (93 ∷ []) ∙ ap (λ t. text_of j ++ t) (sym (items_true js)))
 
--- a pair of values
-pub pair_listed : (u v : Json) → (text_of u ++ (44 ∷ [])) ++ text_of v ≡ listed text_of [] (u ∷ v ∷ [])
-pair_listed u v = append_assoc (text_of u) (44 ∷ []) (text_of v) ∙ ap (λ t. text_of u ++ (44 ∷ t)) (sym (append-nil (text_of v)))
+-- a pair of strings
+pub pair-text : (name value : List ℕ)
+    → ((((91 ∷ 34 ∷ []) ++ escaped name) ++ (34 ∷ 44 ∷ 34 ∷ [])) ++ escaped value) ++ (34 ∷ 93 ∷ []) ≡ text_of (pair_value (name, value))
+unfolding text_of items_text json_text
+pair-text name value =
+    append_assoc (((91 ∷ 34 ∷ []) ++ escaped name) ++ (34 ∷ 44 ∷ 34 ∷ [])) (escaped value) (34 ∷ 93 ∷ [])
+    ∙ append_assoc ((91 ∷ 34 ∷ []) ++ escaped name) (34 ∷ 44 ∷ 34 ∷ []) (escaped value ++ (34 ∷ 93 ∷ []))
+    ∙ sym (ap (λ (t : List ℕ). 91 ∷ 34 ∷ ((escaped name ++ 34 ∷ []) ++ (44 ∷ 34 ∷ t))) (append_assoc (escaped value) (34 ∷ []) (93 ∷ []))
+    ∙ ap (λ (t : List ℕ). 91 ∷ 34 ∷ t) (append_assoc (escaped name) (34 ∷ []) (44 ∷ 34 ∷ (escaped value ++ (34 ∷ 93 ∷ [])))))
 
 begun-listed : (ms : List Member) → (123 ∷ []) ++ listed member_text [] ms ≡ begun ms
 unfolding begun members_after
