@@ -5,14 +5,14 @@ use crate::options::ids;
 use crate::show::{Titles, titles_of};
 use clap::ArgMatches;
 use mail_charsets::AllCharsets;
-use mail_check::{Finding, findings};
+use mail_check::{Class, Finding, findings};
 use mail_data::mailbox::quoted::unquoted;
 use mail_data::mailbox::{Format, MailboxEntry, read_mailbox};
 use mail_inputs::{Consumer, Content, Name, read_inputs};
 use mail_json::{InputKind, Origin, is_mailbox, write_error, write_findings, write_unread};
 use mail_program::{Fault, Outcome, is_all_whitespace, read_input, refusal_of};
 use mail_view::{write_refusal, write_report, write_title};
-use mailparse::{MAX_LEVELS, Strict, parse_mail_within};
+use mailparse::{KnownCharsets, MAX_LEVELS, MailParseError, ParsedMail, Strict, parse_mail_within};
 use std::alloc::{AllocError, Global};
 use std::io::{self, BufWriter, Read, Write};
 use std::process::ExitCode;
@@ -29,17 +29,37 @@ enum Form {
     Silent,
 }
 
+/// The classes of findings that are reported.
+#[derive(Clone, Copy, Debug, PartialEq, Eq)]
+struct Classes {
+    structure: bool,
+    bytes: bool,
+    name: bool,
+    note: bool,
+}
+
+impl Classes {
+    /// Returns whether the findings of a class are reported.
+    fn contains(self, class: Class) -> bool {
+        match class {
+            Class::Structure => self.structure,
+            Class::Bytes => self.bytes,
+            Class::Name => self.name,
+            Class::Note => self.note,
+        }
+    }
+}
+
 /// Reports what is found in the mails of inputs.
 #[derive(Drop)]
-struct Check<'c, W> {
+struct Check<W> {
     out: W,
     kind: InputKind,
     /// The greatest number of messages, parts and headers in a mail that is not refused.
     limit: usize,
     form: Form,
     titles: Titles,
-    /// The classes that are reported; all if there is none.
-    classes: &'c [&'c str],
+    classes: Classes,
 }
 
 /// A mail of an input.
@@ -49,7 +69,7 @@ struct Mail<'m> {
     origin: Origin<'m>,
 }
 
-impl<'c, W: Write> Consumer for Check<'c, W> {
+impl<W: Write> Consumer for Check<W> {
     fn read<R: Files + Eprint + AllocGlobal, I: Read>(
         &mut self,
         rt: &R,
@@ -82,7 +102,7 @@ impl<'c, W: Write> Consumer for Check<'c, W> {
     }
 }
 
-impl<'c, W: Write> Check<'c, W> {
+impl<W: Write> Check<W> {
     /// Reports what is found in the mails of a mailbox.
     fn check_mailbox(
         &mut self,
@@ -157,11 +177,9 @@ impl<'c, W: Write> Check<'c, W> {
         }
     }
 
-    /// Reports what is found in a mail, or why it is refused. The mail is read strictly, since the
-    /// findings are those of the tree that the port gives.
+    /// Reports what is found in a mail, or why it is refused.
     fn check_mail(&mut self, alloc: Global, mail: &Mail<'_>) -> Result<Outcome, Fault> {
-        let charsets = AllCharsets::standard();
-        match parse_mail_within(alloc, mail.raw, MAX_LEVELS, self.limit, &Strict(&charsets)) {
+        match read_strictly(alloc, mail.raw, self.limit, &AllCharsets::standard()) {
             Ok(parsed) => {
                 let found = chosen(alloc, findings(alloc, &parsed)?, self.classes)?;
                 self.write_found(alloc, mail, found.as_slice())?;
@@ -226,18 +244,25 @@ impl<'c, W: Write> Check<'c, W> {
     }
 }
 
-/// Returns the findings of these classes; all if there is no class.
+/// Returns a mail as the port reads it, since findings are those of that tree; or its refusal.
+fn read_strictly<'a, K: KnownCharsets>(
+    alloc: Global,
+    raw: &'a [u8],
+    limit: usize,
+    known: &K,
+) -> Result<ParsedMail<'a>, MailParseError> {
+    parse_mail_within(alloc, raw, MAX_LEVELS, limit, &Strict(known))
+}
+
+/// Returns the findings of these classes.
 fn chosen(
     alloc: Global,
     found: Vec<Finding>,
-    classes: &[&str],
+    classes: Classes,
 ) -> Result<Vec<Finding>, AllocError> {
-    if classes.is_empty() {
-        return Ok(found);
-    }
     let mut kept = Vec::new(alloc);
     for finding in found {
-        if classes.contains(&finding.class.text()) {
+        if classes.contains(finding.class) {
             kept.push(finding)?;
         }
     }
@@ -260,7 +285,7 @@ pub fn run<'a, R: Files + Input + Print + Eprint + AllocGlobal>(
         limit: limit_of(matches),
         form: form_of(matches),
         titles: titles_of(rt, names),
-        classes: matches.get_strs(ids::CLASS).unwrap_or(&[]),
+        classes: classes_of(matches),
     };
     let outcome = read_inputs(rt, &mut check, inputs_of(matches, names))?;
     check.out.flush()?;
@@ -276,4 +301,20 @@ fn form_of(matches: &ArgMatches<'_>) -> Form {
     } else {
         Form::Text
     }
+}
+
+/// Returns the classes that the options name; all if they name none.
+fn classes_of(matches: &ArgMatches<'_>) -> Classes {
+    let names = matches.get_strs(ids::CLASS).unwrap_or(&[]);
+    Classes {
+        structure: is_named(names, Class::Structure),
+        bytes: is_named(names, Class::Bytes),
+        name: is_named(names, Class::Name),
+        note: is_named(names, Class::Note),
+    }
+}
+
+/// Returns whether a class is among these names, or there is none.
+fn is_named(names: &[&str], class: Class) -> bool {
+    names.is_empty() || names.iter().any(|name| *name == class.text())
 }
