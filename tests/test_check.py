@@ -83,7 +83,7 @@ def test_classes():
 def test_mailbox():
     """Each mail of a mailbox has its number and its offsets, and text before the first separator is refused."""
     mails = [b"A: b\n\none\n", b"A: b\n\na\0b\n", b" no\n\nx\n", b"A: b\n\n>From \0\n"]
-    raw = b"lost\n" + b"".join(FROM + mail + b"\n" for mail in mails)
+    raw = b"lost\n\n" + b"".join(FROM + mail + b"\n" for mail in mails)
     lines = [json.loads(line) for line in check(raw, "--json", "--mbox").stdout.splitlines()]
     assert [line["number"] for line in lines] == [None, 1, 2, 3, 4]
     assert all(raw[line["start"]:line["end"]].rstrip() == mail.rstrip() for line, mail in zip(lines[1:], mails))
