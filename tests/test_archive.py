@@ -34,6 +34,8 @@ from readers.html_reader import by_parser
 
 pytestmark = pytest.mark.xdist_group("archive")
 EXAMPLES = os.path.join(TOP, "examples", "archive")
+# Ctrl-C counts even if the tests run in the background of a shell, which ignores it
+INTERRUPTIBLE = ("env", "--default-signal=INT")
 sys.path.insert(0, EXAMPLES)
 
 import search  # noqa: E402
@@ -325,7 +327,7 @@ def test_interrupted(tmp_path):
     write(f"{tmp_path}/mails/a", SMALL[0])
     write(f"{tmp_path}/slow", b"#!/bin/sh\ntouch begun\nsleep 60\n")
     os.chmod(f"{tmp_path}/slow", 0o755)
-    script = [sys.executable, os.path.join(EXAMPLES, "index_archive.py"), "out", "mails", "--program", "./slow"]
+    script = [*INTERRUPTIBLE, sys.executable, os.path.join(EXAMPLES, "index_archive.py"), "out", "mails", "--program", "./slow"]
     with subprocess.Popen(script, cwd=tmp_path, stdout=subprocess.PIPE, stderr=subprocess.PIPE, env={**os.environ, **QUIET}, start_new_session=True) as process:
         wait_for(lambda: os.path.exists(f"{tmp_path}/begun"), "the first part")
         os.killpg(process.pid, signal.SIGINT)
@@ -335,7 +337,7 @@ def test_interrupted(tmp_path):
 
 def test_interrupted_load(runs):
     """Ctrl-C while the shards are loaded is one line too, and leaves nothing that the next run cannot use."""
-    script = [sys.executable, os.path.join(EXAMPLES, "load_sqlite.py"), runs.path("killed"), runs.path("interrupted")]
+    script = [*INTERRUPTIBLE, sys.executable, os.path.join(EXAMPLES, "load_sqlite.py"), runs.path("killed"), runs.path("interrupted")]
     with subprocess.Popen(script, stderr=subprocess.PIPE, start_new_session=True) as process:
         wait_for(lambda: len(glob.glob(runs.path("interrupted/.load-*/*"))) >= 8, "the first shards")
         os.killpg(process.pid, signal.SIGINT)
