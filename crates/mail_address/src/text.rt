@@ -85,11 +85,7 @@ fn push_address_meaning(
 
 /// Appends the meaning of the token at the front of an address, and returns its length.
 #[tactic(auto, unfolding(crate::specs::Text::front_len, crate::specs::Text::address_front))]
-fn push_address_front(
-    alloc: Global,
-    text: &mut Vec<u8>,
-    bytes: &[u8],
-) -> Result<usize, AllocError>
+fn push_address_front(alloc: Global, text: &mut Vec<u8>, bytes: &[u8]) -> Result<usize, AllocError>
     ensures pushed { OnOk result
         (text.new.items ≡ text.old.items ++ address_front bytes.now) }
     ensures len { IfOk result (λ len. len ≡ front_len bytes.now) }
