@@ -1,6 +1,7 @@
 pub mod Places
 pub mod Header
 pub mod Block
+pub mod HeaderPart
 pub mod Outcome
 pub mod Refusal
 pub mod Map

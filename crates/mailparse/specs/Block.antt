@@ -1,9 +1,9 @@
 -- The block of headers at the front of a message, with the blank line that ends it (RFC 5322, section 2.1).
-use Rattle.std.specs.Prelude.{ℕ, zero, suc, ◌+◌, Bool, ◌&&◌, ◌||◌, not, nat_lt, List, [], ◌∷◌, length, drop, Option, Some, None, Result, Ok, Err, if◌then◌else◌}
+use Rattle.std.specs.Prelude.{ℕ, zero, suc, ◌+◌, Bool, false, ◌&&◌, ◌||◌, ◌==◌, not, nat_lt, List, [], ◌∷◌, length, take, drop, Option, Some, None, Result, Ok, Err, codes, if◌then◌else◌}
 use Rattle.mail_codec.specs.Ascii.{line_feed, carriage_return, space}
-use Rattle.mail_codec.specs.Places.{has_prefix, is_empty, least, values_below}
+use Rattle.mail_codec.specs.Places.{first_place, has_prefix, is_empty, least, values_below}
 use Rattle.mailparse.specs.Refusal.{Refusal, leading_space, lone_carriage_return}
-use Rattle.mailparse.specs.Header.{Header, header_of, header_length}
+use Rattle.mailparse.specs.Header.{Header, has_colon, header_of, header_length}
 
 -- the length of the blank line at the front: LF or CR LF, and 0 without one
 unfoldable pub blank_line : List ℕ → ℕ
@@ -50,3 +50,28 @@ read_headers raw =
     if headers_end stop
     then Ok (record { headers = values_below count (λ j. header_of (rest_at raw j)); index = header_place raw count + blank_line stop })
     else (if has_prefix (carriage_return ∷ []) stop then Err lone_carriage_return else Err leading_space)
+
+-- a line begins here that looks like a delimiter and not like a header: it begins with `--` and has no colon
+unfoldable pub is_dash_line : List ℕ → Bool
+is_dash_line bytes = has_prefix (codes "--") bytes && not (has_colon bytes)
+
+-- a LF, and after it the blank line, the end of the bytes, or such a line
+abbrev pub ends_header_lines : List ℕ → Bool
+ends_header_lines [] = false
+ends_header_lines (b ∷ rest) = b == line_feed && (headers_end rest || is_dash_line rest)
+
+-- the offset after the first such LF
+unfoldable pub header_lines_end : List ℕ → ℕ
+header_lines_end raw = suc (first_place ends_header_lines raw)
+
+-- the bytes before the first line, after the first one, that looks like a delimiter; all of them if a blank line comes first
+unfoldable pub before_dash_line : List ℕ → List ℕ
+before_dash_line raw = if is_dash_line (drop (header_lines_end raw) raw) then take (header_lines_end raw) raw else raw
+
+-- the bytes that headers are read from, if the headers end before such a line, or not
+abbrev pub header_part : Bool → List ℕ → List ℕ
+header_part ends_at_dashes raw = if ends_at_dashes then before_dash_line raw else raw
+
+-- the headers at the front of those bytes, or the refusal
+abbrev pub read_block : Bool → List ℕ → Result HeaderList Refusal
+read_block ends_at_dashes raw = read_headers (header_part ends_at_dashes raw)

@@ -107,15 +107,20 @@ module _ (whole : Bool) where
   abbrev pub end_from_as : List ℕ → List ℕ → ℕ → ℕ → ℕ
   end_from_as dash_boundary bytes s otherwise = option_map_or (before_line_end bytes s) (delimiter_from_as dash_boundary bytes s) otherwise
 
-  -- the range of the preamble that starts at i: up to the first delimiter; without a delimiter it is empty
+  -- the end of the preamble that starts at i: before the first delimiter; without a delimiter the preamble is empty, or all that
+  -- follows if whole lines are asked for
+  abbrev pub preamble_end_as : List ℕ → List ℕ → ℕ → ℕ
+  preamble_end_as dash_boundary bytes i = end_from_as dash_boundary bytes i (if whole then length bytes else i)
+
+  -- its range
   abbrev pub preamble_range_as : List ℕ → List ℕ → ℕ → Range
-  preamble_range_as dash_boundary bytes i = record { start = i; end = end_from_as dash_boundary bytes i i }
+  preamble_range_as dash_boundary bytes i = record { start = i; end = preamble_end_as dash_boundary bytes i }
 
   -- the range of the part that starts at s: up to its delimiter, or to the end of the bytes
   abbrev pub part_range_as : List ℕ → List ℕ → ℕ → Range
   part_range_as dash_boundary bytes s = record { start = s; end = end_from_as dash_boundary bytes s (length bytes) }
 
-  -- how the delimiters split the bytes from i onwards: the body is the preamble, and the parts follow; without a delimiter there is neither
+  -- how the delimiters split the bytes from i onwards: the body is the preamble, and the parts follow; without a delimiter there are no parts
   unfoldable pub cut_parts_as : List ℕ → List ℕ → ℕ → Cut
   cut_parts_as dash_boundary bytes i = record {
     body = preamble_range_as dash_boundary bytes i;

@@ -1,7 +1,7 @@
 -- Reading a message with a limit on its parts and headers; the project's own terms. Items are messages and headers.
 use Rattle.std.specs.Prelude.{ℕ, zero, suc, ◌+◌, ◌-◌, nat_lt, Bool, false, List, [], ◌∷◌, length, map, Option, Some, None, option_map, is_ok, Ok, Err, if◌then◌else◌}
 use Rattle.mailparse.specs.Refusal.{Reads, too_many_items}
-use Rattle.mailparse.specs.Block.{HeaderList, read_headers}
+use Rattle.mailparse.specs.Block.{HeaderList, read_block}
 use Rattle.mailparse.specs.ContentType.{ContentType}
 use Rattle.mailparse.specs.Manner.{Manner}
 use Rattle.mailparse.specs.Mail.{Tree, Forest, cut_of_as, is_digest, read_levels, read_mail_as}
@@ -39,7 +39,8 @@ module _ (manner : Manner) where
   unfoldable pub items_met : ℕ → Bool → List ℕ → ℕ
   items_met zero in_digest bytes = 1
   items_met (suc levels) in_digest bytes =
-      1 + (headers_met (read_headers bytes) + met_after (read_levels manner levels) (items_met levels) in_digest bytes (read_headers bytes))
+      1 + (headers_met (read_block manner.ends_at_dashes bytes)
+      + met_after (read_levels manner levels) (items_met levels) in_digest bytes (read_block manner.ends_at_dashes bytes))
 
   -- the message in the bytes, refused if more than `most` items are met before any other refusal
   unfoldable pub read_mail_within : ℕ → ℕ → List ℕ → Reads Tree

@@ -5,6 +5,7 @@ ghost use Rattle.std.specs.Slice.Iter.{iter_rest, iter_steps};
 ghost use Rattle.mailparse.specs.Mail.{HeaderBlock};
 
 pub(crate) mod block;
+pub(crate) mod dashes;
 pub(crate) mod map;
 
 use crate::header::MailHeader;

@@ -2,11 +2,11 @@
 ghost use Rattle.std.specs.Prelude.{◌≡◌, Bool, false, ◌<◌, ◌≤◌, ◌+◌, ◌^◌, [], ◌∷◌, ◌++◌, length, drop, map, slice_range, take, IfOk, IsErr, Ok, OnOk};
 ghost use Rattle.std.specs.List.{flat_map};
 ghost use Rattle.mail_codec.specs.Charset.{four_charsets};
-ghost use Rattle.mailparse.specs.Block.{header_count, read_headers};
+ghost use Rattle.mailparse.specs.Block.{header_count, header_part, read_block, read_headers};
 ghost use Rattle.mailparse.specs.Bound.{IsBounded, items_within};
 ghost use Rattle.mailparse.specs.Limit.{items_met, limited, read_mail_within};
 ghost use Rattle.mailparse.specs.private.Limit.{less};
-ghost use Rattle.mailparse.specs.Mail.{forest, or_kept, read_levels, read_mail, read_mail_as, read_mail_in, tree, Tree, whole_lines_for};
+ghost use Rattle.mailparse.specs.Mail.{forest, kept_if_refused, or_kept, read_levels, read_mail, read_mail_as, read_mail_in, tree, Tree, whole_lines_for};
 ghost use Rattle.mailparse.specs.Outcome.{Answers, AnswersOrMemory, IsRefusal, IsRefusalOrMemory};
 ghost use Rattle.mailparse.specs.Placement.{placements, placements_as};
 ghost use Rattle.mailparse.specs.Refusal.{Reads};
@@ -22,6 +22,7 @@ use crate::content_type::ParsedContentType;
 use crate::error::MailParseError;
 use crate::header::MailHeader;
 use crate::headers::block::parse_headers;
+use crate::headers::dashes::before_dash_line;
 use crate::manner::{ReadingManner, Strict};
 use delimiters::{cut_part, cut_preamble};
 use limit::{check_headers, less};
@@ -224,8 +225,9 @@ pub fn parse_mail_as<'a, M: ReadingManner>(
     ensures bounded { IfOk result (λ mail. IsBounded (tree_of mail) (length raw.now)) }
     ensures places { IfOk result (λ mail. placements_of mail
         ≡ placements_as (M.manner manner.now).whole_lines 0 (tree_of mail)) }
-    ensures no_alloc { (M.manner manner.now).keeps_refused ≡ false → header_count raw.now ≡ 0 →
-        IsErr (read_headers raw.now) →
+    ensures no_alloc { (M.manner manner.now).keeps_refused ≡ false →
+        header_count (header_part (M.manner manner.now).ends_at_dashes raw.now) ≡ 0 →
+        IsErr (read_block (M.manner manner.now).ends_at_dashes raw.now) →
         Answers tree_of result (read_mail_as (M.manner manner.now) levels raw.now) }
 {
     let default = DefaultType::Text;
@@ -274,8 +276,9 @@ pub fn parse_mail_within<'a, M: ReadingManner>(
     ensures bounded { IfOk result (λ mail. IsBounded (tree_of mail) (length raw.now)) }
     ensures places { IfOk result (λ mail. placements_of mail
         ≡ placements_as (M.manner manner.now).whole_lines 0 (tree_of mail)) }
-    ensures no_alloc { (M.manner manner.now).keeps_refused ≡ false → header_count raw.now ≡ 0 →
-        IsErr (read_headers raw.now) →
+    ensures no_alloc { (M.manner manner.now).keeps_refused ≡ false →
+        header_count (header_part (M.manner manner.now).ends_at_dashes raw.now) ≡ 0 →
+        IsErr (read_block (M.manner manner.now).ends_at_dashes raw.now) →
         Answers tree_of result (read_mail_within (M.manner manner.now) levels most raw.now) }
 {
     let default = DefaultType::Text;
@@ -303,7 +306,8 @@ fn parse_mail_recursive<'a, M: ReadingManner>(
     ensures places { IfOk result (λ mail. placements_of mail
         ≡ placements_as (M.manner manner.now).whole_lines offset (tree_of mail)) }
     ensures no_alloc { (M.manner manner.now).keeps_refused ≡ false → 0 < levels →
-        header_count raw.now ≡ 0 → IsErr (read_headers raw.now) →
+        header_count (header_part (M.manner manner.now).ends_at_dashes raw.now) ≡ 0 →
+        IsErr (read_block (M.manner manner.now).ends_at_dashes raw.now) →
         Answers tree_of result
         (limited left.old (items_met (M.manner manner.now) levels (in_digest default) raw.now)
         (read_levels (M.manner manner.now) levels (in_digest default) raw.now)) }
@@ -313,8 +317,9 @@ fn parse_mail_recursive<'a, M: ReadingManner>(
         let refusal = MailParseError::Generic("Recursion limit reached");
         return refused_or_kept(alloc, raw, offset, refusal, manner);
     }
-    check_headers(*left, raw)?;
-    let (headers, body_offset) = match parse_headers(alloc, raw) {
+    let head = header_part(raw, manner);
+    check_headers(*left, head)?;
+    let (headers, body_offset) = match parse_headers(alloc, head) {
         Ok(block) => block,
         Err(refusal) => return refused_or_kept(alloc, raw, offset, refusal, manner),
     };
@@ -371,6 +376,24 @@ fn refused_or_kept<'a, M: ReadingManner>(
     if !manner.keeps_refused() {
         return Err(refusal);
     }
+    kept(alloc, raw, offset, refusal)
+}
+
+/// Returns a refused message as plain text without headers, unless memory ran out. It is kept out
+/// of the frame of the function that recurses.
+#[inline(never)]
+fn kept<'a>(
+    alloc: Global,
+    raw: &'a [u8],
+    offset: usize,
+    refusal: MailParseError,
+) -> Result<ParsedMail<'a>, MailParseError>
+    requires within { offset + length raw.now < 2 ^ 64 }
+    ensures read { (reading : Reads Tree) → IsRefusalOrMemory refusal reading →
+        AnswersOrMemory tree_of result (kept_if_refused raw.now reading) }
+    ensures places { (whole : Bool) →
+        IfOk result (λ mail. placements_of mail ≡ placements_as whole offset (tree_of mail)) }
+{
     if let MailParseError::Memory(e) = refusal {
         return Err(MailParseError::Memory(e));
     }
@@ -384,6 +407,18 @@ fn refused_or_kept<'a, M: ReadingManner>(
         raw.len(),
         Vec::new(alloc),
     ))
+}
+
+/// Returns the bytes that the headers of a message are read from: all, or those before a line that
+/// looks like a delimiter.
+fn header_part<'a, M: ReadingManner>(raw: &'a [u8], manner: &M) -> &'a [u8]
+    ensures value { result.now ≡ header_part (M.manner manner.now).ends_at_dashes raw.now }
+    ensures within { length result.now ≤ length raw.now }
+{
+    if !manner.ends_at_dashes() {
+        return raw;
+    }
+    before_dash_line(raw)
 }
 
 /// Whether whole lines are asked for: never of a dash-boundary that contains a LF.

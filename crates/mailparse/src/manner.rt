@@ -10,8 +10,8 @@ use crate::mail::types::{DefaultType, node_type};
 use mail_codec::charset::KnownCharsets;
 use std::alloc::{AllocError, Global};
 
-/// How a message is read where readers differ: which type it has, and two choices, for
-/// `parse_mail_as`.
+/// How a message is read where readers differ: which type it has, and three choices,
+/// for `parse_mail_as`.
 ///
 /// An implementation names in `manner` the definition that it keeps to. `Strict` is the manner of
 /// all other calls of this crate.
@@ -73,10 +73,25 @@ pub trait ReadingManner {
     /// ```
     fn has_whole_lines(&self) -> bool
         ensures { result ≡ (manner self.now).whole_lines };
+
+    /// Whether headers also end before a line that begins with `--` and has no colon, as
+    /// `before_dash_line` returns it. Otherwise they end at the blank line alone (RFC 5322, section
+    /// 2.1).
+    ///
+    /// # Examples
+    ///
+    /// ```rust
+    /// use mailparse::{ReadingManner, Strict};
+    ///
+    /// assert!(rt; !Strict(&()).ends_at_dashes());
+    /// ```
+    fn ends_at_dashes(&self) -> bool
+        ensures { result ≡ (manner self.now).ends_at_dashes };
 }
 
 /// The manner of the other calls of this crate, under these charsets: the first `Content-Type` is
-/// the type, a refused part refuses the mail, and whole lines are not asked for.
+/// the type, a refused part refuses the mail, whole lines are not asked for, and headers end at the
+/// blank line.
 #[derive(Debug, Drop)]
 pub struct Strict<'k, K>(pub &'k K);
 
@@ -97,6 +112,10 @@ impl<'k, K: KnownCharsets> ReadingManner for Strict<'k, K> {
     }
 
     fn has_whole_lines(&self) -> bool {
+        false
+    }
+
+    fn ends_at_dashes(&self) -> bool {
         false
     }
 }

@@ -7,7 +7,7 @@ use Rattle.std.proofs.lemmas.List.Sums.{sum_by-cons, sum_by-append}
 use Rattle.mail_codec.specs.Charset.{Charsets}
 use Rattle.mailparse.specs.Refusal.{◌>>=◌, recursion_limit, Reads}
 use Rattle.mailparse.specs.Outcome.{AnswersOrMemory}
-use Rattle.mailparse.specs.Block.{HeaderList, read_headers}
+use Rattle.mailparse.specs.Block.{HeaderList, read_block}
 use Rattle.mailparse.specs.ContentType.{ContentType, default_type}
 use Rattle.mailparse.specs.Manner.{Manner}
 use Rattle.mailparse.specs.Ranges.{Range, slice}
@@ -18,7 +18,7 @@ use Rattle.mailparse.specs.declared.error.MailParseError.{MailParseError}
 use Rattle.mailparse.specs.declared.mail.message.ParsedMail.{ParsedMail}
 use Rattle.mailparse.proofs.lemmas.Refusal.{read_map}
 use Rattle.mailparse.proofs.lemmas.Ranges.{cut_of_as-apart, Apart-sum}
-use Rattle.mailparse.proofs.lemmas.Block.{Bounded, read_headers-bounded}
+use Rattle.mailparse.proofs.lemmas.HeaderPart.{FitsIn, read_block-bounded}
 
 -- ---- what messages take together
 
@@ -108,7 +108,7 @@ read_each-fits read fits bytes (range ∷ ranges) parts e =
         subst (λ (f : Forest). weight_in f ≤ sum_by (λ r. r.end - r.start + 3) (range ∷ ranges)) same (omega (arith, both, first, size, more, sum))
 
 -- a message with this block, this type and these parts
-node-fits : (whole : Bool) (bytes : List ℕ) (block : HeaderList) (ctype : ContentType) (parts : Forest) → Bounded bytes block
+node-fits : (whole : Bool) (bytes : List ℕ) (block : HeaderList) (ctype : ContentType) (parts : Forest) → FitsIn bytes block
     → weight_in parts ≤ sum_by (λ r. r.end - r.start + 3) (cut_of_as whole ctype bytes block.index).parts
     → weight (nodes (tree (node_with bytes block ctype (cut_of_as whole ctype bytes block.index)) parts)) ≤ length bytes + 3
 node-fits whole bytes block ctype parts bounded fits =
@@ -145,9 +145,9 @@ module _ (manner : Manner) where
   unfolding read_levels
   read_levels-fits zero in_digest bytes t e = or_kept-fits bytes (Err recursion_limit) t e (λ h. absurd (cc))
   read_levels-fits (suc levels) in_digest bytes t e =
-      or_kept-fits bytes (read_message manner (read_levels manner levels) in_digest bytes) t e (λ h. by_block (read_headers bytes) refl h (λ digest. read_levels-fits levels digest))
+      or_kept-fits bytes (read_message manner (read_levels manner levels) in_digest bytes) t e (λ h. by_block (read_block manner.ends_at_dashes bytes) refl h (λ digest. read_levels-fits levels digest))
     where
-      by_parts : (block : HeaderList) (ctype : ContentType) → read_headers bytes ≡ Ok block → (parts : Reads Forest)
+      by_parts : (block : HeaderList) (ctype : ContentType) → read_block manner.ends_at_dashes bytes ≡ Ok block → (parts : Reads Forest)
           → read_each (read_levels manner levels (is_digest ctype)) (map (slice bytes) (cut_of_as manner.whole_lines ctype bytes block.index).parts) ≡ parts
           → read_map (tree (node_with bytes block ctype (cut_of_as manner.whole_lines ctype bytes block.index))) parts ≡ Ok t
           → Fits (read_levels manner levels (is_digest ctype)) → weight (nodes t) ≤ length bytes + 3
@@ -156,9 +156,9 @@ module _ (manner : Manner) where
           let cut = cut_of_as manner.whole_lines ctype bytes block.index in
           let same : tree (node_with bytes block ctype cut) parts ≡ t = cc in
           let all = read_each-fits (read_levels manner levels (is_digest ctype)) ih bytes cut.parts parts f in
-          subst (λ (u : Tree). weight (nodes u) ≤ length bytes + 3) same (node-fits manner.whole_lines bytes block ctype parts (read_headers-bounded bytes block read) all)
+          subst (λ (u : Tree). weight (nodes u) ≤ length bytes + 3) same (node-fits manner.whole_lines bytes block ctype parts (read_block-bounded manner.ends_at_dashes bytes block read) all)
 
-      by_block : (block : Reads HeaderList) → read_headers bytes ≡ block
+      by_block : (block : Reads HeaderList) → read_block manner.ends_at_dashes bytes ≡ block
           → ◌>>=◌ block (λ b. read_parts manner (read_levels manner levels) bytes b (manner.type_of in_digest b.headers)) ≡ Ok t
           → ((digest : Bool) → Fits (read_levels manner levels digest)) → weight (nodes t) ≤ length bytes + 3
       by_block (Err refusal) read h ih = absurd (cc)

@@ -6,7 +6,7 @@ use Rattle.std.proofs.lemmas.List.{map-append, append-nil, length-take}
 use Rattle.std.proofs.lemmas.List.Concat.{flat_map-append}
 use Rattle.mailparse.specs.Header.{Header}
 use Rattle.mailparse.specs.ContentType.{ContentType}
-use Rattle.mailparse.specs.Delimiters.{Cut, cut_parts_as, end_from_as, first_part_as, next_part_as}
+use Rattle.mailparse.specs.Delimiters.{Cut, cut_parts_as, preamble_end_as, first_part_as, next_part_as}
 use Rattle.mailparse.specs.Mail.{Tree, tree, Forest, no_parts, part_and, forest, whole_lines_for, cut_of_as, dash_boundary_of}
 use Rattle.mailparse.specs.Placement.{Placement, placements_as, placements_in_as}
 use Rattle.mailparse.specs.Ranges.{Range, moved}
@@ -51,7 +51,7 @@ module _ (whole : Bool) where
 
     -- with parts, by a dash-boundary
     pub placed_whole : (dash_boundary : List ℕ) (parts : Forest) → dash_boundary_of ctype ≡ Some dash_boundary
-        → record { whole = record { start = offset; end = offset + length raw }; body = record { start = offset + index; end = offset + end_from_as (whole_lines_for whole dash_boundary) dash_boundary raw index index } }
+        → record { whole = record { start = offset; end = offset + length raw }; body = record { start = offset + index; end = offset + preamble_end_as (whole_lines_for whole dash_boundary) dash_boundary raw index } }
         ∷ placements_in_as whole offset (part_ranges_as (whole_lines_for whole dash_boundary) dash_boundary raw (first_part_as (whole_lines_for whole dash_boundary) dash_boundary raw index)) parts
         ≡ placements_as whole offset (tree (record { bytes = raw; block = take index raw; headers = headers; ctype = ctype; body = body }) parts)
     unfolding cut_parts_as

@@ -1,6 +1,6 @@
 -- The parts of a message are disjoint ranges, and so have no more bytes than there are.
 use Rattle.std.proofs.Common.{◌≡◌, ℕ, zero, suc, ◌+◌, ◌-◌, ◌<◌, ◌≤◌, Bool, true, false, ◌&&◌, cond, List, [], ◌∷◌, length, drop, Option, Some, None, refl, sym, ap, subst, arith}
-use Rattle.std.specs.Prelude.{nat_eq, nat_lt, option_and_then}
+use Rattle.std.specs.Prelude.{nat_eq, nat_lt, option_and_then, if◌then◌else◌}
 use Rattle.std.specs.List.{sum_by}
 use Rattle.std.specs.Option.{option_map_or}
 use Rattle.std.proofs.lemmas.List.Sums.{sum_by-cons}
@@ -8,7 +8,7 @@ use Rattle.std.proofs.lemmas.Bool.{and_parts, ltb-true}
 use Rattle.mail_codec.specs.Places.{begins}
 use Rattle.mailparse.specs.ContentType.{ContentType}
 use Rattle.mailparse.specs.Ranges.{Range, Apart}
-use Rattle.mailparse.specs.Delimiters.{before_byte, before_line_end, delimiter_from_as, end_from_as, part_after, first_part_as, next_part_as, cut_parts_as}
+use Rattle.mailparse.specs.Delimiters.{before_byte, before_line_end, delimiter_from_as, end_from_as, preamble_end_as, part_after, first_part_as, next_part_as, cut_parts_as}
 use Rattle.mailparse.specs.Mail.{dash_boundary_of, whole_lines_for, cut_of, cut_of_as}
 use Rattle.mailparse.proofs.lemmas.Delimiters.{is_delimiter-fits, is_delimiter_as-out, delimiter_from_as-out, line_after-bounds, next_part_as-delimiter, part_ranges_as, part_ranges_as-none, part_ranges_as-some}
 use Rattle.mailparse.proofs.lemmas.Mail.{dash_boundary_of-length}
@@ -82,23 +82,39 @@ module _ (whole : Bool) where
           let low = (end_from-bounds dash_boundary bytes s (length bytes) within (omega arith)).0 in
           ih next after.0 after.1 (omega (arith, after.0, after.1, low))
 
+  -- where the preamble ends
+  abbrev otherwise : List ℕ → ℕ → ℕ
+  otherwise bytes i = if whole then length bytes else i
+
+  otherwise-bounds : (bytes : List ℕ) (i : ℕ) → i ≤ length bytes → (i ≤ otherwise bytes i) × (otherwise bytes i ≤ length bytes)
+  otherwise-bounds bytes i within = by_lines whole
+    where
+      by_lines : (w : Bool) → (i ≤ (if w then length bytes else i)) × ((if w then length bytes else i) ≤ length bytes)
+      by_lines true = (within, omega arith)
+      by_lines false = (omega arith, within)
+
+  preamble-bounds : (dash_boundary bytes : List ℕ) (i : ℕ) → i ≤ length bytes → (i ≤ preamble_end_as whole dash_boundary bytes i) × (preamble_end_as whole dash_boundary bytes i ≤ length bytes)
+  preamble-bounds dash_boundary bytes i within =
+      let bounds = otherwise-bounds bytes i within in
+      end_from-bounds dash_boundary bytes i (otherwise bytes i) bounds.0 bounds.1
+
   -- the parts after a body
   abbrev AfterBody : List ℕ → List ℕ → ℕ → Option ℕ → Type 0
-  AfterBody dash_boundary bytes i first = Apart (suc (length dash_boundary)) (end_from_as whole dash_boundary bytes i i) (part_ranges_as whole dash_boundary bytes first) (length bytes)
+  AfterBody dash_boundary bytes i first = Apart (suc (length dash_boundary)) (preamble_end_as whole dash_boundary bytes i) (part_ranges_as whole dash_boundary bytes first) (length bytes)
 
   after_body : (dash_boundary bytes : List ℕ) (i : ℕ) → i ≤ length bytes → AfterBody dash_boundary bytes i (first_part_as whole dash_boundary bytes i)
   after_body dash_boundary bytes i within = by_delimiter (delimiter_from_as whole dash_boundary bytes i) refl
     where
       none : AfterBody dash_boundary bytes i None
       none =
-          subst (λ (rs : List Range). Apart (suc (length dash_boundary)) (end_from_as whole dash_boundary bytes i i) rs (length bytes)) (sym (part_ranges_as-none whole dash_boundary bytes))
-          (end_from-bounds dash_boundary bytes i i (omega arith) within).1
+          subst (λ (rs : List Range). Apart (suc (length dash_boundary)) (preamble_end_as whole dash_boundary bytes i) rs (length bytes)) (sym (part_ranges_as-none whole dash_boundary bytes))
+          (preamble-bounds dash_boundary bytes i within).1
 
       by_part : (p : ℕ) → delimiter_from_as whole dash_boundary bytes i ≡ Some p → (o : Option ℕ) → part_after dash_boundary bytes p ≡ o → AfterBody dash_boundary bytes i o
       by_part p f None e = none
       by_part p f (Some s) e =
-          let after = after_delimiter dash_boundary bytes i i p s f e in
-          parts_apart-from dash_boundary bytes (suc (length bytes)) (end_from_as whole dash_boundary bytes i i) s after.0 after.1 (omega arith)
+          let after = after_delimiter dash_boundary bytes i (otherwise bytes i) p s f e in
+          parts_apart-from dash_boundary bytes (suc (length bytes)) (preamble_end_as whole dash_boundary bytes i) s after.0 after.1 (omega arith)
 
       by_delimiter : (o : Option ℕ) → delimiter_from_as whole dash_boundary bytes i ≡ o → AfterBody dash_boundary bytes i (option_and_then (part_after dash_boundary bytes) o)
       by_delimiter None f = none
@@ -108,7 +124,7 @@ module _ (whole : Bool) where
   pub cut_parts_as-apart : (dash_boundary bytes : List ℕ) (i : ℕ) → i ≤ length bytes
       → (i ≤ (cut_parts_as whole dash_boundary bytes i).body.end) × Apart (suc (length dash_boundary)) (cut_parts_as whole dash_boundary bytes i).body.end (cut_parts_as whole dash_boundary bytes i).parts (length bytes)
   unfolding cut_parts_as
-  cut_parts_as-apart dash_boundary bytes i within = ((end_from-bounds dash_boundary bytes i i (omega arith) within).0, after_body dash_boundary bytes i within)
+  cut_parts_as-apart dash_boundary bytes i within = ((preamble-bounds dash_boundary bytes i within).0, after_body dash_boundary bytes i within)
 
   cut_parts_as-start : (dash_boundary bytes : List ℕ) (i : ℕ) → (cut_parts_as whole dash_boundary bytes i).body.start ≡ i
   unfolding cut_parts_as

@@ -3,7 +3,7 @@ ghost use Rattle.std.specs.Prelude.{◌≡◌, ◌==◌, ◌<◌, ◌≤◌, suc
 ghost use Rattle.std.specs.List.{list_all};
 ghost use Rattle.mail_codec.specs.Ascii.{colon, is_blank, space};
 ghost use Rattle.mail_codec.specs.Places.{first_place, place_from, begins};
-ghost use Rattle.mailparse.specs.Header.{is_line_end, is_line_feed, key_end, ends_header};
+ghost use Rattle.mailparse.specs.Header.{is_line_end, is_line_feed, has_colon, key_end, ends_header};
 ghost use Rattle.mailparse.specs.Header.{header_of, header_length, read_header};
 ghost use Rattle.mailparse.specs.Header.{value_end, value_start};
 ghost use Rattle.mailparse.specs.Outcome.{Answers};
@@ -134,6 +134,14 @@ fn key_end(raw: &[u8]) -> usize
     }
 }
 
+/// Returns whether a colon ends the key, and not a line end.
+#[tactic(auto, unfolding(crate::specs::Header::has_colon))]
+pub(crate) fn has_colon(raw: &[u8]) -> bool
+    ensures { result ≡ has_colon raw.now }
+{
+    is_colon_at(raw, key_end(raw))
+}
+
 /// Returns whether the byte at `place` is a colon.
 fn is_colon_at(raw: &[u8], place: usize) -> bool
     ensures { result ≡ begins (λ b. b == colon) (drop place raw.now) }
@@ -143,7 +151,7 @@ fn is_colon_at(raw: &[u8], place: usize) -> bool
 
 /// Returns the offset of the first LF at or after `from`, or the length if there is none.
 #[tactic(auto, using(crate::proofs::lemmas::Places::searches_from))]
-fn line_feed_from(raw: &[u8], from: usize) -> usize
+pub(crate) fn line_feed_from(raw: &[u8], from: usize) -> usize
     requires within { from ≤ length raw.now }
     ensures least { result ≡ place_from (begins is_line_feed) raw.now from }
     ensures bounds { result ≤ length raw.now }

@@ -6,14 +6,15 @@ ghost use Rattle.std.specs.Prelude.{◌≡◌, true, not, ℕ, suc, ◌+◌, ◌
 ghost use Rattle.mail_codec.specs.Ascii.{is_blank, line_feed};
 ghost use Rattle.mail_codec.specs.Places.{begins, first_place, text_place};
 ghost use Rattle.mailparse.specs.Delimiters.{starts_line, is_delimiter, delimiter_from, delimiter_from_as, ends_line, is_blank_line, line_after, is_close_delimiter};
-ghost use Rattle.mailparse.specs.Delimiters.{before_byte, before_line_end, end_from_as, first_part_as, next_part_as};
+ghost use Rattle.mailparse.specs.Delimiters.{before_byte, before_line_end, end_from_as, first_part_as, next_part_as, preamble_end_as};
 ghost use Rattle.mailparse.specs.private.Delimiters.{IsLineDelimiter};
 
 use bstr::ByteSlice;
 use mail_codec::bytescan::{find_byte, find_pair};
 
 /// Returns the end of the preamble that starts at `start`, and the start of the first part if there
-/// is one.
+/// is one. Without a delimiter the preamble is empty, or all that follows if whole lines are asked
+/// for.
 pub(super) fn cut_preamble(
     raw: &[u8],
     start: usize,
@@ -22,13 +23,13 @@ pub(super) fn cut_preamble(
 ) -> (usize, Option<usize>)
     requires line_delimiter { IsLineDelimiter line_delimiter.now }
     requires within { start ≤ length raw.now }
-    ensures end { result.0 ≡ end_from_as whole (drop 1 line_delimiter.now) raw.now start start }
+    ensures end { result.0 ≡ preamble_end_as whole (drop 1 line_delimiter.now) raw.now start }
     ensures first { result.1 ≡ first_part_as whole (drop 1 line_delimiter.now) raw.now start }
     ensures bounds { (start ≤ result.0) × (result.0 ≤ length raw.now)
         × IfSome result.1 (λ next. (start < next) × (next ≤ length raw.now)) }
 {
     let Some(at) = find_delimiter_as(raw, start, line_delimiter, whole) else {
-        return (start, None);
+        return (if whole { raw.len() } else { start }, None);
     };
     let end = before_line_end(raw, start, at);
     let first = line_after(raw, at + (line_delimiter.len() - 1));

@@ -4,10 +4,10 @@ use Rattle.std.specs.Vec.{vec_len}
 use Rattle.std.proofs.lemmas.List.{map-append}
 use Rattle.std.proofs.lemmas.Option.{IfSome_then}
 use Rattle.std.proofs.lemmas.Result.{err_from_is_err_and}
-use Rattle.mailparse.specs.Delimiters.{end_from_as, first_part_as, next_part_as}
-use Rattle.mailparse.specs.Block.{HeaderList, read_headers}
+use Rattle.mailparse.specs.Delimiters.{end_from_as, first_part_as, next_part_as, preamble_end_as}
+use Rattle.mailparse.specs.Block.{HeaderList, header_count, header_part, read_block, read_headers}
 use Rattle.mailparse.specs.Mail.{Tree, tree, Forest, no_parts, forest, dash_boundary_of, whole_lines_for, or_kept, read_levels}
-use Rattle.mailparse.specs.Outcome.{Answers, AnswersOrMemory}
+use Rattle.mailparse.specs.Outcome.{Answers, AnswersOrMemory, IsRefusal}
 use Rattle.mailparse.specs.Refusal.{recursion_limit, Reads}
 use Rattle.mailparse.specs.Views.{content_type, header_list, in_digest, tree_of}
 use Rattle.mailparse.specs.declared.error.MailParseError.{MailParseError}
@@ -23,6 +23,11 @@ use Rattle.mailparse.specs.Placement.{Placement, placements_as, placements_in_as
 use Rattle.mailparse.proofs.lemmas.Delimiters.{part_ranges_as}
 use Rattle.mailparse.proofs.lemmas.Placement.{ArePlaced, placed_whole, placed_step, placed_end}
 use Rattle.mailparse.proofs.mail.+parse_mail_recursive.Goals as goal
+
+-- the block that was read
+part_read : (result : Result (Vec Header × ℕ) MailParseError) (at_dashes : Bool) (raw part : List ℕ) → part ≡ header_part at_dashes raw
+    → AnswersOrMemory header_list result (read_headers part) → AnswersOrMemory header_list result (read_block at_dashes raw)
+part_read result at_dashes raw part e h = subst (λ (p : List ℕ). AnswersOrMemory header_list result (read_headers p)) e h
 
 -- the line delimiter that was made
 made : (o : Option (Vec ℕ)) (line_delimiter : Vec ℕ) (r : Option (List ℕ)) → o ≡ Some line_delimiter → option_map (λ l. l.items) o ≡ r → Some line_delimiter.items ≡ r
@@ -75,11 +80,11 @@ returns-in_err-check_headers-clause-read g t c =
     let some : 0 < c.args.levels = omega (arith, c.if-levels-eq0.false) in
     let reading = read_levels manner c.args.levels (in_digest c.args.default) raw in
     let all = items_met manner c.args.levels (in_digest c.args.default) raw in
-    let headers = headers_met (read_headers raw) in
+    let headers = headers_met (read_block manner.ends_at_dashes raw) in
     let after = met_after_own manner c.args.levels (in_digest c.args.default) raw in
     let left = leaves_spent c.args.left.now all c.args.left.now c.in_ok-left.field-0 1 (headers + after) (leaves_all c.args.left.now all (1 + (headers + after)) (items_met-headers manner c.args.levels (in_digest c.args.default) raw some)) c.in_ok-left.ensures in
     rw (p.1, p.2) (IsRefusalOrMemory-from c.in_err-check_headers.field-0.0 (limited c.args.left.now all reading)
-    (leaves_refused c.args.left.now all c.in_ok-left.field-0 headers after (tt {0}) reading c.in_err-check_headers.field-0.0 left c.in_err-check_headers.ensures))
+    (leaves_refused c.args.left.now all c.in_ok-left.field-0 headers after (tt {0}) reading c.in_err-check_headers.field-0.0 left (subst (λ (p : List ℕ). IsRefusal c.in_err-check_headers.field-0.0 (limited c.in_ok-left.field-0 (headers_met (read_headers p)) (Ok (tt {0})))) c.header_part-head.ensures.value c.in_err-check_headers.ensures)))
 
 pub returns-in_err-check_headers-clause-no_alloc : goal.returns-in_err-check_headers-clause-no_alloc
 returns-in_err-check_headers-clause-no_alloc g t c = λ refuses levels none refused.
@@ -89,21 +94,21 @@ returns-in_err-check_headers-clause-no_alloc g t c = λ refuses levels none refu
     let some : 0 < c.args.levels = omega (arith, c.if-levels-eq0.false) in
     let reading = read_levels manner c.args.levels (in_digest c.args.default) raw in
     let all = items_met manner c.args.levels (in_digest c.args.default) raw in
-    let headers = headers_met (read_headers raw) in
+    let headers = headers_met (read_block manner.ends_at_dashes raw) in
     let after = met_after_own manner c.args.levels (in_digest c.args.default) raw in
     let left = leaves_spent c.args.left.now all c.args.left.now c.in_ok-left.field-0 1 (headers + after) (leaves_all c.args.left.now all (1 + (headers + after)) (items_met-headers manner c.args.levels (in_digest c.args.default) raw some)) c.in_ok-left.ensures in
-    rw (p.1, p.2) (leaves_refused c.args.left.now all c.in_ok-left.field-0 headers after (tt {0}) reading c.in_err-check_headers.field-0.0 left c.in_err-check_headers.ensures)
+    rw (p.1, p.2) (leaves_refused c.args.left.now all c.in_ok-left.field-0 headers after (tt {0}) reading c.in_err-check_headers.field-0.0 left (subst (λ (p : List ℕ). IsRefusal c.in_err-check_headers.field-0.0 (limited c.in_ok-left.field-0 (headers_met (read_headers p)) (Ok (tt {0})))) c.header_part-head.ensures.value c.in_err-check_headers.ensures))
 
 pub returns-in-Err-clause-read : goal.returns-in-Err-clause-read
 returns-in-Err-clause-read g t c =
     let manner = g.M.ReadingManner.manner c.args.manner.now in
     let raw = c.args.raw.now in
     let some : 0 < c.args.levels = omega (arith, c.if-levels-eq0.false) in
-    let h : AnswersOrMemory header_list (Err c.in-Err.refusal) (read_headers raw) = subst (λ r. AnswersOrMemory header_list r (read_headers raw)) c.in-Err.is c.parse_headers.ensures.read in
+    let h : AnswersOrMemory header_list (Err c.in-Err.refusal) (read_block manner.ends_at_dashes raw) = subst (λ r. AnswersOrMemory header_list r (read_block manner.ends_at_dashes raw)) c.in-Err.is (part_read c.parse_headers.result manner.ends_at_dashes raw c.header_part-head.result.now c.header_part-head.ensures.value c.parse_headers.ensures.read) in
     let limit = c.args.left.now in
     let all = items_met manner c.args.levels (in_digest c.args.default) raw in
     let whole = read_levels manner c.args.levels (in_digest c.args.default) raw in
-    answer_given manner raw c.refused_or_kept-in-Err.result c.in-Err.refusal (read_headers raw) (limited limit all whole) h c.refused_or_kept-in-Err.ensures.read
+    answer_given manner raw c.refused_or_kept-in-Err.result c.in-Err.refusal (read_block manner.ends_at_dashes raw) (limited limit all whole) h c.refused_or_kept-in-Err.ensures.read
     (λ r refused. leaves_read limit all c.in_ok-left.field-0 whole (leaves_spent limit all limit c.in_ok-left.field-0 1 0 (leaves_all limit all 1 (items_met-refused manner c.args.levels (in_digest c.args.default) raw r some refused)) c.in_ok-left.ensures)
     ∙ read_levels-step manner c.args.levels (in_digest c.args.default) raw some
     ∙ ap (or_kept manner raw) (reading-refused manner c.args.levels (in_digest c.args.default) raw r refused))
@@ -113,10 +118,10 @@ returns-in-Err-clause-left g t c =
     let manner = g.M.ReadingManner.manner c.args.manner.now in
     let raw = c.args.raw.now in
     let some : 0 < c.args.levels = omega (arith, c.if-levels-eq0.false) in
-    let h : AnswersOrMemory header_list (Err c.in-Err.refusal) (read_headers raw) = subst (λ r. AnswersOrMemory header_list r (read_headers raw)) c.in-Err.is c.parse_headers.ensures.read in
+    let h : AnswersOrMemory header_list (Err c.in-Err.refusal) (read_block manner.ends_at_dashes raw) = subst (λ r. AnswersOrMemory header_list r (read_block manner.ends_at_dashes raw)) c.in-Err.is (part_read c.parse_headers.result manner.ends_at_dashes raw c.header_part-head.result.now c.header_part-head.ensures.value c.parse_headers.ensures.read) in
     let limit = c.args.left.now in
     let all = items_met manner c.args.levels (in_digest c.args.default) raw in
-    ok_given manner raw c.refused_or_kept-in-Err.result c.in-Err.refusal (read_headers raw) h c.refused_or_kept-in-Err.ensures.read
+    ok_given manner raw c.refused_or_kept-in-Err.result c.in-Err.refusal (read_block manner.ends_at_dashes raw) h c.refused_or_kept-in-Err.ensures.read
     (λ r refused. leaves_end limit all c.in_ok-left.field-0 (leaves_spent limit all limit c.in_ok-left.field-0 1 0 (leaves_all limit all 1 (items_met-refused manner c.args.levels (in_digest c.args.default) raw r some refused)) c.in_ok-left.ensures))
 
 pub returns-in-Err-clause-no_alloc : goal.returns-in-Err-clause-no_alloc
@@ -124,15 +129,15 @@ returns-in-Err-clause-no_alloc g t c = λ refuses some none refused.
     let manner = g.M.ReadingManner.manner c.args.manner.now in
     let raw = c.args.raw.now in
     let own = reading manner c.args.levels (in_digest c.args.default) raw in
-    let h : Answers header_list (Err c.in-Err.refusal) (read_headers raw) = subst (λ r. Answers header_list r (read_headers raw)) c.in-Err.is (c.parse_headers.ensures.no_alloc none) in
+    let h : Answers header_list (Err c.in-Err.refusal) (read_block manner.ends_at_dashes raw) = subst (λ r. Answers header_list r (read_block manner.ends_at_dashes raw)) c.in-Err.is (subst (λ (p : List ℕ). Answers header_list c.parse_headers.result (read_headers p)) c.header_part-head.ensures.value (c.parse_headers.ensures.no_alloc (ap header_count c.header_part-head.ensures.value ∙ none))) in
     let limit = c.args.left.now in
     let all = items_met manner c.args.levels (in_digest c.args.default) raw in
     let whole = read_levels manner c.args.levels (in_digest c.args.default) raw in
     let given = limited limit all whole in
-    answer_refused c.refused_or_kept-in-Err.result c.in-Err.refusal (read_headers raw) h
+    answer_refused c.refused_or_kept-in-Err.result c.in-Err.refusal (read_block manner.ends_at_dashes raw) h
     (λ r refused. leaves_read limit all c.in_ok-left.field-0 whole (leaves_spent limit all limit c.in_ok-left.field-0 1 0 (leaves_all limit all 1 (items_met-refused manner c.args.levels (in_digest c.args.default) raw r some refused)) c.in_ok-left.ensures)
     ∙ read_levels-step manner c.args.levels (in_digest c.args.default) raw some)
-    (c.refused_or_kept-in-Err.ensures.no_alloc refuses own (IsRefusal-along c.in-Err.refusal (read_headers raw) own (reading-refused manner c.args.levels (in_digest c.args.default) raw) h))
+    (c.refused_or_kept-in-Err.ensures.no_alloc refuses own (IsRefusal-along c.in-Err.refusal (read_block manner.ends_at_dashes raw) own (reading-refused manner c.args.levels (in_digest c.args.default) raw) h))
 
 -- the headers that were read
 block_read : (result : Result (Vec Header × ℕ) MailParseError) (found : Vec Header × ℕ) (given : Reads HeaderList) → result ≡ Ok found → AnswersOrMemory header_list result given
@@ -151,8 +156,8 @@ returns-in_err-left-2-clause-read g t c =
     let headers = c.in-Ok.block.0.items in
     let many : c.len.result ≡ length headers = omega (arith, c.len.ensures, c.in-Ok.block.0.ok.0) in
     let after = met_after_own manner c.args.levels (in_digest c.args.default) raw in
-    let read = block_read c.parse_headers.result c.in-Ok.block (read_headers raw) c.in-Ok.is c.parse_headers.ensures.read in
-    let same : headers_met (read_headers raw) ≡ c.len.result = ap headers_met read ∙ sym many in
+    let read = block_read c.parse_headers.result c.in-Ok.block (read_block manner.ends_at_dashes raw) c.in-Ok.is (part_read c.parse_headers.result manner.ends_at_dashes raw c.header_part-head.result.now c.header_part-head.ensures.value c.parse_headers.ensures.read) in
+    let same : headers_met (read_block manner.ends_at_dashes raw) ≡ c.len.result = ap headers_met read ∙ sym many in
     let left = leaves_spent c.args.left.now all c.args.left.now c.in_ok-left.field-0 1 (c.len.result + after)
     (leaves_all c.args.left.now all (1 + (c.len.result + after)) (items_met-headers manner c.args.levels (in_digest c.args.default) raw some ∙ ap (λ n. 1 + (n + after)) same)) c.in_ok-left.ensures in
     rw (p.1, p.2) (IsRefusalOrMemory-from c.in_err-left-2.field-0.0 (limited c.args.left.now all reading)
@@ -169,7 +174,7 @@ returns-in_default-clause-read g t c =
     let type = sym c.in_ok-ctype.ensures in
     let nothing : None ≡ option_map (λ dash_boundary. 10 ∷ dash_boundary) (dash_boundary_of ctype) = sym (ap (option_map (λ (l : Vec ℕ). l.items)) c.in_default.is) ∙ c.in_ok-line_delimiter.ensures in
     let parts : forest (map tree_of c.new-parts.result.items) ≡ no_parts = ap (λ (ms : List ParsedMail). forest (map tree_of ms)) c.new-parts.ensures.items in
-    let read = block_read c.parse_headers.result c.in-Ok.block (read_headers raw) c.in-Ok.is c.parse_headers.ensures.read in
+    let read = block_read c.parse_headers.result c.in-Ok.block (read_block manner.ends_at_dashes raw) c.in-Ok.is (part_read c.parse_headers.result manner.ends_at_dashes raw c.header_part-head.result.now c.header_part-head.ensures.value c.parse_headers.ensures.read) in
     let many : c.len.result ≡ length headers = omega (arith, c.len.ensures, c.in-Ok.block.0.ok.0) in
     let limit = c.args.left.now in
     let all = items_met manner c.args.levels (in_digest c.args.default) raw in
@@ -189,7 +194,7 @@ returns-in_default-clause-left g t c =
     let some : 0 < c.args.levels = omega (arith, c.if-levels-eq0.false) in
     let type = sym c.in_ok-ctype.ensures in
     let nothing : None ≡ option_map (λ dash_boundary. 10 ∷ dash_boundary) (dash_boundary_of ctype) = sym (ap (option_map (λ (l : Vec ℕ). l.items)) c.in_default.is) ∙ c.in_ok-line_delimiter.ensures in
-    let read = block_read c.parse_headers.result c.in-Ok.block (read_headers raw) c.in-Ok.is c.parse_headers.ensures.read in
+    let read = block_read c.parse_headers.result c.in-Ok.block (read_block manner.ends_at_dashes raw) c.in-Ok.is (part_read c.parse_headers.result manner.ends_at_dashes raw c.header_part-head.result.now c.header_part-head.ensures.value c.parse_headers.ensures.read) in
     let many : c.len.result ≡ length headers = omega (arith, c.len.ensures, c.in-Ok.block.0.ok.0) in
     let limit = c.args.left.now in
     let all = items_met manner c.args.levels (in_digest c.args.default) raw in
@@ -210,7 +215,7 @@ loop-next-init g t c =
     let type = sym c.in_ok-ctype.ensures in
     let next = c.cut_preamble-end.result.1 in
     let first : next ≡ first_part_as lines (drop 1 line_delimiter) raw body_offset = c.cut_preamble-end.ensures.first ∙ ap (λ (t : Bool). first_part_as t (drop 1 c.as_slice.result.now) raw body_offset) c.has_whole_lines-whole.ensures ∙ ap (λ (l : List ℕ). first_part_as lines (drop 1 l) raw body_offset) c.as_slice.ensures.value in
-    let read = block_read c.parse_headers.result c.in-Ok.block (read_headers raw) c.in-Ok.is c.parse_headers.ensures.read in
+    let read = block_read c.parse_headers.result c.in-Ok.block (read_block manner.ends_at_dashes raw) c.in-Ok.is (part_read c.parse_headers.result manner.ends_at_dashes raw c.header_part-head.result.now c.header_part-head.ensures.value c.parse_headers.ensures.read) in
     let many : c.len.result ≡ length headers = omega (arith, c.len.ensures, c.in-Ok.block.0.ok.0) in
     let limit = c.args.left.now in
     let all = items_met manner c.args.levels (in_digest c.args.default) raw in
@@ -251,7 +256,7 @@ returns-in_err-read-clause-read g t c =
     let levels = c.args.levels - 1 in
     let some : 0 < c.args.levels = omega (arith, c.if-levels-eq0.false) in
     let type = sym c.in_ok-ctype.ensures in
-    let whole = reading-whole manner c.args.levels (in_digest c.args.default) raw headers body_offset ctype line_delimiter digest (end_from_as lines (drop 1 line_delimiter) raw body_offset body_offset) (block_read c.parse_headers.result c.in-Ok.block (read_headers raw) c.in-Ok.is c.parse_headers.ensures.read) type
+    let whole = reading-whole manner c.args.levels (in_digest c.args.default) raw headers body_offset ctype line_delimiter digest (preamble_end_as lines (drop 1 line_delimiter) raw body_offset) (block_read c.parse_headers.result c.in-Ok.block (read_block manner.ends_at_dashes raw) c.in-Ok.is (part_read c.parse_headers.result manner.ends_at_dashes raw c.header_part-head.result.now c.header_part-head.ensures.value c.parse_headers.ensures.read)) type
     (made c.in_ok-line_delimiter.field-0 c.in-Some.line_delimiter _ c.in-Some.is c.in_ok-line_delimiter.ensures) c.parts_default-inner.ensures refl in
     let start = c.in-Some-next.start in
     let part_end = c.cut_part-part_end.result.0 in
@@ -272,7 +277,7 @@ returns-in_err-read-clause-read g t c =
     rw (p.1, p.2) (IsRefusalOrMemory-along c.in_err-read.field-0.0 (limited c.loop-next.left (items_met manner levels digest bytes) (read_levels manner levels digest bytes))
     (limited limit all_met own)
     (λ r h. left.read own ∙ limited-refused c.loop-next.left (items_met manner levels digest bytes) more (read_levels manner levels digest bytes) own r h (λ e. read_levels-refused manner c.args.levels (in_digest c.args.default) raw r digest (slice_range raw start part_end) some e
-    (whole ∙ ap (read_map (tree (record { bytes = raw; block = take body_offset raw; headers = headers; ctype = ctype; body = slice_range raw body_offset (end_from_as lines (drop 1 line_delimiter) raw body_offset body_offset) })))
+    (whole ∙ ap (read_map (tree (record { bytes = raw; block = take body_offset raw; headers = headers; ctype = ctype; body = slice_range raw body_offset (preamble_end_as lines (drop 1 line_delimiter) raw body_offset) })))
     (parts_refused manner levels digest (drop 1 line_delimiter) raw (map tree_of c.loop-next.subparts.items) all start part_end r ends e before))))
     c.in_err-read.ensures.read)
 
@@ -334,8 +339,8 @@ returns-clause-read g t c =
     let some : 0 < c.args.levels = omega (arith, c.if-levels-eq0.false) in
     let type = sym c.in_ok-ctype.ensures in
     let end = c.cut_preamble-end.result.0 in
-    let ends : end ≡ end_from_as lines (drop 1 line_delimiter) raw body_offset body_offset = c.cut_preamble-end.ensures.end ∙ ap (λ (t : Bool). end_from_as t (drop 1 c.as_slice.result.now) raw body_offset body_offset) c.has_whole_lines-whole.ensures ∙ ap (λ (l : List ℕ). end_from_as lines (drop 1 l) raw body_offset body_offset) c.as_slice.ensures.value in
-    let whole = reading-whole manner c.args.levels (in_digest c.args.default) raw headers body_offset ctype line_delimiter digest end (block_read c.parse_headers.result c.in-Ok.block (read_headers raw) c.in-Ok.is c.parse_headers.ensures.read) type
+    let ends : end ≡ preamble_end_as lines (drop 1 line_delimiter) raw body_offset = c.cut_preamble-end.ensures.end ∙ ap (λ (t : Bool). preamble_end_as t (drop 1 c.as_slice.result.now) raw body_offset) c.has_whole_lines-whole.ensures ∙ ap (λ (l : List ℕ). preamble_end_as lines (drop 1 l) raw body_offset) c.as_slice.ensures.value in
+    let whole = reading-whole manner c.args.levels (in_digest c.args.default) raw headers body_offset ctype line_delimiter digest end (block_read c.parse_headers.result c.in-Ok.block (read_block manner.ends_at_dashes raw) c.in-Ok.is (part_read c.parse_headers.result manner.ends_at_dashes raw c.header_part-head.result.now c.header_part-head.ensures.value c.parse_headers.ensures.read)) type
     (made c.in_ok-line_delimiter.field-0 c.in-Some.line_delimiter _ c.in-Some.is c.in_ok-line_delimiter.ensures) c.parts_default-inner.ensures ends in
     let all = parts_from manner levels digest (drop 1 line_delimiter) raw (first_part_as lines (drop 1 line_delimiter) raw body_offset) in
     let done = subst (λ (o : Option ℕ). with_trees (map tree_of c.loop-next.subparts.items) (parts_from manner levels digest (drop 1 line_delimiter) raw o) ≡ all) c.in_default-next.is c.loop-next.invariant.all in
@@ -377,12 +382,12 @@ returns-clause-places g t c =
     let first = first_part_as lines dash_boundary raw body_offset in
     let end = c.cut_preamble-end.result.0 in
     let subparts = c.loop-next.subparts.items in
-    let bounds = subst (λ r. IfOk r (λ found. (vec_len found.0 ≤ found.1) × (found.1 ≤ length raw))) c.in-Ok.is c.parse_headers.ensures.bounds in
-    let within : body_offset ≤ length raw = omega (arith, bounds.1) in
+    let bounds = subst (λ r. IfOk r (λ found. (vec_len found.0 ≤ found.1) × (found.1 ≤ length c.header_part-head.result.now))) c.in-Ok.is c.parse_headers.ensures.bounds in
+    let within : body_offset ≤ length raw = omega (arith, bounds.1, c.header_part-head.ensures.within) in
     let delimiter =
     (line_delimiter_some line_delimiter (dash_boundary_of ctype)
     (made c.in_ok-line_delimiter.field-0 c.in-Some.line_delimiter _ c.in-Some.is c.in_ok-line_delimiter.ensures)).0 in
-    let ends : end ≡ end_from_as lines dash_boundary raw body_offset body_offset = c.cut_preamble-end.ensures.end ∙ ap (λ (t : Bool). end_from_as t (drop 1 c.as_slice.result.now) raw body_offset body_offset) c.has_whole_lines-whole.ensures ∙ ap (λ (l : List ℕ). end_from_as lines (drop 1 l) raw body_offset body_offset) c.as_slice.ensures.value in
+    let ends : end ≡ preamble_end_as lines dash_boundary raw body_offset = c.cut_preamble-end.ensures.end ∙ ap (λ (t : Bool). preamble_end_as t (drop 1 c.as_slice.result.now) raw body_offset) c.has_whole_lines-whole.ensures ∙ ap (λ (l : List ℕ). preamble_end_as lines (drop 1 l) raw body_offset) c.as_slice.ensures.value in
     let done = subst (λ (o : Option ℕ). ArePlaced manner.whole_lines offset dash_boundary raw first o subparts) c.in_default-next.is c.loop-next.invariant.placed in
     c.message_of-2.ensures.places
     ∙ ap (λ (places : List Placement). own offset (length raw) body_offset end ∷ places) (placed_end manner.whole_lines offset dash_boundary raw first subparts done)
