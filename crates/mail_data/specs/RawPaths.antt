@@ -4,10 +4,9 @@ use Rattle.std.specs.Prelude.{ℕ, Bool, false, not, ◌&&◌, ◌||◌, ◌==�
 use Rattle.std.specs.Char.{is_ascii_alphabetic}
 use Rattle.mail_codec.specs.Ascii.{backslash, colon, quote}
 use Rattle.mail_codec.specs.Charset.{Charsets}
-use Rattle.mailparse.specs.ContentType.{content_type_in}
-use Rattle.mailparse.specs.Disposition.{disposition_in}
 use Rattle.mailparse.specs.Mail.{Node}
-use Rattle.mail_data.specs.Files.{name_by, shown_name, typed_name}
+use Rattle.mail_data.specs.Files.{name_by}
+use Rattle.mail_data.specs.lenient.FileNames.{shown_name, typed_name}
 use Rattle.mail_data.specs.declared.files.paths.Position.{Position}
 use Rattle.mail_data.specs.declared.files.paths.Position.TheVariants.{Outside, InQuotes, AfterBackslash, InPath}
 
@@ -52,5 +51,5 @@ with_paths_escaped text = encode_utf8_all (all_escaped Outside (chars text))
 -- paths as they are
 unfoldable pub file_name_or_path : Charsets → Node → Option (List ℕ)
 file_name_or_path known node =
-    name_by known (λ text. shown_name (disposition_in known (with_paths_escaped text)))
-    (λ text. typed_name (content_type_in known (with_paths_escaped text))) node
+    name_by known (λ text. shown_name known (with_paths_escaped text))
+    (λ text. typed_name known (with_paths_escaped text)) node

@@ -6,6 +6,7 @@ use Rattle.mail_codec.specs.Places.{is_empty}
 use Rattle.mailparse.specs.Mail.{Tree, root, shown_as_in, trees_within}
 use Rattle.mail_data.specs.Files.{is_attachment_disposition, is_attachment}
 use Rattle.mail_data.specs.Reports.{has_type}
+use Rattle.mail_data.specs.lenient.Shown.{is_undivided}
 
 -- the first of two trees that exists
 abbrev pub first_tree : Option Tree → Option Tree → Option Tree
@@ -16,6 +17,11 @@ first_tree None other = other
 abbrev pub text_type : List ℕ → List ℕ
 text_type mimetype =
     if is_empty mimetype || bytes_eq mimetype (codes "text") then codes "text/plain" else mimetype
+
+-- the type as which the body of a message is read: that of its text, but a multipart that has no
+-- parts is plain text
+abbrev pub text_type_of : Tree → List ℕ
+text_type_of t = if is_undivided t then codes "text/plain" else text_type (root t).ctype.mimetype
 
 -- Under the charsets that are known.
 module _ (known : Charsets) where
@@ -28,7 +34,7 @@ module _ (known : Charsets) where
   -- a part is a text of this type
   unfoldable pub is_text_of_type : Bool → List ℕ → Tree → Bool
   is_text_of_type may_have_name mimetype t =
-      bytes_eq (text_type (root t).ctype.mimetype) mimetype && not (is_no_text may_have_name t)
+      bytes_eq (text_type_of t) mimetype && not (is_no_text may_have_name t)
 
   -- the first text of this type in a mail; the mail itself comes first, and each part before its
   -- own parts

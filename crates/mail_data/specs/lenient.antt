@@ -18,5 +18,6 @@ pub mod Refused
 pub mod FileNames
 pub mod Agreement
 pub mod Shown
+pub mod Folding
 pub mod Values
 pub mod ValueViews

@@ -3,10 +3,12 @@ ghost use Rattle.std.specs.Prelude.{◌≡◌, Ok};
 ghost use Rattle.mailparse.specs.Outcome.{AnswersOrMemory};
 ghost use Rattle.mailparse.specs.Views.{tree_of};
 ghost use Rattle.mail_data.specs.Texts.{first_text, first_text_of_type, is_no_text};
-ghost use Rattle.mail_data.specs.Texts.{is_text_of_type, own_text, shown_text, text_part, text_type};
+ghost use Rattle.mail_data.specs.Texts.{is_text_of_type, own_text, shown_text, text_part};
+ghost use Rattle.mail_data.specs.Texts.{text_type, text_type_of};
 ghost use Rattle.mail_data.specs.TextViews.{tree_found};
 
 use crate::files::{is_attachment, is_attachment_disposition};
+use crate::lenient::is_undivided;
 use crate::reports::has_type;
 use mail_codec::charset::KnownCharsets;
 use mailparse::{MailParseError, ParsedMail};
@@ -21,8 +23,8 @@ use std::alloc::Global;
 /// follows it. A text with a file name is a file by `files::is_attachment`, and counts only if
 /// there is no other text and its disposition is not `attachment` (RFC 2183, section 2.1).
 /// Dispositions are read in the charsets `known` (RFC 2231, section 4). The type `text` alone is
-/// plain text. `lenient::body_text` returns the text of the part. Allocates the list of parts and
-/// the dispositions.
+/// plain text, and so is a multipart that has no parts (`text_type_of`). `lenient::body_text`
+/// returns the text of the part. Allocates the list of parts and the dispositions.
 ///
 /// # Errors
 ///
@@ -152,7 +154,7 @@ pub(crate) fn is_text_of_type<K: KnownCharsets>(
     ensures { AnswersOrMemory (λ is. is) result (Ok (is_text_of_type
         (K.known known.now) may_have_name mimetype.now (tree_of part.now))) }
 {
-    if text_type(part.ctype.mimetype.as_str()) != mimetype {
+    if text_type_of(part) != mimetype {
         return Ok(false);
     }
     Ok(!is_no_text(alloc, part, may_have_name, known)?)
@@ -197,4 +199,26 @@ pub fn text_type(mimetype: &str) -> &str
     } else {
         mimetype
     }
+}
+
+/// Returns the type as which the body of a part is read: `text/plain` for a multipart that has no
+/// parts, as `lenient::is_undivided` says, and otherwise the `text_type` of its type (RFC 2045,
+/// section 5.2; RFC 2046, section 5.1.1). Does not allocate.
+///
+/// # Examples
+///
+/// ```rust
+/// use mail_data::texts::text_type_of;
+/// use mailparse::parse_mail;
+///
+/// let mail = parse_mail(alloc, b"Content-Type: multipart/mixed\n\nHi")?;
+/// assert_eq!(rt; text_type_of(&mail), "text/plain");
+/// ```
+pub fn text_type_of<'p>(part: &'p ParsedMail<'_>) -> &'p str
+    ensures { result.now ≡ text_type_of (tree_of part.now) }
+{
+    if is_undivided(part) {
+        return "text/plain";
+    }
+    text_type(part.ctype.mimetype.as_str())
 }

@@ -9,4 +9,5 @@ pub mod Repairs
 pub mod Texts
 pub mod Agreement
 pub mod Shown
+pub mod Folding
 pub mod Values

@@ -1,20 +1,21 @@
--- Dates as written in mail: RFC 5322, section 3.3, and the obsolete forms of section 4.3. The
--- readings that the standard leaves open, and the faults, are the crate's own rule.
-use Rattle.std.specs.Prelude.{ℕ, zero, suc, ◌+◌, ◌*◌, ◌%◌, ◌-◌, Bool, true, false, not, ◌&&◌, ◌||◌, ◌==◌, nat_lt, nat_le, List, [], ◌∷◌, length, take, drop, sum, ℤ, pos, ◌+ℤ◌, neg_ℤ, Option, Some, None, option_map, is_some, ok_or, unwrap_or, Result, Ok, Err, codes, slice_index_or, if◌then◌else◌}
+-- Dates as written in mail: RFC 5322, section 3.3, the obsolete forms of section 4.3, and those of
+-- other writers: the month or the year first, as in RFC 3339, and the year last. The readings that
+-- the standards leave open, and the faults, are the crate's own rule.
+use Rattle.std.specs.Prelude.{ℕ, zero, suc, ◌+◌, ◌*◌, ◌-◌, Bool, true, false, not, ◌&&◌, ◌||◌, ◌==◌, nat_lt, nat_le, List, [], ◌∷◌, length, take, drop, sum, ℤ, pos, ◌+ℤ◌, neg_ℤ, Option, Some, None, option_map, is_some, ok_or, unwrap_or, option_and_then, Result, Ok, Err, codes, slice_index, slice_index_or, if◌then◌else◌}
 use Rattle.std.specs.Char.{is_ascii_alphabetic, is_ascii_digit, is_ascii_whitespace}
 use Rattle.std.specs.Int.{is_in_range}
 use Rattle.std.specs.List.{prefix_len}
-use Rattle.std.specs.Option.{option_map_or}
+use Rattle.std.specs.Option.{option_map_or, option_or}
 use Rattle.std.specs.Str.{str_eq_ignore_ascii_case}
 use Rattle.std.specs.Str.Parse.{digits_value}
-use Rattle.mail_codec.specs.Ascii.{opening_parenthesis, backslash, comma, colon}
-use Rattle.mail_codec.specs.Places.{is_empty}
+use Rattle.mail_codec.specs.Ascii.{opening_parenthesis, backslash, comma, colon, quote, semicolon, slash}
+use Rattle.mail_codec.specs.Places.{begins, is_empty}
 use Rattle.mailparse.specs.Date.{zone_size}
 use Rattle.mail_codec.specs.Calendar.{month_lengths, months, year_length}
 use Rattle.mail_codec.specs.Names.{look_up}
 use Rattle.mail_data.specs.lenient.Comments.{depth_after}
 use Rattle.mail_data.specs.declared.lenient.date.error.DateError.{DateError}
-use Rattle.mail_data.specs.declared.lenient.date.error.DateError.TheVariants.{Day, Month, Year, Time, Zone, TrailingText}
+use Rattle.mail_data.specs.declared.lenient.date.error.DateError.TheVariants.{Day, Month, Year, Time}
 
 -- what is read, or the first fault
 abbrev pub Dated : Type 0 → Type 0
@@ -60,6 +61,37 @@ after_byte mark (b ∷ rest) = if b == mark then Some rest else None
 
 unfoldable pub after_mark : ℕ → List ℕ → Option (List ℕ)
 after_mark mark bytes = after_byte mark (after_comments bytes)
+
+-- `+`, `-` and `.`
+abbrev pub plus_sign : ℕ
+plus_sign = 43
+
+abbrev pub minus_sign : ℕ
+minus_sign = 45
+
+abbrev pub full_stop : ℕ
+full_stop = 46
+
+-- a byte may separate the day, the month and the year
+abbrev pub is_separator : ℕ → Bool
+is_separator b = b == minus_sign || b == comma || b == full_stop || b == slash
+
+-- the bytes after one that passes the test, if it is at the front
+abbrev pub after_one : (ℕ → Bool) → List ℕ → List ℕ
+after_one test [] = []
+after_one test (b ∷ rest) = if test b then rest else b ∷ rest
+
+-- the bytes after whitespace and comments, and after one separator, if it is there
+unfoldable pub after_separator : List ℕ → List ℕ
+after_separator bytes = after_one is_separator (after_comments bytes)
+
+-- a letter is at the front
+abbrev pub has_letter : List ℕ → Bool
+has_letter bytes = not (is_empty (run_at is_ascii_alphabetic bytes).0)
+
+-- a digit is at the front
+abbrev pub has_digit : List ℕ → Bool
+has_digit bytes = not (is_empty (run_at is_ascii_digit bytes).0)
 
 -- a number of one digit or two, if it is at most `most`
 unfoldable pub small_number : ℕ → List ℕ → Option (ℕ × List ℕ)
@@ -119,28 +151,71 @@ day_number year month day =
 unfoldable pub month_length : ℕ → ℕ → ℕ
 month_length year month = slice_index_or (month_lengths year) month 0
 
--- a day, which must exist in its month, counted from 1 January 1900, and the bytes after the year
+-- a day, which must exist in its month, counted from 1 January 1900
+unfoldable pub day_in : ℕ → ℕ → ℕ → Dated ℕ
+day_in year month day =
+    if is_in_range 1 (month_length year month) day then Ok (day_number year month day) else Err Day
+
+-- the number of a day
 unfoldable pub day_at : List ℕ → Dated (ℕ × List ℕ)
-day_at bytes = do
-  day ← ok_or (small_number 31 (after_day_name bytes)) Day
-  month ← month_at day.1
-  year ← year_at month.1
-  if is_in_range 1 (month_length year.0 month.0) day.0
-      then Ok (day_number year.0 month.0 day.0, year.1) else Err Day
+day_at bytes = ok_or (small_number 31 bytes) Day
+
+-- day, month and year: the day as `day_in` counts it
+unfoldable pub day_first : List ℕ → Dated (ℕ × List ℕ)
+day_first bytes = do
+  day ← day_at bytes
+  month ← month_at (after_separator day.1)
+  year ← year_at (after_separator month.1)
+  number ← day_in year.0 month.0 day.0
+  Ok (number, after_separator year.1)
+
+-- a month by its number, counted from 0
+unfoldable pub month_number : List ℕ → Dated (ℕ × List ℕ)
+month_number bytes = do
+  month ← ok_or (small_number 12 bytes) Month
+  if month.0 == 0 then Err Month else Ok (month.0 - 1, month.1)
+
+-- the bytes after a `T` before the time (RFC 3339, section 5.6), if it is there
+unfoldable pub after_t : List ℕ → List ℕ
+after_t bytes =
+    let run = run_at is_ascii_alphabetic bytes in
+    if str_eq_ignore_ascii_case run.0 (codes "T") then run.1 else bytes
+
+-- year, month and day: the day as `day_in` counts it
+unfoldable pub year_first : List ℕ → Dated (ℕ × List ℕ)
+year_first bytes = do
+  year ← year_at bytes
+  month ← month_number (after_separator year.1)
+  day ← day_at (after_separator month.1)
+  number ← day_in year.0 month.0 day.0
+  Ok (number, after_t day.1)
 
 -- Times of day.
 
--- a number after a colon
-unfoldable pub after_colon : ℕ → List ℕ → Dated (ℕ × List ℕ)
-after_colon most bytes = do
-  rest ← ok_or (after_mark colon bytes) Time
-  ok_or (small_number most rest) Time
+-- the bytes after a colon or a full stop, if one is at the front
+unfoldable pub after_time_mark : List ℕ → Option (List ℕ)
+after_time_mark bytes = option_or (after_mark colon bytes) (after_mark full_stop bytes)
 
--- the second, or 0 if no colon follows the minute; 60 is a leap second
+-- the minute
+unfoldable pub minute_at : List ℕ → Dated (ℕ × List ℕ)
+minute_at bytes = do
+  rest ← ok_or (after_time_mark bytes) Time
+  ok_or (small_number 59 rest) Time
+
+-- the bytes after a fraction of a second, if it is there
+unfoldable pub after_fraction : List ℕ → List ℕ
+after_fraction bytes =
+    option_map_or (λ rest. (run_at is_ascii_digit rest).1) (after_mark full_stop bytes) bytes
+
+-- a second without its fraction
+abbrev pub whole_second : ℕ × List ℕ → ℕ × List ℕ
+whole_second second = (second.0, after_fraction second.1)
+
+-- the second, or 0 if the time ends after the minute; 60 is a leap second
 unfoldable pub second_at : List ℕ → Dated (ℕ × List ℕ)
 second_at bytes =
-    option_map_or (λ rest. ok_or (small_number 60 rest) Time) (after_mark colon bytes)
-    (Ok (0, bytes))
+    option_map_or (λ rest. ok_or (option_map whole_second (small_number 60 rest)) Time)
+    (after_time_mark bytes) (Ok (0, bytes))
 
 -- the hour of the day, given the hour that is written and the bytes after the time, and the bytes
 -- after `AM` or `PM`: before noon 12 is 0, after noon 1 to 11 are 13 to 23, and any other hour
@@ -157,19 +232,26 @@ clock_hour hour bytes =
 unfoldable pub time_at : List ℕ → Dated (ℕ × List ℕ)
 time_at bytes = do
   written ← ok_or (small_number 23 bytes) Time
-  minute ← after_colon 59 written.1
+  minute ← minute_at written.1
   second ← second_at minute.1
   let hour = clock_hour written.0 second.1 in
       Ok (3600 * hour.0 + 60 * minute.0 + second.0, hour.1)
 
 -- Zones.
 
--- the seconds that four digits denote: hours, and minutes below 60
-unfoldable pub offset_at : List ℕ → Dated (ℕ × List ℕ)
+-- the seconds of hours, and of the minutes after a colon, if they are there
+unfoldable pub hours_then : ℕ → List ℕ → ℕ × List ℕ
+hours_then hours bytes =
+    option_map_or (λ minutes. (3600 * hours + 60 * minutes.0, minutes.1))
+    (option_and_then (small_number 59) (after_mark colon bytes)) (3600 * hours, bytes)
+
+-- the seconds that digits denote: one or two are hours, three and four end in two of minutes
+unfoldable pub offset_at : List ℕ → Option (ℕ × List ℕ)
 offset_at bytes =
     let run = run_at is_ascii_digit bytes in
     let n = digits_value 10 run.0 in
-    if length run.0 == 4 && nat_lt (n % 100) 60 then Ok (zone_size n, run.1) else Err Zone
+    if is_in_range 1 2 (length run.0) then Some (hours_then n run.1) else
+    if is_in_range 3 4 (length run.0) then Some (zone_size n, run.1) else None
 
 -- a zone: the seconds that it adds, and whether it is known
 abbrev pub Zoned : Type 0
@@ -177,18 +259,15 @@ Zoned = ℤ × Bool
 
 -- a zone in the west, and one in the east; `-0000` says that the zone is not known (RFC 5322,
 -- section 3.3)
-abbrev pub west : ℕ × List ℕ → Dated (Zoned × List ℕ)
-west offset = Ok ((pos offset.0, not (offset.0 == 0)), offset.1)
+abbrev pub west : ℕ → Zoned
+west offset = (pos offset, not (offset == 0))
 
-abbrev pub east : ℕ × List ℕ → Dated (Zoned × List ℕ)
-east offset = Ok ((neg_ℤ (pos offset.0), true), offset.1)
+abbrev pub east : ℕ → Zoned
+east offset = (neg_ℤ (pos offset), true)
 
--- the signs of a zone
-abbrev pub plus_sign : ℕ
-plus_sign = 43
-
-abbrev pub minus_sign : ℕ
-minus_sign = 45
+-- a byte is the sign of a zone
+abbrev pub is_sign : ℕ → Bool
+is_sign b = b == plus_sign || b == minus_sign
 
 -- the seconds that a number of minutes in the west of Greenwich adds, and in the east
 abbrev pub west_by : ℕ → ℤ
@@ -218,12 +297,18 @@ zone_names =
     ∷ (codes "ACDT", east_by 630) ∷ (codes "AEST", east_by 600) ∷ (codes "AEDT", east_by 660)
     ∷ (codes "NZST", east_by 720) ∷ (codes "NZDT", east_by 780) ∷ []
 
--- the digits after a sign, if there is one: after `+` a zone is in the east, after `-` in the west;
--- a name after them is ignored
-unfoldable pub signed_at : List ℕ → Option (Dated (Zoned × List ℕ))
+-- the zone of an offset after signs: the last one counts
+abbrev pub directed : List ℕ → ℕ → Zoned
+directed signs offset =
+    if slice_index signs (length signs - 1) == minus_sign then west offset else east offset
+
+-- the zone of signs and digits, if both are there: after `+` it is in the east, after `-` in the
+-- west
+unfoldable pub signed_at : List ℕ → Option (Zoned × List ℕ)
 signed_at bytes =
-    option_map_or (λ rest. Some (offset_at rest >>= east)) (after_mark plus_sign bytes)
-    (option_map (λ rest. offset_at rest >>= west) (after_mark minus_sign bytes))
+    let signs = run_at is_sign bytes in
+    if is_empty signs.0 then None
+    else option_map (λ offset. (directed signs.0 offset.0, offset.1)) (offset_at signs.1)
 
 -- a name that digits may follow
 abbrev pub is_universal : List ℕ → Bool
@@ -231,26 +316,103 @@ is_universal name =
     str_eq_ignore_ascii_case name (codes "GMT") || str_eq_ignore_ascii_case name (codes "UTC")
     || str_eq_ignore_ascii_case name (codes "UT")
 
--- the zone with a name, and the bytes after it: UTC if the name is not known or missing
-unfoldable pub named_zone : List ℕ → List ℕ → Dated (Zoned × List ℕ)
+-- a byte may follow the name of a zone
+abbrev pub ends_name : ℕ → Bool
+ends_name b =
+    is_ascii_whitespace b || b == opening_parenthesis || b == quote || b == comma
+    || b == full_stop || b == semicolon
+
+-- a name ends before these bytes, and no word follows it: `US/Central`, `EST5EDT` and `MET DST` are
+-- none of the known names
+unfoldable pub is_name_end : List ℕ → Bool
+is_name_end rest = (is_empty rest || begins ends_name rest) && not (has_letter rest)
+
+-- the zone with a name before these bytes: UTC if the name is not known or missing
+unfoldable pub named_zone : List ℕ → List ℕ → Zoned
 named_zone name rest =
-    if is_empty name && not (is_empty rest) then Err Zone
-    else Ok ((unwrap_or (look_up zone_names name) (pos 0), is_some (look_up zone_names name)), rest)
+    let added = if is_name_end rest then look_up zone_names name else None in
+    (unwrap_or added (pos 0), is_some added)
 
--- a name may follow the digits of a zone
-abbrev pub zone_of_digits : Zoned × List ℕ → Dated (Zoned × List ℕ)
-zone_of_digits zone = Ok (zone.0, (run_at is_ascii_alphabetic zone.1).1)
+-- the bytes after a quotation mark, if it is there
+unfoldable pub after_quote : List ℕ → List ℕ
+after_quote bytes = unwrap_or (after_mark quote bytes) bytes
 
--- the zone at the front: a sign and digits, perhaps after `GMT` or `UTC`, or a name, or nothing
-unfoldable pub zone_at : List ℕ → Dated (Zoned × List ℕ)
+-- the zone at the front: signs and digits, perhaps after `GMT` or `UTC`, or a name; of anything else
+-- it is not known
+unfoldable pub zone_at : List ℕ → Zoned × List ℕ
 zone_at bytes =
-    let run = run_at is_ascii_alphabetic bytes in
-    if is_empty run.0 || is_universal run.0
-    then option_map_or (λ zone. zone >>= zone_of_digits) (signed_at run.1)
-    (named_zone run.0 run.1)
-    else named_zone run.0 run.1
+    let run = run_at is_ascii_alphabetic (after_quote bytes) in
+    let signed = if is_empty run.0 || is_universal run.0 then signed_at run.1 else None in
+    unwrap_or signed (named_zone run.0 run.1, run.1)
 
 -- The date.
+
+-- the seconds from the start of 1900 to a date by the clocks of its zone, and the zone
+abbrev pub Moment : Type 0
+Moment = ℕ × Zoned
+
+-- the date, given the day as `day_in` counts it, and the bytes after it: a time and a zone; other
+-- bytes after these are ignored
+unfoldable pub clocked : ℕ × List ℕ → Dated Moment
+clocked day = do
+  time ← time_at day.1
+  Ok (86400 * day.0 + time.0, (zone_at time.1).0)
+
+-- a year, and the zone before or after it
+unfoldable pub year_and_zone : List ℕ → Dated (ℕ × Zoned)
+year_and_zone bytes =
+    if has_digit bytes then (do
+      year ← year_at bytes
+      Ok (year.0, (zone_at year.1).0))
+    else
+    let zone = zone_at bytes in do
+      year ← year_at (run_at is_ascii_alphabetic zone.1).1
+      Ok (year.0, zone.0)
+
+-- the date, given its month and day, and the bytes after them: a time, and the year and the zone
+unfoldable pub year_last : ℕ → ℕ → List ℕ → Dated Moment
+year_last month day bytes = do
+  time ← time_at bytes
+  year ← year_and_zone time.1
+  number ← day_in year.0 month day
+  Ok (86400 * number + time.0, year.1)
+
+-- the date, given its month and day, and the bytes after them: the year, a time and a zone
+unfoldable pub year_next : ℕ → ℕ → List ℕ → Dated Moment
+year_next month day bytes = do
+  year ← year_at (after_separator bytes)
+  number ← day_in year.0 month day
+  clocked (number, after_separator year.1)
+
+-- a number and a colon are at the front
+unfoldable pub has_time : List ℕ → Bool
+has_time bytes = is_some (after_mark colon (run_at is_ascii_digit bytes).1)
+
+-- month and day, and then the year, or a time and the year
+unfoldable pub month_first : List ℕ → Dated Moment
+month_first bytes = do
+  month ← month_at bytes
+  day ← day_at (after_separator month.1)
+  if has_time day.1 then year_last month.0 day.0 day.1 else year_next month.0 day.0 day.1
+
+-- the first word is a month and not a day of the week, given the bytes after it: no month follows
+-- the number there
+unfoldable pub is_month_first : List ℕ → List ℕ → Bool
+is_month_first text rest =
+    is_some (look_up month_names (run_at is_ascii_alphabetic text).0)
+    && not (has_letter (after_separator (run_at is_ascii_digit rest).1))
+
+-- a year of four digits is at the front
+unfoldable pub is_year_first : List ℕ → Bool
+is_year_first bytes = length (run_at is_ascii_digit bytes).0 == 4
+
+-- the date in a text
+unfoldable pub moment_at : List ℕ → Dated Moment
+moment_at text =
+    let rest = after_day_name text in
+    if has_letter rest then month_first rest else
+    if is_year_first rest then (year_first rest >>= clocked) else
+    if is_month_first text rest then month_first text else (day_first rest >>= clocked)
 
 -- the seconds since 1 January 1970, 0 h, given the seconds since the start of 1900
 abbrev pub since_1970 : ℕ → ℤ
@@ -263,12 +425,8 @@ offset_of zone = if zone.1 then Some (neg_ℤ zone.0) else None
 -- the seconds from 1 January 1970, 0 h UTC, to the date in a text, and the offset of its zone
 unfoldable pub date_and_offset_of : List ℕ → Dated (ℤ × Option ℤ)
 date_and_offset_of text = do
-  day ← day_at text
-  time ← time_at day.1
-  zone ← zone_at time.1
-  if is_empty (after_comments zone.1)
-      then Ok (since_1970 (86400 * day.0 + time.0) +ℤ zone.0.0, offset_of zone.0)
-      else Err TrailingText
+  moment ← moment_at text
+  Ok (since_1970 moment.0 +ℤ moment.1.0, offset_of moment.1)
 
 -- the same seconds, and whether the zone is known
 unfoldable pub zoned_date_of : List ℕ → Dated Zoned

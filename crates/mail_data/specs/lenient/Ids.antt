@@ -1,9 +1,11 @@
 -- Message ids in any text (RFC 5322, sections 3.6.4 and 4.5.4): each text in angle brackets that has
--- an `@`; the id that a mail gives itself may have none.
-use Rattle.std.specs.Prelude.{ℕ, Bool, true, false, not, ◌&&◌, ◌==◌, List, [], ◌∷◌, drop, flat_map, if◌then◌else◌}
+-- an `@`; the id that a mail gives itself may have none. That a text without brackets may be an id is
+-- the crate's own rule.
+use Rattle.std.specs.Prelude.{ℕ, Bool, true, false, not, ◌&&◌, ◌||◌, ◌==◌, List, [], ◌∷◌, drop, flat_map, if◌then◌else◌}
+use Rattle.std.specs.Char.{is_ascii_whitespace}
 use Rattle.std.specs.List.{slice_split, list_any, before_first}
 use Rattle.std.specs.Str.{trim}
-use Rattle.mail_codec.specs.Ascii.{less_than}
+use Rattle.mail_codec.specs.Ascii.{comma, less_than, quote, semicolon}
 use Rattle.mail_codec.specs.Places.{is_empty}
 use Rattle.mailparse.specs.MessageIds.{is_closing}
 use Rattle.mail_data.specs.lenient.Comments.{without_comments}
@@ -32,8 +34,22 @@ id_at needs_at text =
     let id = trim (before_first is_closing text) in
     if list_any is_closing text && is_id needs_at id then id ∷ [] else []
 
--- the ids in a text without its comments: of each piece from a `<` up to the next `<`
+-- a byte that an id without brackets does not contain: whitespace, `>`, `"`, `,` or `;`
+abbrev pub ends_bare_id : ℕ → Bool
+ends_bare_id b =
+    is_ascii_whitespace b || is_closing b || b == quote || b == comma || b == semicolon
+
+-- the id that a whole text without `<` is: it has an `@`, and no such byte but whitespace around it
+unfoldable pub bare_id : List ℕ → List (List ℕ)
+bare_id text =
+    let id = trim text in
+    if list_any is_at id && not (list_any ends_bare_id id) then id ∷ [] else []
+
+-- the ids in a text without its comments: of each piece from a `<` up to the next `<`, or the whole
+-- text if it has no `<`
 unfoldable pub found_ids : Bool → List ℕ → List (List ℕ)
 found_ids needs_at text =
-    flat_map (λ piece. id_at needs_at piece)
-    (drop 1 (slice_split is_opening (without_comments text)))
+    let kept = without_comments text in
+    if list_any is_opening kept
+    then flat_map (λ piece. id_at needs_at piece) (drop 1 (slice_split is_opening kept))
+    else bare_id kept

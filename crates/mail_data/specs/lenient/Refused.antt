@@ -1,7 +1,7 @@
 -- Why a message that a manner kept is refused by the strict reading; the crate's own rule.
-use Rattle.std.specs.Prelude.{Bool, not, ◌&&◌, Option, Some, None, Ok, Err, if◌then◌else◌}
+use Rattle.std.specs.Prelude.{Bool, true, not, ◌&&◌, Option, Some, None, Ok, Err, if◌then◌else◌}
 use Rattle.mail_codec.specs.Places.{is_empty}
-use Rattle.mailparse.specs.Block.{HeaderList, read_headers}
+use Rattle.mailparse.specs.Block.{HeaderList, read_block}
 use Rattle.mailparse.specs.Mail.{Node}
 use Rattle.mailparse.specs.Refusal.{Reads, Refusal, recursion_limit}
 
@@ -17,4 +17,4 @@ refusal_with (Err refusal) = refusal
 
 -- the refusal for which a message was kept, if it was
 unfoldable pub kept_for : Node → Option Refusal
-kept_for node = if was_kept node then Some (refusal_with (read_headers node.bytes)) else None
+kept_for node = if was_kept node then Some (refusal_with (read_block true node.bytes)) else None

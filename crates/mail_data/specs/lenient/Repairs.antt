@@ -1,10 +1,10 @@
 -- Values with parameters (RFC 2045, section 5.1; RFC 2231, section 4) that lack semicolons, closing
 -- quotes or the apostrophes of extended values; the crate's own rule. What is missing is put in, and
 -- every character stays.
-use Rattle.std.specs.Prelude.{ℕ, zero, suc, ◌-◌, Bool, false, not, ◌&&◌, ◌||◌, ◌==◌, List, [], ◌∷◌, ◌++◌, is_some, chars, encode_utf8_all, codes, if◌then◌else◌}
+use Rattle.std.specs.Prelude.{ℕ, zero, suc, ◌-◌, Bool, true, false, not, ◌&&◌, ◌||◌, ◌==◌, List, [], ◌∷◌, ◌++◌, is_some, chars, encode_utf8_all, codes, if◌then◌else◌}
 use Rattle.std.specs.Char.{is_ascii_alphabetic, is_ascii_alphanumeric, is_ascii_whitespace}
 use Rattle.mail_codec.specs.Ascii.{apostrophe, asterisk, backslash, equals_sign, quote, semicolon, slash}
-use Rattle.mail_codec.specs.Places.{text_place}
+use Rattle.mail_codec.specs.Places.{is_empty, text_place}
 use Rattle.mail_data.specs.declared.lenient.repairs.Position.{Position}
 use Rattle.mail_data.specs.declared.lenient.repairs.Position.TheVariants.{BeforeWord, InWord, AfterWord, InName, AfterStar, BeforeText, InText, AfterBlank, InQuotes, AfterBackslash, AfterText, BeforeExtended, InExtended, InRun, RunBackslash}
 
@@ -168,3 +168,20 @@ extended_are_alone text = not (is_some (text_place text (codes "*0*")))
 -- a value with parameters with all that is missing
 unfoldable pub repaired : List ℕ → List ℕ
 repaired text = encode_utf8_all (repaired_from (extended_are_alone text) BeforeWord (chars text))
+
+-- ---- values that clearly lack nothing
+
+-- nothing is missing before a character with this position, whatever follows it; no claim is made
+-- of extended values
+abbrev pub may_follow : Position → ℕ → Bool
+may_follow AfterWord c = (is_ascii_whitespace c || c == semicolon) || c == slash
+may_follow AfterText c = is_ascii_whitespace c || c == semicolon
+may_follow AfterBlank c = not (is_ascii_alphabetic c)
+may_follow BeforeExtended c = false
+may_follow InExtended c = false
+may_follow position c = true
+
+-- nothing is missing in these characters, the first of which has this position
+abbrev pub lacks_nothing : Position → List ℕ → Bool
+lacks_nothing position [] = is_empty (missing_at_end position)
+lacks_nothing position (c ∷ cs) = if may_follow position c then lacks_nothing (after position c) cs else false

@@ -1,38 +1,21 @@
--- The text of a header's value, read leniently: RFC 5322, section 2.2.3 (folding), RFC 2047 (encoded
--- words), and RFC 2231, section 5 (languages). How words are read that the standards forbid is the
--- crate's own rule.
+-- The text of a header's value, read leniently: RFC 2047 (encoded words), and RFC 2231, section 5
+-- (languages). How words are read that the standards forbid is the crate's own rule.
 use Rattle.std.specs.Prelude.{ℕ, zero, suc, ◌+◌, ◌-◌, Bool, false, not, ◌&&◌, ◌||◌, ◌==◌, List, [], ◌∷◌, ◌++◌, map, take, drop, Option, Some, None, is_some, option_and_then, option_map, codes, if◌then◌else◌}
 use Rattle.std.specs.Char.{is_ascii_whitespace}
 use Rattle.std.specs.List.{list_all, prefix_len}
 use Rattle.std.specs.Option.{option_map_or}
 use Rattle.std.specs.Str.{str_eq_ignore_ascii_case}
-use Rattle.mail_codec.specs.Ascii.{asterisk, carriage_return, equals_sign, line_feed, question_mark, space, tab, underscore}
+use Rattle.mail_codec.specs.Ascii.{asterisk, equals_sign, question_mark, space, underscore}
 use Rattle.mail_codec.specs.Charset.{Charsets}
-use Rattle.mail_codec.specs.Places.{begins, has_prefix, text_place, trimmed_at_start}
+use Rattle.mail_codec.specs.Places.{has_prefix, text_place, trimmed_at_start}
 use Rattle.mail_codec.specs.QuotedPrintable.{quoted_printable}
+use Rattle.mailparse.specs.Header.{Header}
+use Rattle.mailparse.specs.Map.{first_with_key}
 use Rattle.mail_data.specs.Files.{text_of_octets}
 use Rattle.mail_data.specs.lenient.Base64.{base64_front}
+use Rattle.mail_data.specs.lenient.Folding.{is_blank, unfolded}
 use Rattle.mail_data.specs.declared.lenient.values.WordEncoding.{WordEncoding}
 use Rattle.mail_data.specs.declared.lenient.values.WordEncoding.TheVariants.{Base64, QuotedPrintable}
-
--- a space or a tab
-abbrev pub is_blank : ℕ → Bool
-is_blank b = b == space || b == tab
-
--- a LF before a blank
-abbrev pub is_folded_feed : List ℕ → Bool
-is_folded_feed [] = false
-is_folded_feed (b ∷ rest) = b == line_feed && begins is_blank rest
-
--- the first byte is one of folding: of a LF or a CR LF before a blank
-abbrev pub is_fold : List ℕ → Bool
-is_fold [] = false
-is_fold (b ∷ rest) = is_folded_feed (b ∷ rest) || (b == carriage_return && is_folded_feed rest)
-
--- the bytes without those of folding
-abbrev pub unfolded : List ℕ → List ℕ
-unfolded [] = []
-unfolded (b ∷ rest) = if is_fold (b ∷ rest) then unfolded rest else b ∷ unfolded rest
 
 -- a byte of a label: neither `=` nor `?`
 abbrev pub is_label_byte : ℕ → Bool
@@ -164,3 +147,7 @@ module _ (known : Charsets) where
   -- the text of a value: unfolded, without blanks at its front, and decoded
   unfoldable pub header_text : List ℕ → List ℕ
   header_text value = shown None (pieces 0 (trimmed_at_start is_blank (unfolded value)))
+
+  -- the text of the first header with a name, if there is one
+  abbrev pub first_header_text : List ℕ → List Header → Option (List ℕ)
+  first_header_text name headers = option_map (λ h. header_text h.value) (first_with_key name headers)

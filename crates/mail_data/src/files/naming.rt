@@ -10,10 +10,12 @@ ghost use Rattle.mailparse.specs.Outcome.{AnswersOrMemory};
 ghost use Rattle.mailparse.specs.Views.{tree_of};
 ghost use Rattle.mail_data.specs.Files.{name_by, name_from, shown_name, typed_name};
 ghost use Rattle.mail_data.specs.RawPaths.{with_paths_escaped};
+ghost use Rattle.mail_data.specs.lenient.FileNames as names;
 
 use super::no_charsets::NoCharsets;
 use super::paths::with_paths_escaped;
 use super::{filled, shown_name, typed_name};
+use crate::lenient::Lenient;
 use mail_codec::bytescan::find_byte;
 use mail_codec::charset::KnownCharsets;
 use mailparse::{
@@ -74,22 +76,18 @@ fn has_semicolon(text: &str) -> bool
 pub(super) struct WithPaths<'k, K>(pub &'k K);
 
 impl<'k, K: KnownCharsets> NameReading for WithPaths<'k, K> {
-    ghost shown = { λ s text.
-        shown_name (disposition_in (K.known s.0.now) (with_paths_escaped text)) };
+    ghost shown = { λ s text. names.shown_name (K.known s.0.now) (with_paths_escaped text) };
 
-    ghost typed = { λ s text.
-        typed_name (content_type_in (K.known s.0.now) (with_paths_escaped text)) };
+    ghost typed = { λ s text. names.typed_name (K.known s.0.now) (with_paths_escaped text) };
 
     fn shown_name(&self, alloc: Global, text: &str) -> Result<Option<String>, MailParseError> {
         let text = with_paths_escaped(alloc, text)?;
-        let disposition = parse_content_disposition_in(alloc, text.as_str(), self.0)?;
-        Ok(shown_name(alloc, &disposition)?)
+        Lenient(self.0).shown_name(alloc, text.as_str())
     }
 
     fn typed_name(&self, alloc: Global, text: &str) -> Result<Option<String>, MailParseError> {
         let text = with_paths_escaped(alloc, text)?;
-        let ctype = parse_content_type_in(alloc, text.as_str(), self.0)?;
-        Ok(typed_name(alloc, &ctype)?)
+        Lenient(self.0).typed_name(alloc, text.as_str())
     }
 }
 

@@ -1,12 +1,25 @@
 //! Comments in structured text (RFC 5322, section 3.2.2).
 ghost use Rattle.std.specs.Prelude.{◌≡◌, ◌+◌, ◌≤◌, ◌<◌, ◌^◌, ◌++◌, ◌==◌, ◌&&◌, [], encode_utf8, if◌then◌else◌, IfOk, OnOk, string_bytes};
+ghost use Rattle.std.specs.Cow.{cow_str_bytes};
 ghost use Rattle.mail_data.specs.lenient.Comments.{depth_after, depth_beside, quotes_next, string_after};
 ghost use Rattle.mail_data.specs.lenient.Comments.{without_comments};
 
+use mail_codec::bytescan::find_byte;
 use std::alloc::{AllocError, Global};
+use std::borrow::CowStr;
 
-/// Removes the comments of a text.
-pub(crate) fn without_comments(alloc: Global, text: &str) -> Result<String, AllocError>
+/// Removes the comments of a text, which is borrowed if it contains no `(`.
+pub(crate) fn without_comments(alloc: Global, text: &str) -> Result<CowStr<'_>, AllocError>
+    ensures { IfOk result (λ kept. cow_str_bytes kept ≡ without_comments text.now) }
+{
+    if find_byte(text.as_bytes(), b'(').is_some() {
+        return Ok(CowStr::Owned(outside_comments(alloc, text)?));
+    }
+    Ok(CowStr::Borrowed(text))
+}
+
+/// Returns the characters of a text that are in no comment.
+fn outside_comments(alloc: Global, text: &str) -> Result<String, AllocError>
     ensures { IfOk result (λ kept. string_bytes kept ≡ without_comments text.now) }
 {
     let mut kept = String::new(alloc);

@@ -1,6 +1,6 @@
 //! File names, read leniently.
 ghost use Rattle.std.specs.Prelude.{◌≡◌, option_map, string_bytes, IfOk, Ok};
-ghost use Rattle.mail_data.specs.Files.{filled};
+ghost use Rattle.mail_data.specs.Files.{filled, no_charsets};
 ghost use Rattle.mailparse.specs.Mail.{root};
 ghost use Rattle.mailparse.specs.Map.{text_found};
 ghost use Rattle.mailparse.specs.Outcome.{AnswersOrMemory};
@@ -8,14 +8,17 @@ ghost use Rattle.mailparse.specs.Pairs.{text_at};
 ghost use Rattle.mailparse.specs.Views.{tree_of};
 ghost use Rattle.mailparse.specs.ExtendedValues.{label_in, text_in};
 ghost use Rattle.mail_data.specs.lenient.FileNames.{extended_text, lenient_file_name, name_among};
-ghost use Rattle.mail_data.specs.lenient.FileNames.{shown_name, typed_name};
+ghost use Rattle.mail_data.specs.lenient.FileNames.{lenient_name_in, shown_name, typed_name};
+ghost use Rattle.mailparse.specs.Value.{lenient_value_in};
 
 use super::guess::{Guess, OrGuess};
 use super::manner::Lenient;
 use super::repairs::repaired;
-use crate::files::{NameReading, filled, filled_parameter, name_by};
+use crate::files::{NameReading, NoCharsets, filled, filled_parameter, name_by};
 use mail_codec::charset::{Decode, KnownCharsets};
-use mailparse::{MailParseError, ParsedMail, parse_content_disposition_in, parse_content_type_in};
+use mailparse::{
+    MailParseError, ParsedMail, parse_content_disposition_in, parse_content_type_in, value_text_in,
+};
 use percent_encoding::percent_decode;
 use std::alloc::{AllocError, Global};
 use std::collections::BTreeMap;
@@ -59,6 +62,72 @@ pub fn lenient_file_name<K: KnownCharsets>(
         (Ok (lenient_file_name (K.known known.now) (root (tree_of part.now)))) }
 {
     name_by(alloc, part, &Lenient(known), known)
+}
+
+/// Returns the file name in the raw values of a disposition and of a type, for callers that have no
+/// part; `lenient_file_name` reads that of a part in the same way (RFC 2183, section 2.3).
+///
+/// Allocates the texts of both values, their parameters and the name.
+///
+/// # Errors
+///
+/// `MailParseError::Memory` if it runs out of memory.
+///
+/// # Examples
+///
+/// ```rust
+/// use mail_data::lenient::lenient_named_file;
+///
+/// let ctype = b"image/png; name=a.png";
+/// let name = lenient_named_file(alloc, b"inline", ctype, &())?;
+/// assert_eq!(rt; name.as_deref(), Some("a.png"));
+/// let name = lenient_named_file(alloc, b"inline; filename*=''b%2Epng", ctype, &())?;
+/// assert_eq!(rt; name.as_deref(), Some("b.png"));
+/// ```
+#[tactic(auto, unfolding(crate::specs::lenient::FileNames::lenient_name_in))]
+pub fn lenient_named_file<K: KnownCharsets>(
+    alloc: Global,
+    disposition: &[u8],
+    ctype: &[u8],
+    known: &K,
+) -> Result<Option<String>, MailParseError>
+    ensures { AnswersOrMemory text_found result
+        (Ok (lenient_name_in (K.known known.now) disposition.now ctype.now)) }
+{
+    let name = match name_shown_in(alloc, disposition, known)? {
+        Some(name) => Some(name),
+        None => name_typed_in(alloc, ctype, known)?,
+    };
+    match name {
+        Some(name) => Ok(filled(value_text_in(alloc, name.as_bytes(), known)?)),
+        None => Ok(None),
+    }
+}
+
+/// Returns the file name in the raw value of a disposition, with its encoded words as they are.
+fn name_shown_in<K: KnownCharsets>(
+    alloc: Global,
+    value: &[u8],
+    known: &K,
+) -> Result<Option<String>, MailParseError>
+    ensures { AnswersOrMemory text_found result
+        (Ok (shown_name (K.known known.now) (lenient_value_in no_charsets value.now))) }
+{
+    let text = value_text_in(alloc, value, &NoCharsets)?;
+    shown_name(alloc, text.as_str(), known)
+}
+
+/// Returns the file name in the raw value of a type, with its encoded words as they are.
+fn name_typed_in<K: KnownCharsets>(
+    alloc: Global,
+    value: &[u8],
+    known: &K,
+) -> Result<Option<String>, MailParseError>
+    ensures { AnswersOrMemory text_found result
+        (Ok (typed_name (K.known known.now) (lenient_value_in no_charsets value.now))) }
+{
+    let text = value_text_in(alloc, value, &NoCharsets)?;
+    typed_name(alloc, text.as_str(), known)
 }
 
 impl<'k, K: KnownCharsets> NameReading for Lenient<'k, K> {

@@ -1,7 +1,7 @@
 //! Laws on lenient readings. Each function does nothing; its contract is the law.
 ghost use Rattle.std.specs.Prelude.{◌≡◌, ◌≢◌, ℕ, true, [], List, Some, Ok, Err};
 ghost use Rattle.mail_codec.specs.Charset.{Charsets};
-ghost use Rattle.mailparse.specs.Block.{HeaderList, read_headers};
+ghost use Rattle.mailparse.specs.Block.{HeaderList, read_block};
 ghost use Rattle.mailparse.specs.ContentType.{content_type_in};
 ghost use Rattle.mailparse.specs.Mail.{kept_message, root};
 ghost use Rattle.mailparse.specs.Refusal.{Refusal, recursion_limit};
@@ -31,9 +31,9 @@ pub fn refusals_are_reported()
     ensures whole { (bytes : List ℕ) → ((root (kept_message bytes)).block ≡ [])
         × ((root (kept_message bytes)).body ≡ bytes) }
     ensures refused { (bytes : List ℕ) (refusal : Refusal) → bytes ≢ [] →
-        read_headers bytes ≡ Err refusal →
+        read_block true bytes ≡ Err refusal →
         kept_for (root (kept_message bytes)) ≡ Some refusal }
     ensures deep { (bytes : List ℕ) (block : HeaderList) → bytes ≢ [] →
-        read_headers bytes ≡ Ok block →
+        read_block true bytes ≡ Ok block →
         kept_for (root (kept_message bytes)) ≡ Some recursion_limit }
 {}

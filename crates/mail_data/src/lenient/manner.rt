@@ -1,5 +1,7 @@
 //! The manner in which mail is read leniently.
-ghost use Rattle.std.specs.Prelude.{◌≡◌, IfOk, string_bytes};
+ghost use Rattle.std.specs.Prelude.{◌≡◌, ◌&&◌, IfOk, not, string_bytes, true};
+ghost use Rattle.std.specs.Str.{bytes_eq, trim};
+ghost use Rattle.mail_codec.specs.Places.{is_empty};
 ghost use Rattle.mailparse.specs.Pairs.{HasTexts, text_at};
 ghost use Rattle.mailparse.specs.Views.{content_type, in_digest};
 ghost use Rattle.mail_data.specs.lenient.Manner.{has_broken_boundary, lenient, lenient_name, lenient_type_in, lenient_type_of};
@@ -25,7 +27,9 @@ const PLAIN_NAME: &str = "text/plain";
 /// 2045, sections 5.1 and 5.2). Missing semicolons, closing quotes and apostrophes of extended
 /// values are put in, whose charset may be missing or unknown (RFC 2231, section 4). A boundary
 /// that contains a line end does not count, and a delimiter is a whole line (RFC 2046, section
-/// 5.1.1). No mail is refused: a message that `parse_mail` would refuse is kept as plain text
+/// 5.1.1). Headers also end before a line that begins with `--` and has no colon, as
+/// `mailparse::before_dash_line` says; the body of a multipart without a delimiter is all that
+/// follows its headers. No mail is refused: a message that `parse_mail` would refuse is kept as plain text
 /// without headers, and `refusal` returns why.
 ///
 /// # Examples
@@ -64,6 +68,10 @@ impl<'k, K: KnownCharsets> ReadingManner for Lenient<'k, K> {
     fn has_whole_lines(&self) -> bool {
         true
     }
+
+    fn ends_at_dashes(&self) -> bool {
+        true
+    }
 }
 
 /// Returns the type of a message with these headers. It is not inlined, so that the frame of the
@@ -82,10 +90,8 @@ fn type_of<K: KnownCharsets>(
     let Some(header) = headers.get_first_header("Content-Type") else {
         return default.content_type(alloc);
     };
-    match header.get_value_in(alloc, known) {
-        Ok(value) => lenient_type(alloc, value.as_str(), known),
-        Err(_) => Err(AllocError),
-    }
+    let value = header.get_value_ref_in(alloc, known)?;
+    lenient_type(alloc, value.as_str(), known)
 }
 
 /// Returns the type in the value of a `Content-Type` (RFC 2045, section 5.1), as `Lenient` reads it:
@@ -128,12 +134,12 @@ pub fn lenient_type<K: KnownCharsets>(
 fn made_lenient(alloc: Global, ctype: ParsedContentType) -> Result<ParsedContentType, AllocError>
     ensures { IfOk result (λ made. content_type made ≡ made_lenient (content_type ctype)) }
 {
-    let mimetype = lenient_name(alloc, ctype.mimetype.as_str())?;
     let ParsedContentType {
+        mimetype,
         charset,
         params,
-        ..
     } = ctype;
+    let mimetype = lenient_name(alloc, mimetype)?;
     Ok(ParsedContentType {
         mimetype,
         charset,
@@ -171,9 +177,36 @@ fn has_broken_boundary(params: &BTreeMap<String, String>) -> bool
     }
 }
 
+/// Returns the name of a type, read leniently: itself if it is a type and a subtype.
+fn lenient_name(alloc: Global, name: String) -> Result<String, AllocError>
+    ensures { IfOk result (λ made. string_bytes made ≡ lenient_name (string_bytes name)) }
+{
+    if has_two_parts(name.as_str()) {
+        return Ok(name);
+    }
+    made_name(alloc, name.as_str())
+}
+
+/// Returns whether a name is a type and a subtype without whitespace around the first slash.
+fn has_two_parts(name: &str) -> bool
+    ensures { result ≡ true → lenient_name name.now ≡ name.now }
+{
+    match name.split_once('/') {
+        Some((main, sub)) => is_trimmed(main) && is_trimmed(sub),
+        None => false,
+    }
+}
+
+/// Returns whether a text is not empty and has no whitespace around it.
+fn is_trimmed(text: &str) -> bool
+    ensures { result ≡ (not (is_empty text.now) && bytes_eq (trim text.now) text.now) }
+{
+    !text.is_empty() && text.trim() == text
+}
+
 /// Returns the name of a type, read leniently.
 #[tactic(auto, unfolding(crate::specs::lenient::Manner::lenient_name))]
-fn lenient_name(alloc: Global, name: &str) -> Result<String, AllocError>
+fn made_name(alloc: Global, name: &str) -> Result<String, AllocError>
     ensures { IfOk result (λ made. string_bytes made ≡ lenient_name name.now) }
 {
     match name.split_once('/') {

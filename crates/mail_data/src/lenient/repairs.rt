@@ -1,13 +1,17 @@
 //! What is missing in a value with parameters (RFC 2045, section 5.1; RFC 2231, section 4).
 ghost use Rattle.std.specs.Prelude.{◌≡◌, ◌++◌, ◌∷◌, [], chars, encode_utf8, is_some, IfOk, string_bytes};
+ghost use Rattle.std.specs.Cow.{cow_str_bytes};
 ghost use Rattle.mail_data.specs.lenient.Repairs.{after, after_end, after_name, after_quoted, after_run, after_star};
 ghost use Rattle.mail_data.specs.lenient.Repairs.{after_text, after_word, before_text, in_value};
 ghost use Rattle.mail_data.specs.lenient.Repairs.{apostrophes, begins_parameter, ends_name, extended_are_alone};
 ghost use Rattle.mail_data.specs.lenient.Repairs.{for_extended, is_name, missing, missing_apostrophes};
-ghost use Rattle.mail_data.specs.lenient.Repairs.{missing_at_end, repaired, semicolon_unless, settled};
+ghost use Rattle.mail_data.specs.lenient.Repairs.{lacks_nothing, may_follow, missing_at_end, repaired};
+ghost use Rattle.mail_data.specs.lenient.Repairs.{semicolon_unless, settled};
+ghost use Rattle.mail_data.specs.declared.lenient.repairs.Position.TheVariants.{BeforeWord};
 
 use mail_codec::bytescan::find;
 use std::alloc::{AllocError, Global};
+use std::borrow::CowStr;
 
 /// The position of a character in a value with parameters.
 #[derive(Clone, Copy, Debug)]
@@ -45,8 +49,45 @@ pub(crate) enum Position {
 }
 
 /// Returns a value with parameters with the semicolons, closing quotes and apostrophes that are
-/// missing.
-pub(crate) fn repaired(alloc: Global, text: &str) -> Result<String, AllocError>
+/// missing. It is borrowed if it clearly lacks none.
+pub(crate) fn repaired(alloc: Global, text: &str) -> Result<CowStr<'_>, AllocError>
+    ensures { IfOk result (λ made. cow_str_bytes made ≡ repaired text.now) }
+{
+    if lacks_nothing(text) {
+        return Ok(CowStr::Borrowed(text));
+    }
+    Ok(CowStr::Owned(with_missing(alloc, text)?))
+}
+
+/// Returns whether a value clearly lacks nothing, without a look at what follows a character.
+fn lacks_nothing(text: &str) -> bool
+    ensures { result ≡ lacks_nothing BeforeWord (chars text.now) }
+{
+    let mut position = Position::BeforeWord;
+    for c in text.chars() {
+        if !may_follow(position, c) {
+            return false;
+        }
+        position = after(position, c);
+    }
+    missing_at_end(position).is_empty()
+}
+
+/// Returns whether nothing is missing before a character with this position.
+fn may_follow(position: Position, c: char) -> bool
+    ensures { result ≡ may_follow position c }
+{
+    match position {
+        Position::AfterWord => c.is_ascii_whitespace() || c == ';' || c == '/',
+        Position::AfterText => c.is_ascii_whitespace() || c == ';',
+        Position::AfterBlank => !c.is_ascii_alphabetic(),
+        Position::BeforeExtended | Position::InExtended => false,
+        _ => true,
+    }
+}
+
+/// Returns a value with parameters with all that is missing.
+fn with_missing(alloc: Global, text: &str) -> Result<String, AllocError>
     ensures { IfOk result (λ made. string_bytes made ≡ repaired text.now) }
 {
     let is_alone = extended_are_alone(text);

@@ -1,20 +1,30 @@
 //! The text of a header's value, read leniently.
-ghost use Rattle.std.specs.Prelude.{◌≡◌, ◌≤◌, ◌<◌, ◌+◌, ◌-◌, ◌++◌, ℕ, [], length, take, drop, MatchOption, IfOk, IfSome, OnOk, None, option_and_then, option_map, string_bytes};
+ghost use Rattle.std.specs.Prelude.{◌≡◌, ◌≤◌, ◌<◌, ◌+◌, ◌-◌, ◌++◌, ℕ, [], length, take, drop, true};
+ghost use Rattle.std.specs.Prelude.{IfOk, IfSome, IsOk, IsSome, IsTrue, MatchOption, OnOk};
+ghost use Rattle.std.specs.Prelude.{None, option_and_then, option_map, string_bytes};
+ghost use Rattle.std.specs.Cow.{cow_str_bytes, IsBorrowedStr};
 ghost use Rattle.std.specs.List.{prefix_len};
+ghost use Rattle.mail_codec.specs.Charset.{Charsets};
+ghost use Rattle.mailparse.specs.Map.{text_found};
+ghost use Rattle.mailparse.specs.Value.{IsPlain};
 ghost use Rattle.mail_data.specs.Files.{text_of_octets};
-ghost use Rattle.mail_data.specs.lenient.Values.{Pieces, between, decoded, encoding_at, head_of, header_text};
-ghost use Rattle.mail_data.specs.lenient.Values.{if_known, is_blank, is_fold, is_folded_feed};
+ghost use Rattle.mail_data.specs.lenient.Folding.{is_blank};
+ghost use Rattle.mail_data.specs.lenient.Values.{Pieces, between, decoded, encoding_at};
+ghost use Rattle.mail_data.specs.lenient.Values.{first_header_text, head_of, header_text, if_known};
 ghost use Rattle.mail_data.specs.lenient.Values.{is_label_byte, is_white, joins, last, name_length};
 ghost use Rattle.mail_data.specs.lenient.Values.{octets_of, piece, pieces, pieces_at};
-ghost use Rattle.mail_data.specs.lenient.Values.{shown, spaced, unfolded, without_language};
+ghost use Rattle.mail_data.specs.lenient.Values.{shown, spaced, without_language};
 ghost use Rattle.mail_data.specs.lenient.ValueViews.{head_view, run_view, word_view};
 
 use super::base64::base64_front;
+use super::folding::{begins_in_blank, is_blank, unfolded};
 use crate::files::text_of_octets;
-use mail_codec::bytescan::find_pair;
+use mail_codec::bytescan::{find_byte, find_either, find_pair};
 use mail_codec::charset::{Decode, KnownCharsets};
 use mail_codec::transfer::decode_quoted_printable;
+use mailparse::MailHeaderMap;
 use std::alloc::{AllocError, Global};
+use std::borrow::CowStr;
 
 /// How the text of an encoded word is encoded (RFC 2047, section 4).
 #[derive(Clone, Copy, Debug)]
@@ -69,8 +79,125 @@ struct Run<'a> {
 /// let text = lenient_header_text(alloc, b"Re:=?utf-8*en?Q?caf=C3?=\r\n =?UTF-8?B?qQ?=!", &())?;
 /// assert_eq!(rt; text.as_str(), "Re:café!");
 /// ```
-#[tactic(auto, unfolding(crate::specs::lenient::Values::header_text))]
 pub fn lenient_header_text<K: KnownCharsets>(
+    alloc: Global,
+    value: &[u8],
+    known: &K,
+) -> Result<String, AllocError>
+    ensures { IfOk result (λ text. string_bytes text
+        ≡ header_text (K.known known.now) value.now) }
+{
+    lenient_header_text_ref(alloc, value, known)?.into_owned(alloc)
+}
+
+/// Returns the text of a header's value as `lenient_header_text` does, borrowed if the value is
+/// plain: printable ASCII without `=?` that does not begin with a space (RFC 5322, section 2.2; RFC
+/// 2047, section 2).
+///
+/// When it is plain, it succeeds without allocating. The text of another value in UTF-8 that is not
+/// folded may be borrowed too.
+///
+/// # Errors
+///
+/// `AllocError` if it runs out of memory; never for a plain value.
+///
+/// # Examples
+///
+/// ```rust
+/// use mail_data::lenient::lenient_header_text_ref;
+///
+/// let text = lenient_header_text_ref(alloc, b"Hi there", &())?;
+/// assert_eq!(rt; text.as_str(), "Hi there");
+/// let text = lenient_header_text_ref(alloc, b"a\r\n =?utf-8?Q?b?=c", &())?;
+/// assert_eq!(rt; text.as_str(), "a bc");
+/// ```
+pub fn lenient_header_text_ref<'v, K: KnownCharsets>(
+    alloc: Global,
+    value: &'v [u8],
+    known: &K,
+) -> Result<CowStr<'v>, AllocError>
+    ensures read { IfOk result (λ text. cow_str_bytes text
+        ≡ header_text (K.known known.now) value.now) }
+    ensures borrowed { IsPlain value.now → IfOk result (λ text. IsBorrowedStr text) }
+    ensures no_alloc { IsPlain value.now → IsOk result }
+{
+    match own_text(value) {
+        Some(text) => Ok(CowStr::Borrowed(text)),
+        None => Ok(CowStr::Owned(owned_text(alloc, value, known)?)),
+    }
+}
+
+/// Returns the text of the first header with this name, read by `lenient_header_text`, or `None` if
+/// there is no such header.
+///
+/// Allocates the text and the bytes of its words.
+///
+/// # Errors
+///
+/// `AllocError` if it runs out of memory.
+///
+/// # Examples
+///
+/// ```rust
+/// use mail_data::lenient::first_header_text;
+/// use mailparse::parse_mail;
+///
+/// let mail = parse_mail(alloc, b"Subject: Re:=?utf-8?Q?caf=C3=A9?=\n\n")?;
+/// let subject = first_header_text(alloc, &mail.headers, "Subject", &())?.ok_or("no subject")?;
+/// assert_eq!(rt; subject.as_str(), "Re:café");
+/// ```
+pub fn first_header_text<H: MailHeaderMap, K: KnownCharsets>(
+    alloc: Global,
+    headers: &H,
+    name: &str,
+    known: &K,
+) -> Result<Option<String>, AllocError>
+    ensures { IfOk result (λ text. text_found text
+        ≡ first_header_text (K.known known.now) name.now (H.present headers.now)) }
+{
+    match headers.get_first_header(name) {
+        Some(header) => Ok(Some(lenient_header_text(alloc, header.get_value_raw(), known)?)),
+        None => Ok(None),
+    }
+}
+
+/// Returns a value that is its own text, whatever charsets are known.
+#[tactic(auto, using(crate::proofs::lemmas::lenient::Values::own_texts))]
+fn own_text(value: &[u8]) -> Option<&str>
+    ensures value { IfSome result (λ text. (known : Charsets) →
+        text.now ≡ header_text known value.now) }
+    ensures plain { IsPlain value.now → IsSome result }
+{
+    if !is_whole(value) {
+        return None;
+    }
+    match str::from_utf8(value) {
+        Ok(text) => Some(text),
+        Err(_) => None,
+    }
+}
+
+/// Returns whether all bytes of a value show, and by themselves: it does not begin with a blank,
+/// and it contains neither a LF nor a `=?`. One search is enough for most values.
+#[inline(always)]
+#[tactic(auto, using(crate::proofs::lemmas::lenient::Values::whole_values))]
+fn is_whole(value: &[u8]) -> bool
+    ensures value { IsTrue result → (known : Charsets) →
+        text_of_octets value.now ≡ header_text known value.now }
+    ensures plain { IsPlain value.now → result ≡ true }
+{
+    if begins_in_blank(value) {
+        return false;
+    }
+    if find_either(value, b'\n', b'?').is_none() {
+        return true;
+    }
+    find_byte(value, b'\n').is_none() && find_pair(value, b'=', b'?').is_none()
+}
+
+/// Returns the text of a value: that of its bytes without folding and without blanks at their front.
+#[tactic(auto, unfolding(crate::specs::lenient::Values::header_text))]
+fn owned_text<K: KnownCharsets>(
     alloc: Global,
     value: &[u8],
     known: &K,
@@ -80,14 +207,22 @@ pub fn lenient_header_text<K: KnownCharsets>(
 {
     let plain = unfolded(alloc, value)?;
     let bytes = plain.as_slice();
-    decoded_text(alloc, &bytes[blanks_length(bytes)..], known)
+    unfolded_text(alloc, &bytes[blanks_length(bytes)..], known)
 }
 
-/// Returns whether a byte is a space or a tab.
-fn is_blank(byte: u8) -> bool
-    ensures { result ≡ is_blank byte }
+/// Returns the text of an unfolded value, in which words are looked for if there is a `=?`.
+fn unfolded_text<K: KnownCharsets>(
+    alloc: Global,
+    bytes: &[u8],
+    known: &K,
+) -> Result<String, AllocError>
+    ensures { IfOk result (λ text. string_bytes text
+        ≡ shown (K.known known.now) None (pieces (K.known known.now) 0 bytes.now)) }
 {
-    byte == b' ' || byte == b'\t'
+    if find_pair(bytes, b'=', b'?').is_none() {
+        return text_of_octets(alloc, bytes);
+    }
+    decoded_text(alloc, bytes, known)
 }
 
 /// Returns the number of blanks at the front.
@@ -96,44 +231,6 @@ fn blanks_length(bytes: &[u8]) -> usize
     ensures bounds { result ≤ length bytes.now }
 {
     bytes.iter().take_while(|byte| is_blank(**byte)).count()
-}
-
-/// Returns whether the bytes begin with a LF and a blank.
-fn is_folded_feed(bytes: &[u8]) -> bool
-    ensures { result ≡ is_folded_feed bytes.now }
-{
-    let Some((first, rest)) = bytes.split_first() else {
-        return false;
-    };
-    let Some((next, _)) = rest.split_first() else {
-        return false;
-    };
-    *first == b'\n' && is_blank(*next)
-}
-
-/// Returns whether the first byte is one of folding.
-fn is_fold(bytes: &[u8]) -> bool
-    ensures { result ≡ is_fold bytes.now }
-{
-    let Some((first, rest)) = bytes.split_first() else {
-        return false;
-    };
-    is_folded_feed(bytes) || (*first == b'\r' && is_folded_feed(rest))
-}
-
-/// Returns the bytes without those of folding.
-fn unfolded(alloc: Global, bytes: &[u8]) -> Result<Vec<u8>, AllocError>
-    ensures { IfOk result (λ text. text.items ≡ unfolded bytes.now) }
-{
-    let mut text = Vec::new(alloc);
-    let mut left = bytes;
-    'bytes: while let Some((first, rest)) = left.split_first() {
-        if !is_fold(left) {
-            text.push(*first)?;
-        }
-        left = rest;
-    }
-    Ok(text)
 }
 
 /// Returns the text of an unfolded value.

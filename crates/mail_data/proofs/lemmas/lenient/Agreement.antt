@@ -6,7 +6,7 @@ use Rattle.std.specs.List.{list_any}
 use Rattle.std.specs.Map.{update, update_all}
 use Rattle.std.specs.Str.{bytes_eq, str_to_ascii_lowercase}
 use Rattle.mail_codec.specs.Charset.{Charsets}
-use Rattle.mailparse.specs.Block.{HeaderList, read_headers}
+use Rattle.mailparse.specs.Block.{HeaderList, read_block}
 use Rattle.mailparse.specs.ContentType.{content_type_in, type_with}
 use Rattle.mailparse.specs.Continuations.{parameters_in}
 use Rattle.mailparse.specs.Mail.{kept_message, root}
@@ -64,13 +64,13 @@ types-agree known text strict =
 
 -- ---- messages that were kept
 
-pub kept-refused : (bytes : List ℕ) (refusal : Refusal) → bytes ≢ [] → read_headers bytes ≡ Err refusal
+pub kept-refused : (bytes : List ℕ) (refusal : Refusal) → bytes ≢ [] → read_block true bytes ≡ Err refusal
     → kept_for (root (kept_message bytes)) ≡ Some refusal
 unfolding kept_for
 kept-refused [] refusal some e = absurd (some refl)
 kept-refused (b ∷ bytes) refusal some e = ap (λ (read : Reads HeaderList). Some (refusal_with read)) e
 
-pub kept-deep : (bytes : List ℕ) (block : HeaderList) → bytes ≢ [] → read_headers bytes ≡ Ok block
+pub kept-deep : (bytes : List ℕ) (block : HeaderList) → bytes ≢ [] → read_block true bytes ≡ Ok block
     → kept_for (root (kept_message bytes)) ≡ Some recursion_limit
 unfolding kept_for
 kept-deep [] block some e = absurd (some refl)

@@ -1,9 +1,18 @@
 -- Lemmas on comments.
-use Rattle.std.proofs.Common.{◌≡◌, ℕ, ◌<◌, length, arith, length-append, Bool, true, false, eqb, cond, ◌&&◌, List, [], ◌∷◌, ◌++◌, sym, ap, ◌∙◌, append_assoc}
+use Rattle.std.proofs.Common.{◌≡◌, ℕ, ◌-◌, ◌<◌, length, arith, length-append, Bool, true, false, eqb, ltb, cond, ◌&&◌, List, [], ◌∷◌, ◌++◌, refl, sym, ap, ◌∙◌, append_assoc}
+use Rattle.std.specs.Prelude.{nat_eq}
+use Rattle.std.specs.List.{list_any}
+use Rattle.std.proofs.lemmas.Bool.{cond-false, eqb-true, false≢true, false_from_ne_true, or_parts}
 use Rattle.std.proofs.lemmas.List.{append-nil}
-use Rattle.std.proofs.lemmas.Str.{chars-nil, chars_past_char, len_utf8_bounds, length-encode}
+use Rattle.std.proofs.lemmas.List.Folds.{list_any-append}
+use Rattle.std.proofs.lemmas.Str.{chars-nil, chars_past_char, encodes-chars, len_utf8_bounds, length-encode}
 use Rattle.std.specs.Char.{encode_utf8}
 use Rattle.std.specs.Str.{chars, encode_utf8_all, IsUtf8}
+use Rattle.std.specs.Option.{is_some}
+use Rattle.mail_codec.specs.Places.{byte_place}
+use Rattle.mail_codec.proofs.lemmas.Places.{first_place-begins}
+use Rattle.mailparse.proofs.lemmas.EncodedWord.{any_from_place}
+use Rattle.mailparse.proofs.lemmas.ExtendedValues.{is_some_where}
 use Rattle.mail_data.specs.lenient.Comments.{depth_beside, outside_comments, quotes_next, string_after, without_comments}
 
 -- the text kept so far, and then that of the rest
@@ -41,3 +50,39 @@ kept-next kept new rest next in_string quoted in_string_next quoted_next depth a
     ∙ ap (λ (a : ℕ). kept ++ encode_utf8_all (cond (eqb depth 0 && eqb a 0) (c ∷ []) []
     ++ outside_comments (string_after in_string quoted depth c) (quotes_next quoted c) a (chars next))) is
     ∙ ap (λ (cs : List ℕ). kept ++ encode_utf8_all (outside_comments in_string quoted depth cs)) (sym (chars_past_char rest next c utf8 e)))
+
+-- ---- a text without `(` has no comments
+
+no_opening : (c : ℕ) (rest : List ℕ) → list_any (λ b. nat_eq b 40) (encode_utf8 c ++ rest) ≡ false
+    → (nat_eq c 40 ≡ false) × (list_any (λ b. nat_eq b 40) rest ≡ false)
+unfolding encode_utf8
+no_opening c rest none =
+    let parts = or_parts _ _ (sym (list_any-append (λ b. nat_eq b 40) (encode_utf8 c) rest) ∙ none) in
+    (false_from_ne_true _ (λ is. false≢true (sym parts.0 ∙ ap (λ d. list_any (λ b. nat_eq b 40) (encode_utf8 d)) (eqb-true c 40 is))), parts.1)
+
+none_less : (t : Bool) → cond t (0 - 1) 0 ≡ 0
+none_less true = refl
+none_less false = refl
+
+stays : (in_string quoted : Bool) (c : ℕ) → nat_eq c 40 ≡ false → depth_beside in_string quoted 0 c ≡ 0
+stays true quoted c other = refl
+stays false true c other = refl
+stays false false c other = cond-false _ _ _ other ∙ none_less (nat_eq c 41)
+
+all_kept : (in_string quoted : Bool) (cs : List ℕ) → list_any (λ b. nat_eq b 40) (encode_utf8_all cs) ≡ false → outside_comments in_string quoted 0 cs ≡ cs
+all_kept in_string quoted [] none = refl
+all_kept in_string quoted (c ∷ cs) none =
+    let parts = no_opening c (encode_utf8_all cs) none in
+    let string_next = string_after in_string quoted 0 c in
+    ap (λ (d : ℕ). cond (eqb 0 0 && eqb d 0) (c ∷ []) [] ++ outside_comments string_next (quotes_next quoted c) d cs) (stays in_string quoted c parts.0)
+    ∙ ap (λ (t : List ℕ). c ∷ t) (all_kept string_next (quotes_next quoted c) cs parts.1)
+
+opening_found : (text : List ℕ) → is_some (byte_place text 40) ≡ list_any (λ b. nat_eq b 40) text
+opening_found text =
+    is_some_where _ _ ∙ ap (λ n. ltb n (length text)) (first_place-begins (λ b. nat_eq b 40) text) ∙ sym (any_from_place (λ b. nat_eq b 40) text)
+
+pub without_opening : (text : List ℕ) → IsUtf8 text → is_some (byte_place text 40) ≡ false → text ≡ without_comments text
+unfolding without_comments
+without_opening text utf8 absent =
+    let none = sym (opening_found text) ∙ absent in
+    sym (ap encode_utf8_all (all_kept false false (chars text) (ap (list_any (λ b. nat_eq b 40)) (encodes-chars text utf8) ∙ none)) ∙ encodes-chars text utf8)

@@ -1,13 +1,18 @@
 -- Lemmas on what is missing in values with parameters.
-use Rattle.std.proofs.Common.{◌≡◌, ◌≢◌, ℕ, zero, suc, ◌-◌, Bool, true, false, eqb, cond, ◌&&◌, ◌||◌, List, [], ◌∷◌, ◌++◌, refl, sym, ap, ◌∙◌, append_assoc}
-use Rattle.std.proofs.lemmas.Bool.{cond-true, cond-false, eq-eqb, ne_eqb}
-use Rattle.std.proofs.lemmas.Str.{chars-nil, chars_past_char}
+use Rattle.std.proofs.Common.{◌≡◌, ◌≢◌, ℕ, zero, suc, ◌-◌, Bool, true, false, eqb, cond, not, ◌&&◌, ◌||◌, List, [], ◌∷◌, ◌++◌, length, arith, refl, sym, ap, ◌∙◌, append_assoc}
+use Rattle.std.proofs.lemmas.Bool.{cond-true, cond-false, eq-eqb, false≢true, ne_eqb}
+use Rattle.std.proofs.lemmas.Str.{chars-nil, chars_past_char, encodes-chars}
 use Rattle.std.specs.Char.{encode_utf8, is_ascii_alphabetic}
 use Rattle.std.specs.Str.{chars, encode_utf8_all, IsUtf8}
 use Rattle.mail_codec.specs.Ascii.{apostrophe, equals_sign, semicolon}
-use Rattle.mail_data.specs.lenient.Repairs.{after, apostrophes, begins_parameter, ends_name, extended_are_alone, for_extended, is_name, missing, missing_apostrophes, missing_at_end, repaired, repaired_from, semicolon_unless, settled}
+use Rattle.mail_codec.specs.Places.{is_empty}
+use Rattle.mail_data.specs.lenient.Repairs.{after, apostrophes, begins_parameter, ends_name, extended_are_alone, for_extended, is_name, lacks_nothing, may_follow, missing, missing_apostrophes, missing_at_end, repaired, repaired_from, semicolon_unless, settled}
 use Rattle.mail_data.specs.declared.lenient.repairs.Position.{Position}
 use Rattle.mail_data.specs.declared.lenient.repairs.Position.TheVariants.{BeforeWord, InWord, AfterWord, InName, AfterStar, BeforeText, InText, AfterBlank, InQuotes, AfterBackslash, AfterText, BeforeExtended, InExtended, InRun, RunBackslash}
+
+empty_nil : (text : List ℕ) → is_empty text ≡ true → text ≡ []
+empty_nil [] none = refl
+empty_nil (b ∷ bs) none = absurd (false≢true none)
 
 encode-append : (xs ys : List ℕ) → encode_utf8_all (xs ++ ys) ≡ encode_utf8_all xs ++ encode_utf8_all ys
 encode-append [] ys = refl
@@ -173,3 +178,69 @@ pub missing-next : (rest next : List ℕ) (left c : ℕ) → IsUtf8 rest → res
 missing-next rest next left c utf8 e stop other =
     sym (ap (missing_apostrophes left) (chars_past_char rest next c utf8 e) ∙ cond-false (stops left c) _ _ stop
     ∙ ap (λ (n : ℕ). missing_apostrophes n (chars next)) (cond-false (eqb c apostrophe) _ _ (ne_eqb c apostrophe other)))
+
+-- ---- values that clearly lack nothing
+
+not_true : (t : Bool) → not t ≡ true → t ≡ false
+not_true false is = refl
+not_true true is = absurd (false≢true is)
+
+-- nothing is missing before such a character, and its position after a blank has no effect
+bare : (is_alone : Bool) (position : Position) (c : ℕ) (cs : List ℕ) → may_follow position c ≡ true
+    → (missing is_alone (settled position (c ∷ cs)) (c ∷ cs) ≡ []) × (after (settled position (c ∷ cs)) c ≡ after position c)
+bare is_alone BeforeWord c cs may = (refl, refl)
+bare is_alone InWord c cs may = (refl, refl)
+bare is_alone AfterWord c cs may = (cond-true _ _ _ may, refl)
+bare is_alone InName c cs may = (refl, refl)
+bare is_alone AfterStar c cs may = (refl, refl)
+bare is_alone BeforeText c cs may = (refl, refl)
+bare is_alone InText c cs may = (refl, refl)
+bare is_alone AfterBlank c cs may =
+    let settles : settled AfterBlank (c ∷ cs) ≡ InText = cond-false _ _ _ (ap (λ (t : Bool). t && ends_name cs) (not_true (is_ascii_alphabetic c) may)) in
+    (ap (λ (p : Position). missing is_alone p (c ∷ cs)) settles, ap (λ (p : Position). after p c) settles)
+bare is_alone InQuotes c cs may = (refl, refl)
+bare is_alone AfterBackslash c cs may = (refl, refl)
+bare is_alone AfterText c cs may = (cond-true _ _ _ may, refl)
+bare is_alone BeforeExtended c cs may = absurd (false≢true may)
+bare is_alone InExtended c cs may = absurd (false≢true may)
+bare is_alone InRun c cs may = (refl, refl)
+bare is_alone RunBackslash c cs may = (refl, refl)
+
+unchanged : (is_alone : Bool) (position : Position) (cs : List ℕ) → lacks_nothing position cs ≡ true → repaired_from is_alone position cs ≡ cs
+unchanged is_alone position [] none = empty_nil (missing_at_end position) none
+unchanged is_alone position (c ∷ cs) none = go (may_follow position c) refl none (unchanged is_alone (after position c) cs)
+  where
+    go : (t : Bool) → may_follow position c ≡ t → cond t (lacks_nothing (after position c) cs) false ≡ true
+        → (lacks_nothing (after position c) cs ≡ true → repaired_from is_alone (after position c) cs ≡ cs) → repaired_from is_alone position (c ∷ cs) ≡ c ∷ cs
+    go true may rest ih =
+        let parts = bare is_alone position c cs may in
+        ap (λ (m : List ℕ). m ++ c ∷ repaired_from is_alone (after (settled position (c ∷ cs)) c) cs) parts.0
+        ∙ ap (λ (p : Position). c ∷ repaired_from is_alone p cs) parts.1
+        ∙ ap (λ (t : List ℕ). c ∷ t) (ih rest)
+    go false may rest ih = absurd (false≢true rest)
+
+pub whole-text : (text : List ℕ) → IsUtf8 text → lacks_nothing BeforeWord (chars text) ≡ true → text ≡ repaired text
+unfolding repaired
+whole-text text utf8 none =
+    sym (ap encode_utf8_all (unchanged (extended_are_alone text) BeforeWord (chars text) none) ∙ encodes-chars text utf8)
+
+-- the test for that, in its loop
+
+sized : (text : List ℕ) → is_empty text ≡ eqb (length text) 0
+sized [] = refl
+sized (b ∷ bs) = sym (ne_eqb (length (b ∷ bs)) 0 (λ e. absurd (omega arith)))
+
+pub lacks-end : (position : Position) (rest end : List ℕ) → rest ≡ [] → end ≡ missing_at_end position
+    → eqb (length end) 0 ≡ lacks_nothing position (chars rest)
+lacks-end position rest end none is =
+    sym (sized end) ∙ ap is_empty is ∙ sym (ap (lacks_nothing position) (ap chars none ∙ chars-nil))
+
+pub lacks-stop : (rest next : List ℕ) (position : Position) (c : ℕ) → IsUtf8 rest → rest ≡ encode_utf8 c ++ next → may_follow position c ≡ false
+    → lacks_nothing position (chars rest) ≡ false
+lacks-stop rest next position c utf8 e may = ap (lacks_nothing position) (chars_past_char rest next c utf8 e) ∙ cond-false (may_follow position c) _ _ may
+
+pub lacks-next : (rest next : List ℕ) (position next_position : Position) (c : ℕ) → IsUtf8 rest → rest ≡ encode_utf8 c ++ next → may_follow position c ≡ true
+    → next_position ≡ after position c → lacks_nothing next_position (chars next) ≡ lacks_nothing position (chars rest)
+lacks-next rest next position next_position c utf8 e may moved =
+    ap (λ (p : Position). lacks_nothing p (chars next)) moved
+    ∙ sym (ap (lacks_nothing position) (chars_past_char rest next c utf8 e) ∙ cond-true (may_follow position c) _ _ may)

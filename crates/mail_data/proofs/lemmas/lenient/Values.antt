@@ -3,24 +3,28 @@ use Rattle.std.proofs.Common.{◌≡◌, ℕ, zero, suc, ◌+◌, ◌-◌, ◌<�
 use Rattle.std.specs.Prelude.{option_and_then, IfSome}
 use Rattle.std.specs.Option.{option_map_or, MatchOption}
 use Rattle.std.specs.List.{All, prefix_len}
-use Rattle.std.proofs.lemmas.Bool.{and_parts, cases_Bool, eq-eqb, false≢true, ne_eqb}
+use Rattle.std.proofs.lemmas.Bool.{and_parts, cases_Bool, cond-false, eq-eqb, eqb-true, false≢true, le-ltb, ne_eqb}
 use Rattle.std.proofs.lemmas.List.Elements.{All-head}
 use Rattle.std.proofs.lemmas.Str.{is_utf8-from_IsUtf8}
+use Rattle.std.specs.Str.{IsUtf8}
 use Rattle.std.proofs.lemmas.List.{append-nil, drop-drop, take-append-drop, take_all, take_rest}
 use Rattle.std.proofs.Math.Seq.{take-add}
 use Rattle.std.proofs.Math.ListN.{drop_of_length-le}
 use Rattle.mail_codec.specs.Charset.{Charsets, text_of}
-use Rattle.mail_codec.specs.Places.{begins, first_place, has_prefix, text_place, trimmed_at_start}
+use Rattle.mail_codec.specs.Places.{begins, byte_place, either_place, first_place, has_prefix, place, text_place, trimmed_at_start}
 use Rattle.mail_codec.proofs.lemmas.Places.{first_place-here, first_place-past, first_place-passes}
 use Rattle.mail_codec.proofs.lemmas.PlacesSearches.{place_none, place_some}
 use Rattle.mail_codec.specs.declared.charset.built_in.Charset.TheVariants.{Windows1252}
 use Rattle.mailparse.specs.Value.{IsPlain, lenient_value_in}
 use Rattle.mailparse.proofs.lemmas.Value.{lenient-utf8}
-use Rattle.mailparse.proofs.lemmas.ValuePlain.{plain_utf8, unfolded_value-plain}
+use Rattle.mailparse.proofs.lemmas.Places.{not_some}
+use Rattle.mailparse.proofs.lemmas.ValuePlain.{plain_feeds, plain_utf8, unfolded_value-plain}
 use Rattle.mail_data.specs.Files.{text_of_octets}
 use Rattle.mail_data.specs.lenient.ValueViews.{word_view}
 use Rattle.mail_data.specs.declared.lenient.values.EncodedWord.{EncodedWord}
-use Rattle.mail_data.specs.lenient.Values.{Head, Pieces, last, piece, with_text, if_known, head_of, pieces_at, pieces, word_of, header_text, is_blank, is_fold, is_folded_feed, shown, unfolded}
+use Rattle.mail_data.specs.lenient.Values.{Head, Pieces, last, piece, with_text, if_known, head_of, pieces_at, pieces, word_of, header_text, shown}
+use Rattle.mail_data.specs.lenient.Folding.{is_blank}
+use Rattle.mail_data.proofs.lemmas.lenient.Folding.{and_false, last_line}
 
 -- ---- text in front
 
@@ -232,39 +236,106 @@ word_some raw from n head is =
 -- a word at a place
 pub ruleset words_at = (two_found, word_none, word_some)
 
+-- ---- values that are their own text
+
+-- nothing at any place passes
+none_passes : (test : List ℕ → Bool) (bytes : List ℕ) → ((k : ℕ) → test (drop k bytes) ≡ false) → first_place test bytes ≡ length bytes
+none_passes test [] none = refl
+none_passes test (b ∷ rest) none = first_place-past test b rest (none 0) ∙ ap suc (none_passes test rest (λ k. none (suc k)))
+
+nowhere : (test : List ℕ → Bool) (bytes : List ℕ) → length bytes ≤ first_place test bytes → None ≡ place test bytes
+nowhere test bytes past = sym (cond-false _ _ _ (le-ltb (first_place test bytes) (length bytes) past))
+
+-- a byte that ends a line or may open a word
+abbrev cuts : ℕ → Bool
+cuts b = eqb b 10 || eqb b 63
+
+uncut_head : (b : ℕ) (rest : List ℕ) → first_place (begins cuts) (b ∷ rest) ≡ suc (length rest) → (cuts b ≡ false) × (first_place (begins cuts) rest ≡ length rest)
+uncut_head b rest h = elim (cases_Bool (cuts b)) [
+  | inl e ↦ let here = first_place-here (begins cuts) (b ∷ rest) e in absurd (omega (arith, h, here))
+  | inr e ↦ let later = first_place-past (begins cuts) b rest e in (e, omega (arith, h, later))
+]
+
+uncut_feed : (b : ℕ) → cuts b ≡ false → eqb b 10 ≡ false
+uncut_feed b h = elim (cases_Bool (eqb b 10)) [
+  | inl e ↦ absurd (false≢true (sym h ∙ ap (λ (t : Bool). t || eqb b 63) e))
+  | inr e ↦ e
+]
+
+uncut_mark : (bytes : List ℕ) → first_place (begins cuts) bytes ≡ length bytes → has_prefix (63 ∷ []) bytes ≡ false
+uncut_mark [] h = refl
+uncut_mark (b ∷ rest) h = elim (cases_Bool (eqb 63 b)) [
+  | inl e ↦ absurd (false≢true (sym ((uncut_head b rest h).0) ∙ ap cuts (sym (eqb-true 63 b e))))
+  | inr e ↦ ap (λ (t : Bool). t && true) e
+]
+
+uncut_feeds : (bytes : List ℕ) → first_place (begins cuts) bytes ≡ length bytes → first_place (begins (λ b. eqb b 10)) bytes ≡ length bytes
+uncut_feeds [] h = refl
+uncut_feeds (b ∷ rest) h =
+    let head = uncut_head b rest h in
+    first_place-past (begins (λ b. eqb b 10)) b rest (uncut_feed b head.0) ∙ ap suc (uncut_feeds rest head.1)
+
+uncut_opens : (bytes : List ℕ) → first_place (begins cuts) bytes ≡ length bytes → first_place opens bytes ≡ length bytes
+uncut_opens [] h = refl
+uncut_opens (b ∷ rest) h =
+    let head = uncut_head b rest h in
+    first_place-past opens b rest (and_false (eqb 61 b) (has_prefix (63 ∷ []) rest) (uncut_mark rest head.1)) ∙ ap suc (uncut_opens rest head.1)
+
+trimmed_unblank : (bytes : List ℕ) → begins is_blank bytes ≡ false → trimmed_at_start is_blank bytes ≡ bytes
+trimmed_unblank [] h = refl
+trimmed_unblank (b ∷ rest) h = ap (λ (t : Bool). drop (cond t (1 + prefix_len is_blank rest) 0) (b ∷ rest)) h
+
+-- bytes without words
+pub no_words : (known : Charsets) (bytes : List ℕ) → None ≡ text_place bytes (61 ∷ 63 ∷ []) → text_of_octets bytes ≡ shown known None (pieces known 0 bytes)
+no_words known bytes none = sym (ap (shown known None) (text-end known bytes 0 (text-start known bytes) none))
+
+pub whole_value : (value : List ℕ) → begins is_blank value ≡ false → None ≡ byte_place value 10 → None ≡ text_place value (61 ∷ 63 ∷ [])
+    → (known : Charsets) → text_of_octets value ≡ header_text known value
+unfolding header_text
+whole_value value unblank unfed unopened known =
+    no_words known value unopened
+    ∙ ap (λ (v : List ℕ). shown known None (pieces known 0 v)) (sym (ap (trimmed_at_start is_blank) (last_line value unfed) ∙ trimmed_unblank value unblank))
+
+pub bare_value : (value : List ℕ) → begins is_blank value ≡ false → None ≡ either_place value 10 63 → (known : Charsets) → text_of_octets value ≡ header_text known value
+bare_value value unblank none =
+    let uncut = place_none (begins cuts) value none in
+    whole_value value unblank (nowhere (begins (λ b. eqb b 10)) value (omega (arith, uncut_feeds value uncut)))
+    (nowhere opens value (omega (arith, uncut_opens value uncut)))
+
 -- ---- plain values
 
 abbrev Printable : List ℕ → Type 0
 Printable value = All (λ b. (32 ≤ b) × (b ≤ 126)) value
 
-unfolded_plain : (value : List ℕ) → Printable value → unfolded value ≡ value
-unfolded_plain [] h = refl
-unfolded_plain (b ∷ rest) h =
-    let first = All-head (λ b. (32 ≤ b) × (b ≤ 126)) b rest h in
-    let no_feed : eqb b 10 ≡ false = ne_eqb b 10 (λ e. absurd (omega (arith, first.0))) in
-    let no_return : eqb b 13 ≡ false = ne_eqb b 13 (λ e. absurd (omega (arith, first.0))) in
-    let no_fold : is_fold (b ∷ rest) ≡ false =
-    ap (λ (t : Bool). (t && begins is_blank rest) || (eqb b 13 && is_folded_feed rest)) no_feed ∙ ap (λ (t : Bool). t && is_folded_feed rest) no_return in
-    ap (λ (t : Bool). cond t (unfolded rest) (b ∷ unfolded rest)) no_fold ∙ ap (λ (r : List ℕ). b ∷ r) (unfolded_plain rest (λ i d lt. h (suc i) d (omega (arith, lt))))
-
-trimmed_plain : (value : List ℕ) → IsPlain value → trimmed_at_start is_blank value ≡ value
-trimmed_plain [] plain = refl
-trimmed_plain (b ∷ rest) plain =
+pub plain_unblank : (value : List ℕ) → IsPlain value → begins is_blank value ≡ false
+plain_unblank [] plain = refl
+plain_unblank (b ∷ rest) plain =
     let first = All-head (λ b. (32 ≤ b) × (b ≤ 126)) b rest plain.printable in
     let no_space : eqb b 32 ≡ false = ne_eqb b 32 (λ e. absurd (false≢true (sym plain.no_space ∙ ap (λ (t : Bool). t && true) (eq-eqb 32 b (sym e))))) in
     let no_tab : eqb b 9 ≡ false = ne_eqb b 9 (λ e. absurd (omega (arith, first.0))) in
-    ap (λ (t : Bool). drop (cond t (1 + prefix_len is_blank rest) 0) (b ∷ rest)) (ap (λ (t : Bool). t || eqb b 9) no_space ∙ no_tab)
+    ap (λ (t : Bool). t || eqb b 9) no_space ∙ no_tab
 
-pieces_plain : (known : Charsets) (value : List ℕ) → ((k : ℕ) → opens (drop k value) ≡ false) → pieces known 0 value ≡ last value
-pieces_plain known [] none = refl
-pieces_plain known (b ∷ rest) none = no_opening known b rest (none 0) ∙ ap (with_text (b ∷ [])) (pieces_plain known rest (λ k. none (suc k)))
+pub plain_unfed : (value : List ℕ) → IsPlain value → None ≡ byte_place value 10
+plain_unfed value plain = not_some (byte_place value 10) (plain_feeds value plain)
+
+pub plain_unopened : (value : List ℕ) → IsPlain value → None ≡ text_place value (61 ∷ 63 ∷ [])
+plain_unopened value plain = nowhere opens value (omega (arith, none_passes opens value plain.no_opening))
+
+pub ruleset whole_values = (whole_value, bare_value, plain_unblank, plain_unfed, plain_unopened)
+
+-- a whole value in UTF-8
+pub own_utf8 : (value text : List ℕ) → text ≡ value → IsUtf8 value → ((known : Charsets) → text_of_octets value ≡ header_text known value)
+    → (known : Charsets) → text ≡ header_text known value
+unfolding text_of_octets
+own_utf8 value text same utf8 whole known =
+    same ∙ sym (ap (λ (t : Bool). cond t value (text_of Windows1252 value)) (is_utf8-from_IsUtf8 value utf8)) ∙ whole known
+
+pub ruleset own_texts = (own_utf8, plain_utf8)
 
 header_plain : (known : Charsets) (value : List ℕ) → IsPlain value → header_text known value ≡ value
-unfolding header_text text_of_octets
 header_plain known value plain =
-    ap (λ (v : List ℕ). shown known None (pieces known 0 v)) (ap (trimmed_at_start is_blank) (unfolded_plain value plain.printable) ∙ trimmed_plain value plain)
-    ∙ ap (shown known None) (pieces_plain known value plain.no_opening)
-    ∙ ap (λ (t : Bool). cond t value (text_of Windows1252 value)) (is_utf8-from_IsUtf8 value (plain_utf8 value plain))
+    sym (own_utf8 value value refl (plain_utf8 value plain)
+    (whole_value value (plain_unblank value plain) (plain_unfed value plain) (plain_unopened value plain)) known)
 
 pub plain-agree : (known : Charsets) (value : List ℕ) → IsPlain value → header_text known value ≡ lenient_value_in known value
 plain-agree known value plain = header_plain known value plain ∙ sym (lenient-utf8 known value (plain_utf8 value plain) ∙ unfolded_value-plain known value plain)

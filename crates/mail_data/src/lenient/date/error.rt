@@ -7,7 +7,7 @@ pub enum DateError {
     /// No number of one or two digits, or one that is no day of the month.
     #[error("no day of the month")]
     Day,
-    /// No name of a month.
+    /// No name of a month, or no number of one.
     #[error("no month")]
     Month,
     /// No number of two to nine digits, or a year before 1900.
@@ -16,10 +16,10 @@ pub enum DateError {
     /// No time of day.
     #[error("no time of day")]
     Time,
-    /// Text after the time that is no zone.
+    /// Never returned: text that is no zone means that the zone is not known.
     #[error("no zone")]
     Zone,
-    /// Text after the zone that is no comment.
+    /// Never returned: text after the date is ignored.
     #[error("text after the zone")]
     TrailingText,
 }

@@ -3,7 +3,8 @@ ghost use Rattle.std.specs.Prelude.{◌≡◌, ◌+◌, ◌≤◌, ◌<◌, ◌^
 ghost use Rattle.std.specs.Char.{is_ascii_alphabetic, is_ascii_digit};
 ghost use Rattle.std.specs.List.{prefix_len};
 ghost use Rattle.std.specs.Str.Parse.{AllDigits};
-ghost use Rattle.mail_data.specs.lenient.Date.{after_comments, after_mark, ends_whitespace, run_at};
+ghost use Rattle.mail_data.specs.lenient.Date.{after_comments, after_mark, after_separator, ends_whitespace};
+ghost use Rattle.mail_data.specs.lenient.Date.{has_digit, has_letter, is_separator, is_sign, run_at};
 
 use crate::lenient::comments::depth_after;
 
@@ -47,6 +48,41 @@ pub(super) fn after_mark(text: &[u8], mark: u8) -> Option<&[u8]>
     if *byte == mark { Some(rest) } else { None }
 }
 
+/// Skips whitespace and comments at the front, and one separator after them, if it is there.
+#[tactic(auto, unfolding(crate::specs::lenient::Date::after_separator))]
+pub(super) fn after_separator(text: &[u8]) -> &[u8]
+    ensures { result.now ≡ after_separator text.now }
+{
+    let rest = after_comments(text);
+    let Some((byte, after)) = rest.split_first() else {
+        return rest;
+    };
+    if is_separator(*byte) { after } else { rest }
+}
+
+/// Returns whether a byte may separate the day, the month and the year.
+fn is_separator(byte: u8) -> bool
+    ensures { result ≡ is_separator byte }
+{
+    byte == b'-' || byte == b',' || byte == b'.' || byte == b'/'
+}
+
+/// Returns whether a letter is at the front, after whitespace and comments.
+pub(super) fn has_letter(text: &[u8]) -> bool
+    ensures { result ≡ has_letter text.now }
+{
+    let (letters, _) = letters_at(text);
+    !letters.is_empty()
+}
+
+/// Returns whether a digit is at the front, after whitespace and comments.
+pub(super) fn has_digit(text: &[u8]) -> bool
+    ensures { result ≡ has_digit text.now }
+{
+    let (digits, _) = digits_at(text);
+    !digits.is_empty()
+}
+
 /// Returns the letters at the front, after whitespace and comments, and the text after them.
 #[tactic(auto, unfolding(crate::specs::lenient::Date::run_at))]
 pub(super) fn letters_at(text: &[u8]) -> (&[u8], &[u8])
@@ -82,4 +118,28 @@ fn digits_len(text: &[u8]) -> usize
     ensures bounds { result ≤ length text.now }
 {
     text.iter().take_while(|byte| byte.is_ascii_digit()).count()
+}
+
+/// Returns the signs at the front, after whitespace and comments, and the text after them.
+#[tactic(auto, unfolding(crate::specs::lenient::Date::run_at))]
+pub(super) fn signs_at(text: &[u8]) -> (&[u8], &[u8])
+    ensures { (result.0.now, result.1.now) ≡ run_at is_sign text.now }
+{
+    let rest = after_comments(text);
+    rest.split_at(signs_len(rest))
+}
+
+/// Returns the number of signs at the front.
+fn signs_len(text: &[u8]) -> usize
+    ensures value { result ≡ prefix_len is_sign text.now }
+    ensures bounds { result ≤ length text.now }
+{
+    text.iter().take_while(|byte| is_sign(**byte)).count()
+}
+
+/// Returns whether a byte is the sign of a zone.
+fn is_sign(byte: u8) -> bool
+    ensures { result ≡ is_sign byte }
+{
+    byte == b'+' || byte == b'-'
 }

@@ -6,12 +6,12 @@ use Rattle.mail_data.proofs.lenient.ids.find_ids.Goals as goal
 
 pub returns-in_default : goal.returns-in_default
 returns-in_default c =
-    let is = c.as_str.ensures.value ∙ c.in_ok-kept.ensures in
-    ap (map string_bytes) c.new-ids.ensures.items ∙ ids-none (needs_at c.args.rule) c.args.text.now c.as_str.result.now is c.in_default.ensures.pieces
+    ids-none (needs_at c.args.rule) c.args.text.now c.as_str-plain.result.now _ _ (c.as_str-plain.ensures.value ∙ c.in_ok-kept.ensures)
+    c.in_default.ensures.opened c.in_ok-push_bare_id.ensures (ap (map string_bytes) c.new-ids.ensures.items)
 
 pub pieces-init : goal.pieces-init
 pieces-init c = record {
   utf8 = search rules;
-  all = ids-start (needs_at c.args.rule) c.args.text.now c.as_str.result.now c.in-Some.field-0-0.now c.in-Some.first.now (map string_bytes c.new-ids.result.items)
-      (c.as_str.ensures.value ∙ c.in_ok-kept.ensures) c.in-Some.ensures.pieces (ap (map string_bytes) c.new-ids.ensures.items);
+  all = ids-start (needs_at c.args.rule) c.args.text.now c.as_str-plain.result.now c.in-Some.field-0-0.now c.in-Some.first.now (map string_bytes c.new-ids.result.items)
+      (c.as_str-plain.ensures.value ∙ c.in_ok-kept.ensures) c.in-Some.ensures.pieces c.in-Some.ensures.opened (ap (map string_bytes) c.new-ids.ensures.items);
 }

@@ -4,7 +4,7 @@ use Rattle.std.specs.Str.{IsUtf8}
 use Rattle.std.specs.String.{string_bytes}
 use Rattle.mail_data.specs.lenient.Comments.{without_comments}
 use Rattle.mail_data.proofs.lemmas.lenient.Comments.{kept_with}
-use Rattle.mail_data.proofs.lenient.comments.without_comments.Given as goal
+use Rattle.mail_data.proofs.lenient.comments.outside_comments.Given as goal
 
 abbrev pub invariant-loop-c : goal.invariant-loop-c
 invariant-loop-c l = record {

@@ -4,7 +4,7 @@ use Rattle.std.specs.Str.{IsUtf8}
 use Rattle.std.specs.String.{string_bytes}
 use Rattle.mail_data.specs.lenient.Repairs.{repaired}
 use Rattle.mail_data.proofs.lemmas.lenient.Repairs.{repaired_with}
-use Rattle.mail_data.proofs.lenient.repairs.repaired.Given as goal
+use Rattle.mail_data.proofs.lenient.repairs.with_missing.Given as goal
 
 abbrev pub invariant-loop-c : goal.invariant-loop-c
 invariant-loop-c l = record {

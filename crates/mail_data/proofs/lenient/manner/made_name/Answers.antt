@@ -2,7 +2,7 @@ use Rattle.std.proofs.Common.{◌≡◌, None, IfOk, lit<, subst}
 use Rattle.std.specs.Prelude.{string_bytes}
 use Rattle.std.proofs.lemmas.Str.Pattern.{split_once_first}
 use Rattle.mail_data.proofs.lemmas.lenient.Manner.{lenient_name-none}
-use Rattle.mail_data.proofs.lenient.manner.lenient_name.Goals as goal
+use Rattle.mail_data.proofs.lenient.manner.made_name.Goals as goal
 
 pub returns-in-None : goal.returns-in-None
 returns-in-None c =
