@@ -21,3 +21,4 @@ pub mod WriterRead
 pub mod Accepted
 pub mod Plain
 pub mod Groups
+pub mod Lenient

@@ -5,6 +5,7 @@ pub mod MailboxViews
 pub mod Addresses
 pub mod AddressViews
 pub mod Headers
+pub mod Lenient
 pub mod PhraseWords
 pub mod Text
 pub mod Order

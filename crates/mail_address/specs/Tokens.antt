@@ -7,7 +7,7 @@ use Rattle.mail_codec.specs.Places.{begins, is_empty}
 use Rattle.mail_address.specs.declared.tokens.Kind.{Kind}
 use Rattle.mail_address.specs.declared.tokens.Kind.TheVariants.{Blank, Comment, Atom, Quoted, Literal, Angle, Dot, At, Comma, Semicolon, Colon, Opening, Closing, Other}
 use Rattle.mail_address.specs.declared.tokens.Span.{Span}
-use Rattle.mail_address.specs.declared.tokens.Span.TheVariants.{White, Phrase, Word, Atoms, Literals, BeforeAt, BeforeColon, BeforeComma, BeforeSeparator, BeforeDelimiter, InGroup}
+use Rattle.mail_address.specs.declared.tokens.Span.TheVariants.{White, Phrase, Word, Atoms, Literals, BeforeAt, BeforeColon, BeforeComma, BeforeSeparator, BeforeDelimiter, InGroup, Dots, BeforeWhite, BeforeAngle, BeforeOpening, AfterAngle}
 use Rattle.mail_address.specs.declared.tokens.Token.{Token}
 
 -- ---- Bytes.
@@ -181,6 +181,22 @@ is_in BeforeDelimiter _ = true
 is_in InGroup Semicolon = false
 is_in InGroup Colon = false
 is_in InGroup _ = true
+is_in Dots Atom = true
+is_in Dots Dot = true
+is_in Dots _ = false
+is_in BeforeWhite Blank = false
+is_in BeforeWhite Comment = false
+is_in BeforeWhite Angle = false
+is_in BeforeWhite _ = true
+is_in BeforeAngle Angle = false
+is_in BeforeAngle _ = true
+is_in BeforeOpening Opening = false
+is_in BeforeOpening Angle = false
+is_in BeforeOpening _ = true
+is_in AfterAngle Blank = true
+is_in AfterAngle Comment = true
+is_in AfterAngle Closing = true
+is_in AfterAngle _ = false
 
 -- the length of the token at the front, if the run may have it
 unfoldable pub step : Span → List ℕ → ℕ

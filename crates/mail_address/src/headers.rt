@@ -98,7 +98,7 @@ pub fn sender_of<'m, M: MailHeaderMap>(
 }
 
 /// Returns the only element, if it is a mailbox.
-fn only_mailbox<'a>(list: &AddressList<'a>) -> Option<Mailbox<'a>>
+pub(crate) fn only_mailbox<'a>(list: &AddressList<'a>) -> Option<Mailbox<'a>>
     ensures { option_map mailbox_view result ≡ only_mailbox (map element_view list.now.items) }
 {
     let [only] = list.as_slice() else {

@@ -1,5 +1,5 @@
 //! Laws of all lists of addresses. Each function does nothing; its contract is the law.
-ghost use Rattle.std.specs.Prelude.{[], ◌≡◌, ◌+◌, ◌∷◌, ◌++◌, List, Some, length, map, suc, true, ℕ};
+ghost use Rattle.std.specs.Prelude.{[], ◌≡◌, ◌+◌, ◌∷◌, ◌++◌, List, drop, take, Some, length, map, suc, true, ℕ};
 ghost use Rattle.mail_codec.specs.Ascii.{backslash, comma, space};
 ghost use Rattle.mail_codec.specs.Charset.{Charsets, four_charsets};
 ghost use Rattle.mail_codec.specs.Tables.{charsets_with};
@@ -13,12 +13,16 @@ ghost use Rattle.mail_address.specs.Enclosed.{IsEnclosed, IsInAngles};
 ghost use Rattle.mail_address.specs.Grammar.{IsByGrammar, IsMailbox};
 ghost use Rattle.mail_address.specs.Groups.{GroupsFollow, IsGroup};
 ghost use Rattle.mail_address.specs.Headers.{addresses_of};
+ghost use Rattle.mail_address.specs.Lenient.{IsComplete, angle_mailbox, closed_mailbox};
+ghost use Rattle.mail_address.specs.Lenient.{has_brackets, lenient_addresses};
+ghost use Rattle.mail_address.specs.Lenient.{lenient_addresses_of, refined, with_comment};
 ghost use Rattle.mail_address.specs.Mailbox.{Parts};
 ghost use Rattle.mail_address.specs.Names.{AreNameWords, bracketed, named};
 ghost use Rattle.mail_address.specs.Order.{AreInOrder, MakeUp};
 ghost use Rattle.mail_address.specs.Safe.{IsSafe};
 ghost use Rattle.mail_address.specs.Text.{phrase_text, quoted_text};
 ghost use Rattle.mail_address.specs.Tokens.{is_in, run};
+ghost use Rattle.mail_address.specs.declared.tokens.Span.TheVariants.{BeforeAngle};
 ghost use Rattle.mail_address.specs.Writer.{HaveTexts, are_writable, element_shows};
 ghost use Rattle.mail_address.specs.Writer.{element_shown_for, written_list};
 ghost use Rattle.mail_address.specs.declared.writer.NewAddress.{NewAddress};
@@ -189,4 +193,77 @@ pub fn written_addresses_read_back()
         map (element_shows known) (addresses (written_list list)) ≡ map element_shown_for list }
     ensures four { KnowUtf8 four_charsets }
     ensures tables { (tables : List SingleByteTable) → KnowUtf8 (charsets_with tables) }
+{}
+
+/// The lenient reading agrees with the grammar. A mailbox by the grammar keeps its address, and its
+/// name if it has one. Where each element and each member of a group is a mailbox, and none of them
+/// has a comment instead of a name, both readings are the same.
+///
+/// # Examples
+///
+/// ```rust
+/// mail_address::laws::lenient_reading_agrees_with_the_grammar();
+/// ```
+pub fn lenient_reading_agrees_with_the_grammar()
+    ensures mailboxes { (start : ℕ) (text : List ℕ) (m : Parts) →
+        refined (single (record { start = start; text = text; mailbox = Some m }))
+        ≡ single (record { start = start; text = text; mailbox = Some (with_comment text m) }) }
+    ensures local_parts { (text : List ℕ) (m : Parts) →
+        (with_comment text m).local_part ≡ m.local_part }
+    ensures domains { (text : List ℕ) (m : Parts) → (with_comment text m).domain ≡ m.domain }
+    ensures same { (raw : List ℕ) → EachElement IsComplete (addresses raw) →
+        lenient_addresses raw ≡ addresses raw }
+{}
+
+/// The elements of the lenient reading are disjoint and in order, and the text has the bytes of
+/// each at its offset.
+///
+/// # Examples
+///
+/// ```rust
+/// mail_address::laws::lenient_elements_are_in_order();
+/// ```
+pub fn lenient_elements_are_in_order()
+    ensures { (raw : List ℕ) → AreInOrder 0 raw (lenient_addresses raw) }
+{}
+
+/// In the lenient reading, an address in angle brackets counts and nothing before it. If a text
+/// that is no mailbox by the grammar contains a pair of angle brackets, its address is the one in
+/// the first pair, or it has none. Angle brackets in quotes and comments are no such pair.
+///
+/// # Examples
+///
+/// ```rust
+/// mail_address::laws::lenient_brackets_count();
+/// ```
+pub fn lenient_brackets_count()
+    ensures { (text : List ℕ) → has_brackets text ≡ true →
+        closed_mailbox text ≡ angle_mailbox (take (run BeforeAngle text) text)
+        (drop (run BeforeAngle text) text) }
+{}
+
+/// No address of the lenient reading contains a control character, as none of the grammar does.
+///
+/// # Examples
+///
+/// ```rust
+/// mail_address::laws::lenient_addresses_contain_no_control();
+/// ```
+pub fn lenient_addresses_contain_no_control()
+    ensures value { (raw : List ℕ) → EachElement IsSafe (lenient_addresses raw) }
+    ensures headers { (name : List ℕ) (headers : List Header) →
+        EachElement IsSafe (lenient_addresses_of name headers) }
+{}
+
+/// Every address of the lenient reading can be written, as every one of the grammar can.
+///
+/// # Examples
+///
+/// ```rust
+/// mail_address::laws::lenient_addresses_can_be_written();
+/// ```
+pub fn lenient_addresses_can_be_written()
+    ensures value { (raw : List ℕ) → EachElement IsAccepted (lenient_addresses raw) }
+    ensures headers { (name : List ℕ) (headers : List Header) →
+        EachElement IsAccepted (lenient_addresses_of name headers) }
 {}

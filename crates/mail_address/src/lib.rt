@@ -13,6 +13,8 @@ pub mod encode;
 mod folding;
 mod headers;
 pub mod laws;
+mod lenient;
+mod lenient_list;
 mod list;
 mod mailbox;
 mod phrase_words;
@@ -22,5 +24,6 @@ mod tokens;
 mod writer;
 
 pub use headers::{addresses_of, sender_of};
+pub use lenient_list::{lenient_addresses, lenient_addresses_of, lenient_sender_of};
 pub use list::{Address, AddressList, Group, Mailbox, Member, Unknown, read_addresses};
 pub use writer::{NewAddress, NewGroup, NewMailbox, WriteError, write_addresses};

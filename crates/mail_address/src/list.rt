@@ -401,7 +401,7 @@ fn separator_len(bytes: &[u8]) -> usize
 
 /// Returns the length of a group's name.
 #[tactic(auto, unfolding(crate::specs::Addresses::name_len))]
-fn name_len(bytes: &[u8]) -> usize
+pub(crate) fn name_len(bytes: &[u8]) -> usize
     ensures value { result ≡ name_len bytes.now }
     ensures bounds { result ≤ length bytes.now }
 {
@@ -409,7 +409,7 @@ fn name_len(bytes: &[u8]) -> usize
 }
 
 /// Returns the bytes after a group's name and its colon.
-fn after_name(bytes: &[u8]) -> &[u8]
+pub(crate) fn after_name(bytes: &[u8]) -> &[u8]
     ensures { result.now ≡ after_name bytes.now }
 {
     &bytes[bytes.len().min(name_len(bytes) + 1)..]
@@ -468,7 +468,11 @@ fn group_at(alloc: Global, start: usize, bytes: &[u8]) -> Result<Group<'_>, Allo
 
 /// Returns the members of a group, from the bytes between its colon and semicolon, which start
 /// at this offset.
-fn members_at(alloc: Global, start: usize, bytes: &[u8]) -> Result<Vec<Member<'_>>, AllocError>
+pub(crate) fn members_at(
+    alloc: Global,
+    start: usize,
+    bytes: &[u8],
+) -> Result<Vec<Member<'_>>, AllocError>
     requires { start + length bytes.now < 2 ^ 64 }
     ensures { IfOk result (λ list. map member_view list.items ≡ members_at start bytes.now) }
 {

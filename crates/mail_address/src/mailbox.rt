@@ -72,7 +72,7 @@ pub(crate) fn is_dotted(span: Span, text: &[u8]) -> bool
 
 /// Returns whether the bytes are a domain.
 #[tactic(auto, unfolding(crate::specs::Mailbox::is_domain))]
-fn is_domain(text: &[u8]) -> bool
+pub(crate) fn is_domain(text: &[u8]) -> bool
     ensures { result ≡ is_domain text.now }
 {
     is_dotted(Span::Atoms, text) || is_word(Span::Literals, text)
@@ -217,7 +217,7 @@ fn spec_mailbox<'a>(name: &'a [u8], text: &'a [u8]) -> Option<Parts<'a>>
 }
 
 /// Returns whether a token is a pair of angle brackets with bytes between them.
-fn is_enclosed(kind: Kind) -> bool
+pub(crate) fn is_enclosed(kind: Kind) -> bool
     ensures { result ≡ is_enclosed kind }
 {
     matches!(kind, Kind::Angle)

@@ -75,6 +75,16 @@ pub(crate) enum Span {
     BeforeDelimiter,
     /// Anything but a semicolon or a colon.
     InGroup,
+    /// Atoms and dots.
+    Dots,
+    /// Anything but whitespace, comments and pairs of angle brackets.
+    BeforeWhite,
+    /// Anything but a pair of angle brackets.
+    BeforeAngle,
+    /// Anything but pairs of angle brackets and a `<` without its `>`.
+    BeforeOpening,
+    /// Whitespace, comments, and each `>` without its `<`.
+    AfterAngle,
 }
 
 /// A step over some bytes, which is repeated until it takes none.
@@ -377,6 +387,11 @@ pub(crate) fn is_in(span: Span, kind: Kind) -> bool
         Span::BeforeSeparator => !matches!(kind, Kind::Comma | Kind::Semicolon),
         Span::BeforeDelimiter => !matches!(kind, Kind::Comma | Kind::Semicolon | Kind::Colon),
         Span::InGroup => !matches!(kind, Kind::Semicolon | Kind::Colon),
+        Span::Dots => matches!(kind, Kind::Atom | Kind::Dot),
+        Span::BeforeWhite => !matches!(kind, Kind::Blank | Kind::Comment | Kind::Angle),
+        Span::BeforeAngle => !matches!(kind, Kind::Angle),
+        Span::BeforeOpening => !matches!(kind, Kind::Opening | Kind::Angle),
+        Span::AfterAngle => matches!(kind, Kind::Blank | Kind::Comment | Kind::Closing),
     }
 }
 

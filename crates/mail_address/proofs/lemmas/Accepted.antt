@@ -1,8 +1,8 @@
 -- The addresses that are read can be written.
-use Rattle.std.proofs.Common.{◌≡◌, ◌≢◌, ℕ, zero, suc, ◌+◌, ◌/◌, ◌<◌, ◌≤◌, Bool, true, false, not, cond, eqb, ◌||◌, ⊎_elim, List, [], ◌∷◌, ◌++◌, Some, length, take, drop, refl, sym, ap, subst, ◌∙◌, arith, append_assoc, length-append, length-drop}
-use Rattle.std.specs.Prelude.{encode_utf8_all, nat_lt}
+use Rattle.std.proofs.Common.{◌≡◌, ◌≢◌, ℕ, zero, suc, ◌+◌, ◌/◌, ◌<◌, ◌≤◌, Bool, true, false, not, eqb, ◌||◌, ⊎_elim, List, [], ◌∷◌, ◌++◌, length, take, drop, refl, sym, ap, subst, ◌∙◌, arith, append_assoc, length-append}
+use Rattle.std.specs.Prelude.{nat_lt}
 use Rattle.std.specs.List.{list_all, prefix_len}
-use Rattle.std.specs.Str.{IsUtf8, is_utf8}
+use Rattle.std.specs.Str.{is_utf8}
 use Rattle.std.proofs.lemmas.Bool.{and_from, and_parts, cases_Bool, cond_both, cond-false, cond-true, eq-eqb, le-ltb, lt-ltb, ltb-false, ne_eqb, not-true, or_left, or_right}
 use Rattle.std.proofs.lemmas.List.{append-nil, drop_at, take_at}
 use Rattle.std.proofs.lemmas.List.Folds.{list_all-append}
@@ -19,18 +19,17 @@ use Rattle.mail_address.specs.Addresses.{items, items_within, Single}
 use Rattle.mail_address.specs.Enclosed.{IsBetween, no_bytes, plain_byte, quoted_pair}
 use Rattle.mail_address.specs.Folding.{has_no_control, without_white}
 use Rattle.mail_address.specs.Grammar.{address, AreDotted, AreDotWords, atom, atoms, dot_word, dots_end, dotted, in_brackets, IsByGrammar, IsDomain, IsMailbox, IsPadded, IsWhite, IsWord, literal, literals, named_address, white_byte, white_comment, white_ends}
-use Rattle.mail_address.specs.Mailbox.{are_clean, is_clean, is_dotted, Parts}
+use Rattle.mail_address.specs.Mailbox.{are_clean, is_clean, Parts}
 use Rattle.mail_address.specs.Text.{address_bytes, address_front, address_front_at, address_meaning, bare, front_len, local_text, needs_no_quotes}
-use Rattle.mail_address.specs.Tokens.{front_token, is_atom_byte, is_in, is_white}
-use Rattle.mail_address.specs.Writer.{is_literal, is_writable, written_address, written_local}
+use Rattle.mail_address.specs.Tokens.{front_token, is_atom_byte, is_white}
+use Rattle.mail_address.specs.Writer.{is_literal, is_writable, written_local}
 use Rattle.mail_address.proofs.lemmas.Addresses.{items-more}
 use Rattle.mail_address.proofs.lemmas.Encode.{list_all-weaker}
-use Rattle.mail_address.proofs.lemmas.Enclosed.{ClosedToken, comment-closed, delimited, literal-closed}
+use Rattle.mail_address.proofs.lemmas.Enclosed.{comment-closed, delimited, literal-closed}
 use Rattle.mail_address.proofs.lemmas.Folding.{clean-bare, text-no_control}
-use Rattle.mail_address.proofs.lemmas.GrammarRead.{dotted-read, prefix-whole, white-no_atom}
+use Rattle.mail_address.proofs.lemmas.GrammarRead.{dotted-read, white-no_atom}
 use Rattle.mail_address.proofs.lemmas.Passed.{dot-front, white_byte-front}
-use Rattle.mail_address.proofs.lemmas.Text.{front_len-some, text-latin1, text-utf8}
-use Rattle.mail_address.proofs.lemmas.Tokens.{no_atom_bytes}
+use Rattle.mail_address.proofs.lemmas.Text.{front_len-some, text-utf8}
 use Rattle.mail_address.proofs.lemmas.WriterWords.{atom-some, atom-token, padded-alone}
 
 -- ---- a local part or a domain, token by token
@@ -322,7 +321,7 @@ domain-accepted {domain} (in_brackets is) =
     let means = bare-literal is in
     or_right _ _ (text-has (λ t. is_literal t ≡ true) (bare domain) (literal-is means) (literal-is (latin1-literal means)))
 
-address-accepted : (name local domain : List ℕ) → IsDomain domain → are_clean local domain ≡ true → (new : NewMailbox)
+pub address-accepted : (name local domain : List ℕ) → IsDomain domain → are_clean local domain ≡ true → (new : NewMailbox)
     → HasAddress (record { display_name = name; local_part = local; domain = domain }) new → IsWrittenAgain (record { display_name = name; local_part = local; domain = domain }) new
 unfolding is_writable written_local local_text address_bytes
 address-accepted name local domain is clean new has =

@@ -47,7 +47,7 @@ member-follows : (start : ℕ) (bytes : List ℕ) → EachSingle IsByGrammar (me
 unfolding member_at
 member-follows start bytes = single-follows start (take (run BeforeComma bytes) bytes)
 
-members-follow : (start : ℕ) (bytes : List ℕ) → EachSingle IsByGrammar (members_at start bytes)
+pub members-follow : (start : ℕ) (bytes : List ℕ) → EachSingle IsByGrammar (members_at start bytes)
 members-follow start bytes = items-hold member_at member_len (EachSingle IsByGrammar) tt (singles-append IsByGrammar) member-follows start bytes
 
 group-follows : (start : ℕ) (bytes : List ℕ) → EachSingle IsByGrammar (group_at start bytes).members
@@ -65,7 +65,7 @@ elements-follow raw = items-hold element_at element_len (EachElement IsByGrammar
 
 -- a property that elements without members have by the grammar is one of each that is read
 module _ (P : Single → Type 0) (given : (s : Single) → IsByGrammar s → P s) where
-  singles-have : (ss : List Single) → EachSingle IsByGrammar ss → EachSingle P ss
+  pub singles-have : (ss : List Single) → EachSingle IsByGrammar ss → EachSingle P ss
   singles-have [] are = tt
   singles-have (s ∷ ss) are = (given s are.0, singles-have ss are.1)
 

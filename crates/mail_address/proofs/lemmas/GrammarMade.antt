@@ -442,7 +442,7 @@ pub either-made : {P : Type 0} (t u : Bool) → (t ≡ true → P) → (u ≡ tr
 either-made true u one other h = one refl
 either-made false u one other h = other h
 
-domain-made : (text : List ℕ) → is_domain text ≡ true → IsDomain text
+pub domain-made : (text : List ℕ) → is_domain text ≡ true → IsDomain text
 unfolding is_domain
 domain-made text h =
     either-made (is_dotted Atoms text) (is_word Literals text) (λ e. dotted (dotted-made atoms text e)) (λ e. in_brackets (word-made literals text e)) h

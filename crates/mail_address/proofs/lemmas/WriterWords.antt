@@ -3,7 +3,7 @@ use Rattle.std.proofs.Common.{◌≡◌, ◌≢◌, ℕ, zero, suc, ◌+◌, ◌
 use Rattle.std.specs.Prelude.{codes, encode_utf8_all, nat_lt, not}
 use Rattle.std.specs.List.{list_all, prefix_len}
 use Rattle.std.specs.Str.{chars, IsUtf8}
-use Rattle.std.proofs.lemmas.Bool.{and_from, and_parts, cond_both, cond-false, cond-true, eq-eqb, eqb-true, false≢true, false_from_ne_true, le-ltb, ltb-true, ne_eqb, not-true, or_from, or_left}
+use Rattle.std.proofs.lemmas.Bool.{and_from, and_parts, cond_both, cond-false, cond-true, eq-eqb, eqb-true, false≢true, le-ltb, ltb-true, ne_eqb, not-true, or_from, or_left}
 use Rattle.std.proofs.lemmas.List.{append-nil, drop_all, drop_at, take_all, take_at, take-append-drop}
 use Rattle.std.proofs.lemmas.List.Folds.{list_all-append}
 use Rattle.std.proofs.lemmas.Str.{encodes-chars, scalars-chars}

@@ -1,0 +1,267 @@
+//! Lists of addresses, read leniently, and the sender of a mail.
+ghost use Rattle.std.specs.Prelude.{◌≡◌, ◌++◌, ◌∷◌, [], ◌+◌, ◌<◌, ◌^◌, length, map, option_map, IfOk, OnOk, Ok, None, Some, true};
+ghost use Rattle.mailparse.specs.Outcome.{AnswersOrMemory};
+ghost use Rattle.mail_address.specs.AddressViews.{element_view, group_view, mailbox_view};
+ghost use Rattle.mail_address.specs.AddressViews.{member_view, unknown_view};
+ghost use Rattle.mail_address.specs.MailboxViews.{parts};
+ghost use Rattle.mail_address.specs.Addresses.{group, single};
+ghost use Rattle.mail_address.specs.Lenient.{has_bare_address, is_open_group, lenient_addresses};
+ghost use Rattle.mail_address.specs.Lenient.{lenient_addresses_of, lenient_sender_of, open_group};
+ghost use Rattle.mail_address.specs.Lenient.{refined, refined_as, refined_element, refined_single};
+
+use crate::headers::{addresses_of, only_mailbox};
+use crate::lenient::{lenient_mailbox, with_comment};
+use crate::list::{
+    Address, AddressList, Group, Mailbox, Member, Unknown, after_name, members_at, name_len,
+    read_addresses,
+};
+use crate::mailbox::{Parts, is_enclosed, is_phrase};
+use crate::tokens::{Span, begins_at, front_token, is_all_white, run};
+use mailparse::{MailHeaderMap, MailParseError};
+use std::alloc::{AllocError, Global};
+
+/// Returns the elements of a list of addresses as `read_addresses` does, but reads an element that
+/// is no address by the grammar again, leniently.
+///
+/// A mailbox without a display name has the name in its first comment: `ann@example.org (Ann)`. Of
+/// an element that ends in an address in angle brackets, that is the address, and the text before
+/// it the name, whatever it contains. What the grammar reads keeps its address. Allocates the list
+/// and the members of groups.
+///
+/// # Errors
+///
+/// If memory runs out.
+///
+/// # Examples
+///
+/// ```rust
+/// use mail_address::{Address, lenient_addresses};
+///
+/// for address in &lenient_addresses(alloc, b"boss@example.org <eve@example.com>")? {
+///     if let Address::Mailbox(mailbox) = address {
+///         assert_eq!(rt; mailbox.get_address(alloc)?.as_str(), "eve@example.com");
+///     }
+/// }
+/// ```
+pub fn lenient_addresses(alloc: Global, raw: &[u8]) -> Result<AddressList<'_>, AllocError>
+    ensures { IfOk result (λ list. map element_view list.items ≡ lenient_addresses raw.now) }
+{
+    let list = read_addresses(alloc, raw)?;
+    refined_list(alloc, list.as_slice())
+}
+
+/// Returns the elements of all headers with this name, as `lenient_addresses` reads them, in the
+/// order of the mail (RFC 5322, section 3.6.3).
+///
+/// The ASCII case of the name is ignored. The offset of an element is counted in the value of its
+/// own header. Allocates the list, that of the headers, and the members of groups.
+///
+/// # Errors
+///
+/// `MailParseError::Memory` if memory runs out.
+///
+/// # Examples
+///
+/// ```rust
+/// use mail_address::{Address, lenient_addresses_of};
+/// use mailparse::parse_mail;
+///
+/// let mail = parse_mail(alloc, b"To: ann@example.org (Ann)\n\n")?;
+/// for address in &lenient_addresses_of(alloc, &mail.headers, "To")? {
+///     if let Address::Mailbox(mailbox) = address {
+///         assert_eq!(rt; mailbox.get_display_name(alloc, &())?.as_str(), "Ann");
+///     }
+/// }
+/// ```
+pub fn lenient_addresses_of<'m, M: MailHeaderMap>(
+    alloc: Global,
+    headers: &'m M,
+    name: &str,
+) -> Result<AddressList<'m>, MailParseError>
+    ensures { AnswersOrMemory (λ list. map element_view list.items) result
+        (Ok (lenient_addresses_of name.now (M.present headers.now))) }
+{
+    let list = addresses_of(alloc, headers, name)?;
+    Ok(refined_list(alloc, list.as_slice())?)
+}
+
+/// Returns the sender of a mail as `sender_of` does, of the addresses that `lenient_addresses_of`
+/// reads.
+///
+/// Allocates as that call does.
+///
+/// # Errors
+///
+/// `MailParseError::Memory` if memory runs out.
+///
+/// # Examples
+///
+/// ```rust
+/// use mail_address::lenient_sender_of;
+/// use mailparse::parse_mail;
+///
+/// let mail = parse_mail(alloc, b"From: Ann [home] <ann@example.org>\n\n")?;
+/// let sender = lenient_sender_of(alloc, &mail.headers)?.ok_or("no sender")?;
+/// assert_eq!(rt; sender.get_address(alloc)?.as_str(), "ann@example.org");
+/// ```
+#[tactic(auto, unfolding(crate::specs::Lenient::lenient_sender_of))]
+pub fn lenient_sender_of<'m, M: MailHeaderMap>(
+    alloc: Global,
+    headers: &'m M,
+) -> Result<Option<Mailbox<'m>>, MailParseError>
+    ensures { AnswersOrMemory (λ found. option_map mailbox_view found) result
+        (Ok (lenient_sender_of (M.present headers.now))) }
+{
+    let sender = lenient_addresses_of(alloc, headers, "Sender")?;
+    if let Some(mailbox) = only_mailbox(&sender) {
+        return Ok(Some(mailbox));
+    }
+    let from = lenient_addresses_of(alloc, headers, "From")?;
+    Ok(only_mailbox(&from))
+}
+
+/// Returns elements, read leniently.
+fn refined_list<'a>(alloc: Global, elements: &[Address<'a>]) -> Result<AddressList<'a>, AllocError>
+    ensures { IfOk result (λ list.
+        map element_view list.items ≡ map refined (map element_view elements.now)) }
+{
+    let mut list = Vec::with_capacity(alloc, elements.len())?;
+    for element in elements {
+        list.push(refined_element(alloc, element)?)?;
+    }
+    Ok(list)
+}
+
+/// Returns an element, read leniently.
+fn refined_element<'a>(alloc: Global, element: &Address<'a>) -> Result<Address<'a>, AllocError>
+    ensures { IfOk result (λ new. element_view new ≡ refined (element_view element.now)) }
+{
+    match element {
+        Address::Mailbox(mailbox) => Ok(Address::Mailbox(refined_mailbox(mailbox))),
+        Address::Group(group) => Ok(Address::Group(refined_group(alloc, group)?)),
+        Address::Unknown(unknown) => refined_unknown(alloc, unknown),
+    }
+}
+
+/// Returns an element that is no address by the grammar, read leniently.
+fn refined_unknown<'a>(alloc: Global, unknown: &Unknown<'a>) -> Result<Address<'a>, AllocError>
+    ensures { IfOk result (λ new.
+        element_view new ≡ refined (single (unknown_view unknown.now))) }
+{
+    if is_open_group(unknown.text) {
+        return Ok(Address::Group(open_group(alloc, unknown)?));
+    }
+    match refined_member(&Member::Unknown(*unknown)) {
+        Member::Mailbox(mailbox) => Ok(Address::Mailbox(mailbox)),
+        Member::Unknown(unknown) => Ok(Address::Unknown(unknown)),
+    }
+}
+
+/// Returns the mailbox of an element with these parts.
+fn mailbox_with<'a>(start: usize, text: &'a [u8], found: Parts<'a>) -> Mailbox<'a>
+    ensures { mailbox_view result
+        ≡ record { start = start; text = text.now; mailbox = Some (parts found.entry) } }
+{
+    Mailbox {
+        start,
+        text,
+        display_name: found.display_name,
+        local_part: found.local_part,
+        domain: found.domain,
+    }
+}
+
+/// Returns a mailbox by the grammar, named by its first comment if it has no other name.
+fn refined_mailbox<'a>(mailbox: &Mailbox<'a>) -> Mailbox<'a>
+    ensures { mailbox_view result ≡ refined_single (mailbox_view mailbox.now) }
+{
+    let parts = Parts {
+        display_name: mailbox.display_name,
+        local_part: mailbox.local_part,
+        domain: mailbox.domain,
+    };
+    mailbox_with(
+        mailbox.start,
+        mailbox.text,
+        with_comment(mailbox.text, parts),
+    )
+}
+
+/// Returns an element without members, read leniently.
+fn refined_member<'a>(member: &Member<'a>) -> Member<'a>
+    ensures { member_view result ≡ refined_single (member_view member.now) }
+{
+    match member {
+        Member::Mailbox(mailbox) => Member::Mailbox(refined_mailbox(mailbox)),
+        Member::Unknown(unknown) => match lenient_mailbox(unknown.text) {
+            Some(parts) => Member::Mailbox(mailbox_with(unknown.start, unknown.text, parts)),
+            None => Member::Unknown(*unknown),
+        },
+    }
+}
+
+/// Returns elements without members, read leniently.
+fn refined_members<'a>(alloc: Global, members: &[Member<'a>]) -> Result<Vec<Member<'a>>, AllocError>
+    ensures { IfOk result (λ list.
+        map member_view list.items ≡ map refined_single (map member_view members.now)) }
+{
+    let mut list = Vec::with_capacity(alloc, members.len())?;
+    for member in members {
+        list.push(refined_member(member))?;
+    }
+    Ok(list)
+}
+
+/// Returns a group, whose members are read leniently.
+fn refined_group<'a>(alloc: Global, strict: &Group<'a>) -> Result<Group<'a>, AllocError>
+    ensures { IfOk result (λ new. group (group_view new) ≡ refined (group (group_view strict.now))) }
+{
+    let members = refined_members(alloc, strict.members.as_slice())?;
+    Ok(Group {
+        start: strict.start,
+        text: strict.text,
+        display_name: strict.display_name,
+        members,
+    })
+}
+
+/// Returns whether bytes contain an `@`, and no pair of angle brackets.
+fn has_bare_address(bytes: &[u8]) -> bool
+    ensures { result ≡ has_bare_address bytes.now }
+{
+    let rest = &bytes[run(Span::BeforeAngle, bytes)..];
+    begins_at(bytes, run(Span::BeforeAt, bytes), b'@') && !is_enclosed(front_token(rest).kind)
+}
+
+/// Returns whether the bytes are a group without its semicolon.
+#[tactic(auto, unfolding(crate::specs::Lenient::is_open_group))]
+fn is_open_group(bytes: &[u8]) -> bool
+    ensures { result ≡ is_open_group bytes.now }
+{
+    let len = name_len(bytes);
+    let inner = after_name(bytes);
+    begins_at(bytes, len, b':')
+        && is_phrase(&bytes[..len])
+        && (is_all_white(inner) || has_bare_address(inner))
+}
+
+/// Returns the group without its semicolon that an element is.
+#[tactic(auto, unfolding(crate::specs::Lenient::open_group))]
+fn open_group<'a>(alloc: Global, unknown: &Unknown<'a>) -> Result<Group<'a>, AllocError>
+    ensures { IfOk result (λ new.
+        group_view new ≡ open_group unknown.now.start unknown.now.text.now) }
+{
+    let text = unknown.text;
+    // An element ends within its value, so the sum fits.
+    if usize::MAX - unknown.start <= text.len() {
+        return Err(AllocError);
+    }
+    let len = name_len(text);
+    let members = members_at(alloc, unknown.start + len + 1, after_name(text))?;
+    Ok(Group {
+        start: unknown.start,
+        text,
+        display_name: &text[..len],
+        members: refined_members(alloc, members.as_slice())?,
+    })
+}
