@@ -16,6 +16,7 @@ pub mod DelimiterPlaces
 pub mod RangeTree
 pub mod Placement
 pub mod Manners
+pub mod LenientAgreement
 pub mod RenderViews
 pub mod RenderConditions
 pub mod RenderHeaders

@@ -7,6 +7,7 @@ pub mod Least
 pub mod DelimiterPlaces
 pub mod RangeTree
 pub mod Manners
+pub mod LenientAgreement
 pub mod InnerMails
 pub use Rattle.mailparse.specs.Refusal
 pub use Rattle.mailparse.specs.Outcome

@@ -6,7 +6,7 @@ use Rattle.mail_codec.specs.Charset.{Charsets}
 use Rattle.mail_codec.specs.Places.{values_below}
 use Rattle.mailparse.specs.Refusal.{◌>>=◌, recursion_limit, Reads}
 use Rattle.mailparse.specs.Header.{Header}
-use Rattle.mailparse.specs.Block.{HeaderList, header_count, read_headers}
+use Rattle.mailparse.specs.Block.{HeaderList, header_count, header_part, read_block}
 use Rattle.mailparse.specs.ContentType.{ContentType, default_type}
 use Rattle.mailparse.specs.Manner.{Manner}
 use Rattle.mailparse.specs.Delimiters.{Cut}
@@ -77,12 +77,12 @@ read_there mail ranges = do
 
 -- ---- the reading
 
--- the ranges of the headers of a block whose bytes begin at this place of the mail
+-- the ranges of the headers that are read from bytes at this place of the mail
 abbrev pub headers_at : ℕ → List ℕ → List HeaderRanges
 headers_at place bytes =
     values_below (header_count bytes) (λ j. record { key = moved place (key_range bytes j); value = moved place (value_range bytes j) })
 
--- the message at this range, with these bytes, this block, this type and this cut
+-- the message at this range, with the bytes that its headers are read from, this block, this type and this cut
 abbrev pub range_node : Range → List ℕ → HeaderList → ContentType → Cut → RangeNode
 range_node whole bytes block ctype cut = record {
   whole = whole;
@@ -120,12 +120,12 @@ module _ (manner : Manner) (mail : List ℕ) where
   range_parts read whole block ctype = do
     let cut = cut_of_as manner.whole_lines ctype (slice mail whole) block.index
     parts ← range_each (read (is_digest ctype)) (map (moved whole.start) cut.parts)
-    Ok (range_tree (range_node whole (slice mail whole) block ctype cut) parts)
+    Ok (range_tree (range_node whole (header_part manner.ends_at_dashes (slice mail whole)) block ctype cut) parts)
 
   -- the message at this range, if its own level is left
   abbrev pub range_message : (Bool → Range → Reads RangeTree) → Bool → Range → Reads RangeTree
   range_message read in_digest whole = do
-    block ← read_headers (slice mail whole)
+    block ← read_block manner.ends_at_dashes (slice mail whole)
     range_parts read whole block (manner.type_of in_digest block.headers)
 
   -- the message at a range, with at most `levels` levels, its own included

@@ -19,7 +19,7 @@ pub use mails::{
 };
 pub use manners::{
     limits_count_items, manners_agree, manners_keep_placements, manners_keep_ranges,
-    nothing_is_refused,
+    nothing_is_refused, strict_mails_are_read_alike,
 };
 pub use parameters::{
     candidates_have_a_form, charset_source_is_the_greatest, dispositions_equal_by_kind,

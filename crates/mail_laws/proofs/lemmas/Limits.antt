@@ -1,5 +1,5 @@
 -- A limit on messages and headers beside the tree of a mail.
-use Rattle.std.proofs.Common.{◌≡◌, ℕ, suc, ◌<◌, ◌≤◌, Bool, true, false, List, Ok, Err, IsOk, refl, ◌∙◌, sym, arith}
+use Rattle.std.proofs.Common.{◌≡◌, ℕ, suc, ◌<◌, ◌≤◌, Bool, true, false, List, Ok, Err, IsOk, refl, ◌∙◌, arith}
 use Rattle.mailparse.specs.Bound.{items_within}
 use Rattle.mailparse.specs.Limit.{items_met, read_mail_within}
 use Rattle.mailparse.specs.Mail.{Tree, read_mail_as}

@@ -7,12 +7,12 @@ use Rattle.mailparse.specs.Block.{HeaderList, read_headers}
 use Rattle.mailparse.specs.ContentType.{ContentType}
 use Rattle.mailparse.specs.Delimiters.{Cut}
 use Rattle.mailparse.specs.Manner.{Manner}
-use Rattle.mailparse.specs.Mail.{strict, Tree, tree, Forest, no_parts, part_and, cut_of, cut_of_as, is_digest, node_type, node_with, read_each, kept_if_refused, or_kept, read_levels, read_mail_as, read_mail_in, read_message, read_parts}
+use Rattle.mailparse.specs.Mail.{strict, Tree, tree, Forest, part_and, cut_of, cut_of_as, is_digest, node_type, node_with, read_each, kept_if_refused, or_kept, read_levels, read_mail_as, read_mail_in, read_message, read_parts}
 use Rattle.mailparse.specs.Ranges.{slice}
-use Rattle.mailparse.specs.Refusal.{◌>>=◌, recursion_limit, Reads}
+use Rattle.mailparse.specs.Refusal.{◌>>=◌, Reads}
 use Rattle.mailparse.proofs.lemmas.Block.{read_headers-bounded}
 use Rattle.mailparse.proofs.lemmas.Refusal.{read_map}
-use Rattle.mail_laws.specs.Manners.{IsReadAlike, AreReadAlike, AllReadAlike}
+use Rattle.mail_laws.specs.Manners.{AreReadAlike, AllReadAlike}
 
 -- ---- nothing is refused
 
@@ -71,7 +71,7 @@ module _ (manner : Manner) (known : Charsets) where
           → let ctype = node_type known in_digest block.headers in
           let cut = cut_of ctype bytes block.index in
           read_each (read (is_digest ctype)) (map (slice bytes) cut.parts) ≡ parts → read_map (tree (node_with bytes block ctype cut)) parts ≡ Ok t
-          → read_parts manner other bytes block (manner.type_of in_digest block.headers) ≡ Ok t
+          → read_message manner other in_digest bytes ≡ Ok t
       by_parts block is (Err refusal) f h = absurd (cc)
       by_parts block is (Ok parts) f h =
           let ctype = node_type known in_digest block.headers in
@@ -86,13 +86,15 @@ module _ (manner : Manner) (known : Charsets) where
           let cuts : cut_of_as manner.whole_lines ctype bytes block.index ≡ cut =
           subst (λ n. cut_of_as manner.whole_lines ctype bytes n ≡ cut_of ctype bytes n) front here.cut in
           let more = each-agree (read (is_digest ctype)) (other (is_digest ctype)) (agree (is_digest ctype)) (map (slice bytes) cut.parts) parts f both.1 in
-          ap (λ (c : ContentType). read_parts manner other bytes block c) (here.type in_digest)
+          ap (λ (raw : List ℕ). ◌>>=◌ (read_headers raw) (λ b. read_parts manner other bytes b (manner.type_of in_digest b.headers))) here.headers
+          ∙ ap (λ (r : Reads HeaderList). ◌>>=◌ r (λ b. read_parts manner other bytes b (manner.type_of in_digest b.headers))) is
+          ∙ ap (λ (c : ContentType). read_parts manner other bytes block c) (here.type in_digest)
           ∙ ap (λ (c : Cut). read_map (tree (node_with bytes block ctype c)) (read_each (other (is_digest ctype)) (map (slice bytes) c.parts))) cuts
           ∙ ap (read_map (tree node)) more ∙ ap Ok same
 
       by_block : (block : Reads HeaderList) → read_headers bytes ≡ block
           → ◌>>=◌ block (λ b. read_parts (strict known) read bytes b (node_type known in_digest b.headers)) ≡ Ok t
-          → ◌>>=◌ block (λ b. read_parts manner other bytes b (manner.type_of in_digest b.headers)) ≡ Ok t
+          → read_message manner other in_digest bytes ≡ Ok t
       by_block (Err refusal) is h = absurd (cc)
       by_block (Ok block) is h = by_parts block is _ refl h
 

@@ -6,12 +6,13 @@ use Rattle.mail_codec.specs.Charset.{Charsets}
 use Rattle.mail_codec.specs.Places.{values_below}
 use Rattle.mailparse.specs.Refusal.{◌>>=◌, recursion_limit, Reads}
 use Rattle.mailparse.specs.Header.{Header}
-use Rattle.mailparse.specs.Block.{HeaderList, header_count, header_place, read_headers}
+use Rattle.mailparse.specs.Block.{HeaderList, header_count, header_part, header_place, read_block, read_headers}
 use Rattle.mailparse.specs.ContentType.{ContentType, default_type}
 use Rattle.mailparse.specs.Manner.{Manner}
 use Rattle.mailparse.specs.Mail.{strict, Node, Tree, tree, Forest, no_parts, part_and, cut_of_as, is_digest, node_with, read_each, kept_message, kept_if_refused, or_kept, read_levels, read_mail_as, read_mail_in, read_message, read_parts}
 use Rattle.mailparse.specs.Ranges.{Range, Apart, moved, slice}
-use Rattle.mailparse.proofs.lemmas.Block.{header_place-≤, header_place-first, read_headers-bounded, read_headers-index, values_below-same}
+use Rattle.mailparse.proofs.lemmas.Block.{header_place-≤, header_place-first, read_headers-index, values_below-same}
+use Rattle.mailparse.proofs.lemmas.HeaderPart.{header_part-front, header_part-≤, read_block-bounded}
 use Rattle.mailparse.proofs.lemmas.Ranges.{cut_of_as-apart}
 use Rattle.mailparse.proofs.lemmas.Refusal.{read_map}
 use Rattle.mail_laws.specs.Spans.{AreOrderedBefore, header_at, key_range, value_range}
@@ -71,6 +72,27 @@ module _ (mail : List ℕ) (whole : Range) where
       ∙ sym (headers-at_ranges raw block read ∙ values_below-same (header_count raw) (header_at raw)
       (λ j. header_there mail (record { key = moved whole.start (key_range raw j); value = moved whole.start (value_range raw j) })) header-there)
 
+  -- the headers that are read from the front of the bytes
+  front-there : (at_dashes : Bool) → slice mail (record { start = whole.start; end = whole.start + length (header_part at_dashes (slice mail whole)) }) ≡ header_part at_dashes (slice mail whole)
+  front-there at_dashes =
+      let raw = slice mail whole in
+      let size = length (header_part at_dashes raw) in
+      let within = header_part-≤ at_dashes raw in
+      let fits = slice-length mail whole in
+      let same : whole.start + size - whole.start ≡ size = omega arith in
+      ap (λ n. take n (drop whole.start mail)) same
+      ∙ sym (header_part-front at_dashes raw ∙ take-take size (whole.end - whole.start) (drop whole.start mail) (omega arith))
+
+pub front-headers : (mail : List ℕ) (whole : Range) (at_dashes : Bool) (block : HeaderList) → read_block at_dashes (slice mail whole) ≡ Ok block
+    → map (header_there mail) (headers_at whole.start (header_part at_dashes (slice mail whole))) ≡ block.headers
+front-headers mail whole at_dashes block read =
+    let part = header_part at_dashes (slice mail whole) in
+    let front : Range = record { start = whole.start; end = whole.start + length part } in
+    let there : slice mail front ≡ part = front-there mail whole at_dashes in
+    ap (λ (bytes : List ℕ). map (header_there mail) (headers_at whole.start bytes)) (sym there)
+    ∙ headers-there mail front block (ap read_headers there ∙ read)
+
+module _ (mail : List ℕ) (whole : Range) where
   pub block-there : (index : ℕ) → index ≤ length (slice mail whole) → slice mail (moved whole.start (record { start = 0; end = index })) ≡ take index (slice mail whole)
   block-there index within =
       let same : index - 0 ≡ index = omega arith in
@@ -86,20 +108,20 @@ node_of : List ℕ → List ℕ → List Header → ContentType → List ℕ →
 node_of bytes block headers ctype body = record { bytes = bytes; block = block; headers = headers; ctype = ctype; body = body }
 
 -- the message with this block, without its parts
-node-there : (lines : Bool) (mail : List ℕ) (whole : Range) (block : HeaderList) (ctype : ContentType) → read_headers (slice mail whole) ≡ Ok block
-    → node_there mail (range_node whole (slice mail whole) block ctype (cut_of_as lines ctype (slice mail whole) block.index))
+node-there : (lines at_dashes : Bool) (mail : List ℕ) (whole : Range) (block : HeaderList) (ctype : ContentType) → read_block at_dashes (slice mail whole) ≡ Ok block
+    → node_there mail (range_node whole (header_part at_dashes (slice mail whole)) block ctype (cut_of_as lines ctype (slice mail whole) block.index))
     ≡ node_with (slice mail whole) block ctype (cut_of_as lines ctype (slice mail whole) block.index)
 unfolding node_of
-node-there lines mail whole block ctype read =
+node-there lines at_dashes mail whole block ctype read =
     let raw = slice mail whole in
-    let index = (read_headers-bounded raw block read).index in
+    let index = (read_block-bounded at_dashes raw block read).index in
     let cut = cut_of_as lines ctype raw block.index in
     let apart = cut_of_as-apart lines ctype raw block.index index in
     let front = slice mail (moved whole.start (record { start = 0; end = block.index })) in
-    let fields = map (header_there mail) (headers_at whole.start raw) in
+    let fields = map (header_there mail) (headers_at whole.start (header_part at_dashes raw)) in
     let order : cut.body.start ≤ cut.body.end = omega (arith, apart.0, apart.1) in
     ap (λ (x : List ℕ). node_of raw x fields ctype (slice mail (moved whole.start cut.body))) (block-there mail whole block.index index)
-    ∙ ap (λ (x : List Header). node_of raw (take block.index raw) x ctype (slice mail (moved whole.start cut.body))) (headers-there mail whole block read)
+    ∙ ap (λ (x : List Header). node_of raw (take block.index raw) x ctype (slice mail (moved whole.start cut.body))) (front-headers mail whole at_dashes block read)
     ∙ ap (λ (x : List ℕ). node_of raw (take block.index raw) block.headers ctype x)
     (sym (slice-moved mail whole cut.body order (Apart-order 3 cut.body.end cut.parts (length raw) apart.2)))
 
@@ -152,13 +174,13 @@ module _ (manner : Manner) (mail : List ℕ) where
       by_manner true (Err refusal) h = ap Ok (kept-there mail whole) ∙ ap (kept_if_refused (slice mail whole)) h
 
   parts-there : (ranges : Bool → Range → Reads RangeTree) (read : Bool → List ℕ → Reads Tree) → ((digest : Bool) → Gives mail (ranges digest) (read digest))
-      → (whole : Range) (block : HeaderList) (ctype : ContentType) → read_headers (slice mail whole) ≡ Ok block
+      → (whole : Range) (block : HeaderList) (ctype : ContentType) → read_block manner.ends_at_dashes (slice mail whole) ≡ Ok block
       → read_map (tree_there mail) (range_parts manner mail ranges whole block ctype) ≡ read_parts manner read (slice mail whole) block ctype
   parts-there ranges read gives whole block ctype headers =
       let raw = slice mail whole in
       let cut = cut_of_as manner.whole_lines ctype raw block.index in
-      let apart = cut_of_as-apart manner.whole_lines ctype raw block.index (read_headers-bounded raw block headers).index in
-      tree-there mail (range_node whole raw block ctype cut) (node_with raw block ctype cut) (node-there manner.whole_lines mail whole block ctype headers)
+      let apart = cut_of_as-apart manner.whole_lines ctype raw block.index (read_block-bounded manner.ends_at_dashes raw block headers).index in
+      tree-there mail (range_node whole (header_part manner.ends_at_dashes raw) block ctype cut) (node_with raw block ctype cut) (node-there manner.whole_lines manner.ends_at_dashes mail whole block ctype headers)
       (range_each (ranges (is_digest ctype)) (map (moved whole.start) cut.parts))
       ∙ ap (read_map (tree (node_with raw block ctype cut)))
       (each-there mail (ranges (is_digest ctype)) (read (is_digest ctype)) (gives (is_digest ctype)) whole 3 cut.body.end cut.parts apart.2)
@@ -168,9 +190,9 @@ module _ (manner : Manner) (mail : List ℕ) where
   levels-there zero in_digest whole = or_kept-there whole (Err recursion_limit) (Err recursion_limit) refl
   levels-there (suc levels) in_digest whole =
       or_kept-there whole (range_message manner mail (range_levels manner mail levels) in_digest whole) (read_message manner (read_levels manner levels) in_digest (slice mail whole))
-      (by_block (read_headers (slice mail whole)) refl (λ digest. levels-there levels digest))
+      (by_block (read_block manner.ends_at_dashes (slice mail whole)) refl (λ digest. levels-there levels digest))
     where
-      by_block : (block : Reads HeaderList) → read_headers (slice mail whole) ≡ block
+      by_block : (block : Reads HeaderList) → read_block manner.ends_at_dashes (slice mail whole) ≡ block
           → ((digest : Bool) → Gives mail (range_levels manner mail levels digest) (read_levels manner levels digest))
           → read_map (tree_there mail) (◌>>=◌ block (λ b. range_parts manner mail (range_levels manner mail levels) whole b (manner.type_of in_digest b.headers)))
           ≡ ◌>>=◌ block (λ b. read_parts manner (read_levels manner levels) (slice mail whole) b (manner.type_of in_digest b.headers))
@@ -216,11 +238,11 @@ fields-apart (suc n) f place fit =
     let rest = Apart-wider 0 (place 1) (header_fields (values_below n (λ j. f (suc j)))) (place (suc n)) (f 0).value.end (place (suc n)) order.ends (omega arith) more in
     (omega (arith, (fit 0).0), order.first_is_range, (omega (arith, order.apart), order.second_is_range, rest))
 
-module _ (mail : List ℕ) (whole : Range) (block : HeaderList) (read : read_headers (slice mail whole) ≡ Ok block) where
-  fields-within : Apart 0 (moved whole.start (record { start = 0; end = block.index })).start (header_fields (headers_at whole.start (slice mail whole)))
+module _ (mail : List ℕ) (whole : Range) (at_dashes : Bool) (block : HeaderList) (read : read_block at_dashes (slice mail whole) ≡ Ok block) where
+  fields-within : Apart 0 (moved whole.start (record { start = 0; end = block.index })).start (header_fields (headers_at whole.start (header_part at_dashes (slice mail whole))))
       (moved whole.start (record { start = 0; end = block.index })).end
   fields-within =
-      let raw = slice mail whole in
+      let raw = header_part at_dashes (slice mail whole) in
       let f : ℕ → HeaderRanges = λ j. record { key = moved whole.start (key_range raw j); value = moved whole.start (value_range raw j) } in
       let fit : FieldsFit f (λ j. whole.start + header_place raw j) = λ j.
       let order = ranges-in_order raw j in (
@@ -238,12 +260,12 @@ module _ (mail : List ℕ) (whole : Range) (block : HeaderList) (read : read_hea
       (whole.start + 0) (whole.start + block.index) (omega arith) (omega arith) (fields-apart (header_count raw) f (λ j. whole.start + header_place raw j) fit)
 
   node-in_order : (lines : Bool) (ctype : ContentType) → whole.start ≤ whole.end
-      → LieInOrder (range_node whole (slice mail whole) block ctype (cut_of_as lines ctype (slice mail whole) block.index))
+      → LieInOrder (range_node whole (header_part at_dashes (slice mail whole)) block ctype (cut_of_as lines ctype (slice mail whole) block.index))
       (map (moved whole.start) (cut_of_as lines ctype (slice mail whole) block.index).parts)
   node-in_order lines ctype order =
       let raw = slice mail whole in
       let cut = cut_of_as lines ctype raw block.index in
-      let apart = cut_of_as-apart lines ctype raw block.index (read_headers-bounded raw block read).index in
+      let apart = cut_of_as-apart lines ctype raw block.index (read_block-bounded at_dashes raw block read).index in
       let size = slice-length mail whole in
       let start = apart.0 in
       let end = apart.1 in
@@ -275,9 +297,9 @@ module _ (manner : Manner) (mail : List ℕ) (Fits : Range → RangeTree → Typ
       by_part (Ok t) (Ok others) f h ih = let same : ranges_and t others ≡ parts = cc in subst (FitEach Fits (r ∷ rs)) same (fits r t f, ih others refl)
 
   module _ (kept : (whole : Range) → Fits whole (kept_range whole))
-      (step : (whole : Range) (block : HeaderList) (ctype : ContentType) → read_headers (slice mail whole) ≡ Ok block → (parts : RangeForest)
+      (step : (whole : Range) (block : HeaderList) (ctype : ContentType) → read_block manner.ends_at_dashes (slice mail whole) ≡ Ok block → (parts : RangeForest)
       → FitEach Fits (map (moved whole.start) (cut_of_as manner.whole_lines ctype (slice mail whole) block.index).parts) parts
-      → Fits whole (range_tree (range_node whole (slice mail whole) block ctype (cut_of_as manner.whole_lines ctype (slice mail whole) block.index)) parts)) where
+      → Fits whole (range_tree (range_node whole (header_part manner.ends_at_dashes (slice mail whole)) block ctype (cut_of_as manner.whole_lines ctype (slice mail whole) block.index)) parts)) where
     or_kept-fits : (whole : Range) (ranges : Reads RangeTree) (t : RangeTree) → or_kept_at manner mail whole ranges ≡ Ok t → (ranges ≡ Ok t → Fits whole t) → Fits whole t
     or_kept-fits whole ranges t e fits = by_manner manner.keeps_refused ranges e fits
       where
@@ -293,17 +315,17 @@ module _ (manner : Manner) (mail : List ℕ) (Fits : Range → RangeTree → Typ
     unfolding range_levels
     levels-fit zero in_digest whole t e = or_kept-fits whole (Err recursion_limit) t e (λ h. absurd (cc))
     levels-fit (suc levels) in_digest whole t e =
-        or_kept-fits whole (range_message manner mail (range_levels manner mail levels) in_digest whole) t e (λ h. by_block (read_headers (slice mail whole)) refl h (levels-fit levels))
+        or_kept-fits whole (range_message manner mail (range_levels manner mail levels) in_digest whole) t e (λ h. by_block (read_block manner.ends_at_dashes (slice mail whole)) refl h (levels-fit levels))
       where
-        by_parts : (block : HeaderList) (ctype : ContentType) → read_headers (slice mail whole) ≡ Ok block → (parts : Reads RangeForest)
-            → read_map (range_tree (range_node whole (slice mail whole) block ctype (cut_of_as manner.whole_lines ctype (slice mail whole) block.index))) parts ≡ Ok t
+        by_parts : (block : HeaderList) (ctype : ContentType) → read_block manner.ends_at_dashes (slice mail whole) ≡ Ok block → (parts : Reads RangeForest)
+            → read_map (range_tree (range_node whole (header_part manner.ends_at_dashes (slice mail whole)) block ctype (cut_of_as manner.whole_lines ctype (slice mail whole) block.index))) parts ≡ Ok t
             → ((found : RangeForest) → parts ≡ Ok found → FitEach Fits (map (moved whole.start) (cut_of_as manner.whole_lines ctype (slice mail whole) block.index).parts) found) → Fits whole t
         by_parts block ctype read (Err refusal) h each = absurd (cc)
         by_parts block ctype read (Ok parts) h each =
-            let same : range_tree (range_node whole (slice mail whole) block ctype (cut_of_as manner.whole_lines ctype (slice mail whole) block.index)) parts ≡ t = cc in
+            let same : range_tree (range_node whole (header_part manner.ends_at_dashes (slice mail whole)) block ctype (cut_of_as manner.whole_lines ctype (slice mail whole) block.index)) parts ≡ t = cc in
             subst (Fits whole) same (step whole block ctype read parts (each parts refl))
 
-        by_block : (block : Reads HeaderList) → read_headers (slice mail whole) ≡ block
+        by_block : (block : Reads HeaderList) → read_block manner.ends_at_dashes (slice mail whole) ≡ block
             → ◌>>=◌ block (λ b. range_parts manner mail (range_levels manner mail levels) whole b (manner.type_of in_digest b.headers)) ≡ Ok t
             → ((digest : Bool) (part : Range) (u : RangeTree) → range_levels manner mail levels digest part ≡ Ok u → Fits part u) → Fits whole t
         by_block (Err refusal) read h ih = absurd (cc)
@@ -333,8 +355,8 @@ module _ (manner : Manner) (mail : List ℕ) where
   levels-nested : (levels : ℕ) (in_digest : Bool) (whole : Range) (t : RangeTree) → range_levels manner mail levels in_digest whole ≡ Ok t → IsNested whole t
   levels-nested = levels-fit manner mail IsNested kept-nested (λ whole block ctype read parts each order.
       let cut = cut_of_as manner.whole_lines ctype (slice mail whole) block.index in
-      let node = range_node whole (slice mail whole) block ctype cut in
-      let lie = node-in_order mail whole block read manner.whole_lines ctype order in
+      let node = range_node whole (header_part manner.ends_at_dashes (slice mail whole)) block ctype cut in
+      let lie = node-in_order mail whole manner.ends_at_dashes block read manner.whole_lines ctype order in
       let all = each-nested 3 node.body.end (map (moved whole.start) cut.parts) whole.end lie.parts parts each in
       (refl, (subst (LieInOrder node) (sym all.0) lie, all.1)))
 

@@ -9,6 +9,8 @@ ghost use Rattle.mailparse.specs.Placement.{placements_as};
 ghost use Rattle.mailparse.specs.Ranges.{Apart, slice};
 ghost use Rattle.mailparse.specs.Refusal.{Refusal, too_many_items};
 ghost use Rattle.mail_data.specs.Reading.{mail_reading};
+ghost use Rattle.mail_data.specs.lenient.Manner.{lenient};
+ghost use Rattle.mail_laws.specs.LenientAgreement.{is_strict_mail};
 ghost use Rattle.mail_laws.specs.Manners.{AreReadAlike};
 ghost use Rattle.mail_laws.specs.RangeTree.{AreNested, RangeTree, blocks_and_bodies, range_root, ranges_as, read_there, wholes_and_bodies};
 
@@ -40,14 +42,26 @@ pub fn limits_count_items()
 {}
 
 /// The port's own manner reads each mail as the port does. Any other manner reads a mail as the
-/// same tree, if the port reads the mail, and if the manner gives each message the same type and
-/// splits it in the same way.
+/// same tree, if the port reads the mail, and if the manner ends the headers of no message before
+/// a line that looks like a delimiter, gives each message the same type, and splits it in the same
+/// way.
 pub fn manners_agree()
     ensures strict { (known : Charsets) (greatest : ℕ) (mail : List ℕ) →
         read_mail_as (strict known) greatest mail ≡ read_mail_in known greatest mail }
     ensures others { (manner : Manner) (known : Charsets) (greatest : ℕ) (mail : List ℕ)
         (parsed : Tree) → read_mail_in known greatest mail ≡ Ok parsed →
         AreReadAlike manner known parsed → read_mail_as manner greatest mail ≡ Ok parsed }
+{}
+
+/// A mail that the port reads and that needs no lenient reading is read leniently as the same tree.
+///
+/// That is decidable: the type of each message is strict (`is_strict`), its whole delimiter lines
+/// split it as all lines that begin with its dash-boundary do, and no line that looks like a
+/// delimiter is among its headers.
+pub fn strict_mails_are_read_alike()
+    ensures { (known : Charsets) (greatest : ℕ) (mail : List ℕ) (parsed : Tree) →
+        read_mail_in known greatest mail ≡ Ok parsed → is_strict_mail known parsed ≡ true →
+        read_mail_as (lenient known) greatest mail ≡ Ok parsed }
 {}
 
 /// What `ranges_give_tree`, `ranges_apart` and `nodes_bounded` say of the port is so in every
