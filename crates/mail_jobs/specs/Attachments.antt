@@ -4,7 +4,8 @@ use Rattle.std.specs.Option.{unwrap_or}
 use Rattle.mail_codec.specs.Charset.{Charsets}
 use Rattle.mailparse.specs.Mail.{Node, Tree, root}
 use Rattle.mail_data.specs.FileNames.{safe_name}
-use Rattle.mail_data.specs.Files.{attachments, file_name}
+use Rattle.mail_data.specs.Files.{attachments}
+use Rattle.mail_data.specs.lenient.FileNames.{lenient_file_name}
 use Rattle.mail_data.specs.lenient.Content.{Content, message_content}
 
 -- a file that is stored: the path of its part, its name, and the bytes that can be read
@@ -15,7 +16,7 @@ pub record Stored : Type 0 where
 
 -- the name under which a part is stored
 unfoldable pub stored_name : Charsets → Node → List ℕ
-stored_name known node = safe_name (unwrap_or (file_name known node) (codes "unnamed"))
+stored_name known node = safe_name (unwrap_or (lenient_file_name known node) (codes "unnamed"))
 
 -- a part that has this path, as it is stored
 abbrev pub stored : Charsets → List ℕ × Tree → Stored

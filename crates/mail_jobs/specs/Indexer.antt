@@ -2,13 +2,13 @@
 use Rattle.std.specs.Prelude.{ℕ, ℤ, List, Option, option_and_then, option_map, codes}
 use Rattle.mail_codec.specs.Charset.{Charsets}
 use Rattle.mailparse.specs.Mail.{Node, Tree, root}
-use Rattle.mailparse.specs.Map.{first_value_in}
 use Rattle.mailparse.specs.Value.{value_text}
 use Rattle.mail_address.specs.Addresses.{Single}
-use Rattle.mail_address.specs.Headers.{sender_of}
+use Rattle.mail_address.specs.Lenient.{lenient_sender_of}
 use Rattle.mail_address.specs.Text.{address_bytes}
 use Rattle.mail_data.specs.lenient.Date.{Dated, date_of}
 use Rattle.mail_data.specs.lenient.Texts.{BodyText, body_text}
+use Rattle.mail_data.specs.lenient.Values.{first_header_text}
 use Rattle.mail_data.specs.Texts.{text_part}
 
 -- the address of a mailbox, in canonical form
@@ -18,11 +18,11 @@ address_of s =
 
 -- the address of the sender of a mail, if it names one
 abbrev pub sender : Node → Option (List ℕ)
-sender node = option_and_then address_of (sender_of node.headers)
+sender node = option_and_then address_of (lenient_sender_of node.headers)
 
 -- the date of a mail as it is read, if it has one
 abbrev pub date : Charsets → Node → Option (Dated ℤ)
-date known node = option_map date_of (first_value_in known (codes "Date") node.headers)
+date known node = option_map date_of (first_header_text known (codes "Date") node.headers)
 
 -- the text of a mail as it is read, if it has one
 abbrev pub text : Charsets → Tree → Option BodyText

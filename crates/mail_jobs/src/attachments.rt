@@ -10,8 +10,8 @@ ghost use Rattle.mail_data.specs.lenient.ContentViews.{content_view};
 ghost use Rattle.mail_jobs.specs.Attachments.{stored, stored_files, stored_name};
 ghost use Rattle.mail_jobs.specs.AttachmentViews.{stored_view};
 
-use mail_data::files::{Attachment, attachments, file_name, safe_file_name};
-use mail_data::lenient::{Content, lenient_body, lenient_content};
+use mail_data::files::{Attachment, attachments, safe_file_name};
+use mail_data::lenient::{Content, lenient_body, lenient_content, lenient_file_name};
 use mailparse::{KnownCharsets, MailParseError, ParsedMail};
 use std::alloc::Global;
 
@@ -72,7 +72,7 @@ fn stored_name<K: KnownCharsets>(
         (stored_name (K.known known.now) (root (tree_of part.now))) }
     ensures safe { IfOk result (λ name. IsSafeName (string_bytes name)) }
 {
-    let name = match file_name(alloc, part, known)? {
+    let name = match lenient_file_name(alloc, part, known)? {
         Some(name) => safe_file_name(alloc, name.as_str())?,
         None => safe_file_name(alloc, "unnamed")?,
     };

@@ -1,18 +1,19 @@
 //! The index of a mail: the fields that a list of mails shows, and the text that a search reads.
 ghost use Rattle.std.specs.Prelude.{◌≡◌, codes, option_map, IfErr, IfOk, Ok};
 ghost use Rattle.mailparse.specs.Mail.{root};
-ghost use Rattle.mailparse.specs.Map.{first_value_in, text_found};
+ghost use Rattle.mailparse.specs.Map.{text_found};
 ghost use Rattle.mailparse.specs.Outcome.{AnswersOrMemory, IsMemory};
 ghost use Rattle.mailparse.specs.Views.{tree_of};
 ghost use Rattle.mail_data.specs.lenient.TextViews.{text_view};
+ghost use Rattle.mail_data.specs.lenient.Values.{first_header_text};
 ghost use Rattle.mail_jobs.specs.Indexer.{date, sender, text};
 ghost use Rattle.mail_jobs.specs.IndexerViews.{IsEntry};
 
-use mail_address::sender_of;
+use mail_address::lenient_sender_of;
 use mail_data::archive::message_id;
-use mail_data::lenient::{self, BodyText, DateError, body_text};
+use mail_data::lenient::{self, BodyText, DateError, body_text, first_header_text};
 use mail_data::texts::text_part;
-use mailparse::{KnownCharsets, MailHeaderMap, MailParseError, ParsedMail};
+use mailparse::{KnownCharsets, MailParseError, ParsedMail};
 use std::alloc::Global;
 
 /// The entry of a mail in an index. A field that the mail does not have is `None`. A date that is
@@ -48,7 +49,7 @@ pub fn index_entry<K: KnownCharsets>(
     })
 }
 
-/// Returns the value of the first header with this name.
+/// Returns the text of the first header with this name.
 fn value_of<K: KnownCharsets>(
     alloc: Global,
     mail: &ParsedMail<'_>,
@@ -56,16 +57,17 @@ fn value_of<K: KnownCharsets>(
     known: &K,
 ) -> Result<Option<String>, MailParseError>
     ensures { AnswersOrMemory text_found result
-        (Ok (first_value_in (K.known known.now) key.now (root (tree_of mail.now)).headers)) }
+        (Ok (first_header_text (K.known known.now) key.now (root (tree_of mail.now)).headers)) }
 {
-    mail.headers.get_first_value_in(alloc, key, known)
+    let text = first_header_text(alloc, &mail.headers, key, known)?;
+    Ok(text)
 }
 
 /// Returns the address of the sender, in canonical form.
 fn sender_address(alloc: Global, mail: &ParsedMail<'_>) -> Result<Option<String>, MailParseError>
     ensures { AnswersOrMemory text_found result (Ok (sender (root (tree_of mail.now)))) }
 {
-    match sender_of(alloc, &mail.headers)? {
+    match lenient_sender_of(alloc, &mail.headers)? {
         Some(mailbox) => Ok(Some(mailbox.get_address(alloc)?)),
         None => Ok(None),
     }

@@ -1,12 +1,13 @@
--- Values of headers, under the charsets that are known, and faults of dates; the program's own form.
+-- Texts of headers, under the charsets that are known, and faults of dates; the program's own form.
 use Rattle.std.specs.Prelude.{ℕ, false, List, Option, option_map, codes}
 use Rattle.mail_codec.specs.Charset.{Charsets}
 use Rattle.mailparse.specs.Disposition.{Disposition, Kind, inline, attachment, form_data, extension}
 use Rattle.mailparse.specs.Mail.{Node}
-use Rattle.mailparse.specs.Map.{first_value_in, first_with_key}
+use Rattle.mailparse.specs.Map.{first_with_key}
 use Rattle.mail_data.specs.declared.lenient.date.error.DateError.{DateError}
 use Rattle.mail_data.specs.declared.lenient.date.error.DateError.TheVariants.{Day, Month, Year, Time, Zone, TrailingText}
 use Rattle.mail_data.specs.Archive.{first_id, ids_of}
+use Rattle.mail_data.specs.lenient.Values.{first_header_text}
 
 -- the name of a disposition
 abbrev pub kind_text : Kind → List ℕ
@@ -34,6 +35,6 @@ date_fault_text TrailingText = codes "text after the zone"
 
 -- Under the charsets that are known.
 module _ (known : Charsets) where
-  -- the value of the first header with a name
+  -- the text of the first header with a name
   abbrev pub value_of : List ℕ → Node → Option (List ℕ)
-  value_of key node = first_value_in known key node.headers
+  value_of key node = first_header_text known key node.headers

@@ -15,7 +15,7 @@ use Rattle.mail_data.specs.Files.{describes_attachment, is_attachment_dispositio
 use Rattle.mail_data.specs.Bounce.{Delivery, recipients}
 use Rattle.mail_data.specs.Flowed.{unflowed_of}
 use Rattle.mail_data.specs.Reports.{report_blocks}
-use Rattle.mail_data.specs.Texts.{text_type}
+use Rattle.mail_data.specs.Texts.{text_type_of}
 use Rattle.mail_data.specs.lenient.Content.{Content, message_content}
 use Rattle.mail_html.specs.Text.{html_text}
 use Rattle.mail_html.specs.declared.links.Links.TheVariants.{Omitted}
@@ -35,11 +35,11 @@ pub record Lists (texts : Texts) (pairs : List (List ℕ × List ℕ)) : Type 0 
 abbrev pub is_attachment : Tree → Disposition → Bool
 is_attachment part disposition = is_leaf part && describes_attachment disposition (root part).ctype
 
--- a part of this disposition has a text that is shown: it is not marked as an attachment, has no parts, and its type is
--- that of a text
+-- a part of this disposition has a text that is shown: it is not marked as an attachment, has no parts, and is read as a
+-- text
 abbrev pub is_read : Tree → Disposition → Bool
 is_read part disposition =
-    not (is_attachment_disposition disposition.kind) && is_leaf part && has_prefix (codes "text/") (text_type (root part).ctype.mimetype)
+    not (is_attachment_disposition disposition.kind) && is_leaf part && has_prefix (codes "text/") (text_type_of part)
 
 -- the path of a part of a mail that is inside the part with the path `inside`, or in none: the mail inside, if it has
 -- parts, has the path of that part and `.0`, so that no two parts have one path

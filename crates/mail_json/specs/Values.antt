@@ -12,18 +12,19 @@ use Rattle.mailparse.specs.Header.{Header, key_text}
 use Rattle.mailparse.specs.Mail.{Node, Tree, root, shown_as_in}
 use Rattle.mailparse.specs.Map.{first_with_key}
 use Rattle.mailparse.specs.Refusal.{Reads, Refusal}
-use Rattle.mailparse.specs.Value.{lenient_value_in}
 use Rattle.mail_data.specs.Archive.{ids_of}
 use Rattle.mail_data.specs.Bounce.{Delivery, original_message_id}
-use Rattle.mail_data.specs.Files.{file_name, is_extracted}
+use Rattle.mail_data.specs.Files.{is_extracted}
+use Rattle.mail_data.specs.lenient.FileNames.{lenient_file_name}
 use Rattle.mail_data.specs.PartPlaces.{Place, places}
 use Rattle.mail_data.specs.lenient.Date.{Dated, Zoned, zoned_date_of}
 use Rattle.mail_data.specs.lenient.Content.{Content}
 use Rattle.mail_data.specs.lenient.Encoding.{lenient_body_kind}
 use Rattle.mail_data.specs.lenient.Refused.{kept_for}
 use Rattle.mail_data.specs.lenient.Texts.{text_read}
+use Rattle.mail_data.specs.lenient.Values.{header_text}
 use Rattle.mail_address.specs.Addresses.{Element, Single, single, group}
-use Rattle.mail_address.specs.Headers.{addresses_of}
+use Rattle.mail_address.specs.Lenient.{lenient_addresses_of}
 use Rattle.mail_address.specs.Mailbox.{Parts}
 use Rattle.mail_address.specs.Tokens.{delete}
 use Rattle.mail_json.specs.Addresses.{canonical, name_of, unless_empty}
@@ -188,15 +189,15 @@ AreValues Is (x ∷ xs) values = (first : Json) × (others : List Json) × Is x 
 
 -- Under the charsets that are known.
 module _ (known : Charsets) where
-  -- a header: its name and its value
+  -- a header: its name and the text of its value
   abbrev pub header_value : Header → Json
-  header_value header = pair_value (key_text header, lenient_value_in known header.value)
+  header_value header = pair_value (key_text header, header_text known header.value)
 
   -- the members of a disposition, of a file's name, and of the id of the content
   abbrev pub disposition_members : Disposition → Node → List Member
   disposition_members disposition node =
       one (codes "disposition") (string_or_null (disposition_name disposition node))
-      ++ one (codes "file_name") (string_or_null (file_name known node))
+      ++ one (codes "file_name") (string_or_null (lenient_file_name known node))
       ++ one (codes "content_id") (string_or_null (content_id node))
 
   -- the members of the text of a body that is shown or not
@@ -211,7 +212,7 @@ module _ (known : Charsets) where
   body_members joins html shows ctype (Some content) = shown_members joins html shows ctype content
   body_members joins html shows ctype None = no_text_members
 
-  -- the value of the first header with a name
+  -- the text of the first header with a name
   abbrev pub value_or_null : List ℕ → Node → Json
   value_or_null key node = string_or_null (value_of known key node)
 
@@ -237,7 +238,7 @@ module _ (known : Charsets) where
 
   -- the addresses in all headers with a name
   abbrev pub address_list : List ℕ → Node → Json
-  address_list key node = list_of (map element_value (addresses_of key node.headers))
+  address_list key node = list_of (map element_value (lenient_addresses_of key node.headers))
 
   -- the members of the authors and recipients of a mail
   abbrev pub addresses_members : Node → List Member

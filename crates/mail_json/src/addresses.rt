@@ -15,7 +15,7 @@ ghost use Rattle.mail_program.specs.Streams.{Writes};
 use crate::json_text::write_word;
 use crate::lists::{ListItem, write_list};
 use crate::members::{add_optional, add_text, first_key, key};
-use mail_address::{Address, Group, Mailbox, Member, Unknown, addresses_of};
+use mail_address::{Address, Group, Mailbox, Member, Unknown, lenient_addresses_of};
 use mail_codec::charset::decode_latin1;
 use mail_program::Fault;
 use mailparse::{KnownCharsets, ParsedMail};
@@ -54,7 +54,7 @@ fn add_addresses<W: Write, K: KnownCharsets>(
     ensures { AddsMember (W.contents out.old) (W.contents out.new) result key.now
         (address_list (K.known known.now) header.now (root (tree_of mail.now))) }
 {
-    let list = addresses_of(alloc, &mail.headers, header)?;
+    let list = lenient_addresses_of(alloc, &mail.headers, header)?;
     write_word(out, key)?;
     write_list(alloc, out, list.as_slice(), known)
 }

@@ -1,4 +1,4 @@
-//! Values of headers, in the charsets that are known.
+//! Texts of headers, in the charsets that are known.
 ghost use Rattle.std.specs.Prelude.{◌≡◌, option_map, Ok};
 ghost use Rattle.mailparse.specs.Mail.{root};
 ghost use Rattle.mailparse.specs.Map.{text_found};
@@ -8,14 +8,14 @@ ghost use Rattle.mailparse.specs.Views.{kind, tree_of};
 ghost use Rattle.mail_json.specs.Fields.{content_id, disposition_name, kind_text, value_of};
 
 use mail_data::archive::ids_of;
-use mail_data::lenient::IdRule;
+use mail_data::lenient::{IdRule, first_header_text};
 use mailparse::{
     DispositionType, KnownCharsets, MailHeaderMap, MailParseError, ParsedContentDisposition,
     ParsedMail,
 };
 use std::alloc::Global;
 
-/// Returns the value of the first header with this name.
+/// Returns the text of the first header with this name.
 pub(crate) fn value_of<K: KnownCharsets>(
     alloc: Global,
     mail: &ParsedMail<'_>,
@@ -25,7 +25,8 @@ pub(crate) fn value_of<K: KnownCharsets>(
     ensures { AnswersOrMemory text_found result
         (Ok (value_of (K.known known.now) key.now (root (tree_of mail.now)))) }
 {
-    mail.headers.get_first_value_in(alloc, key, known)
+    let text = first_header_text(alloc, &mail.headers, key, known)?;
+    Ok(text)
 }
 
 /// Returns the id of the content of a part: the first one in its header `Content-ID` (RFC 2045,

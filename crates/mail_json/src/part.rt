@@ -41,14 +41,14 @@ use crate::members::{
 use crate::options::LineOptions;
 use crate::reports::{write_pair, write_report};
 use mail_codec::charset::decode_latin1;
-use mail_data::files::{
-    describes_attachment, file_name, is_attachment_disposition, is_leaf, is_shown,
-};
+use mail_data::files::{describes_attachment, is_attachment_disposition, is_leaf, is_shown};
 use mail_data::flowed::unflowed_of;
-use mail_data::lenient::{Content, charset_used, lenient_text, refusal};
+use mail_data::lenient::{
+    Content, charset_used, lenient_file_name, lenient_header_text_ref, lenient_text, refusal,
+};
 use mail_data::places::Place;
 use mail_data::reports::{Block, has_report, read_blocks};
-use mail_data::texts::text_type;
+use mail_data::texts::text_type_of;
 use mail_html::{Links, References, html_text};
 use mail_program::{Fault, refusal_of, sha256_text};
 use mailparse::{
@@ -283,7 +283,7 @@ pub(crate) fn place_in(start: Option<usize>, at: usize) -> Option<usize>
 }
 
 /// Returns whether the body of a part of this disposition is a text that is shown: it has no parts
-/// of its own, is not marked as an attachment, and its type is that of a text.
+/// of its own, is not marked as an attachment, and its type is that of a text, or a multipart.
 ///
 /// Does not allocate.
 ///
@@ -301,7 +301,7 @@ pub fn is_read(part: &ParsedMail<'_>, disposition: &ParsedContentDisposition) ->
 {
     !is_attachment_disposition(&disposition.disposition)
         && is_leaf(part)
-        && text_type(part.ctype.mimetype.as_str()).starts_with("text/")
+        && text_type_of(part).starts_with("text/")
 }
 
 /// Writes the object of the parameters of a type.
@@ -372,7 +372,7 @@ fn write_disposition<W: Write, K: KnownCharsets>(
         (disposition_members (K.known known.now) (views.disposition disposition.now)
         (root (tree_of part.now))) }
 {
-    let name = file_name(alloc, part, known)?;
+    let name = lenient_file_name(alloc, part, known)?;
     let id = content_id(alloc, part)?;
     add_optional(
         out,
@@ -558,7 +558,7 @@ impl ListItem for MailHeader<'_> {
         known: &K,
     ) -> Result<(), Fault> {
         let key = decode_latin1(alloc, self.get_key_raw())?;
-        let value = self.get_value_ref_in(alloc, known)?;
+        let value = lenient_header_text_ref(alloc, self.get_value_raw(), known)?;
         write_pair(out, key.as_str(), value.as_str())
     }
 }

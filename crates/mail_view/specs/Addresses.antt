@@ -4,7 +4,7 @@ use Rattle.mail_codec.specs.Charset.{Charsets}
 use Rattle.mailparse.specs.Mail.{Node}
 use Rattle.mailparse.specs.Value.{lenient_value_in, value_text}
 use Rattle.mail_address.specs.Addresses.{Element, Single, single, group}
-use Rattle.mail_address.specs.Headers.{addresses_of}
+use Rattle.mail_address.specs.Lenient.{lenient_addresses_of}
 use Rattle.mail_address.specs.Mailbox.{Parts}
 use Rattle.mail_address.specs.Text.{address_bytes, phrase_text}
 use Rattle.mail_view.specs.Line.{Line, line}
@@ -42,4 +42,4 @@ module _ (known : Charsets) where
 
   -- the lines of the addresses in the headers with this name
   abbrev pub address_lines : Prefix → List ℕ → Node → List Line
-  address_lines prefix key node = flat_map (element_lines prefix) (addresses_of key node.headers)
+  address_lines prefix key node = flat_map (element_lines prefix) (lenient_addresses_of key node.headers)

@@ -3,14 +3,16 @@ use Rattle.std.specs.Prelude.{ℕ, List, [], ◌∷◌, ◌++◌, Option, Some, 
 use Rattle.std.specs.Str.Lines.{lines}
 use Rattle.mail_codec.specs.Charset.{Charsets}
 use Rattle.mailparse.specs.Mail.{Node, Tree, root}
-use Rattle.mailparse.specs.Map.{all_values_in}
-use Rattle.mail_data.specs.Files.{file_name, is_leaf}
+use Rattle.mailparse.specs.Map.{all_with_key}
+use Rattle.mail_data.specs.Files.{is_leaf}
+use Rattle.mail_data.specs.lenient.FileNames.{lenient_file_name}
 use Rattle.mail_data.specs.PartPlaces.{Place, places}
 use Rattle.mail_data.specs.Readable.{readable_text}
 use Rattle.mail_data.specs.Reading.{mail_placements}
 use Rattle.mail_data.specs.lenient.Content.{message_content}
 use Rattle.mail_data.specs.lenient.Refused.{was_kept}
 use Rattle.mail_data.specs.lenient.Texts.{BodyText}
+use Rattle.mail_data.specs.lenient.Values.{header_text}
 use Rattle.mail_html.specs.declared.links.Links.TheVariants.{Footnotes}
 use Rattle.mail_html.specs.declared.references.References.{References}
 use Rattle.mail_view.specs.Addresses.{address_lines}
@@ -38,9 +40,9 @@ body_lines (Some read) = empty ∷ map text_line (lines read.text)
 
 -- Under the charsets that are known.
 module _ (known : Charsets) where
-  -- a line for the value of each header with this name
+  -- a line for the text of each header with this name
   abbrev pub value_lines : Prefix → List ℕ → Node → List Line
-  value_lines prefix key node = map (line prefix) (all_values_in known key node.headers)
+  value_lines prefix key node = map (λ header. line prefix (header_text known header.value)) (all_with_key key node.headers)
 
   -- the lines of the headers
   abbrev pub header_lines : Node → List Line
@@ -55,7 +57,7 @@ module _ (known : Charsets) where
   abbrev pub part_text : Place → List ℕ
   part_text place =
       let node = root place.part in
-      row place.path node.ctype.mimetype (part_size node) (file_name known node)
+      row place.path node.ctype.mimetype (part_size node) (lenient_file_name known node)
 
   -- the line of a part, if it has no parts of its own
   abbrev pub part_lines : Place → List Line

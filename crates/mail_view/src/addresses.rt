@@ -11,7 +11,7 @@ ghost use Rattle.mail_view.specs.Line.{line, line_text, lines_text};
 
 use crate::line::{Prefix, push_line};
 use crate::names::push_name;
-use mail_address::{Address, Group, Mailbox, Member, Unknown, addresses_of};
+use mail_address::{Address, Group, Mailbox, Member, Unknown, lenient_addresses_of};
 use mailparse::{KnownCharsets, MailParseError, ParsedMail, value_text_in};
 use std::alloc::{AllocError, Global};
 
@@ -28,7 +28,7 @@ pub(crate) fn push_addresses<K: KnownCharsets>(
         ++ lines_text (address_lines (K.known known.now) prefix key.now (root (tree_of mail.now)))) }
     ensures only_memory { IfErr result IsMemory }
 {
-    for element in &addresses_of(alloc, &mail.headers, key)? {
+    for element in &lenient_addresses_of(alloc, &mail.headers, key)? {
         push_element(alloc, shown, prefix, element, known)?;
     }
     Ok(())

@@ -3,12 +3,14 @@ ghost use Rattle.std.specs.Prelude.{◌≡◌, ◌++◌, map, string_bytes, IfEr
 ghost use Rattle.mailparse.specs.Mail.{root};
 ghost use Rattle.mailparse.specs.Outcome.{IsMemory};
 ghost use Rattle.mailparse.specs.Views.{tree_of};
+ghost use Rattle.mail_data.specs.lenient.Values.{header_text};
 ghost use Rattle.mail_view.specs.Line.{line, lines_text};
 ghost use Rattle.mail_view.specs.View.{header_lines, value_lines};
 
 use crate::addresses::push_addresses;
 use crate::line::{Prefix, push_line};
-use mailparse::{KnownCharsets, MailHeaderMap, MailParseError, ParsedMail};
+use mail_data::lenient::lenient_header_text_ref;
+use mailparse::{KnownCharsets, MailHeader, MailHeaderMap, MailParseError, ParsedMail};
 use std::alloc::{AllocError, Global};
 
 /// Appends the lines of the headers.
@@ -45,18 +47,26 @@ fn push_values_of<K: KnownCharsets>(
         ++ lines_text (value_lines (K.known known.now) prefix key.now (root (tree_of mail.now)))) }
     ensures only_memory { IfErr result IsMemory }
 {
-    let values = mail.headers.get_all_values_in(alloc, key, known)?;
-    push_values(shown, prefix, values.as_slice())?;
+    let named = mail.headers.get_all_headers(alloc, key)?;
+    push_values(alloc, shown, prefix, named.as_slice(), known)?;
     Ok(())
 }
 
-/// Appends a line for each value.
-fn push_values(shown: &mut String, prefix: Prefix, values: &[String]) -> Result<(), AllocError>
-    ensures { OnOk result (string_bytes shown.new ≡ string_bytes shown.old
-        ++ lines_text (map (line prefix) (map (λ v. string_bytes v) values.now))) }
+/// Appends a line for the text of each header.
+fn push_values<K: KnownCharsets>(
+    alloc: Global,
+    shown: &mut String,
+    prefix: Prefix,
+    headers: &[&MailHeader<'_>],
+    known: &K,
+) -> Result<(), AllocError>
+    ensures { OnOk result (string_bytes shown.new ≡ string_bytes shown.old ++ lines_text
+        (map (λ header. line prefix (header_text (K.known known.now) header.value))
+        (map (λ header. header.now) headers.now))) }
 {
-    for value in values {
-        push_line(shown, prefix, value.as_str())?;
+    for header in headers {
+        let text = lenient_header_text_ref(alloc, header.get_value_raw(), known)?;
+        push_line(shown, prefix, text.as_str())?;
     }
     Ok(())
 }

@@ -10,8 +10,8 @@ ghost use Rattle.mail_view.specs.View.{decoded_size, part_lines, part_size, part
 
 use crate::line::{Prefix, push_empty_line, push_line};
 use crate::row::{row_of, size_text};
-use mail_data::files::{file_name, is_leaf};
-use mail_data::lenient::{lenient_body, lenient_content, was_kept};
+use mail_data::files::is_leaf;
+use mail_data::lenient::{lenient_body, lenient_content, lenient_file_name, was_kept};
 use mail_data::places::{Place, places};
 use mailparse::{KnownCharsets, MailParseError, ParsedMail};
 use std::alloc::Global;
@@ -64,7 +64,7 @@ fn part_text<K: KnownCharsets>(
 {
     let part = place.part;
     let size = part_size(alloc, part)?;
-    let name = file_name(alloc, part, known)?;
+    let name = lenient_file_name(alloc, part, known)?;
     let mimetype = part.ctype.mimetype.as_str();
     Ok(row_of(
         alloc,

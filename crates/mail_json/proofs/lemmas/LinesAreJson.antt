@@ -13,7 +13,7 @@ use Rattle.mailparse.specs.ContentType.{ContentType}
 use Rattle.mailparse.specs.Header.{Header, key_text}
 use Rattle.mailparse.specs.Mail.{Node, Tree, root, shown_as_in}
 use Rattle.mailparse.specs.Refusal.{Reads, Refusal}
-use Rattle.mailparse.specs.Value.{lenient_value_in}
+use Rattle.mail_data.specs.lenient.Values.{header_text}
 use Rattle.mail_data.specs.Archive.{ids_of}
 use Rattle.mail_data.specs.Bounce.{Delivery, original_message_id}
 use Rattle.mail_data.specs.Files.{is_extracted}
@@ -27,7 +27,7 @@ use Rattle.mail_data.specs.lenient.Date.{Dated, Zoned, zoned_date_of}
 use Rattle.mail_data.specs.lenient.Content.{Content}
 use Rattle.mail_data.specs.lenient.Texts.{text_read}
 use Rattle.mail_address.specs.Addresses.{Element, single, group}
-use Rattle.mail_address.specs.Headers.{addresses_of}
+use Rattle.mail_address.specs.Lenient.{lenient_addresses_of}
 use Rattle.mail_address.specs.Mailbox.{Parts}
 use Rattle.mail_json.specs.Fields.{value_of}
 use Rattle.mail_check.specs.Findings.{Finding}
@@ -80,7 +80,7 @@ pair_good : (d : ℕ) (pair : List ℕ × List ℕ) → IsGood (suc d) (pair_val
 pair_good d pair = list_good d (string pair.0 ∷ string pair.1 ∷ []) (string_good d pair.0, (string_good d pair.1, tt))
 
 header_good : (known : Charsets) (d : ℕ) (header : Header) → IsGood (suc d) (header_value known header)
-header_good known d header = pair_good d (key_text header, lenient_value_in known header.value)
+header_good known d header = pair_good d (key_text header, header_text known header.value)
 
 block_good : (d : ℕ) (fields : List (List ℕ × List ℕ)) → IsGood (suc (suc d)) (block_value fields)
 block_good d fields = mapped_good (suc d) pair_value (pair_good d) fields
@@ -177,7 +177,7 @@ module _ (known : Charsets) where
       (string_good (suc (suc d)) _, (mapped_good (suc d) (single_value known) (λ s. mailbox_good d s.mailbox s.text) g.members, tt))
 
   address_list_good : (key : List ℕ) (node : Node) → IsGood 5 (address_list known key node)
-  address_list_good key node = mapped_good 4 (element_value known) (element_good 1) (addresses_of key node.headers)
+  address_list_good key node = mapped_good 4 (element_value known) (element_good 1) (lenient_addresses_of key node.headers)
 
   -- no name occurs twice, whether the zone of a date is known or not
   zone_distinct : (origin : Origin) (node : Node) (bounced recipients parts inside : Json) (seconds : ℤ) (is_known : Bool)
