@@ -379,8 +379,10 @@ static void check_dates(void)
     check_date("1 Foo 2012 20:57 +0200", ROCKTRAY_DATE_MONTH, 0, 0, false);
     check_date("1 Jan 1", ROCKTRAY_DATE_YEAR, 0, 0, false);
     check_date("1 Jan 2012 x", ROCKTRAY_DATE_TIME, 0, 0, false);
-    check_date("1 Jan 2012 20:57 +9", ROCKTRAY_DATE_ZONE, 0, 0, false);
-    check_date("1 Jan 2012 20:57 +0200 2", ROCKTRAY_DATE_TRAILING_TEXT, 0, 0, false);
+    check_date("1 Jan 2012 20:57 +9", ROCKTRAY_DONE, 1325419020, 32400, true);
+    check_date("1 Jan 2012 20:57 +02:00 x", ROCKTRAY_DONE, 1325444220, 7200, true);
+    check_date("2003-02-17T07:45:56Z", ROCKTRAY_DONE, 1045467956, 0, true);
+    check_date("Sat Mar 24 21:23:03 EDT 2007", ROCKTRAY_DONE, 1174785783, -14400, true);
     check_date("\xff", ROCKTRAY_NOT_UTF8, 0, 0, false);
 }
 

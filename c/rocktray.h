@@ -79,6 +79,7 @@ enum rocktray_code {
     ROCKTRAY_DATE_MONTH = 33,
     ROCKTRAY_DATE_YEAR = 34,
     ROCKTRAY_DATE_TIME = 35,
+    /* Its zone, and text after it. No call of this version returns these. */
     ROCKTRAY_DATE_ZONE = 36,
     ROCKTRAY_DATE_TRAILING_TEXT = 37
 };
@@ -198,7 +199,8 @@ uint32_t rocktray_parts(const void *mail, size_t mail_length, size_t limit, stru
 uint32_t rocktray_headers(const void *part, size_t part_length, size_t limit, struct rocktray_header_record *headers,
                           size_t headers_capacity, size_t *headers_needed);
 
-/* Writes the value of a header in UTF-8, given its raw value: unfolded, with its encoded words decoded. */
+/* Writes the text of a header in UTF-8, given its raw value: unfolded, with its encoded words decoded wherever they are
+ * (docs/RULES.md, "Header values, leniently"). */
 uint32_t rocktray_value(const void *raw_value, size_t raw_value_length, void *buffer, size_t capacity, size_t *needed);
 
 /* Reads the raw value of a Content-Type leniently. Writes strings in UTF-8 one after another to the buffer, and the end of each
@@ -277,7 +279,7 @@ uint32_t rocktray_content(const void *part, size_t part_length, void *buffer, si
  * if it is valid, and otherwise as windows-1252. Refuses no mail. */
 uint32_t rocktray_text(const void *part, size_t part_length, void *buffer, size_t capacity, size_t *needed);
 
-/* Writes the value of a header in UTF-8: unfolded, with its encoded words decoded. `number` selects one of the headers
+/* Writes the text of a header in UTF-8, as rocktray_value does. `number` selects one of the headers
  * with this name, counting from 0. The name is in any case, and without a colon. Only the header block is read.
  * Returns ROCKTRAY_ABSENT if there is no such header. Refuses with ROCKTRAY_LEADING_SPACE or _LONE_CARRIAGE_RETURN for
  * the block, and with ROCKTRAY_NOT_UTF8 for the name. */

@@ -1,7 +1,8 @@
 -- The records of a list of addresses, and their strings; the crate's own form.
 use Rattle.std.specs.Prelude.{◌≡◌, ℕ, ◌+◌, List, [], ◌∷◌, ◌++◌, length, map, flat_map, Option, Some, None, Result, Ok, Err}
 use Rattle.mail_codec.specs.Charset.{Charsets}
-use Rattle.mail_address.specs.Addresses.{Element, Single, addresses, group, single}
+use Rattle.mail_address.specs.Addresses.{Element, Single, group, single}
+use Rattle.mail_address.specs.Lenient.{lenient_addresses}
 use Rattle.mail_address.specs.Mailbox.{Parts}
 use Rattle.mail_json.specs.Addresses.{canonical, name_of}
 use Rattle.mail_c.specs.Codes.{no_memory}
@@ -78,5 +79,5 @@ module _ (known : Charsets) where
   -- the records and the strings of the addresses in a raw value
   abbrev pub addresses_read : List ℕ → List AddressRecord × List ℕ
   addresses_read raw =
-      let entries = entries_from 0 (addresses raw) in
+      let entries = entries_from 0 (lenient_addresses raw) in
       (records_from 0 entries, strings_of entries)

@@ -1,19 +1,19 @@
 -- What is read of ranges of a mail: of raw values, of names and of bodies; the crate's own form.
-use Rattle.std.specs.Prelude.{◌≡◌, ◌⊎◌, ℕ, Bool, ◌==◌, List, Option, Some, is_some, option_and_then, Result, Ok, Err, if◌then◌else◌}
+use Rattle.std.specs.Prelude.{◌≡◌, ◌⊎◌, ℕ, Bool, ◌==◌, List, Option, Some, is_some, Result, Ok, Err, if◌then◌else◌}
 use Rattle.mail_codec.specs.Charset.{Charsets}
 use Rattle.mailparse.specs.Body.{BodyKind, in_base64, in_quoted_printable, in_7bit}
-use Rattle.mailparse.specs.ContentType.{ContentType, content_type_in}
-use Rattle.mailparse.specs.Disposition.{disposition_in}
+use Rattle.mailparse.specs.ContentType.{ContentType}
 use Rattle.mailparse.specs.Refusal.{◌>>=◌}
 use Rattle.mailparse.specs.Value.{lenient_value_in}
 use Rattle.mail_data.specs.Bounce.{original_message_id}
 use Rattle.mail_data.specs.FileNames as names
-use Rattle.mail_data.specs.Files.{filled, name_in, no_charsets}
+use Rattle.mail_data.specs.lenient.FileNames.{lenient_name_in}
 use Rattle.mail_data.specs.QuotedLines as quoted
 use Rattle.mail_data.specs.Reading.{mail_reading}
 use Rattle.mail_data.specs.lenient.Content.{lenient_content}
 use Rattle.mail_data.specs.lenient.Manner.{lenient_type_in}
 use Rattle.mail_data.specs.lenient.Texts.{text_read}
+use Rattle.mail_data.specs.lenient.Values.{header_text}
 use Rattle.mail_c.specs.Buffer.{Found, IsFilled, IsKept, Output, fits, written_code}
 use Rattle.mail_c.specs.Codes.{no_memory}
 use Rattle.mail_c.specs.Results.{no_limit, text_in}
@@ -49,24 +49,17 @@ body number raw =
 
 -- Under the charsets that are known.
 module _ (known : Charsets) where
-  -- the value of a header with this raw value
+  -- the text of a header with this raw value
   unfoldable pub value : List ℕ → Found
-  value raw = Ok (Some (lenient_value_in known raw))
+  value raw = Ok (Some (header_text known raw))
 
   -- the type that a raw value gives, read leniently
   abbrev pub type_of : List ℕ → ContentType
   type_of raw = lenient_type_in known (lenient_value_in known raw)
 
-  -- the file name in the raw values of a disposition and of a type, which are cut into parameters while their encoded words stay as they are,
-  -- so that none can end a parameter or begin one
-  unfoldable pub undecoded_name : List ℕ → List ℕ → Option (List ℕ)
-  undecoded_name disposition ctype =
-      name_in (disposition_in known (lenient_value_in no_charsets disposition)) (content_type_in known (lenient_value_in no_charsets ctype))
-
-  -- the same, with its encoded words decoded
+  -- the file name in the raw values of a disposition and of a type
   unfoldable pub file_name : List ℕ → List ℕ → Found
-  file_name disposition ctype =
-      Ok (option_and_then (λ name. filled (Some (lenient_value_in known name))) (undecoded_name disposition ctype))
+  file_name disposition ctype = Ok (lenient_name_in known disposition ctype)
 
   -- the text of a body in the encoding with a number, whose type has this raw value
   unfoldable pub body_text : ℕ → List ℕ → List ℕ → Decoded

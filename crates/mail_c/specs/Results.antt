@@ -8,11 +8,11 @@ use Rattle.mailparse.specs.Header.{Header}
 use Rattle.mailparse.specs.Mail.{root}
 use Rattle.mailparse.specs.Map.{all_with_key}
 use Rattle.mailparse.specs.Refusal.{◌>>=◌, Reads, encoding}
-use Rattle.mailparse.specs.Value.{lenient_value_in}
 use Rattle.mail_data.specs.Reading.{mail_reading}
 use Rattle.mail_data.specs.lenient.Encoding.{lenient_body_kind}
 use Rattle.mail_data.specs.lenient.Ids.{found_ids}
 use Rattle.mail_data.specs.lenient.Texts.{body_text}
+use Rattle.mail_data.specs.lenient.Values.{header_text}
 use Rattle.mail_data.specs.Readable.{readable_text}
 use Rattle.mail_html.specs.Text.{html_text}
 use Rattle.mail_html.specs.declared.links.Links.{Links}
@@ -91,12 +91,12 @@ module _ (known : Charsets) where
     mail ← mail_reading known no_limit raw
     Ok (option_map (λ read. read.text) (readable_text known (links_if shows_links) references mail))
 
-  -- the decoded value of that header
+  -- the text of that header
   unfoldable pub value : List ℕ → List ℕ → ℕ → Found
   value raw name number = do
     key ← text_in name
     block ← read_headers raw
-    Ok (option_map (λ header. lenient_value_in known header.value) (header_at key number block.headers))
+    Ok (option_map (λ header. header_text known header.value) (header_at key number block.headers))
 
 -- an id between angle brackets
 abbrev pub bracketed : List ℕ → List ℕ

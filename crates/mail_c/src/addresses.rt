@@ -10,7 +10,7 @@ ghost use Rattle.mail_c.specs.Buffer.{WritesBoth, output};
 use crate::buffer::write_both;
 use crate::codes::NO_MEMORY;
 use crate::records::NONE;
-use mail_address::{Address, Group, Mailbox, Member, Unknown, read_addresses};
+use mail_address::{Address, Group, Mailbox, Member, Unknown, lenient_addresses};
 use mailparse::{KnownCharsets, MailParseError};
 use std::alloc::Global;
 
@@ -48,7 +48,7 @@ pub(crate) fn addresses<K: KnownCharsets>(
     ensures { IfOk result (λ found. (found.records.items, found.strings.items)
         ≡ addresses_read (K.known known.now) raw.now) }
 {
-    let list = read_addresses(alloc, raw)?;
+    let list = lenient_addresses(alloc, raw)?;
     let mut found = AddressRecords {
         records: Vec::new(alloc),
         strings: Vec::new(alloc),

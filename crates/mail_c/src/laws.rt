@@ -1,7 +1,7 @@
 //! Laws: the records of a mail, with what is read of them, and its line of JSON say the same.
 ghost use Rattle.std.specs.Prelude.{◌≡◌, Bool, List, Ok, Some, codes, map};
 ghost use Rattle.mail_codec.specs.Charset.{Charsets};
-ghost use Rattle.mail_data.specs.Files.{file_name};
+ghost use Rattle.mail_data.specs.lenient.FileNames.{lenient_file_name};
 ghost use Rattle.mail_data.specs.PartPlaces.{places};
 ghost use Rattle.mail_data.specs.lenient.Manner.{lenient_type_of};
 ghost use Rattle.mailparse.specs.Header.{Header};
@@ -25,7 +25,7 @@ pub fn records_say_what_the_json_says()
     ensures file_names { (known : Charsets) (node : Node) (disposition ctype : Header) →
         first_with_key (codes "Content-Disposition") node.headers ≡ Some disposition →
         first_with_key (codes "Content-Type") node.headers ≡ Some ctype →
-        read.file_name known disposition.value ctype.value ≡ Ok (file_name known node) }
+        read.file_name known disposition.value ctype.value ≡ Ok (lenient_file_name known node) }
     ensures types { (known : Charsets) (in_digest : Bool) (headers : List Header)
         (ctype : Header) → first_with_key (codes "Content-Type") headers ≡ Some ctype →
         read.type_of known ctype.value ≡ lenient_type_of known in_digest headers }

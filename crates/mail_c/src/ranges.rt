@@ -1,7 +1,5 @@
 //! What is read of ranges of a mail: of raw values, of names and of bodies.
-ghost use Rattle.std.specs.Prelude.{◌≡◌, Ok, Some, IfOk, string_bytes};
-ghost use Rattle.mail_data.specs.Files.{filled};
-ghost use Rattle.mailparse.specs.Map.{text_found};
+ghost use Rattle.std.specs.Prelude.{◌≡◌, Ok, Some, IfOk};
 ghost use Rattle.mailparse.specs.Body.{kind_named};
 ghost use Rattle.mailparse.specs.BodyViews.{name_of};
 ghost use Rattle.mailparse.specs.Outcome.{AnswersOrMemory};
@@ -10,24 +8,24 @@ ghost use Rattle.mail_c.specs.Buffer.{bytes_found, output};
 ghost use Rattle.mail_c.specs.Ranges.{WritesDecodedOr, body, body_charset, body_text, bounced_id};
 ghost use Rattle.mail_c.specs.Ranges.{decoded_view};
 ghost use Rattle.mail_c.specs.Ranges.{file_name, kind_numbered, safe_name, type_of};
-ghost use Rattle.mail_c.specs.Ranges.{undecoded_name, unquoted, value};
+ghost use Rattle.mail_c.specs.Ranges.{unquoted, value};
 
 use crate::buffer::write_items;
 use crate::codes::NO_MEMORY;
 use crate::results::{NO_LIMIT, text_in};
 use mail_data::bounce::original_message_id;
-use mail_data::files::{NoCharsets, named_file, safe_file_name};
-use mail_data::lenient::{charset_used, lenient_content, lenient_text, lenient_type};
+use mail_data::files::safe_file_name;
+use mail_data::lenient::{
+    charset_used, lenient_content, lenient_header_text, lenient_named_file, lenient_text,
+    lenient_type,
+};
 use mail_data::mailbox::quoted;
 use mail_data::reading::read_mail;
 use mailparse::body::Body;
-use mailparse::{
-    KnownCharsets, MailParseError, ParsedContentType, parse_content_disposition_in,
-    parse_content_type_in, value_text_in,
-};
+use mailparse::{KnownCharsets, MailParseError, ParsedContentType, value_text_in};
 use std::alloc::{AllocError, Global};
 
-/// Returns the decoded value of a header, given its raw value.
+/// Returns the text of a header, given its raw value.
 #[tactic(auto, unfolding(crate::specs::Ranges::value))]
 pub(crate) fn value<K: KnownCharsets>(
     alloc: Global,
@@ -36,7 +34,7 @@ pub(crate) fn value<K: KnownCharsets>(
 ) -> Result<Option<Vec<u8>>, MailParseError>
     ensures { AnswersOrMemory bytes_found result (value (K.known known.now) raw.now) }
 {
-    let text = value_text_in(alloc, raw, known)?;
+    let text = lenient_header_text(alloc, raw, known)?;
     Ok(Some(text.into_bytes()))
 }
 
@@ -64,41 +62,9 @@ pub(crate) fn file_name<K: KnownCharsets>(
     ensures { AnswersOrMemory bytes_found result
         (file_name (K.known known.now) disposition.now ctype.now) }
 {
-    let Some(name) = undecoded_name(alloc, disposition, ctype, known)? else {
-        return Ok(None);
-    };
-    match filled(value_text_in(alloc, name.as_bytes(), known)?) {
+    match lenient_named_file(alloc, disposition, ctype, known)? {
         Some(name) => Ok(Some(name.into_bytes())),
         None => Ok(None),
-    }
-}
-
-/// Returns the same with its encoded words, which end no parameter and begin none.
-#[tactic(auto, unfolding(crate::specs::Ranges::undecoded_name))]
-fn undecoded_name<K: KnownCharsets>(
-    alloc: Global,
-    disposition: &[u8],
-    ctype: &[u8],
-    known: &K,
-) -> Result<Option<String>, MailParseError>
-    ensures { AnswersOrMemory text_found result
-        (Ok (undecoded_name (K.known known.now) disposition.now ctype.now)) }
-{
-    let text = value_text_in(alloc, disposition, &NoCharsets)?;
-    let disposition = parse_content_disposition_in(alloc, text.as_str(), known)?;
-    let text = value_text_in(alloc, ctype, &NoCharsets)?;
-    let ctype = parse_content_type_in(alloc, text.as_str(), known)?;
-    Ok(named_file(alloc, &disposition, &ctype)?)
-}
-
-/// Returns the text, or `None` if it consists of whitespace.
-fn filled(text: String) -> Option<String>
-    ensures { text_found result ≡ filled (Some (string_bytes text)) }
-{
-    if text.as_str().trim().is_empty() {
-        None
-    } else {
-        Some(text)
     }
 }
 

@@ -6,7 +6,7 @@ ghost use Rattle.mail_c.specs.Buffer.{Gives, bytes_found};
 ghost use Rattle.mail_c.specs.Results.{IsJson, bracketed, content, ids, raw_value};
 ghost use Rattle.mail_c.specs.Results.{links_if, readable, text, text_in, text_of_html, value};
 
-use mail_data::lenient::{IdRule, body_text, find_ids, lenient_body};
+use mail_data::lenient::{IdRule, body_text, find_ids, lenient_body, lenient_header_text};
 use mail_data::readable::readable_text;
 use mail_data::reading::read_mail;
 use mail_html::{Links, References, html_text};
@@ -140,7 +140,7 @@ pub(crate) fn raw_value(
     }
 }
 
-/// Returns the decoded value of that header.
+/// Returns the text of that header.
 #[tactic(auto, unfolding(crate::specs::Results::value))]
 pub(crate) fn value<K: KnownCharsets>(
     alloc: Global,
@@ -156,7 +156,10 @@ pub(crate) fn value<K: KnownCharsets>(
     let (headers, _) = parse_headers(alloc, raw)?;
     let named = headers.get_all_headers(alloc, name)?;
     match named.as_slice().get(number) {
-        Some(header) => Ok(Some(header.get_value_in(alloc, known)?.into_bytes())),
+        Some(header) => {
+            let text = lenient_header_text(alloc, header.get_value_raw(), known)?;
+            Ok(Some(text.into_bytes()))
+        }
         None => Ok(None),
     }
 }

@@ -7,7 +7,8 @@ use Rattle.mailparse.specs.Header.{Header}
 use Rattle.mailparse.specs.Map.{first_with_key}
 use Rattle.mailparse.specs.Mail.{Forest, Node, Tree, no_parts, part_and, tree, trees_in, trees_within}
 use Rattle.mailparse.specs.Placement.{Placement}
-use Rattle.mail_data.specs.Files.{file_name, parts_with_paths, path_under, whole_path, with_paths}
+use Rattle.mail_data.specs.lenient.FileNames.{lenient_file_name, lenient_name_in}
+use Rattle.mail_data.specs.Files.{parts_with_paths, path_under, whole_path, with_paths}
 use Rattle.mail_data.specs.PartPlaces.{placed, places}
 use Rattle.mail_data.specs.Reading.{mail_placements}
 use Rattle.mail_data.specs.lenient.Manner.{lenient_type_of}
@@ -59,8 +60,8 @@ items_places mail =
 
 -- the file name that is read of the first headers of a message is that of the message
 pub names_agree : (known : Charsets) (node : Node) (d t : Header) → first_with_key (codes "Content-Disposition") node.headers ≡ Some d
-    → first_with_key (codes "Content-Type") node.headers ≡ Some t → read.file_name known d.value t.value ≡ Ok (file_name known node)
-unfolding read.file_name read.undecoded_name file_name
+    → first_with_key (codes "Content-Type") node.headers ≡ Some t → read.file_name known d.value t.value ≡ Ok (lenient_file_name known node)
+unfolding read.file_name lenient_name_in lenient_file_name
 names_agree known node d t disposed typed = rw (disposed, typed) refl
 
 -- the type that is read of its first `Content-Type` is that which the message is read by
