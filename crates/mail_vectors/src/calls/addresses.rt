@@ -6,6 +6,9 @@
 //! addresses_with VALUE => ITEM..           names are read under all tables
 //! addresses_of MAIL NAME => ITEM..         in all headers with this name
 //! sender_of MAIL => mailbox NAME ADDRESS | none
+//! lenient_addresses VALUE => ITEM..        and the next two, read leniently
+//! lenient_addresses_of MAIL NAME => ITEM..
+//! lenient_sender_of MAIL => mailbox NAME ADDRESS | none
 //! write_mailboxes [NAME LOCAL DOMAIN].. => BYTES
 //! write_group NAME [NAME LOCAL DOMAIN].. => BYTES
 //! read_written [NAME LOCAL DOMAIN].. => ITEM..     the elements of what `write_mailboxes` writes
@@ -16,7 +19,8 @@ use crate::calls::tables::all_tables;
 use crate::notation::{Answer, Decision, Outcome, Row};
 use mail_address::{
     Address, AddressList, Group, Mailbox, Member, NewAddress, NewGroup, NewMailbox, WriteError,
-    addresses_of, read_addresses, sender_of, write_addresses,
+    addresses_of, lenient_addresses, lenient_addresses_of, lenient_sender_of, read_addresses,
+    sender_of, write_addresses,
 };
 use mailparse::{KnownCharsets, MailParseError, parse_mail};
 use std::alloc::{AllocError, Global};
@@ -28,6 +32,9 @@ pub fn make(answer: &mut Answer, row: &Row) -> Decision {
         "addresses_with" => list_addresses(answer, row, &all_tables())?,
         "addresses_of" => list_named(answer, row)?,
         "sender_of" => find_sender(answer, row)?,
+        "lenient_addresses" => list_leniently(answer, row)?,
+        "lenient_addresses_of" => list_named_leniently(answer, row)?,
+        "lenient_sender_of" => find_lenient_sender(answer, row)?,
         "write_mailboxes" => answer.put(written(row)),
         "write_group" => answer.put(written_group(row)),
         "read_written" => read_written(answer, row)?,
@@ -57,6 +64,30 @@ fn list_named(answer: &mut Answer, row: &Row) -> Outcome {
         &addresses_of(row.alloc, &mail.headers, row.text(1))?,
         &(),
     );
+    Ok(())
+}
+
+/// Writes the elements of a list of addresses, read leniently.
+fn list_leniently(answer: &mut Answer, row: &Row) -> Outcome {
+    write_list(answer, &lenient_addresses(row.alloc, row.bytes(0))?, &());
+    Ok(())
+}
+
+/// Writes the elements of all headers with a name, read leniently.
+fn list_named_leniently(answer: &mut Answer, row: &Row) -> Outcome {
+    let mail = parse_mail(row.alloc, row.bytes(0))?;
+    let list = lenient_addresses_of(row.alloc, &mail.headers, row.text(1))?;
+    write_list(answer, &list, &());
+    Ok(())
+}
+
+/// Writes the sender of a mail, read leniently.
+fn find_lenient_sender(answer: &mut Answer, row: &Row) -> Outcome {
+    let mail = parse_mail(row.alloc, row.bytes(0))?;
+    match lenient_sender_of(row.alloc, &mail.get_headers())? {
+        Some(mailbox) => write_mailbox(answer, &mailbox, &()),
+        None => answer.word("none"),
+    }
     Ok(())
 }
 
