@@ -5,7 +5,7 @@
 >>> mail.subject, mail.text
 ('café', 'At noon?\\n')
 
-Everything is safe to use from several threads at once, and Python's lock is not held while a mail is read.
+Everything is safe to use from several threads at once. Python's lock is free while many bytes are read.
 """
 
 from . import _library

@@ -33,9 +33,9 @@ def read(mail: Bytes, limit: int, /) -> Reading:
 def read(data: Bytes, start: int, end: int, limit: int, /) -> Reading:
     """Reads the mail from `start` up to `end`, where all offsets are those in the data."""
 
-def read_mails(data: bytes, places: List[Tuple[int, int]], limit: int, /) -> List[Tuple[bytes, Union[Reading, int]]]:
-    """Copies and reads the mails at these places in one call, without Python's lock. Of each its bytes, with what was
-    read of it or the code of its refusal.
+def read_mails(data: bytes, places: List[Tuple[int, int, int]], limit: int, /) -> List[Tuple[bytes, Union[Reading, int]]]:
+    """Copies and reads the mails at these places, which `mails` returned, in one call, without Python's lock. Of each its
+    bytes, with what was read of it or the code of its refusal.
     """
 
 Part = Tuple[int, int, int, int, int, int, int, int, int, int, int]

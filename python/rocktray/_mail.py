@@ -442,8 +442,8 @@ class Mail:
 
 
 def _text_type(content_type: str) -> str:
-    """The type of a text: `text` without a subtype is plain."""
-    return "text/plain" if content_type == "text" else content_type
+    """The type of a text: `text` without a subtype is plain, and so is a multipart that has no parts."""
+    return "text/plain" if content_type == "text" or content_type.startswith("multipart") else content_type
 
 
 def parse(raw: "Bytes", limit: Optional[int] = MOST_ITEMS) -> Mail:
@@ -458,5 +458,5 @@ def parse(raw: "Bytes", limit: Optional[int] = MOST_ITEMS) -> Mail:
     rocktray.TooMany: Too many parts and headers
     """
     mail = Mail(raw, None, limit)
-    mail._reading
+    mail._read = _engine.read(mail._data, mail._limit)
     return mail

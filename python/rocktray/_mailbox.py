@@ -7,6 +7,7 @@ import os
 import re
 import stat
 import threading
+from bisect import bisect_right
 from collections import deque
 from itertools import islice
 from types import TracebackType
@@ -19,12 +20,12 @@ from ._mail import Mail, Use
 
 FORMATS = ("mbox", "mboxrd", "mboxcl")
 # the least number of bytes that are read at once
-BLOCK = 1 << 19
+BLOCK = 1 << 20
 # the greatest number of mails that are found at once
 MOST = _library.MOST
 # the greatest number of mails that are read at once, and of their bytes, unless one mail has more
-AHEAD = 64
-AHEAD_BYTES = 1 << 18
+AHEAD = 256
+AHEAD_BYTES = 1 << 19
 # what may be between a header block and a body and between mails, whose separator counts up to 1,000 bytes, and one byte
 SEPARATOR = 4 + 2 + 1000 + 1
 # how compressed files begin, and what opens them as a file of bytes
@@ -114,8 +115,9 @@ class _Window(NamedTuple):
     """
 
 
-# a mail that was found: the bytes with it, the offset of these, and where in them it begins and ends
-_Found = Tuple[bytes, int, int, int]
+# mails that were found: the bytes with them, the offset of these, and where in them each begins and ends, and where the
+# next separator begins
+_Found = Tuple[bytes, int, List[Tuple[int, int, int]]]
 
 
 class Mailbox:
@@ -138,7 +140,7 @@ class Mailbox:
         self._is_quoted = format == "mboxrd"
         # reentrant, for the handler of a signal that closes the mailbox
         self._lock = threading.RLock()
-        # mails that were found
+        # mails that were found, of which those together are read at once
         self._found: Deque[_Found] = deque()
         # mails that were read ahead
         self._ahead: Deque[Mail] = deque()
@@ -160,8 +162,6 @@ class Mailbox:
         self._reader = reader
         self._found.clear()
         self._ahead.clear()
-        # the greatest number of mails that are taken next
-        self._most = 1
         # the number of mails that were found, and of all if it is known
         self._seen = 0
         self._total: Optional[int] = None
@@ -209,11 +209,11 @@ class Mailbox:
         while not self._found:
             places = _settled(window, self._is_counted)
             if places:
-                found = [(window.data, window.start, start, end) for start, end, _ in places]
+                found = list(_together(window, places, 1 if self._seen == 0 else AHEAD))
                 window = window._replace(at=places[-1][2])
                 self._open_window()
                 self._window = window
-                self._seen += len(found)
+                self._seen += len(places)
                 self._found.extend(found)
             elif window.last == len(window.data):
                 self._total = self._seen
@@ -235,7 +235,7 @@ class Mailbox:
             with self._lock:
                 if not self._find():
                     raise StopIteration
-                some = self._next_found()
+                some = self._found.popleft()
                 reader = self._reader
             try:
                 mails = self._mails_of(some)
@@ -247,31 +247,22 @@ class Mailbox:
                 if self._reader is reader:
                     self._ahead.extend(mails)
 
-    def _next_found(self) -> List["_Found"]:
-        """Takes the next mails, of the same bytes: at first one."""
-        found, some, size = self._found, [self._found.popleft()], 0
-        while found and found[0][0] is some[0][0] and len(some) < self._most and size < AHEAD_BYTES:
-            size += found[0][3] - found[0][2]
-            some.append(found.popleft())
-        self._most = AHEAD
-        return some
-
-    def _put_back(self, some: List["_Found"], reader: Union[_File, _Stream]) -> None:
+    def _put_back(self, some: "_Found", reader: Union[_File, _Stream]) -> None:
         """Puts mails back that were taken from this reader."""
         with self._lock:
             if self._reader is reader and self._window is not None:
-                self._found.extendleft(reversed(some))
+                self._found.appendleft(some)
 
-    def _mails_of(self, some: List["_Found"]) -> List[Mail]:
+    def _mails_of(self, some: "_Found") -> List[Mail]:
         """These mails. If mails are read, they are read together, so that Python's lock is free for long."""
-        data, offset, use, limit = some[0][0], some[0][1], self._use, self._limit
+        (data, offset, places), use, limit = some, self._use, self._limit
         reads: Sequence[Tuple[bytes, Union[None, Reading, int]]]
         if use.is_read:
-            reads = _engine.read_mails(data, [(start, end) for _, _, start, end in some], limit)
+            reads = _engine.read_mails(data, places, limit)
         else:
-            reads = [(data[start:end], None) for _, _, start, end in some]
+            reads = [(data[start:end], None) for start, end, _ in places]
         mails = []
-        for (raw, read), (_, _, start, end) in zip(reads, some):
+        for (raw, read), (start, end, _) in zip(reads, places):
             if self._is_quoted and b">From " in raw:
                 raw, read = _engine.unquoted(raw), None
             known = _refused(read) if isinstance(read, int) else read
@@ -296,7 +287,8 @@ class Mailbox:
         with self._lock:
             if total is not None and self._reader is reader:
                 self._total = total
-            return max(0, (self._total or 0) - self._seen + len(self._found) + len(self._ahead))
+            found = sum(len(places) for _, _, places in self._found)
+            return max(0, (self._total or 0) - self._seen + found + len(self._ahead))
 
     def __bool__(self) -> bool:
         return True
@@ -395,6 +387,15 @@ def _settled(window: _Window, is_counted: bool) -> List[Tuple[int, int, int]]:
             break
         found.append(mail)
     return found
+
+
+def _together(window: _Window, places: List[Tuple[int, int, int]], first: int) -> Iterator[_Found]:
+    """The mails that are read together: at most `first` at first."""
+    at, most = 0, first
+    while at < len(places):
+        after = bisect_right(places, (places[at][0] + AHEAD_BYTES,), at + 1, min(at + most, len(places)))
+        yield window.data, window.start, places[at:after]
+        at, most = after, AHEAD
 
 
 def _is_count_known(data: bytes, start: int, after: int) -> bool:

@@ -68,6 +68,30 @@ def test_addresses():
     assert mail.bcc == mail.sender == mail.reply_to == []
 
 
+@pytest.mark.parametrize(
+    "value, text",
+    [
+        (b"Re:=?utf-8?Q?a?=: =?utf-8?Q?b?=", "Re:a: b"),
+        (b"=?utf-8?Q?Gwena=C3?= =?utf-8?Q?=ABl?=", "Gwenaël"),
+        (b"=?utf-8?B?w6k?=", "é"),
+        (b"\x93hi\x94", "“hi”"),
+        (b"a\r\n b", "a b"),
+    ],
+)
+def test_header_texts(value, text):
+    """What the tests of other readers expect of a subject."""
+    mail = rocktray.parse(b"Subject: " + value + b"\r\n\r\n")
+    assert (mail.subject, mail["subject"], mail.get_all("Subject"), mail.headers[0].value) == (text, text, [text], text)
+
+
+def test_multipart_without_parts():
+    """The body of a multipart without a boundary is a text, as Python's email has it."""
+    raw = b"Content-Type: multipart/related\n\nHi"
+    mail = rocktray.parse(raw)
+    text = mail.to_email().get_payload()
+    assert (mail.text, mail.text_or_html(), next(mail.walk()).text) == (text, text, text)
+
+
 def test_text_of_html():
     """A mail without plain text is read by the text of its HTML; plain text comes first, and some mails have neither."""
     html = b"Content-Type: text/html; charset=iso-8859-1\n\n<p>caf\xe9 &amp;<br><a href='x'>b</a><script>no</script>"

@@ -124,7 +124,7 @@ for size in (0, 1, 1_000_000, 2_000_000):
     assert [mail.subject for mail in found] == [str(number) for number in range(len(found))]
     assert all(data[slice(*mail.place)] == mail.raw for mail in found)
     last = found[-1].place[1]
-    assert size - 5000 < last <= max(size, 1 << 19), (size, last)
+    assert size - 5000 < last <= max(size, rocktray._mailbox.BLOCK), (size, last)
     open(sys.argv[1], "wb").write(data)
 """,
         box,
