@@ -9,6 +9,7 @@ import argparse
 import datetime
 import email
 import email.header
+import email.headerregistry
 import email.message
 import email.policy
 import email.utils
@@ -32,7 +33,7 @@ def without_surrogates(text):
 
 
 def shown(value):
-    """The text of a header's value."""
+    """The text of a header's value as it is read further: as an id, a date or a field of a report."""
     if value is None:
         return None
     unfolded = re.sub(r"\r?\n[ \t]*", " ", without_surrogates(value))
@@ -43,6 +44,31 @@ def shown(value):
     )
 
 
+def windows(raw):
+    """The text of bytes in windows-1252 as the Encoding Standard has it: its five free bytes are controls."""
+    return "".join(bytes([it]).decode("cp1252") if it not in b"\x81\x8d\x8f\x90\x9d" else chr(it) for it in raw)
+
+
+def header_text(value):
+    """The text of a header's value as people see it: only line ends are unfolded, and bytes that are not UTF-8 are
+    windows-1252. The bytes between two encoded words are read together."""
+    if value is None:
+        return None
+    unfolded = re.sub(r"\r?\n(?=[ \t])", "", value).lstrip(" \t")
+    pieces = email.header.decode_header(unfolded.encode("utf-8", "surrogateescape").decode("latin-1"))
+    text = ""
+    for piece, charset in pieces:
+        if charset:
+            text += piece.decode(codec(charset))
+        else:
+            raw = piece.encode("latin-1") if isinstance(piece, str) else piece
+            try:
+                text += raw.decode("utf-8")
+            except UnicodeDecodeError:
+                text += windows(raw)
+    return text
+
+
 def raw_value(mail, name):
     """The value of the first header with this name, or None; bytes above 0x7F are surrogates."""
     return next((value for key, value in mail.raw_items() if key.lower() == name), None)
@@ -50,7 +76,7 @@ def raw_value(mail, name):
 
 def value_of(mail, name):
     """The text of the first header with this name, or None."""
-    return shown(raw_value(mail, name))
+    return header_text(raw_value(mail, name))
 
 
 def mailbox_object(address):
@@ -61,15 +87,24 @@ def mailbox_object(address):
     return {"name": name or None, "address": without_surrogates(address.addr_spec)}
 
 
+def with_comment(address, mailbox):
+    """The object of a mailbox. If it has no display name, its first comment is one, as for `email.utils.parseaddr`."""
+    found = mailbox_object(address)
+    if "address" in found and not found["name"] and mailbox.comments:
+        found["name"] = without_surrogates(shown(mailbox.comments[0])).strip() or None
+    return found
+
+
 def addresses_of(mail, name):
     """The addresses in all headers with this name, which the package decodes after it has cut them apart. Whitespace
     between two encoded words goes (RFC 2047, section 6.2), which the package keeps in a name."""
     found = []
     for key, value in mail.raw_items():
         if key.lower() == name:
-            joined = re.sub(r"(?<=\?=)\s+(?==\?)", "", value)
-            for group in email.policy.default.header_factory(key, re.sub(r"\r?\n", "", joined)).groups:
-                members = [mailbox_object(address) for address in group.addresses]
+            joined = re.sub(r"\r?\n", "", re.sub(r"(?<=\?=)\s+(?==\?)", "", value))
+            parsed = email.headerregistry.AddressHeader.value_parser(joined).addresses
+            for group, element in zip(email.policy.default.header_factory(key, joined).groups, parsed):
+                members = [with_comment(*both) for both in zip(group.addresses, element.all_mailboxes)]
                 if group.display_name is not None:
                     members = [{"group": without_surrogates(group.display_name), "members": members}]
                 found += members
@@ -77,8 +112,11 @@ def addresses_of(mail, name):
 
 
 def ids(value, needs_at):
-    """The message ids of a value without its comments, each with an `@` where one is needed."""
-    found = map(str.strip, re.findall(r"<([^<>]*)>", without_comments(shown(value) or "")))
+    """The message ids of a value without its comments, each with an `@` where one is needed, or the whole value."""
+    text = without_comments(shown(value) or "")
+    if "<" not in text:
+        return re.findall(r"^\s*([^\s>\",;]*@[^\s>\",;]*)\s*$", text)
+    found = map(str.strip, re.findall(r"<([^<>]*)>", text))
     return [one for one in found if ("@" in one if needs_at else one)]
 
 
@@ -162,8 +200,10 @@ def body_of(part):
 
 
 def text_of(part, body):
-    """The text of a part and the name of its charset, or None where it is no text or marked as an attachment."""
-    if part.get_content_maintype() != "text" or part.get_content_disposition() == "attachment":
+    """The text of a part and the name of its charset, or None where it is no text or marked as an attachment. A
+    multipart without parts is a text."""
+    is_text = part.get_content_maintype() == "text" or part.get_content_maintype() == "multipart" and not has_parts(part)
+    if not is_text or part.get_content_disposition() == "attachment":
         return {"text": None}
     label = charset_of(part)
     if label.lower() == "us-ascii":
@@ -202,7 +242,7 @@ def part_object(inside, path, part, report):
         "encoding": (part.get("content-transfer-encoding") or "7bit").lower(),
         "decoded_size": len(body),
         "report": report,
-        "headers": [[name, shown(value)] for name, value in part.raw_items()],
+        "headers": [[name, header_text(value)] for name, value in part.raw_items()],
         **text_of(part, body),
     }
 
@@ -354,7 +394,7 @@ def without_comments(text):
 def field_of(block, name):
     """A field on a recipient, or None: without comments, but for what the other mail system replied, and without the
     type that is before a semicolon, if the field has one."""
-    text = value_of(block, name.replace("_", "-"))
+    text = shown(raw_value(block, name.replace("_", "-")))
     if text is None:
         return None
     text = text if name == "diagnostic_code" else without_comments(text)

@@ -156,7 +156,7 @@ def not_reached(mail):
     reports = [part for part in parts_within(mail) if part.get_content_type() == "message/delivery-status"]
     blocks = [block for report in reports if report.is_multipart() for block in report.get_payload()]
     failed = [block for block in blocks if str(block.get("action", "")).strip().lower() == "failed"]
-    found = [value_of(block, "final-recipient") for block in failed]
+    found = [shown(raw_value(block, "final-recipient")) for block in failed]
     return [text.split(";", 1)[-1].strip() for text in found if text is not None]
 
 

@@ -1,9 +1,9 @@
 #!/bin/sh
-# install_needs.sh: installs what the gate needs beyond the kit, Python 3, bash and Debian's own tools, and with --release
-# what only a release needs. As root on Debian it calls apt-get; otherwise, or if that fails, it names the packages that
-# are missing, and ends with exit status 1.
+# install_needs.sh: installs what the gate needs beyond the kit, Python 3, bash and Debian's own tools, with --readers
+# also the mail programs that oracle/readers compares, and with --release what only a release needs. As root on Debian it
+# calls apt-get; otherwise, or if that fails, it names the packages that are missing, and ends with exit status 1.
 # If nothing is missing it takes a tenth of a second. Modules of Python are those of Debian's /usr/bin/python3.
-arguments='[--release]'
+arguments='[--readers] [--release]'
 . "$(dirname "$0")/arguments.sh"
 most_tries=30
 
@@ -37,7 +37,21 @@ lynx command lynx
 debhelper command dh
 dh-python command dh_python3
 END
-    [ "${1:-}" != --release ] || cat << 'END'
+    case " $* " in *' --readers '*) cat << 'END' ;; esac
+pkg-config command pkg-config
+golang-go command go
+golang-golang-x-text-dev file /usr/share/gocode/src/golang.org/x/text/encoding/htmlindex
+libgmime-3.0-dev file /usr/include/gmime-3.0/gmime/gmime.h
+libmime-tools-perl file /usr/share/perl5/MIME/Tools.pm
+libemail-mime-perl file /usr/share/perl5/Email/MIME.pm
+ruby-mail file /usr/share/rubygems-integration/all/specifications/mail-*.gemspec
+libmimetic-dev file /usr/include/mimetic/mimetic.h
+libvmime-dev file /usr/include/vmime/vmime.hpp
+libetpan-dev file /usr/include/libetpan/libetpan.h
+default-jdk-headless command javac
+libapache-mime4j-java file /usr/share/java/apache-mime4j-dom.jar
+END
+    case " $* " in *' --release '*) cat << 'END' ;; esac
 debootstrap command debootstrap
 lintian command lintian
 END

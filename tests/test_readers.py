@@ -1,0 +1,71 @@
+"""Other mail programs beside `rocktray check`: on a mail without a finding no two readers differ in the tree of parts, the
+decoded bytes, the file names, the subject and the sender, but for what docs/FINDINGS.md lists.
+
+The mails are those given by --real and changes to them, to the samples and to mails of a grammar (oracle/mutated.py). The
+readers are those of oracle/readers that are installed; tools/install_needs.sh --readers installs them.
+"""
+
+import collections
+import re
+
+import pytest
+
+from support import missing, program, text_of
+
+import mutated
+from compare_real import mails_at
+from missing_names import missing as names_of
+from other_readers import compilers, differences, read_here, version
+
+# Faults of a reader that no name is meant to cover: which reader, and a pattern of the mails. The page lists them.
+KNOWN = (
+    ("python compat32", rb'(?im)^from:[^\r\n]*"[^"\r\n]*\r\n[ \t]'),
+    ("mime4j", rb"(?m)^[!-9;-~]*\([!-9;-~]*\)[!-9;-~]*:"),
+)
+
+
+def is_known(name, data):
+    """Whether a fault of a reader that the page lists is why it may read a mail otherwise."""
+    return any(reader == name and re.search(pattern, data) for reader, pattern in KNOWN)
+
+
+def names_missing():
+    """The names that the page says are missing."""
+    section = text_of("docs/FINDINGS.md").partition("\n## What is missing\n")[2].split("\n## ")[0]
+    return set(re.findall(r"`([a-z0-9-]+)`", section))
+
+
+@pytest.fixture(scope="module")
+def mails(request, seed, tmp_path_factory):
+    """A directory of the mails to compare."""
+    directory = tmp_path_factory.mktemp("mails")
+    given = request.config.getoption("--real")
+    mutated.write(directory, request.config.getoption("--mails"), seed, given)
+    for number, (_name, mail) in enumerate(mails_at(given)):
+        (directory / f"real{number:06}.eml").write_bytes(mail)
+    return directory
+
+
+def test_readers(mails, tmp_path):
+    """All readers agree on each mail without a finding, but where a missing name says why not, or a known fault."""
+    commands = compilers(tmp_path) or missing("no other reader is installed: run tools/install_needs.sh --readers")
+    here = read_here(program("rocktray"), str(mails))
+    empty = {path: form for path, (form, names) in here.items() if not names}
+    wrong = {path: found for path, found in differences(commands, empty).items() if found}
+    reasons = collections.defaultdict(list)
+    for path, found in wrong.items():
+        with open(path, "rb") as file:
+            data = file.read()
+        why = sorted(names_of(data) & names_missing()) or ["a known fault"] * all(is_known(name, data) for name, _field in found)
+        reasons[", ".join(why)].append((path, found))
+    print(*(f"{name} {version(name)}" for name in commands), sep=", ")
+    print(f"{len(here)} mails, {len(empty)} without a finding;", *(f"{why}: {len(paths)}" for why, paths in reasons.items()))
+    assert len(empty) > len(here) / 4
+    assert not reasons[""], reasons[""][:10]
+
+
+@pytest.mark.quick
+def test_page():
+    """The page lists the readers whose faults are known here."""
+    section = text_of("docs/FINDINGS.md").split("\n## What was measured\n")[1].split("\n## ")[0]
+    assert all(reader in section for reader, _pattern in KNOWN)
