@@ -261,6 +261,27 @@ def test_memory(c_library, kind, place):
     assert int(wanted) // 2 < int(ended.stdout) <= int(wanted), ended
 
 
+# reads the values of 20,000 headers by their records
+HEADERS = """
+import ctypes, sys, time
+library, size = ctypes.CDLL(sys.argv[1]), ctypes.c_size_t
+mail = b"X-A: b\\r\\n" * 20_000 + b"\\r\\nx"
+records, value, count, needed = (ctypes.c_uint64 * 100_000)(), ctypes.create_string_buffer(10), size(), size()
+before = time.process_time()
+assert library.rocktray_headers(mail, size(len(mail)), size(2**64 - 1), records, size(20_000), ctypes.byref(count)) == 0
+for start, end in zip(records[2::5], records[3::5]):
+    assert library.rocktray_value(mail[start:end], size(end - start), value, size(10), ctypes.byref(needed)) == 0
+    assert value.raw[:needed.value] == b"b"
+assert count.value == 20_000 and time.process_time() - before < 3
+"""
+
+
+def test_headers_in_linear_time(c_library):
+    """All values of a mail with many headers take linear time."""
+    ended = run([sys.executable, "-c", HEADERS, c_library / "lib" / "librocktray.so"])
+    assert ended.returncode == 0, ended.stderr
+
+
 @pytest.mark.quick
 def test_header_as_cpp():
     """rocktray.h is C++ too."""

@@ -377,6 +377,44 @@ def test_tricks(name, tmp_path):
     assert [part["refusal"] is not None for part in parts] == [name == "unnamed.txt" for _, name, _ in files]
 
 
+@pytest.mark.parametrize("line", [b"\n \n", b"\n\t\n", b"\n \n \n", b"\n", b"\r\n \r\n"])
+def test_no_empty_line(line, tmp_path):
+    """A file in the first part is saved if blanks, or nothing, are in the place of the empty line after the headers."""
+    mail = b"Content-Type: multipart/mixed; boundary=b" + line + b"--b\n" + HIDDEN + b"\n--b\n\nHi\n--b--\n"
+    ended = run([*command("extract"), "--into", tmp_path], mail)
+    lines = [json.loads(line) for line in ended.stdout.splitlines()]
+    assert (ended.returncode, ended.stderr) == (0, b"")
+    assert [(line["path"], line["saved"], (tmp_path / line["saved"]).read_bytes()) for line in lines] == [("1", "a.exe", b"MZ")]
+    ended = run(command("json"), mail)
+    parts = json.loads(ended.stdout)["parts"]
+    assert [part["path"] for part in parts if part["extracted"]] == ["1"]
+
+
+# headers with the name and the disposition that they give a file: by RFC 6266, section 4.3, RFC 2047, sections 5 and
+# 6.1, and RFC 2045, section 5.1
+DISPOSITIONS = {
+    "attachment; filename=\"Ubersicht.pdf\"; filename*=UTF-8''%C3%9Cbersicht.pdf": ("\u00dcbersicht.pdf", "attachment"),
+    "attachment; filename*=UTF-8''%C3%9Cbersicht.pdf; filename=\"Ubersicht.pdf\"": ("\u00dcbersicht.pdf", "attachment"),
+    "inline; filename=a; filename*=utf-8''..%2Fb": ("../b", "inline"),
+    'inline; filename="a b.txt': ("a b.txt", "inline"),
+    'attachment; filename="=?utf-8?Q?a.pdf=22;_filename*=3Dutf-8\'\'b.exe?="': ("a.pdf\"; filename*=utf-8''b.exe", "attachment"),
+}
+
+
+@pytest.mark.parametrize("disposition", DISPOSITIONS)
+def test_names_of_dispositions(disposition, tmp_path):
+    """`extract`, `json` and `show` have one name of a file, and the same files."""
+    name, kind = DISPOSITIONS[disposition]
+    mail = f"Content-Disposition: {disposition}\n\nx".encode()
+    ended = run([*command("extract"), "--into", tmp_path], mail)
+    safe = ("_" if name.startswith(".") else "") + name.replace("/", "_")
+    assert (ended.returncode, [json.loads(line)["saved"] for line in ended.stdout.splitlines()]) == (0, [safe])
+    part = json.loads(run(command("json"), mail).stdout)["parts"][0]
+    assert (part["file_name"], part["disposition"], part["attachment"], part["extracted"]) == (name, kind, True, True)
+    shown = run([*command("show"), "-"], mail).stdout.decode()
+    assert name in shown
+
+
 def test_lines_follow_their_files(tmp_path):
     """The line of each file is written before the next one is saved, even if the run then ends by a limit on files."""
     def set_limit():

@@ -18,6 +18,7 @@ import sys
 import tempfile
 
 import jsonschema
+import pytest
 
 from support import FROM, SAMPLES, TOP, command, multipart, program
 
@@ -144,6 +145,42 @@ def test_characters():
     assert found[0]["parts"][0]["text"] == b"\xc4\xc1".decode("koi8-r"), "KOI8-R"
 
 
+# what the suites of other readers expect, GMime, VMime and mblaze among them; of a folding and a tab it is RFC 5322,
+# section 2.2.3, and of an unknown charset docs/RULES.md
+SUBJECTS = {
+    b"=?utf-8?Q?a?=: =?utf-8?Q?b?=": "a: b",
+    b"=?utf-8?B?w6k=?==?utf-8?B?w6k=?=": "éé",
+    b"x=?utf-8?Q?a?=y": "xay",
+    b"[=?utf-8?Q?a?=]": "[a]",
+    b"Re:=?utf-8?Q?a?=": "Re:a",
+    b"=?utf-8?B?w6k?=": "é",
+    b"=?utf-8?B?YWI==?=": "ab",
+    b"=?utf-8?Q?Gwena=C3?=\r\n =?utf-8?Q?=ABl?=": "Gwenaël",
+    b"=?utf-8*en?Q?a?=": "a",
+    b"\r\n a": "a",
+    b"\x93hi\x94": "“hi”",
+    b"a\r\n\tb": "a\tb",
+    b"=?x-none?Q?a?= what?": "=?x-none?Q?a?= what?",
+}
+
+
+@pytest.mark.parametrize("value", SUBJECTS)
+def test_subjects(value):
+    """Subjects whose words are not written as the standards ask, as a member and in the list of headers."""
+    found = objects([], b"Subject: " + value + b"\r\n\r\n", 0, repr(value))[0]
+    assert found["subject"] == SUBJECTS[value]
+    assert found["parts"][0]["headers"] == [["Subject", SUBJECTS[value]]]
+
+
+def test_multiparts_without_parts():
+    """The body of a multipart without a boundary is a text, as Python's email has it."""
+    mail = b"Content-Type: multipart/alternative\n\nHi\n"
+    for data in (mail, multipart(b"b", mail)):
+        part = objects([], data, 0, repr(data))[0]["parts"][-1]
+        assert (part["type"], part["text"].strip(), part["extracted"]) == ("multipart/alternative", "Hi", True)
+    compare(mail, repr(mail))
+
+
 def test_charsets():
     """Charsets of several bytes: in words, names of addresses and of files, parameters and bodies."""
     for label, text in TEXTS.items():
@@ -172,6 +209,8 @@ def test_faults():
     assert (found["date"], found["date_error"]) == (None, "no day of the month"), "a date without a number"
     found = objects([], b"Date: Sun, 29 Jul 2012 20:57 +0200\n\n", 0, "a date without seconds")[0]
     assert (found["date"], "date_error" in found) == (1343588220, False), "a date without seconds"
+    found = objects([], b"Date: Sat, 12 Oct 2002 07:46:53 US/Central\n\n", 0, "a zone that is not known")[0]
+    assert (found["date"], found["date_zone_unknown"]) == (1034408813, True), "a zone that is not known"
     found = objects([], b"", 0, "no bytes")[0]
     assert (found["subject"], found["date"], found["references"]) == (None, None, []), "no bytes"
     assert found["parts"][0]["headers"] == [], "no bytes"
@@ -197,6 +236,7 @@ def test_addresses():
         b"undisclosed-recipients:;", b"A Group: Ed <ed@a.test>, joe@where.test, John <jdoe@one.test>;, x@y",
         b"Pete(A nice \\) chap) <pete(his account)@silly.test(his host)>", b"\"a b\"@example.org",
         b"\"Joe Q. Public\" <john.q.public@example.com>", b"<boss@nil.test>, \"Giant; \\\"Big\\\" Box\" <s@example.net>",
+        b"ann@example.org (Ann), <bob@example.org> (=?utf-8?q?Bob_M=2E?=), A Group: joe@where.test (Joe);",
     ):
         mail = b"".join(name + b": " + value + b"\n" for name in (b"From", b"To", b"CC", b"Bcc", b"Reply-To")) + b"\n"
         found, wanted = objects([], mail, 0, repr(value))[0], mail_object(mail)
@@ -206,6 +246,9 @@ def test_addresses():
         (b"a at b, c@d", [{"unknown": "a at b"}, {"name": None, "address": "c@d"}]),
         (b"all: \xe9, a@b;", [{"group": "all", "members": [{"unknown": " \xe9"}, {"name": None, "address": "a@b"}]}]),
         (b'"" <a@b>', [{"name": None, "address": "a@b"}]),
+        (b"boss@c <eve@d>", [{"name": "boss@c", "address": "eve@d"}]),
+        (b"undisclosed-recipients:", [{"group": "undisclosed-recipients", "members": []}]),
+        (b"all: Ann [x] <a@b>;", [{"group": "all", "members": [{"name": "Ann [x]", "address": "a@b"}]}]),
         (b"a@b\nTo: x:;, c@d", [{"name": None, "address": "a@b"}, {"group": "x", "members": []}, {"name": None, "address": "c@d"}]),
     ):
         assert objects([], b"To: " + value + b"\n\n", 0, repr(value))[0]["to"] == wanted, repr(value)
@@ -358,11 +401,19 @@ def test_bounced_id():
 def test_content_ids():
     """The id of a part."""
     for head, wanted in (
-        (b"", None), (b"Content-ID: <a@b>", "a@b"), (b"content-id: (x) <one> <a@b>", "one"), (b"Content-ID: a@b", None),
-        (b"Content-ID: a@b\nContent-ID: <a@b>", None), (b"Content-ID:\n <a@b>", "a@b"), (b"Content-ID: <>", None),
+        (b"", None), (b"Content-ID: <a@b>", "a@b"), (b"content-id: (x) <one> <a@b>", "one"), (b"Content-ID: a@b", "a@b"),
+        (b"Content-ID: a b\nContent-ID: <a@b>", None), (b"Content-ID: ab", None), (b"Content-ID:\n <a@b>", "a@b"), (b"Content-ID: <>", None),
         (b"Content-ID: <=?utf-8?Q?a=40b?=>", "=?utf-8?Q?a=40b?="),
     ):
         assert objects([], head + b"\n\n", 0, repr(head))[0]["parts"][0]["content_id"] == wanted, repr(head)
+
+
+def test_ids_without_brackets():
+    """A value that is one id as a whole, without brackets."""
+    data = b"Message-ID: 1@a\nReferences: 2@b (x)\nIn-Reply-To: 3@c 4@d\n\n"
+    line = objects([], data, 0, repr(data))[0]
+    found = [line[name] for name in ("message_id", "references", "in_reply_to")]
+    assert found == [["1@a"], ["2@b"], []] == [mail_object(data)[name] for name in ("message_id", "references", "in_reply_to")]
 
 
 def test_ids_without_encoded_words():

@@ -60,7 +60,10 @@ def read_text(mail):
             for kind in ("text/plain", "text/html"):
                 for one in versions:
                     named = file_name(one) is not None and not may_have_name
-                    if one.get_content_type() == kind and not named and one.get_content_disposition() != "attachment":
+                    read_as = one.get_content_type()
+                    if one.get_content_maintype() == "multipart" and not has_parts(one):
+                        read_as = "text/plain"
+                    if read_as == kind and not named and one.get_content_disposition() != "attachment":
                         return text_of(one, body_of(one))["text"]
     return None
 
@@ -120,6 +123,8 @@ MADE = {
     "values": f"From: {NAME} <a@example.org>\nTo: {NAME}: b@example.org;\nSubject: {encoded(EVIL)}\n\n".encode(),
     "text": b"Content-Type: text/plain; charset=utf-8\nContent-Transfer-Encoding: 8bit\n\n" + TEXT.encode(),
     "name that is an address": b"From: =?utf-8?q?Boss_=3Cboss=40example.org=3E?= <eve@example.org>\n\n",
+    "words beside text": b"Subject: [=?utf-8?Q?a?=] Re:=?utf-8?Q?caf=C3?=\r\n =?utf-8?Q?=A9?=\r\n\r\nHi\r\n",
+    "no boundary": b"Subject: a\n\t=?utf-8?Q?b?=\nContent-Type: multipart/alternative\n\nHi\n",
     "two senders": b"From: a@example.org\nFrom: b@example.org\nReply-To: c@example.org\nCc: d@example.org\n\nHi\n",
     "file name": multipart(
         b"b", b"Content-Disposition: attachment; filename*=utf-8''a%0APart%3A%1B%E2%80%AEgnp.exe\n\nx", b"\nHi"
