@@ -21,6 +21,8 @@ use crate::header::parse::{has_colon, line_feed_from};
 /// assert_eq!(rt; part, b"Content-Type: multipart/mixed; boundary=b\n \n".as_slice());
 /// assert_eq!(rt; before_dash_line(b"A: b\n\n--b\n"), b"A: b\n\n--b\n".as_slice());
 /// ```
+// It is not inlined, so that the frame of the reader of a message, which calls itself, stays small.
+#[inline(never)]
 pub fn before_dash_line(raw: &[u8]) -> &[u8]
     ensures { result.now ≡ before_dash_line raw.now }
 {

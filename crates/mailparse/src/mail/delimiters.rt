@@ -93,7 +93,9 @@ fn find_delimiter_as(raw: &[u8], start: usize, line_delimiter: &[u8], whole: boo
 }
 
 /// Returns the offset of the first delimiter at or after `start` that is a whole line, where
-/// `start` counts as the start of a line.
+/// `start` counts as the start of a line. It is kept out of the frame of the function that
+/// recurses.
+#[inline(never)]
 fn find_whole_line(raw: &[u8], start: usize, line_delimiter: &[u8]) -> Option<usize>
     requires line_delimiter { IsLineDelimiter line_delimiter.now }
     requires within { start ≤ length raw.now }
