@@ -95,12 +95,17 @@ pieces_at head bytes after =
 abbrev pub is_white : List ℕ → Bool
 is_white text = list_all is_ascii_whitespace text
 
+-- a label names a charset of the family of ISO 2022, such as ISO-2022-JP, in which each text, and so
+-- each word, begins and ends in ASCII (RFC 1468)
+abbrev pub has_shifts : List ℕ → Bool
+has_shifts label = is_some (text_place label (codes "2022"))
+
 -- whether a word goes on the word before it: only whitespace is between the two, and they have one
--- charset
+-- charset, in which a character may be cut in two
 abbrev pub joins : Option Word → List ℕ → Word → Bool
 joins None text word = false
 joins (Some before) text word =
-    is_white text && str_eq_ignore_ascii_case before.label word.label
+    is_white text && (str_eq_ignore_ascii_case before.label word.label && not (has_shifts word.label))
 
 -- both words as one
 abbrev pub joined : Option Word → Word → Word

@@ -1,16 +1,19 @@
 //! The text of a header's value, read leniently.
 ghost use Rattle.std.specs.Prelude.{◌≡◌, ◌≤◌, ◌<◌, ◌+◌, ◌-◌, ◌++◌, ℕ, [], length, take, drop, true};
+ghost use Rattle.std.specs.Prelude.{◌&&◌, not};
 ghost use Rattle.std.specs.Prelude.{IfOk, IfSome, IsOk, IsSome, IsTrue, MatchOption, OnOk};
 ghost use Rattle.std.specs.Prelude.{None, option_and_then, option_map, string_bytes};
 ghost use Rattle.std.specs.Cow.{cow_str_bytes, IsBorrowedStr};
 ghost use Rattle.std.specs.List.{prefix_len};
+ghost use Rattle.std.specs.Str.{str_eq_ignore_ascii_case};
 ghost use Rattle.mail_codec.specs.Charset.{Charsets};
 ghost use Rattle.mailparse.specs.Map.{text_found};
 ghost use Rattle.mailparse.specs.Value.{IsPlain};
 ghost use Rattle.mail_data.specs.Files.{text_of_octets};
 ghost use Rattle.mail_data.specs.lenient.Folding.{is_blank};
 ghost use Rattle.mail_data.specs.lenient.Values.{Pieces, between, decoded, encoding_at};
-ghost use Rattle.mail_data.specs.lenient.Values.{first_header_text, head_of, header_text, if_known};
+ghost use Rattle.mail_data.specs.lenient.Values.{first_header_text, has_shifts, head_of};
+ghost use Rattle.mail_data.specs.lenient.Values.{header_text, if_known};
 ghost use Rattle.mail_data.specs.lenient.Values.{is_label_byte, is_white, joins, last, name_length};
 ghost use Rattle.mail_data.specs.lenient.Values.{octets_of, piece, pieces, pieces_at};
 ghost use Rattle.mail_data.specs.lenient.Values.{shown, spaced, without_language};
@@ -19,7 +22,7 @@ ghost use Rattle.mail_data.specs.lenient.ValueViews.{head_view, run_view, word_v
 use super::base64::base64_front;
 use super::folding::{begins_in_blank, is_blank, unfolded};
 use crate::files::text_of_octets;
-use mail_codec::bytescan::{find_byte, find_either, find_pair};
+use mail_codec::bytescan::{find, find_byte, find_either, find_pair};
 use mail_codec::charset::{Decode, KnownCharsets};
 use mail_codec::transfer::decode_quoted_printable;
 use mailparse::MailHeaderMap;
@@ -434,9 +437,24 @@ fn joins(run: &Run<'_>, word: &EncodedWord<'_>) -> bool
     ensures { result ≡ joins (run_view run.now) word.now.before.now (word_view word.now) }
 {
     match run.label {
-        Some(label) => is_white(word.before) && label.eq_ignore_ascii_case(word.label),
+        Some(label) => is_white(word.before) && is_joined(label, word.label),
         None => false,
     }
+}
+
+/// Returns whether the bytes of two words with these labels are joined.
+fn is_joined(before: &[u8], label: &[u8]) -> bool
+    ensures { result
+        ≡ (str_eq_ignore_ascii_case before.now label.now && not (has_shifts label.now)) }
+{
+    before.eq_ignore_ascii_case(label) && !has_shifts(label)
+}
+
+/// Returns whether a label names a charset of the family of ISO 2022, such as ISO-2022-JP.
+fn has_shifts(label: &[u8]) -> bool
+    ensures { result ≡ has_shifts label.now }
+{
+    find(label, b"2022").is_some()
 }
 
 /// Returns whether a text is whitespace alone.
