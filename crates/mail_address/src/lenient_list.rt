@@ -214,7 +214,8 @@ fn refined_members<'a>(alloc: Global, members: &[Member<'a>]) -> Result<Vec<Memb
 
 /// Returns a group, whose members are read leniently.
 fn refined_group<'a>(alloc: Global, strict: &Group<'a>) -> Result<Group<'a>, AllocError>
-    ensures { IfOk result (λ new. group (group_view new) ≡ refined (group (group_view strict.now))) }
+    ensures { IfOk result (λ new.
+        group (group_view new) ≡ refined (group (group_view strict.now))) }
 {
     let members = refined_members(alloc, strict.members.as_slice())?;
     Ok(Group {
