@@ -52,7 +52,7 @@ ADDRESSES = [
     b'"a\r\n b"@c', b'"a\n b"@c', b'"a\r\n\tb"@c', b'"a\rb"@c', b'"a\\\rb"@c', b"ann@[1.2.3.4\r\n ]", b"a@[1\\ \x7f]",
 ]
 ROUTES = [b""] * 6 + [b"@a,@b:", b"@a,,(x)@b :", b"@a:b:", b"joe@c:"]
-SEPARATORS = [b", "] * 6 + [b",", b";", b"; ", b",,", b", (x, y) ,", b",\r\n "]
+SEPARATORS = [b", "] * 6 + [b",", b";", b"; ", b",,", b", (x, y) ,", b",\r\n ", b" "]
 ODD = SPACED + [
     b'"', b"(", b")", b"[", b"]", b"<", b">", b"<>", b",", b";", b":", b":;", b"\\", b"\0", b"\x7f", b"\r\n ", b"\t", b'""',
     b'"a\\\\"', b"(\\()", b"((", b'"(', b')"', b"[a\\]b]", b"mailto:", b"@", b".", b"\xff", b"(a (b) c)", b"<@",
@@ -345,7 +345,17 @@ def lenient_single(text):
         inner = found[2]
         if set(inner) <= {"w"} or ("@" in inner and "<" not in inner):
             return lenient_group(text, found)
-    return lenient_of(text)
+    found = lenient_of(text)
+    return several_of(text) or found if found[:1] == ["unknown"] else found
+
+
+def several_of(text):
+    """The items of the addresses that an element consists of, or None."""
+    if b"=?" in text.bytes():
+        return None
+    first = re.compile("([^<]*<?w*)" if "<" in text.word else "([^@]*@?[^w]*w*)")
+    found = [lenient_of(it) for it in parts_of(text, first)]
+    return sum(found, []) if all(it[:1] == ["mailbox"] for it in found) else None
 
 
 def lenient_group(text, found):

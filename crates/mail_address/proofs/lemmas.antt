@@ -22,3 +22,4 @@ pub mod Accepted
 pub mod Plain
 pub mod Groups
 pub mod Lenient
+pub mod LenientLists

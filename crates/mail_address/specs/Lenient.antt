@@ -1,15 +1,15 @@
 -- A lenient reading of addresses, above the grammar. Only an element that is no mailbox by the grammar is read again, and a mailbox
 -- without a display name looks for one in a comment. The rules are our own; each is about text that real mail has.
-use Rattle.std.specs.Prelude.{◌≡◌, ℕ, suc, ◌+◌, ◌-◌, Bool, true, false, not, ◌&&◌, ◌||◌, ◌==◌, List, length, map, take, drop, Option, Some, None, option_map, codes, if◌then◌else◌}
+use Rattle.std.specs.Prelude.{◌≡◌, ℕ, suc, ◌+◌, ◌-◌, Bool, true, false, not, ◌&&◌, ◌||◌, ◌==◌, List, length, map, take, drop, min, flat_map, [], ◌∷◌, Option, Some, None, is_none, option_map, codes, if◌then◌else◌}
 use Rattle.std.specs.List.{list_all}
-use Rattle.std.specs.Option.{option_or}
+use Rattle.std.specs.Option.{is_some, option_or}
 use Rattle.mail_codec.specs.Ascii.{colon, less_than, opening_parenthesis, quote}
-use Rattle.mail_codec.specs.Places.{begins, has_prefix}
+use Rattle.mail_codec.specs.Places.{begins, has_prefix, text_place}
 use Rattle.mailparse.specs.Header.{Header}
 use Rattle.mail_address.specs.declared.tokens.Kind.{Kind}
 use Rattle.mail_address.specs.declared.tokens.Kind.TheVariants.{Comment, Quoted}
 use Rattle.mail_address.specs.declared.tokens.Span.TheVariants.{White, AfterAngle, BeforeAngle, BeforeAt, BeforeColon, BeforeOpening, BeforeWhite, Dots}
-use Rattle.mail_address.specs.Addresses.{Element, Group, Single, addresses, after_name, group, members_at, name_len, single}
+use Rattle.mail_address.specs.Addresses.{Element, Group, Single, addresses, after_name, group, items, members_at, name_len, single}
 use Rattle.mail_address.specs.Headers.{addresses_of, only_mailbox}
 use Rattle.mail_address.specs.Mailbox.{Parts, after_white, are_clean, is_domain, is_enclosed, is_local_part, is_phrase, mailbox_of, within_ends}
 use Rattle.mail_address.specs.Tokens.{at_sign, dot, far, front_token, is_all_white, run}
@@ -209,13 +209,83 @@ refined (single s) = refined_element s.start s.text s.mailbox
 refined (group g) =
     group (record { start = g.start; text = g.text; display_name = g.display_name; members = map refined_single g.members })
 
+-- ---- Several addresses in one element.
+
+-- a text contains a pair of angle brackets outside of quotes and comments
+abbrev pub has_brackets : List ℕ → Bool
+has_brackets text = is_enclosed (front_token (drop (run BeforeAngle text) text)).kind
+
+-- the length of the bytes up to the end of the first pair of angle brackets
+unfoldable pub angle_end : List ℕ → ℕ
+angle_end bytes =
+    let angle = run BeforeAngle bytes in
+    angle + (front_token (drop angle bytes)).len
+
+-- the length of the bytes up to the first `@`, and of that
+unfoldable pub at_end : List ℕ → ℕ
+at_end bytes = suc (run BeforeAt bytes)
+
+-- the length of the bytes up to the end of the first word with an `@`
+unfoldable pub word_end : List ℕ → ℕ
+word_end bytes = at_end bytes + run BeforeWhite (drop (at_end bytes) bytes)
+
+-- the length of the bytes up to the end of the first address, with angle brackets or without
+abbrev pub address_end : Bool → List ℕ → ℕ
+address_end true bytes = angle_end bytes
+address_end false bytes = word_end bytes
+
+-- that length with the whitespace and comments after the address
+unfoldable pub several_len : Bool → List ℕ → ℕ
+several_len angles bytes =
+    let len = address_end angles bytes in
+    min (len + run White (drop len bytes)) (length bytes)
+
+-- that length if the first address is a mailbox, or 0
+unfoldable pub known_len : Bool → List ℕ → ℕ
+known_len angles bytes =
+    let len = several_len angles bytes in
+    if is_some (lenient_mailbox (take len bytes)) then len else 0
+
+-- the bytes are addresses with nothing between them, and contain no `=?`, since brackets in an encoded word enclose no address
+unfoldable pub are_several : List ℕ → Bool
+are_several text = is_none (text_place text (codes "=?")) && far (known_len (has_brackets text)) text == length text
+
+-- the first of them
+unfoldable pub several_at : Bool → ℕ → List ℕ → List Element
+several_at angles start bytes = single (refined_as start (take (several_len angles bytes) bytes) None) ∷ []
+
+-- the elements that they are
+unfoldable pub several : ℕ → List ℕ → List Element
+several start text = items (several_at (has_brackets text)) (several_len (has_brackets text)) start text
+
+-- the elements that an element at an offset with this text is, which was read as this mailbox or none
+abbrev pub parted_as : ℕ → List ℕ → Option Parts → List Element
+parted_as start text (Some m) = single (record { start = start; text = text; mailbox = Some m }) ∷ []
+parted_as start text None =
+    if are_several text then several start text else single (record { start = start; text = text; mailbox = None }) ∷ []
+
+-- the elements that an element is: several if it is not read as one
+abbrev pub parted : Element → List Element
+parted (single s) = parted_as s.start s.text s.mailbox
+parted (group g) = group g ∷ []
+
+-- ---- Lists.
+
+-- the elements that an element by the grammar is, read leniently
+abbrev pub lenient_element : Element → List Element
+lenient_element e = parted (refined e)
+
+-- so those that elements are
+abbrev pub lenient_elements : List Element → List Element
+lenient_elements es = flat_map lenient_element es
+
 -- the elements of a list
 abbrev pub lenient_addresses : List ℕ → List Element
-lenient_addresses raw = map refined (addresses raw)
+lenient_addresses raw = lenient_elements (addresses raw)
 
 -- the elements in all headers with this name, in the order of the mail
 abbrev pub lenient_addresses_of : List ℕ → List Header → List Element
-lenient_addresses_of name headers = map refined (addresses_of name headers)
+lenient_addresses_of name headers = lenient_elements (addresses_of name headers)
 
 -- the sender of a mail: the only mailbox of its `Sender`, or else that of its `From`
 unfoldable pub lenient_sender_of : List Header → Option Single
@@ -225,7 +295,3 @@ lenient_sender_of headers =
 -- an element without members is a mailbox by the grammar, with a display name or without a comment that could be one
 abbrev pub IsComplete : Single → Type 0
 IsComplete s = (m : Parts) × ((s.mailbox ≡ Some m) × (is_named_in_comment s.text m ≡ false))
-
--- a text contains a pair of angle brackets outside of quotes and comments
-abbrev pub has_brackets : List ℕ → Bool
-has_brackets text = is_enclosed (front_token (drop (run BeforeAngle text) text)).kind

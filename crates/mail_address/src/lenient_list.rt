@@ -6,11 +6,13 @@ ghost use Rattle.mail_address.specs.AddressViews.{member_view, unknown_view};
 ghost use Rattle.mail_address.specs.MailboxViews.{parts};
 ghost use Rattle.mail_address.specs.Addresses.{group, single};
 ghost use Rattle.mail_address.specs.Lenient.{has_bare_address, is_open_group, lenient_addresses};
-ghost use Rattle.mail_address.specs.Lenient.{lenient_addresses_of, lenient_sender_of, open_group};
+ghost use Rattle.mail_address.specs.Lenient.{lenient_addresses_of, lenient_elements};
+ghost use Rattle.mail_address.specs.Lenient.{lenient_sender_of, open_group, parted};
 ghost use Rattle.mail_address.specs.Lenient.{refined, refined_as, refined_element, refined_single};
 
 use crate::headers::{addresses_of, only_mailbox};
 use crate::lenient::{lenient_mailbox, with_comment};
+use crate::lenient_several::{are_several, several};
 use crate::list::{
     Address, AddressList, Group, Mailbox, Member, Unknown, after_name, members_at, name_len,
     read_addresses,
@@ -123,13 +125,48 @@ pub fn lenient_sender_of<'m, M: MailHeaderMap>(
 /// Returns elements, read leniently.
 fn refined_list<'a>(alloc: Global, elements: &[Address<'a>]) -> Result<AddressList<'a>, AllocError>
     ensures { IfOk result (λ list.
-        map element_view list.items ≡ map refined (map element_view elements.now)) }
+        map element_view list.items ≡ lenient_elements (map element_view elements.now)) }
 {
     let mut list = Vec::with_capacity(alloc, elements.len())?;
     for element in elements {
-        list.push(refined_element(alloc, element)?)?;
+        push_parted(alloc, &mut list, refined_element(alloc, element)?)?;
     }
     Ok(list)
+}
+
+/// Appends the elements that an element is, which was read leniently.
+fn push_parted<'a>(
+    alloc: Global,
+    list: &mut AddressList<'a>,
+    element: Address<'a>,
+) -> Result<(), AllocError>
+    ensures { OnOk result (map element_view list.new.items
+        ≡ map element_view list.old.items ++ parted (element_view element.entry)) }
+{
+    match element {
+        Address::Mailbox(mailbox) => list.push(Address::Mailbox(mailbox))?,
+        Address::Group(group) => list.push(Address::Group(group))?,
+        Address::Unknown(unknown) => push_unknown(alloc, list, unknown)?,
+    }
+    Ok(())
+}
+
+/// Appends the elements that an element is which was not read as one address.
+fn push_unknown<'a>(
+    alloc: Global,
+    list: &mut AddressList<'a>,
+    unknown: Unknown<'a>,
+) -> Result<(), AllocError>
+    ensures { OnOk result (map element_view list.new.items
+        ≡ map element_view list.old.items ++ parted (single (unknown_view unknown.entry))) }
+{
+    if !are_several(unknown.text) {
+        list.push(Address::Unknown(unknown))?;
+        return Ok(());
+    }
+    let mut found = several(alloc, &unknown)?;
+    list.append(&mut found)?;
+    Ok(())
 }
 
 /// Returns an element, read leniently.
@@ -151,9 +188,16 @@ fn refined_unknown<'a>(alloc: Global, unknown: &Unknown<'a>) -> Result<Address<'
     if is_open_group(unknown.text) {
         return Ok(Address::Group(open_group(alloc, unknown)?));
     }
-    match refined_member(&Member::Unknown(*unknown)) {
-        Member::Mailbox(mailbox) => Ok(Address::Mailbox(mailbox)),
-        Member::Unknown(unknown) => Ok(Address::Unknown(unknown)),
+    Ok(single_of(refined_member(&Member::Unknown(*unknown))))
+}
+
+/// Returns an element without members as an element of a list.
+pub(crate) fn single_of(member: Member<'_>) -> Address<'_>
+    ensures { element_view result ≡ single (member_view member.entry) }
+{
+    match member {
+        Member::Mailbox(mailbox) => Address::Mailbox(mailbox),
+        Member::Unknown(unknown) => Address::Unknown(unknown),
     }
 }
 
@@ -188,7 +232,7 @@ fn refined_mailbox<'a>(mailbox: &Mailbox<'a>) -> Mailbox<'a>
 }
 
 /// Returns an element without members, read leniently.
-fn refined_member<'a>(member: &Member<'a>) -> Member<'a>
+pub(crate) fn refined_member<'a>(member: &Member<'a>) -> Member<'a>
     ensures { member_view result ≡ refined_single (member_view member.now) }
 {
     match member {

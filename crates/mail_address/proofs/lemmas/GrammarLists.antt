@@ -29,7 +29,7 @@ singles-append : (P : Single → Type 0) (xs ys : List Single) → EachSingle P 
 singles-append P [] ys first second = second
 singles-append P (x ∷ xs) ys first second = (first.0, singles-append P xs ys first.1 second)
 
-elements-append : (P : Single → Type 0) (xs ys : List Element) → EachElement P xs → EachElement P ys → EachElement P (xs ++ ys)
+pub elements-append : (P : Single → Type 0) (xs ys : List Element) → EachElement P xs → EachElement P ys → EachElement P (xs ++ ys)
 elements-append P [] ys first second = second
 elements-append P (single s ∷ xs) ys first second = (first.0, elements-append P xs ys first.1 second)
 elements-append P (group g ∷ xs) ys first second = (first.0, elements-append P xs ys first.1 second)

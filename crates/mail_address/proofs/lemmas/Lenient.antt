@@ -1,7 +1,9 @@
 -- What the lenient reading of addresses keeps of the reading by the grammar.
 use Rattle.std.proofs.Common.{◌≡◌, ℕ, suc, ◌+◌, ◌≤◌, Bool, true, false, ◌&&◌, eqb, List, [], ◌∷◌, Option, Some, None, length, map, option_map, take, drop, refl, sym, ap, subst, ◌∙◌, if◌then◌else◌}
+use Rattle.std.specs.Prelude.{flat_map}
 use Rattle.std.specs.Option.{option_or}
 use Rattle.std.proofs.lemmas.Bool.{and_parts, cond_both, cond-false, cond-true}
+use Rattle.std.proofs.lemmas.List.Folds.{flat_map-map}
 use Rattle.mailparse.specs.Header.{Header}
 use Rattle.mail_codec.specs.Places.{begins}
 use Rattle.mail_address.specs.declared.tokens.Span.TheVariants.{BeforeAngle, BeforeAt, BeforeOpening}
@@ -9,7 +11,7 @@ use Rattle.mail_address.specs.Accepted.{IsAccepted}
 use Rattle.mail_address.specs.Addresses.{addresses, after_name, EachElement, EachSingle, Element, Group, group, members_at, name_len, Single, single}
 use Rattle.mail_address.specs.Grammar.{address, IsByGrammar, IsDomain, IsMailbox, named_address}
 use Rattle.mail_address.specs.Headers.{addresses_of}
-use Rattle.mail_address.specs.Lenient.{after_any_route, angle_mailbox, bare_mailbox, bare_name_len, closed_len, closed_mailbox, comment_name, has_brackets, has_no_opening, is_lenient_local, is_named_in_comment, is_open_group, IsComplete, lenient_addresses, lenient_addresses_of, lenient_mailbox, lenient_name, lenient_parts, lenient_spec, open_group, opened_mailbox, refined, refined_as, refined_element, refined_single, with_comment, without_quote, without_root}
+use Rattle.mail_address.specs.Lenient.{after_any_route, angle_mailbox, bare_mailbox, bare_name_len, closed_len, closed_mailbox, comment_name, has_brackets, has_no_opening, is_lenient_local, is_named_in_comment, is_open_group, IsComplete, lenient_addresses, lenient_addresses_of, lenient_elements, lenient_mailbox, lenient_name, lenient_parts, lenient_spec, open_group, opened_mailbox, parted, refined, refined_as, refined_element, refined_single, with_comment, without_quote, without_root}
 use Rattle.mail_address.specs.Mailbox.{are_clean, is_domain, mailbox_of, Parts, within_ends}
 use Rattle.mail_address.specs.Order.{AreInOrder, start_of, text_of}
 use Rattle.mail_address.specs.Safe.{IsSafe}
@@ -19,6 +21,7 @@ use Rattle.mail_address.proofs.lemmas.Accepted.{address-accepted}
 use Rattle.mail_address.proofs.lemmas.Folding.{address-no_control, text-no_control}
 use Rattle.mail_address.proofs.lemmas.GrammarLists.{addresses-have, members-follow, named-have, singles-have}
 use Rattle.mail_address.proofs.lemmas.GrammarMade.{domain-made, mailbox-made}
+use Rattle.mail_address.proofs.lemmas.LenientLists.{parted-hold, parted-in_order, parted_all-same}
 
 -- ---- where the grammar suffices
 
@@ -58,10 +61,17 @@ group-same : (g : Group) → EachSingle IsComplete g.members → refined (group 
 group-same g are =
     ap (λ ms. group (record { start = g.start; text = g.text; display_name = g.display_name; members = ms })) (singles-same g.members are)
 
-pub elements-same : (es : List Element) → EachElement IsComplete es → map refined es ≡ es
+elements-same : (es : List Element) → EachElement IsComplete es → map refined es ≡ es
 elements-same [] are = refl
 elements-same (single s ∷ es) are = ap (λ (x : Element). x ∷ map refined es) (element-same s are.0) ∙ ap (λ (xs : List Element). single s ∷ xs) (elements-same es are.1)
 elements-same (group g ∷ es) are = ap (λ (x : Element). x ∷ map refined es) (group-same g are.0) ∙ ap (λ (xs : List Element). group g ∷ xs) (elements-same es are.1)
+
+-- the elements are read leniently first, and then divided
+by_steps : (es : List Element) → flat_map parted (map refined es) ≡ lenient_elements es
+by_steps es = flat_map-map parted refined es
+
+pub lenient-same : (es : List Element) → EachElement IsComplete es → lenient_elements es ≡ es
+lenient-same es are = sym (by_steps es) ∙ ap (flat_map parted) (elements-same es are) ∙ parted_all-same es are
 
 -- ---- what every address that is read has
 
@@ -184,6 +194,10 @@ elements-sound (single s ∷ es) are =
     element-then IsSingleSound (refined (single s)) (map refined es) (element-sound s.start s.text s.mailbox are.0) (elements-sound es are.1)
 elements-sound (group g ∷ es) are = (singles-sound g.members are.0, elements-sound es are.1)
 
+divided-sound : (es : List Element) → EachElement IsSingleSound es → EachElement IsSingleSound (lenient_elements es)
+divided-sound es are =
+    subst (EachElement IsSingleSound) (by_steps es) (parted-hold IsSingleSound (λ start text. lenient-sound text) (map refined es) (elements-sound es are))
+
 -- ---- what follows from that
 
 sound-safe : (s : Single) → IsSingleSound s → IsSafe s
@@ -207,11 +221,11 @@ module _ (P : Single → Type 0) (given : (s : Single) → IsSingleSound s → P
   elements-then (group g ∷ es) are = (singles-then g.members are.0, elements-then es are.1)
 
   pub lenient-have : (raw : List ℕ) → EachElement P (lenient_addresses raw)
-  lenient-have raw = elements-then (lenient_addresses raw) (elements-sound (addresses raw) (addresses-have IsSingleSound given-sound raw))
+  lenient-have raw = elements-then (lenient_addresses raw) (divided-sound (addresses raw) (addresses-have IsSingleSound given-sound raw))
 
   pub lenient_named-have : (name : List ℕ) (headers : List Header) → EachElement P (lenient_addresses_of name headers)
   lenient_named-have name headers =
-      elements-then (lenient_addresses_of name headers) (elements-sound (addresses_of name headers) (named-have IsSingleSound given-sound name headers))
+      elements-then (lenient_addresses_of name headers) (divided-sound (addresses_of name headers) (named-have IsSingleSound given-sound name headers))
 
 pub all_safe : (s : Single) → IsSingleSound s → IsSafe s
 all_safe = sound-safe
@@ -243,7 +257,7 @@ refined-at : (e : Element) → IsAt (start_of e) (text_of e) (refined e)
 refined-at (single s) = refined_element-at s.start s.text s.mailbox
 refined-at (group g) = record { starts = refl; has = refl }
 
-pub in_order-refined : (place : ℕ) (bytes : List ℕ) (es : List Element) → AreInOrder place bytes es → AreInOrder place bytes (map refined es)
+in_order-refined : (place : ℕ) (bytes : List ℕ) (es : List Element) → AreInOrder place bytes es → AreInOrder place bytes (map refined es)
 in_order-refined place bytes [] are = tt
 in_order-refined place bytes (e ∷ es) are =
     let at = refined-at e in
@@ -253,3 +267,7 @@ in_order-refined place bytes (e ∷ es) are =
       ap (λ (t : List ℕ). take (length t) (drop (start_of (refined e)) bytes)) at.has ∙ ap (λ n. take (length (text_of e)) (drop n bytes)) at.starts ∙ are.1 ∙ sym at.has,
       after,
     )
+
+pub lenient-in_order : (place : ℕ) (bytes : List ℕ) (es : List Element) → AreInOrder place bytes es → AreInOrder place bytes (lenient_elements es)
+lenient-in_order place bytes es are =
+    subst (λ (xs : List Element). AreInOrder place bytes xs) (by_steps es) (parted-in_order place bytes (map refined es) (in_order-refined place bytes es are))

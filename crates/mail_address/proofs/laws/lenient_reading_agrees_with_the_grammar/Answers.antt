@@ -1,6 +1,6 @@
 use Rattle.std.proofs.Common.{refl}
 use Rattle.mail_address.specs.Addresses.{addresses}
-use Rattle.mail_address.proofs.lemmas.Lenient.{comment-domain, comment-local, elements-same}
+use Rattle.mail_address.proofs.lemmas.Lenient.{comment-domain, comment-local, lenient-same}
 use Rattle.mail_address.proofs.laws.lenient_reading_agrees_with_the_grammar.Goals as goal
 
 pub returns : goal.returns
@@ -8,5 +8,5 @@ returns c = record {
   mailboxes = λ start text m. refl;
   local_parts = comment-local;
   domains = comment-domain;
-  same = λ raw are. elements-same (addresses raw) are;
+  same = λ raw are. lenient-same (addresses raw) are;
 }
