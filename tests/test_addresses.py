@@ -339,7 +339,16 @@ def lenient_of(text):
 
 
 def lenient_single(text):
-    """The items of an element, which may be a group without its semicolon."""
+    """The items of an element. If a comment is not closed and has no `<` in it, each separator in it separates."""
+    *head, (letter, tail) = text.tokens() or [("", b"")]
+    if mailbox_of(text) or letter != "o" or tail[:1] != b"(" or b"<" in tail:
+        return element_of(text)
+    first, *others = re.split(rb"[,;]", tail)
+    return sum((element_of(Text.read(it)) for it in [b"".join(raw for _, raw in head) + first, *others]), [])
+
+
+def element_of(text):
+    """The items of an element, which may be a group without its semicolon, or several addresses."""
     found = re.fullmatch(r"([^:]*):(.*)", text.word)
     if not mailbox_of(text) and found and NAME.fullmatch(found[1]):
         inner = found[2]

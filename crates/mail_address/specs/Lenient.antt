@@ -1,15 +1,15 @@
 -- A lenient reading of addresses, above the grammar. Only an element that is no mailbox by the grammar is read again, and a mailbox
 -- without a display name looks for one in a comment. The rules are our own; each is about text that real mail has.
-use Rattle.std.specs.Prelude.{◌≡◌, ℕ, suc, ◌+◌, ◌-◌, Bool, true, false, not, ◌&&◌, ◌||◌, ◌==◌, List, length, map, take, drop, min, flat_map, [], ◌∷◌, Option, Some, None, is_none, option_map, codes, if◌then◌else◌}
-use Rattle.std.specs.List.{list_all}
+use Rattle.std.specs.Prelude.{◌≡◌, ℕ, suc, ◌+◌, ◌-◌, Bool, true, false, not, ◌&&◌, ◌||◌, ◌==◌, List, length, map, take, drop, min, flat_map, [], ◌∷◌, ◌++◌, Option, Some, None, is_none, option_map, codes, if◌then◌else◌}
+use Rattle.std.specs.List.{list_all, prefix_len}
 use Rattle.std.specs.Option.{is_some, option_or}
 use Rattle.mail_codec.specs.Ascii.{colon, less_than, opening_parenthesis, quote}
-use Rattle.mail_codec.specs.Places.{begins, has_prefix, text_place}
+use Rattle.mail_codec.specs.Places.{begins, has_prefix, is_empty, text_place}
 use Rattle.mailparse.specs.Header.{Header}
 use Rattle.mail_address.specs.declared.tokens.Kind.{Kind}
 use Rattle.mail_address.specs.declared.tokens.Kind.TheVariants.{Comment, Quoted}
 use Rattle.mail_address.specs.declared.tokens.Span.TheVariants.{White, AfterAngle, BeforeAngle, BeforeAt, BeforeColon, BeforeOpening, BeforeWhite, Dots}
-use Rattle.mail_address.specs.Addresses.{Element, Group, Single, addresses, after_name, group, items, members_at, name_len, single}
+use Rattle.mail_address.specs.Addresses.{Element, Group, Single, addresses, after_name, group, is_separator, items, members_at, name_len, single, single_at}
 use Rattle.mail_address.specs.Headers.{addresses_of, only_mailbox}
 use Rattle.mail_address.specs.Mailbox.{Parts, after_white, are_clean, is_domain, is_enclosed, is_local_part, is_phrase, mailbox_of, within_ends}
 use Rattle.mail_address.specs.Tokens.{at_sign, dot, far, front_token, is_all_white, run}
@@ -264,16 +264,63 @@ parted_as start text (Some m) = single (record { start = start; text = text; mai
 parted_as start text None =
     if are_several text then several start text else single (record { start = start; text = text; mailbox = None }) ∷ []
 
+-- the elements that an element is, if one without members is these
+abbrev pub divided : (ℕ → List ℕ → Option Parts → List Element) → Element → List Element
+divided make (single s) = make s.start s.text s.mailbox
+divided make (group g) = group g ∷ []
+
 -- the elements that an element is: several if it is not read as one
 abbrev pub parted : Element → List Element
-parted (single s) = parted_as s.start s.text s.mailbox
-parted (group g) = group g ∷ []
+parted e = divided parted_as e
+
+-- ---- Elements in a comment that is not closed.
+
+-- the offset of the first separator, or the length
+abbrev pub separator_place : List ℕ → ℕ
+separator_place bytes = prefix_len (λ b. not (is_separator b)) bytes
+
+-- a text ends in a comment that is not closed, and that has no `<` in it
+unfoldable pub has_open_comment : List ℕ → Bool
+has_open_comment text =
+    let tail = drop (far closed_len text) text in
+    not (is_empty tail) && has_no_opening tail
+
+-- the length of such a text up to the first separator in its comment
+unfoldable pub opened_len : List ℕ → ℕ
+opened_len text =
+    let len = far closed_len text in
+    len + separator_place (drop len text)
+
+-- the length of the bytes up to a separator, and of the separator
+unfoldable pub piece_len : List ℕ → ℕ
+piece_len bytes = min (suc (separator_place bytes)) (length bytes)
+
+-- the element before the separator, if there is one
+unfoldable pub piece_at : ℕ → List ℕ → List Element
+piece_at start bytes = map single (single_at start (take (separator_place bytes) bytes))
+
+-- the elements that such a text is: the first separator in its comment ends the first, and each separator after it ends one
+unfoldable pub opened : ℕ → List ℕ → List Element
+opened start text =
+    let len = opened_len text in
+    let after = min (suc len) (length text) in
+    map single (single_at start (take len text)) ++ items piece_at piece_len (start + after) (drop after text)
+
+-- the elements that an element at an offset with this text is, of which the grammar makes this mailbox or none
+abbrev pub opened_as : ℕ → List ℕ → Option Parts → List Element
+opened_as start text (Some m) = single (record { start = start; text = text; mailbox = Some m }) ∷ []
+opened_as start text None =
+    if has_open_comment text then opened start text else single (record { start = start; text = text; mailbox = None }) ∷ []
+
+-- the elements that an element is: several if a comment is not closed
+abbrev pub reopened : Element → List Element
+reopened e = divided opened_as e
 
 -- ---- Lists.
 
 -- the elements that an element by the grammar is, read leniently
 abbrev pub lenient_element : Element → List Element
-lenient_element e = parted (refined e)
+lenient_element e = flat_map parted (map refined (reopened e))
 
 -- so those that elements are
 abbrev pub lenient_elements : List Element → List Element

@@ -1,4 +1,5 @@
 //! A lenient reading of an element that is no mailbox by the grammar, and display names in comments.
+ghost use Rattle.mail_address.specs.Tokens.{far};
 ghost use Rattle.std.specs.Prelude.{◌≡◌, ◌≤◌, length, option_map, codes, IsTrue};
 ghost use Rattle.std.specs.Option.{option_or};
 ghost use Rattle.mail_address.specs.Mailbox.{mailbox_of};
@@ -316,8 +317,16 @@ impl Steps for Closed {
     }
 }
 
+/// Returns the offset of the comment that is not closed, or the length.
+pub(crate) fn closed_end(text: &[u8]) -> usize
+    ensures value { result ≡ far closed_len text.now }
+    ensures bounds { result ≤ length text.now }
+{
+    far(Closed, text)
+}
+
 /// Returns whether the bytes contain no opening angle bracket.
-fn has_no_opening(bytes: &[u8]) -> bool
+pub(crate) fn has_no_opening(bytes: &[u8]) -> bool
     ensures { result ≡ has_no_opening bytes.now }
 {
     bytes.iter().all(|byte| *byte != b'<')
@@ -341,7 +350,7 @@ fn any_mailbox(text: &[u8]) -> Option<Parts<'_>>
 pub(crate) fn lenient_mailbox(text: &[u8]) -> Option<Parts<'_>>
     ensures { option_map parts result ≡ lenient_mailbox text.now }
 {
-    let (head, tail) = text.split_at(far(Closed, text));
+    let (head, tail) = text.split_at(closed_end(text));
     if !has_no_opening(tail) {
         return None;
     }

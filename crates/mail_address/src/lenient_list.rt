@@ -1,17 +1,18 @@
 //! Lists of addresses, read leniently, and the sender of a mail.
-ghost use Rattle.std.specs.Prelude.{◌≡◌, ◌++◌, ◌∷◌, [], ◌+◌, ◌<◌, ◌^◌, length, map, option_map, IfOk, OnOk, Ok, None, Some, true};
+ghost use Rattle.std.specs.Prelude.{flat_map, ◌≡◌, ◌++◌, ◌∷◌, [], ◌+◌, ◌<◌, ◌^◌, length, map, option_map, IfOk, OnOk, Ok, None, Some, true};
 ghost use Rattle.mailparse.specs.Outcome.{AnswersOrMemory};
 ghost use Rattle.mail_address.specs.AddressViews.{element_view, group_view, mailbox_view};
 ghost use Rattle.mail_address.specs.AddressViews.{member_view, unknown_view};
 ghost use Rattle.mail_address.specs.MailboxViews.{parts};
 ghost use Rattle.mail_address.specs.Addresses.{group, single};
 ghost use Rattle.mail_address.specs.Lenient.{has_bare_address, is_open_group, lenient_addresses};
-ghost use Rattle.mail_address.specs.Lenient.{lenient_addresses_of, lenient_elements};
+ghost use Rattle.mail_address.specs.Lenient.{lenient_addresses_of, lenient_element, lenient_elements};
 ghost use Rattle.mail_address.specs.Lenient.{lenient_sender_of, open_group, parted};
 ghost use Rattle.mail_address.specs.Lenient.{refined, refined_as, refined_element, refined_single};
 
 use crate::headers::{addresses_of, only_mailbox};
 use crate::lenient::{lenient_mailbox, with_comment};
+use crate::lenient_opened::{has_open_comment, opened};
 use crate::lenient_several::{are_several, several};
 use crate::list::{
     Address, AddressList, Group, Mailbox, Member, Unknown, after_name, members_at, name_len,
@@ -129,9 +130,42 @@ fn refined_list<'a>(alloc: Global, elements: &[Address<'a>]) -> Result<AddressLi
 {
     let mut list = Vec::with_capacity(alloc, elements.len())?;
     for element in elements {
-        push_parted(alloc, &mut list, refined_element(alloc, element)?)?;
+        push_element(alloc, &mut list, element)?;
     }
     Ok(list)
+}
+
+/// Appends the elements that an element by the grammar is.
+fn push_element<'a>(
+    alloc: Global,
+    list: &mut AddressList<'a>,
+    element: &Address<'a>,
+) -> Result<(), AllocError>
+    ensures { OnOk result (map element_view list.new.items
+        ≡ map element_view list.old.items ++ lenient_element (element_view element.now)) }
+{
+    if let Address::Unknown(unknown) = element {
+        if has_open_comment(unknown.text) {
+            let found = opened(alloc, unknown)?;
+            return push_elements(alloc, list, found.as_slice());
+        }
+    }
+    push_parted(alloc, list, refined_element(alloc, element)?)
+}
+
+/// Appends elements, read leniently.
+fn push_elements<'a>(
+    alloc: Global,
+    list: &mut AddressList<'a>,
+    elements: &[Address<'a>],
+) -> Result<(), AllocError>
+    ensures { OnOk result (map element_view list.new.items ≡ map element_view list.old.items
+        ++ flat_map parted (map refined (map element_view elements.now))) }
+{
+    for element in elements {
+        push_parted(alloc, list, refined_element(alloc, element)?)?;
+    }
+    Ok(())
 }
 
 /// Appends the elements that an element is, which was read leniently.

@@ -15,6 +15,7 @@ mod headers;
 pub mod laws;
 mod lenient;
 mod lenient_list;
+mod lenient_opened;
 mod lenient_several;
 mod list;
 mod mailbox;

@@ -365,7 +365,7 @@ fn front_single<'a>(
 
 /// Returns the element that the bytes are, if they are more than whitespace and comments.
 #[tactic(auto, unfolding(crate::specs::Addresses::single_at))]
-fn single_at(start: usize, text: &[u8]) -> Option<Member<'_>>
+pub(crate) fn single_at(start: usize, text: &[u8]) -> Option<Member<'_>>
     ensures { MatchOption result (single_at start text.now ≡ [])
         (λ member. single_at start text.now ≡ member_view member ∷ []) }
 {

@@ -34,12 +34,12 @@ elements-append P [] ys first second = second
 elements-append P (single s ∷ xs) ys first second = (first.0, elements-append P xs ys first.1 second)
 elements-append P (group g ∷ xs) ys first second = (first.0, elements-append P xs ys first.1 second)
 
-single-follows : (start : ℕ) (text : List ℕ) → EachSingle IsByGrammar (single_at start text)
+pub single-follows : (start : ℕ) (text : List ℕ) → EachSingle IsByGrammar (single_at start text)
 unfolding single_at
 single-follows start text =
     cond_both (is_all_white text) _ _ (EachSingle IsByGrammar) (λ e. tt) (λ e. (λ m. (mailbox-made text m, mailbox-read text m), tt))
 
-singles-follow : (ss : List Single) → EachSingle IsByGrammar ss → EachElement IsByGrammar (map single ss)
+pub singles-follow : (ss : List Single) → EachSingle IsByGrammar ss → EachElement IsByGrammar (map single ss)
 singles-follow [] are = tt
 singles-follow (s ∷ ss) are = (are.0, singles-follow ss are.1)
 
@@ -69,7 +69,7 @@ module _ (P : Single → Type 0) (given : (s : Single) → IsByGrammar s → P s
   singles-have [] are = tt
   singles-have (s ∷ ss) are = (given s are.0, singles-have ss are.1)
 
-  elements-have : (es : List Element) → EachElement IsByGrammar es → EachElement P es
+  pub elements-have : (es : List Element) → EachElement IsByGrammar es → EachElement P es
   elements-have [] are = tt
   elements-have (single s ∷ es) are = (given s are.0, elements-have es are.1)
   elements-have (group g ∷ es) are = (singles-have g.members are.0, elements-have es are.1)

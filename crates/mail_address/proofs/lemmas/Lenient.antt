@@ -1,9 +1,10 @@
 -- What the lenient reading of addresses keeps of the reading by the grammar.
-use Rattle.std.proofs.Common.{◌≡◌, ℕ, suc, ◌+◌, ◌≤◌, Bool, true, false, ◌&&◌, eqb, List, [], ◌∷◌, Option, Some, None, length, map, option_map, take, drop, refl, sym, ap, subst, ◌∙◌, if◌then◌else◌}
+use Rattle.std.proofs.Common.{◌≡◌, ℕ, suc, ◌+◌, ◌≤◌, Bool, true, false, ◌&&◌, eqb, List, [], ◌∷◌, ◌++◌, Option, Some, None, length, map, option_map, take, drop, refl, sym, ap, subst, ◌∙◌, if◌then◌else◌}
 use Rattle.std.specs.Prelude.{flat_map}
 use Rattle.std.specs.Option.{option_or}
 use Rattle.std.proofs.lemmas.Bool.{and_parts, cond_both, cond-false, cond-true}
-use Rattle.std.proofs.lemmas.List.Folds.{flat_map-map}
+use Rattle.std.proofs.lemmas.Grind.{flat_map-append}
+use Rattle.std.proofs.lemmas.List.{map-append}
 use Rattle.mailparse.specs.Header.{Header}
 use Rattle.mail_codec.specs.Places.{begins}
 use Rattle.mail_address.specs.declared.tokens.Span.TheVariants.{BeforeAngle, BeforeAt, BeforeOpening}
@@ -11,7 +12,7 @@ use Rattle.mail_address.specs.Accepted.{IsAccepted}
 use Rattle.mail_address.specs.Addresses.{addresses, after_name, EachElement, EachSingle, Element, Group, group, members_at, name_len, Single, single}
 use Rattle.mail_address.specs.Grammar.{address, IsByGrammar, IsDomain, IsMailbox, named_address}
 use Rattle.mail_address.specs.Headers.{addresses_of}
-use Rattle.mail_address.specs.Lenient.{after_any_route, angle_mailbox, bare_mailbox, bare_name_len, closed_len, closed_mailbox, comment_name, has_brackets, has_no_opening, is_lenient_local, is_named_in_comment, is_open_group, IsComplete, lenient_addresses, lenient_addresses_of, lenient_elements, lenient_mailbox, lenient_name, lenient_parts, lenient_spec, open_group, opened_mailbox, parted, refined, refined_as, refined_element, refined_single, with_comment, without_quote, without_root}
+use Rattle.mail_address.specs.Lenient.{after_any_route, angle_mailbox, bare_mailbox, bare_name_len, closed_len, closed_mailbox, comment_name, has_brackets, has_no_opening, is_lenient_local, is_named_in_comment, is_open_group, IsComplete, lenient_addresses, lenient_addresses_of, lenient_element, lenient_elements, lenient_mailbox, lenient_name, lenient_parts, lenient_spec, open_group, opened_as, opened_mailbox, parted, refined, refined_as, refined_element, refined_single, reopened, with_comment, without_quote, without_root}
 use Rattle.mail_address.specs.Mailbox.{are_clean, is_domain, mailbox_of, Parts, within_ends}
 use Rattle.mail_address.specs.Order.{AreInOrder, start_of, text_of}
 use Rattle.mail_address.specs.Safe.{IsSafe}
@@ -19,9 +20,9 @@ use Rattle.mail_address.specs.Text.{address_bytes}
 use Rattle.mail_address.specs.Tokens.{far, front_token, run}
 use Rattle.mail_address.proofs.lemmas.Accepted.{address-accepted}
 use Rattle.mail_address.proofs.lemmas.Folding.{address-no_control, text-no_control}
-use Rattle.mail_address.proofs.lemmas.GrammarLists.{addresses-have, members-follow, named-have, singles-have}
+use Rattle.mail_address.proofs.lemmas.GrammarLists.{elements-follow, elements-have, members-follow, named-have, singles-have}
 use Rattle.mail_address.proofs.lemmas.GrammarMade.{domain-made, mailbox-made}
-use Rattle.mail_address.proofs.lemmas.LenientLists.{parted-hold, parted-in_order, parted_all-same}
+use Rattle.mail_address.proofs.lemmas.LenientLists.{opened-are_in_order, opened-follow, parted-hold, parted-in_order}
 
 -- ---- where the grammar suffices
 
@@ -51,27 +52,28 @@ singles-same : (ss : List Single) → EachSingle IsComplete ss → map refined_s
 singles-same [] are = refl
 singles-same (s ∷ ss) are = ap (λ (x : Single). x ∷ map refined_single ss) (single-same s are.0) ∙ ap (λ (xs : List Single). s ∷ xs) (singles-same ss are.1)
 
-element-same : (s : Single) → IsComplete s → refined (single s) ≡ single s
+element-same : (s : Single) → IsComplete s → lenient_element (single s) ≡ single s ∷ []
 element-same s is =
-    ap (refined_element s.start s.text) is.1.0
-    ∙ ap (λ p. single (record { start = s.start; text = s.text; mailbox = Some p })) (with_comment-same s.text is.0 is.1.1)
-    ∙ ap (λ o. single (record { start = s.start; text = s.text; mailbox = o })) (sym is.1.0)
+    ap (λ o. flat_map parted (map refined (opened_as s.start s.text o))) is.1.0
+    ∙ ap (λ p. single (record { start = s.start; text = s.text; mailbox = Some p }) ∷ []) (with_comment-same s.text is.0 is.1.1)
+    ∙ ap (λ o. single (record { start = s.start; text = s.text; mailbox = o }) ∷ []) (sym is.1.0)
 
-group-same : (g : Group) → EachSingle IsComplete g.members → refined (group g) ≡ group g
+group-same : (g : Group) → EachSingle IsComplete g.members → lenient_element (group g) ≡ group g ∷ []
 group-same g are =
-    ap (λ ms. group (record { start = g.start; text = g.text; display_name = g.display_name; members = ms })) (singles-same g.members are)
-
-elements-same : (es : List Element) → EachElement IsComplete es → map refined es ≡ es
-elements-same [] are = refl
-elements-same (single s ∷ es) are = ap (λ (x : Element). x ∷ map refined es) (element-same s are.0) ∙ ap (λ (xs : List Element). single s ∷ xs) (elements-same es are.1)
-elements-same (group g ∷ es) are = ap (λ (x : Element). x ∷ map refined es) (group-same g are.0) ∙ ap (λ (xs : List Element). group g ∷ xs) (elements-same es are.1)
-
--- the elements are read leniently first, and then divided
-by_steps : (es : List Element) → flat_map parted (map refined es) ≡ lenient_elements es
-by_steps es = flat_map-map parted refined es
+    ap (λ ms. group (record { start = g.start; text = g.text; display_name = g.display_name; members = ms }) ∷ []) (singles-same g.members are)
 
 pub lenient-same : (es : List Element) → EachElement IsComplete es → lenient_elements es ≡ es
-lenient-same es are = sym (by_steps es) ∙ ap (flat_map parted) (elements-same es are) ∙ parted_all-same es are
+lenient-same [] are = refl
+lenient-same (single s ∷ es) are = ap (λ (xs : List Element). xs ++ lenient_elements es) (element-same s are.0) ∙ ap (λ (xs : List Element). single s ∷ xs) (lenient-same es are.1)
+lenient-same (group g ∷ es) are = ap (λ (xs : List Element). xs ++ lenient_elements es) (group-same g are.0) ∙ ap (λ (xs : List Element). group g ∷ xs) (lenient-same es are.1)
+
+-- the elements are those of open comments first, then read leniently, and then divided
+by_steps : (es : List Element) → flat_map parted (map refined (flat_map reopened es)) ≡ lenient_elements es
+by_steps [] = refl
+by_steps (e ∷ es) =
+    ap (flat_map parted) (map-append refined (reopened e) (flat_map reopened es))
+    ∙ flat_map-append parted (map refined (reopened e)) (map refined (flat_map reopened es))
+    ∙ ap (λ (xs : List Element). lenient_element e ++ xs) (by_steps es)
 
 -- ---- what every address that is read has
 
@@ -194,9 +196,12 @@ elements-sound (single s ∷ es) are =
     element-then IsSingleSound (refined (single s)) (map refined es) (element-sound s.start s.text s.mailbox are.0) (elements-sound es are.1)
 elements-sound (group g ∷ es) are = (singles-sound g.members are.0, elements-sound es are.1)
 
-divided-sound : (es : List Element) → EachElement IsSingleSound es → EachElement IsSingleSound (lenient_elements es)
+divided-sound : (es : List Element) → EachElement IsByGrammar es → EachElement IsSingleSound (lenient_elements es)
 divided-sound es are =
-    subst (EachElement IsSingleSound) (by_steps es) (parted-hold IsSingleSound (λ start text. lenient-sound text) (map refined es) (elements-sound es are))
+    let opened = flat_map reopened es in
+    subst (EachElement IsSingleSound) (by_steps es)
+    (parted-hold IsSingleSound (λ start text. lenient-sound text) (map refined opened)
+    (elements-sound opened (elements-have IsSingleSound given-sound opened (opened-follow es are))))
 
 -- ---- what follows from that
 
@@ -221,11 +226,11 @@ module _ (P : Single → Type 0) (given : (s : Single) → IsSingleSound s → P
   elements-then (group g ∷ es) are = (singles-then g.members are.0, elements-then es are.1)
 
   pub lenient-have : (raw : List ℕ) → EachElement P (lenient_addresses raw)
-  lenient-have raw = elements-then (lenient_addresses raw) (divided-sound (addresses raw) (addresses-have IsSingleSound given-sound raw))
+  lenient-have raw = elements-then (lenient_addresses raw) (divided-sound (addresses raw) (elements-follow raw))
 
   pub lenient_named-have : (name : List ℕ) (headers : List Header) → EachElement P (lenient_addresses_of name headers)
   lenient_named-have name headers =
-      elements-then (lenient_addresses_of name headers) (divided-sound (addresses_of name headers) (named-have IsSingleSound given-sound name headers))
+      elements-then (lenient_addresses_of name headers) (divided-sound (addresses_of name headers) (named-have IsByGrammar (λ s is. is) name headers))
 
 pub all_safe : (s : Single) → IsSingleSound s → IsSafe s
 all_safe = sound-safe
@@ -270,4 +275,6 @@ in_order-refined place bytes (e ∷ es) are =
 
 pub lenient-in_order : (place : ℕ) (bytes : List ℕ) (es : List Element) → AreInOrder place bytes es → AreInOrder place bytes (lenient_elements es)
 lenient-in_order place bytes es are =
-    subst (λ (xs : List Element). AreInOrder place bytes xs) (by_steps es) (parted-in_order place bytes (map refined es) (in_order-refined place bytes es are))
+    subst (λ (xs : List Element). AreInOrder place bytes xs) (by_steps es)
+    (parted-in_order place bytes (map refined (flat_map reopened es))
+    (in_order-refined place bytes (flat_map reopened es) (opened-are_in_order place bytes es are)))

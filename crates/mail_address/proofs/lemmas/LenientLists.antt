@@ -1,16 +1,17 @@
 -- Several addresses in one element: what the elements of a list keep when some of them are divided.
-use Rattle.std.proofs.Common.{◌≡◌, ℕ, zero, suc, ◌+◌, ◌<◌, ◌≤◌, Bool, true, false, List, [], ◌∷◌, ◌++◌, Option, Some, None, length, take, drop, refl, sym, ap, subst, ◌∙◌, arith, length-drop, append_assoc}
-use Rattle.std.specs.Prelude.{flat_map}
+use Rattle.std.proofs.Common.{◌≡◌, ℕ, zero, suc, ◌+◌, ◌<◌, ◌≤◌, Bool, true, false, List, [], ◌∷◌, ◌++◌, Option, Some, None, length, map, take, drop, refl, sym, ap, subst, ◌∙◌, arith, length-drop, append_assoc}
+use Rattle.std.specs.Prelude.{flat_map, min}
 use Rattle.std.proofs.lemmas.Bool.{cond_both}
-use Rattle.std.proofs.lemmas.List.{drop_at, drop-drop, length-take-le, take_at, take-append-drop}
+use Rattle.std.proofs.lemmas.List.{drop_at, drop-drop, length-take, length-take-le, take_at, take-append-drop}
 use Rattle.mail_address.specs.declared.tokens.Span.TheVariants.{BeforeAngle}
-use Rattle.mail_address.specs.Addresses.{EachElement, Element, group, items, items_within, Single, single}
-use Rattle.mail_address.specs.Lenient.{angle_end, are_several, at_end, has_brackets, IsComplete, parted, parted_as, refined_as, several, several_at, several_len, word_end}
-use Rattle.mail_address.specs.Mailbox.{Parts}
+use Rattle.mail_address.specs.Addresses.{EachElement, EachSingle, Element, Group, group, items, items_within, Single, single, single_at}
+use Rattle.mail_address.specs.Grammar.{IsByGrammar}
+use Rattle.mail_address.specs.Lenient.{angle_end, are_several, at_end, divided, has_brackets, has_open_comment, opened, opened_as, opened_len, parted, parted_as, piece_at, piece_len, refined_as, reopened, separator_place, several, several_at, several_len, word_end}
+use Rattle.mail_address.specs.Mailbox.{mailbox_of, Parts}
 use Rattle.mail_address.specs.Order.{AreInOrder}
-use Rattle.mail_address.specs.Tokens.{front_token, run}
+use Rattle.mail_address.specs.Tokens.{front_token, is_all_white, run}
 use Rattle.mail_address.proofs.lemmas.Bounds.{token-fits}
-use Rattle.mail_address.proofs.lemmas.GrammarLists.{elements-append, items-hold}
+use Rattle.mail_address.proofs.lemmas.GrammarLists.{elements-append, items-hold, single-follows, singles-follow}
 
 -- ---- the length of the first of several addresses
 
@@ -32,19 +33,27 @@ several_len_some angles [] low = absurd (omega arith)
 several_len_some true (b ∷ bytes) low = let some = angle_end-some b bytes in omega (arith, some)
 several_len_some false (b ∷ bytes) low = omega arith
 
--- ---- where the grammar suffices
+-- ---- the length of the first element in a comment that is not closed
 
-parted-same : (s : Single) → IsComplete s → parted (single s) ≡ single s ∷ []
-parted-same s is =
-    ap (parted_as s.start s.text) is.1.0
-    ∙ ap (λ o. single (record { start = s.start; text = s.text; mailbox = o }) ∷ []) (sym is.1.0)
+pub piece_len_within : (bytes : List ℕ) → piece_len bytes ≤ length bytes
+unfolding piece_len
+piece_len_within bytes = omega arith
 
-pub parted_all-same : (es : List Element) → EachElement IsComplete es → flat_map parted es ≡ es
-parted_all-same [] are = refl
-parted_all-same (single s ∷ es) are = ap (λ (xs : List Element). xs ++ flat_map parted es) (parted-same s are.0) ∙ ap (λ (xs : List Element). single s ∷ xs) (parted_all-same es are.1)
-parted_all-same (group g ∷ es) are = ap (λ (xs : List Element). group g ∷ xs) (parted_all-same es are.1)
+pub piece_len_some : (bytes : List ℕ) → 0 < length bytes → 0 < piece_len bytes
+unfolding piece_len
+piece_len_some bytes low = omega arith
 
 -- ---- a property of every element that is read
+
+-- elements with a property, of each of which some are made with another one
+module _ (P Q : Single → Type 0) (make : ℕ → List ℕ → Option Parts → List Element)
+    (each : (start : ℕ) (text : List ℕ) (o : Option Parts) → P (record { start = start; text = text; mailbox = o }) → EachElement Q (make start text o))
+    (members : (g : Group) → EachSingle P g.members → EachSingle Q g.members) where
+  divided-hold : (es : List Element) → EachElement P es → EachElement Q (flat_map (divided make) es)
+  divided-hold [] are = tt
+  divided-hold (single s ∷ es) are =
+      elements-append Q (make s.start s.text s.mailbox) (flat_map (divided make) es) (each s.start s.text s.mailbox are.0) (divided-hold es are.1)
+  divided-hold (group g ∷ es) are = (members g are.0, divided-hold es are.1)
 
 module _ (P : Single → Type 0) (given : (start : ℕ) (text : List ℕ) → P (refined_as start text None)) where
   several-hold : (start : ℕ) (text : List ℕ) → EachElement P (several start text)
@@ -60,10 +69,26 @@ module _ (P : Single → Type 0) (given : (start : ℕ) (text : List ℕ) → P 
       (λ e. several-hold start text) (λ e. (is, tt))
 
   pub parted-hold : (es : List Element) → EachElement P es → EachElement P (flat_map parted es)
-  parted-hold [] are = tt
-  parted-hold (single s ∷ es) are =
-      elements-append P (parted (single s)) (flat_map parted es) (parted_as-hold s.start s.text s.mailbox are.0) (parted-hold es are.1)
-  parted-hold (group g ∷ es) are = (are.0, parted-hold es are.1)
+  parted-hold es are = divided-hold P P parted_as parted_as-hold (λ g is. is) es are
+
+opened-hold : (start : ℕ) (text : List ℕ) → EachElement IsByGrammar (opened start text)
+unfolding opened piece_at
+opened-hold start text =
+    let len : ℕ = opened_len text in
+    let after : ℕ = min (suc len) (length text) in
+    elements-append IsByGrammar (map single (single_at start (take len text))) (items piece_at piece_len (start + after) (drop after text))
+    (singles-follow (single_at start (take len text)) (single-follows start (take len text)))
+    (items-hold piece_at piece_len (EachElement IsByGrammar) tt (elements-append IsByGrammar)
+    (λ at bytes. singles-follow (single_at at (take (separator_place bytes) bytes)) (single-follows at (take (separator_place bytes) bytes))) (start + after) (drop after text))
+
+opened_as-hold : (start : ℕ) (text : List ℕ) (o : Option Parts) → IsByGrammar (record { start = start; text = text; mailbox = o }) → EachElement IsByGrammar (opened_as start text o)
+opened_as-hold start text (Some m) is = (is, tt)
+opened_as-hold start text None is =
+    cond_both (has_open_comment text) (opened start text) (single (record { start = start; text = text; mailbox = None }) ∷ []) (EachElement IsByGrammar)
+    (λ e. opened-hold start text) (λ e. (is, tt))
+
+pub opened-follow : (es : List Element) → EachElement IsByGrammar es → EachElement IsByGrammar (flat_map reopened es)
+opened-follow es are = divided-hold IsByGrammar IsByGrammar opened_as opened_as-hold (λ g is. is) es are
 
 -- ---- the order of the elements
 
@@ -127,6 +152,48 @@ several-in_order raw start text after from are =
     let angles : Bool = has_brackets text in
     pieces-in_order (several_at angles) (several_len angles) raw (several_len_within angles) (several_at-in_order angles raw) (length text) start text after from are
 
+single_at-in_order : (raw : List ℕ) (start : ℕ) (text : List ℕ) (after : List Element) → From raw start text
+    → AreInOrder (start + length text) raw after → AreInOrder start raw (map single (single_at start text) ++ after)
+unfolding single_at
+single_at-in_order raw start text after from are =
+    cond_both (is_all_white text) [] (record { start = start; text = text; mailbox = mailbox_of text } ∷ []) (λ ss. AreInOrder start raw (map single ss ++ after))
+    (λ e. in_order-later start (start + length text) raw after (omega arith) are) (λ e. (omega arith, taken-from raw start text from, are))
+
+piece_at-in_order : (raw : List ℕ) (start : ℕ) (bytes : List ℕ) (after : List Element) → From raw start bytes
+    → AreInOrder (start + piece_len bytes) raw after → AreInOrder start raw (piece_at start bytes ++ after)
+unfolding piece_at piece_len
+piece_at-in_order raw start bytes after from are =
+    let n : ℕ = separator_place bytes in
+    let len = length-take n bytes in
+    single_at-in_order raw start (take n bytes) after (front-from raw start n bytes from)
+    (in_order-later (start + length (take n bytes)) (start + piece_len bytes) raw after (omega (arith, len)) are)
+
+opened-in_order : (raw : List ℕ) (start : ℕ) (text : List ℕ) (after : List Element) → From raw start text
+    → AreInOrder (start + length text) raw after → AreInOrder start raw (opened start text ++ after)
+unfolding opened items
+opened-in_order raw start text after from are =
+    let len : ℕ = opened_len text in
+    let next : ℕ = min (suc len) (length text) in
+    let low : next ≤ length text = omega arith in
+    let taken = length-take len text in
+    let cut = length-drop next text in
+    let whole : start + length text ≡ start + next + length (drop next text) = omega (arith, cut, low) in
+    let rest : List Element = items_within piece_at piece_len (length (drop next text)) (start + next) (drop next text) in
+    subst (λ (es : List Element). AreInOrder start raw es) (sym (append_assoc (map single (single_at start (take len text))) rest after))
+    (single_at-in_order raw start (take len text) (rest ++ after) (front-from raw start len text from)
+    (in_order-later (start + length (take len text)) (start + next) raw (rest ++ after) (omega (arith, taken))
+    (pieces-in_order piece_at piece_len raw piece_len_within (piece_at-in_order raw) (length (drop next text)) (start + next) (drop next text) after
+    (rest-from raw start next text low from) (subst (λ k. AreInOrder k raw after) whole are))))
+
+module _ (make : ℕ → List ℕ → Option Parts → List Element) (raw : List ℕ)
+    (front : (start : ℕ) (text : List ℕ) (o : Option Parts) (after : List Element) → From raw start text → AreInOrder (start + length text) raw after → AreInOrder start raw (make start text o ++ after)) where
+  divided-in_order : (place : ℕ) (es : List Element) → AreInOrder place raw es → AreInOrder place raw (flat_map (divided make) es)
+  divided-in_order place [] are = tt
+  divided-in_order place (single s ∷ es) are =
+      in_order-later place s.start raw (make s.start s.text s.mailbox ++ flat_map (divided make) es) are.0
+      (front s.start s.text s.mailbox (flat_map (divided make) es) (from-taken raw s.start s.text are.1) (divided-in_order (s.start + length s.text) es are.2))
+  divided-in_order place (group g ∷ es) are = (are.0, are.1, divided-in_order (g.start + length g.text) es are.2)
+
 parted_as-in_order : (raw : List ℕ) (start : ℕ) (text : List ℕ) (o : Option Parts) (after : List Element) → From raw start text
     → AreInOrder (start + length text) raw after → AreInOrder start raw (parted_as start text o ++ after)
 parted_as-in_order raw start text (Some m) after from are = (omega arith, taken-from raw start text from, are)
@@ -134,9 +201,15 @@ parted_as-in_order raw start text None after from are =
     cond_both (are_several text) (several start text) (single (record { start = start; text = text; mailbox = None }) ∷ []) (λ es. AreInOrder start raw (es ++ after))
     (λ e. several-in_order raw start text after from are) (λ e. (omega arith, taken-from raw start text from, are))
 
+opened_as-in_order : (raw : List ℕ) (start : ℕ) (text : List ℕ) (o : Option Parts) (after : List Element) → From raw start text
+    → AreInOrder (start + length text) raw after → AreInOrder start raw (opened_as start text o ++ after)
+opened_as-in_order raw start text (Some m) after from are = (omega arith, taken-from raw start text from, are)
+opened_as-in_order raw start text None after from are =
+    cond_both (has_open_comment text) (opened start text) (single (record { start = start; text = text; mailbox = None }) ∷ []) (λ es. AreInOrder start raw (es ++ after))
+    (λ e. opened-in_order raw start text after from are) (λ e. (omega arith, taken-from raw start text from, are))
+
 pub parted-in_order : (place : ℕ) (raw : List ℕ) (es : List Element) → AreInOrder place raw es → AreInOrder place raw (flat_map parted es)
-parted-in_order place raw [] are = tt
-parted-in_order place raw (single s ∷ es) are =
-    in_order-later place s.start raw (parted (single s) ++ flat_map parted es) are.0
-    (parted_as-in_order raw s.start s.text s.mailbox (flat_map parted es) (from-taken raw s.start s.text are.1) (parted-in_order (s.start + length s.text) raw es are.2))
-parted-in_order place raw (group g ∷ es) are = (are.0, are.1, parted-in_order (g.start + length g.text) raw es are.2)
+parted-in_order place raw es are = divided-in_order parted_as raw (parted_as-in_order raw) place es are
+
+pub opened-are_in_order : (place : ℕ) (raw : List ℕ) (es : List Element) → AreInOrder place raw es → AreInOrder place raw (flat_map reopened es)
+opened-are_in_order place raw es are = divided-in_order opened_as raw (opened_as-in_order raw) place es are
