@@ -140,6 +140,14 @@ static const struct test tests[] = {
     { RAW_HEADER, BYTES("To: a\n"), BYTES("From"), 0, ROCKTRAY_ABSENT, NOTHING },
     { RAW_HEADER, BYTES("To: a\n"), BYTES("\xc3"), 0, ROCKTRAY_NOT_UTF8, NOTHING },
     { RAW_HEADER, BYTES("To: a\n\r"), BYTES("To"), 0, ROCKTRAY_LONE_CARRIAGE_RETURN, NOTHING },
+    /* headers end before a line that begins with `--` and has no colon */
+    { HEADER, BYTES("To: a\n \n--b\nCc: c\n"), BYTES("To"), 0, ROCKTRAY_DONE, BYTES("a ") },
+    { HEADER, BYTES("To: a\n \n--b\nCc: c\n"), BYTES("Cc"), 0, ROCKTRAY_ABSENT, NOTHING },
+    { HEADER, BYTES("To: a\r\n--b\r\n x"), BYTES("To"), 0, ROCKTRAY_DONE, BYTES("a") },
+    { HEADER, BYTES("--b\nTo: a\n--b: c\n"), BYTES("--B"), 1, ROCKTRAY_DONE, BYTES("c") },
+    { HEADER, BYTES("To: a\n\r--b"), BYTES("To"), 0, ROCKTRAY_LONE_CARRIAGE_RETURN, NOTHING },
+    { RAW_HEADER, BYTES("To: a\n--\n\r"), BYTES("To"), 0, ROCKTRAY_DONE, BYTES("a") },
+    { RAW_HEADER, BYTES(" To: a\n--b\n"), BYTES("To"), 0, ROCKTRAY_LEADING_SPACE, NOTHING },
     /* RFC 5322, section 3.6.4 */
     { IDS, BYTES("<a@b>\n <no> x <c@d>"), NOTHING, 0, ROCKTRAY_DONE, BYTES("<a@b><c@d>") },
     { OWN_IDS, BYTES("<1234> <>"), NOTHING, 0, ROCKTRAY_DONE, BYTES("<1234>") },
@@ -959,28 +967,31 @@ static void print_addresses(struct bytes mail, const struct records *records)
     }
 }
 
-/* Whether the headers of a part, read alone, are those of its records. */
-static bool is_block_same(struct bytes mail, const struct records *records, const struct rocktray_part *part)
+/* Reads the headers of a part alone, and sets *is_same to whether they are those of its records. Returns the code. */
+static uint32_t read_block(struct bytes mail, const struct records *records, const struct rocktray_part *part,
+                           bool *is_same)
 {
     struct bytes bytes = range(mail, part->start, part->end);
     struct rocktray_header_record *headers = malloc((part->header_count + 1) * sizeof *headers);
     const struct rocktray_header_record *wanted = records->headers + part->first_header;
     size_t count = 0;
     uint32_t code = rocktray_headers(bytes.at, bytes.length, SIZE_MAX, headers, part->header_count, &count);
-    bool is_same = code == ROCKTRAY_DONE && count == part->header_count;
-    for (size_t i = 0; is_same && i < count; i++)
-        is_same = headers[i].start + part->start == wanted[i].start && headers[i].end + part->start == wanted[i].end
+    *is_same = code == ROCKTRAY_DONE && count == part->header_count;
+    for (size_t i = 0; *is_same && i < count; i++)
+        *is_same = headers[i].start + part->start == wanted[i].start && headers[i].end + part->start == wanted[i].end
             && headers[i].key_end + part->start == wanted[i].key_end
             && headers[i].value_start + part->start == wanted[i].value_start
             && headers[i].value_end + part->start == wanted[i].value_end;
     free(headers);
-    return is_same;
+    return code;
 }
 
 static void print_part(struct bytes mail, const struct records *records, const struct rocktray_part *part)
 {
     const struct bytes body = range(mail, part->body_start, part->body_end);
     const struct bytes type = named(mail, records, part, "Content-Type");
+    bool is_block_same;
+    const uint32_t block = read_block(mail, records, part, &is_block_same);
     printf("part parent=%lld level=%llu start=%llu end=%llu encoding=%llu disposition=%llu flags=%llu size=%zu",
            (long long)part->parent, (unsigned long long)part->level, (unsigned long long)part->start,
            (unsigned long long)part->end, (unsigned long long)part->encoding, (unsigned long long)part->disposition,
@@ -990,7 +1001,7 @@ static void print_part(struct bytes mail, const struct records *records, const s
     print_result("charset", BODY_CHARSET, body, type, part->encoding);
     print_report(range(mail, part->start, part->end));
     print_type(type);
-    printf(" block=%d\n", is_block_same(mail, records, part));
+    printf(" block=%u same=%d\n", block, is_block_same);
     for (uint64_t i = part->first_header; i < part->first_header + part->header_count; i++) {
         const struct rocktray_header_record *header = &records->headers[i];
         printf("header key=");

@@ -194,8 +194,9 @@ uint32_t rocktray_parts(const void *mail, size_t mail_length, size_t limit, stru
                         size_t parts_capacity, size_t *parts_needed, struct rocktray_header_record *headers,
                         size_t headers_capacity, size_t *headers_needed);
 
-/* The same for the headers of a mail or a part alone: only the header block is read. Offsets are counted from `part`.
- * `limit` is the greatest number of headers. Refuses a block with ROCKTRAY_LEADING_SPACE or _LONE_CARRIAGE_RETURN. */
+/* The same for the headers of a mail or a part alone: only the header block is read, which ends as it does for
+ * rocktray_parts, also before a line that begins with `--` and has no colon. Offsets are counted from `part`. `limit` is
+ * the greatest number of headers. Refuses a block with ROCKTRAY_LEADING_SPACE or _LONE_CARRIAGE_RETURN. */
 uint32_t rocktray_headers(const void *part, size_t part_length, size_t limit, struct rocktray_header_record *headers,
                           size_t headers_capacity, size_t *headers_needed);
 
@@ -280,7 +281,8 @@ uint32_t rocktray_content(const void *part, size_t part_length, void *buffer, si
 uint32_t rocktray_text(const void *part, size_t part_length, void *buffer, size_t capacity, size_t *needed);
 
 /* Writes the text of a header in UTF-8, as rocktray_value does. `number` selects one of the headers
- * with this name, counting from 0. The name is in any case, and without a colon. Only the header block is read.
+ * with this name, counting from 0. The name is in any case, and without a colon. Only the headers are read that
+ * rocktray_headers finds.
  * Returns ROCKTRAY_ABSENT if there is no such header. Refuses with ROCKTRAY_LEADING_SPACE or _LONE_CARRIAGE_RETURN for
  * the block, and with ROCKTRAY_NOT_UTF8 for the name. */
 uint32_t rocktray_header(const void *part, size_t part_length, const void *name, size_t name_length,

@@ -20,6 +20,7 @@ def raw_values(part):
 ODD = [
     b"A: b", b"A", b"", b"\n", b"A\n", b"A: b\n", b"A:\n", b"A:\r\n", b"A: \r\n b\r\n\r\n", b"A\n\tb: c\n", b"A\r\nB: \n \n\t\n\n x",
     b"A:  b \r\r\n\r\n", b"A: b\n c\n\td\r\n e: f\nG: h\n \n", b":x\n:\n : y", b"A: b\n ", b"A: \n\n", b"A: b\rC: d\n", b"A: b\r",
+    b"A: b\n--c\nA: d", b"A: b\n \n--c\nA: d\n\n", b"--c\nA: b\r\n\t\r\n--c: d\n--\n e",
 ]  # fmt: skip
 
 

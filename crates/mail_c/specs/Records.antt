@@ -1,9 +1,9 @@
 -- The records of a mail, of its parts and of their headers; the crate's own form.
-use Rattle.std.specs.Prelude.{ℕ, suc, ◌+◌, Bool, not, ◌&&◌, ◌||◌, nat_le, List, [], ◌∷◌, ◌++◌, length, drop, flat_map, Result, Ok, Err, codes, if◌then◌else◌}
+use Rattle.std.specs.Prelude.{ℕ, suc, ◌+◌, Bool, not, ◌&&◌, ◌||◌, nat_le, true, List, [], ◌∷◌, ◌++◌, length, drop, flat_map, Result, Ok, Err, codes, if◌then◌else◌}
 use Rattle.std.specs.Option.{option_map_or}
 use Rattle.mail_codec.specs.Charset.{Charsets}
 use Rattle.mail_codec.specs.Places.{values_below}
-use Rattle.mailparse.specs.Block.{HeaderList, header_place, read_headers}
+use Rattle.mailparse.specs.Block.{HeaderList, before_dash_line, header_place, read_block}
 use Rattle.mailparse.specs.Body.{BodyKind, in_base64, in_quoted_printable, in_7bit, in_8bit, in_binary}
 use Rattle.mailparse.specs.Disposition.{Disposition, Kind, inline, attachment, form_data, extension}
 use Rattle.mailparse.specs.Header.{header_length, key_end, value_end, value_start}
@@ -112,13 +112,14 @@ item_headers item = header_records item.placement.whole.start (root item.part).b
 abbrev pub limited : {A : Type 0} → ℕ → ℕ → A → Result A ℕ
 limited limit count found = if nat_le count limit then Ok found else Err too_many
 
--- the records of the headers of a block
+-- the records of the headers of a block that was read from these bytes
 abbrev pub block_records : ℕ → List ℕ → Result HeaderList ℕ → Result (List HeaderRecord) ℕ
 block_records limit raw (Ok block) = limited limit (length block.headers) (header_records 0 raw (length block.headers))
 block_records limit raw (Err code) = Err code
 
+-- the records of the headers of a mail or a part, which end where those of a mail that is read leniently do
 unfoldable pub header_block : ℕ → List ℕ → Result (List HeaderRecord) ℕ
-header_block limit raw = block_records limit raw (coded (read_headers raw))
+header_block limit raw = block_records limit (before_dash_line raw) (coded (read_block true raw))
 
 -- Under the charsets that are known.
 module _ (known : Charsets) where

@@ -2,7 +2,7 @@
 use Rattle.std.specs.Prelude.{◌≡◌, ◌^◌, ◌-◌, ℕ, Bool, true, false, List, ◌++◌, codes, flat_map, slice_get, Option, Some, None, option_map, Ok, Err, if◌then◌else◌}
 use Rattle.std.specs.Str.{is_utf8}
 use Rattle.mail_codec.specs.Charset.{Charsets, four_charsets}
-use Rattle.mailparse.specs.Block.{read_headers}
+use Rattle.mailparse.specs.Block.{read_block}
 use Rattle.mailparse.specs.Body.{decoded}
 use Rattle.mailparse.specs.Header.{Header}
 use Rattle.mailparse.specs.Mail.{root}
@@ -46,7 +46,7 @@ header_at name number headers = slice_get (all_with_key name headers) number
 unfoldable pub raw_value : List ℕ → List ℕ → ℕ → Found
 raw_value raw name number = do
   key ← text_in name
-  block ← read_headers raw
+  block ← read_block true raw
   Ok (option_map (λ header. header.value) (header_at key number block.headers))
 
 -- what becomes of the targets of links
@@ -95,7 +95,7 @@ module _ (known : Charsets) where
   unfoldable pub value : List ℕ → List ℕ → ℕ → Found
   value raw name number = do
     key ← text_in name
-    block ← read_headers raw
+    block ← read_block true raw
     Ok (option_map (λ header. header_text known header.value) (header_at key number block.headers))
 
 -- an id between angle brackets

@@ -22,7 +22,7 @@ use mail_json::{is_attachment, is_read};
 use mailparse::body::Body;
 use mailparse::{
     DispositionType, KnownCharsets, MailHeaderMap, MailParseError, ParsedContentDisposition,
-    ParsedMail, count_headers, header_places, parse_headers,
+    ParsedMail, before_dash_line, count_headers, header_places, parse_headers,
 };
 use std::alloc::{AllocError, Global};
 
@@ -124,12 +124,13 @@ fn tree_records<K: KnownCharsets>(
 pub(crate) fn headers(alloc: Global, raw: &[u8], limit: usize) -> Result<Vec<HeaderRecord>, u32>
     ensures { IsCoded (λ found. found.items) result (header_block limit raw.now) }
 {
-    let count = count_headers(raw);
+    let block = before_dash_line(raw);
+    let count = count_headers(block);
     if 0 < count {
-        return first_headers(alloc, raw, count, limit);
+        return first_headers(alloc, block, count, limit);
     }
-    match parse_headers(alloc, raw) {
-        Ok((headers, _)) => first_headers(alloc, raw, headers.len(), limit),
+    match parse_headers(alloc, block) {
+        Ok((headers, _)) => first_headers(alloc, block, headers.len(), limit),
         Err(error) => Err(code_of(&error)),
     }
 }

@@ -11,7 +11,7 @@ use Rattle.mail_data.specs.lenient.Encoding.{lenient_body_kind}
 use Rattle.mailparse.specs.Views.{placement_of, tree_of}
 use Rattle.mail_codec.specs.Charset.{Charsets}
 use Rattle.mail_c.specs.Buffer.{EndsBoth, EndsItems, Output, WritesBoth, WritesItems, seen}
-use Rattle.mailparse.specs.Block.{HeaderList, read_headers}
+use Rattle.mailparse.specs.Block.{HeaderList, before_dash_line, read_headers}
 use Rattle.mailparse.specs.Outcome.{IsRefusalOrMemory}
 use Rattle.mailparse.specs.Refusal.{Reads}
 use Rattle.mailparse.specs.declared.error.MailParseError.{MailParseError}
@@ -71,25 +71,26 @@ pub records_refused : (known : Charsets) (limit : ℕ) (raw : List ℕ) (code : 
 unfolding records
 records_refused known limit raw code e = ap (mail_records known) e
 
--- the same of the headers of a block
-pub headers_are : (limit : ℕ) (raw : List ℕ) (block : HeaderList) → read_headers raw ≡ Ok block
-    → limited limit (length block.headers) (header_records 0 raw (length block.headers)) ≡ header_block limit raw
+-- the same of the headers of a block, read from the bytes in front of a line that looks like a delimiter
+front_records : (limit : ℕ) (raw front : List ℕ) → front ≡ before_dash_line raw → block_records limit front (coded (read_headers front)) ≡ header_block limit raw
 unfolding header_block
-headers_are limit raw block read = ap (λ (r : Reads HeaderList). block_records limit raw (coded r)) (sym read)
+front_records limit raw front at = ap (λ (bytes : List ℕ). block_records limit bytes (coded (read_headers bytes))) at
 
-pub headers_refused : (limit : ℕ) (raw : List ℕ) (code : ℕ) → coded (read_headers raw) ≡ Err code → header_block limit raw ≡ Err code
-unfolding header_block
-headers_refused limit raw code e = ap (block_records limit raw) e
+pub headers_are : (limit : ℕ) (raw front : List ℕ) (block : HeaderList) → front ≡ before_dash_line raw → read_headers front ≡ Ok block
+    → limited limit (length block.headers) (header_records 0 front (length block.headers)) ≡ header_block limit raw
+headers_are limit raw front block at read = ap (λ (r : Reads HeaderList). block_records limit front (coded r)) (sym read) ∙ front_records limit raw front at
+
+pub headers_refused : (limit : ℕ) (raw front : List ℕ) (code : ℕ) → front ≡ before_dash_line raw → coded (read_headers front) ≡ Err code → header_block limit raw ≡ Err code
+headers_refused limit raw front code at e = sym (front_records limit raw front at) ∙ ap (block_records limit front) e
 
 -- a block with headers, which were counted
-pub headers_counted : (limit : ℕ) (raw : List ℕ) (count : ℕ) → 0 < count → count ≡ headers_met (read_headers raw)
-    → limited limit count (header_records 0 raw count) ≡ header_block limit raw
-unfolding header_block
-headers_counted limit raw count some is =
-    ap (λ n. limited limit n (header_records 0 raw n)) is ∙ by_block (read_headers raw) (subst (λ n. 0 < n) is some)
+pub headers_counted : (limit : ℕ) (raw front : List ℕ) (count : ℕ) → front ≡ before_dash_line raw → 0 < count → count ≡ headers_met (read_headers front)
+    → limited limit count (header_records 0 front count) ≡ header_block limit raw
+headers_counted limit raw front count at some is =
+    ap (λ n. limited limit n (header_records 0 front n)) is ∙ by_block (read_headers front) (subst (λ n. 0 < n) is some) ∙ front_records limit raw front at
   where
     by_block : (block : Reads HeaderList) → 0 < headers_met block
-        → limited limit (headers_met block) (header_records 0 raw (headers_met block)) ≡ block_records limit raw (coded block)
+        → limited limit (headers_met block) (header_records 0 front (headers_met block)) ≡ block_records limit front (coded block)
     by_block (Ok block) h = refl
     by_block (Err refusal) h = let none : 0 < 0 = h in absurd (omega (arith, none))
 

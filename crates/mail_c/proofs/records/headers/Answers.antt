@@ -9,17 +9,17 @@ use Rattle.mail_c.proofs.records.headers.Goals as goal
 pub returns-then-count-gt0 : goal.returns-then-count-gt0
 returns-then-count-gt0 c =
     subst (λ (r : Result (List HeaderRecord) ℕ). IsCoded (λ v. v.items) c.first_headers.result r)
-    (headers_counted c.args.limit c.args.raw.now c.count_headers-count.result c.if-count-gt0.true c.count_headers-count.ensures) c.first_headers.ensures
+    (headers_counted c.args.limit c.args.raw.now c.before_dash_line-block.result.now c.count_headers-count.result c.before_dash_line-block.ensures c.if-count-gt0.true c.count_headers-count.ensures) c.first_headers.ensures
 
 pub returns-in-Ok : goal.returns-in-Ok
 returns-in-Ok c =
-    let raw = c.args.raw.now in
+    let front = c.before_dash_line-block.result.now in
     let same : c.len.result ≡ length c.in-Ok.headers.items = omega (arith, c.len.ensures, c.in-Ok.headers.ok.0) in
-    let first = subst (λ n. IsCoded (λ v. v.items) c.first_headers-in-Ok.result (limited c.args.limit n (header_records 0 raw n))) same c.first_headers-in-Ok.ensures in
-    subst (λ (r : Result (List HeaderRecord) ℕ). IsCoded (λ v. v.items) c.first_headers-in-Ok.result r) (headers_are c.args.limit raw _ c.in-Ok.ensures.read) first
+    let first = subst (λ n. IsCoded (λ v. v.items) c.first_headers-in-Ok.result (limited c.args.limit n (header_records 0 front n))) same c.first_headers-in-Ok.ensures in
+    subst (λ (r : Result (List HeaderRecord) ℕ). IsCoded (λ v. v.items) c.first_headers-in-Ok.result r) (headers_are c.args.limit c.args.raw.now front _ c.before_dash_line-block.ensures c.in-Ok.ensures.read) first
 
 pub returns-in-Err : goal.returns-in-Err
 returns-in-Err c =
-    let raw = c.args.raw.now in
-    ⊎_elim (λ memory. inl memory) (λ refused. inr (headers_refused c.args.limit raw _ refused))
-    (refused_code c.in-Err.error (read_headers raw) _ c.in-Err.ensures.read c.code_of.ensures)
+    let front = c.before_dash_line-block.result.now in
+    ⊎_elim (λ memory. inl memory) (λ refused. inr (headers_refused c.args.limit c.args.raw.now front _ c.before_dash_line-block.ensures refused))
+    (refused_code c.in-Err.error (read_headers front) _ c.in-Err.ensures.read c.code_of.ensures)
