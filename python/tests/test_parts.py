@@ -133,7 +133,7 @@ def test_headers_of_parts(mails):
     for raw in mails:
         for part, (_, message) in zip(rocktray.parse(raw).walk(), by_email.parts_of(email.message_from_bytes(raw))):
             for name in {*message.keys(), "Subject", "x-none"}:
-                wanted = [by_email.shown(value) for key, value in message.raw_items() if key.lower() == name.lower()]
+                wanted = [by_email.header_text(value) for key, value in message.raw_items() if key.lower() == name.lower()]
                 assert [part.header(name.upper(), number) for number in range(len(wanted) + 1)] == [*wanted, None]
 
 

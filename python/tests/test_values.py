@@ -30,7 +30,7 @@ def test_headers_by_name(samples):
     for raw in samples.values():
         mail, message = rocktray.parse(raw), email.message_from_bytes(raw)
         for name in {*message.keys(), "Date", "X-None"}:
-            wanted = [by_email.shown(value) for key, value in message.raw_items() if key.lower() == name.lower()]
+            wanted = [by_email.header_text(value) for key, value in message.raw_items() if key.lower() == name.lower()]
             assert mail[name] == mail[name.upper()] == (wanted[0] if wanted else None)
             assert (mail.get_all(name), mail.get_all(name, [])) == (wanted or None, wanted)
             assert (name in mail) == (name.lower() in mail) == (name in message)
