@@ -250,8 +250,7 @@ def test_stack(c_library, hostile, tmp_path):
     header = (TOP / "c" / "rocktray.h").read_text()
     mails, ranges = (1024 * int(number) for number in re.findall(r"up to (\d+) KB", header))
     assert len(used) == 3 and used[0] <= ranges and max(used[1:]) <= mails, said
-    page = (TOP / "docs" / "C.md").read_text()
-    assert [1024 * int(number) for number in re.findall(r"up to (\d+) KB", page)] == [ranges, mails]
+    assert not re.search(r"\d+ KB", (TOP / "docs" / "C.md").read_text()), "the page does not repeat these numbers"
     assert run([tmp_path / "check", "stack", str(mails // 1024), *SAMPLES, *hostile[:300]]).returncode == 0
 
 
