@@ -28,7 +28,7 @@ what the definition gives, including its refusals; `AnswersOrMemory` says the sa
 kind of result only. The definitions are in the `specs` directory of each crate.
 """
 # an item of some indentation: its doc comment, its attributes, its first words, and all before its body
-ITEM = r"^((?:{0}///[^\n]*\n)*)((?:{0}#\[[^\n]*\n)*){0}({1})(.*?)(?:;| ?\{{\}}?|\n{0}\{{\}}?)$"
+ITEM = r"^((?:{0}///[^\n]*\n)*)((?:{0}(?:#\[|// )[^\n]*\n)*){0}({1})(.*?)(?:;| ?\{{\}}?|\n{0}\{{\}}?)$"
 FIELD = r"^((?:    ///[^\n]*\n)*)(?:    #\[[^\n]*\n)*    {}(?:,| (\{{\n.*?\n    \}}),)$"
 ASSOCIATED = r"^((?:    ///[^\n]*\n)*)    type (\w+[^\n]*);$"
 # the head of an implementation of a trait, after its type parameters
