@@ -699,61 +699,14 @@ static PyObject *reading_type(PyObject *self, PyObject *index)
     return part ? type_of_part(self, part) : NULL;
 }
 
-/* The number of characters before the first semicolon outside quotes. */
-static Py_ssize_t front_length(PyObject *text)
-{
-    const Py_ssize_t length = PyUnicode_GetLength(text);
-    bool is_quoted = false;
-    for (Py_ssize_t i = 0; i < length; i++) {
-        const Py_UCS4 c = PyUnicode_ReadChar(text, i);
-        if (c == '"')
-            is_quoted = !is_quoted;
-        else if (c == '\\' && is_quoted)
-            i++;
-        else if (c == ';' && !is_quoted)
-            return i;
-    }
-    return length;
-}
-
-/* The name of a disposition in a value: what is before the parameters, in ASCII lower case. */
-static PyObject *disposition_in(PyObject *value)
-{
-    /* White_Space of Unicode, which str.strip() alone does not have */
-    static const char spaces[] = "\t\n\v\f\r \xc2\x85\xc2\xa0\xe1\x9a\x80\xe2\x80\x80\xe2\x80\x81\xe2\x80\x82"
-                                 "\xe2\x80\x83\xe2\x80\x84\xe2\x80\x85\xe2\x80\x86\xe2\x80\x87\xe2\x80\x88\xe2\x80\x89"
-                                 "\xe2\x80\x8a\xe2\x80\xa8\xe2\x80\xa9\xe2\x80\xaf\xe2\x81\x9f\xe3\x80\x80";
-    PyObject *front = PyUnicode_Substring(value, 0, front_length(value));
-    PyObject *name = front ? PyObject_CallMethod(front, "strip", "s", spaces) : NULL;
-    PyObject *bytes = name ? PyUnicode_AsUTF8String(name) : NULL;
-    PyObject *lower = bytes ? PyObject_CallMethod(bytes, "lower", NULL) : NULL;
-    PyObject *made = lower ? PyUnicode_FromEncodedObject(lower, "utf-8", NULL) : NULL;
-    Py_XDECREF(front);
-    Py_XDECREF(name);
-    Py_XDECREF(bytes);
-    Py_XDECREF(lower);
-    return made;
-}
-
 PyObject *disposition_of_part(PyObject *self, const struct rocktray_part *part)
 {
     static const char *const names[] = { NULL, "inline", "attachment", "form-data" };
-    struct request it = { .number = 0 };
-    const struct rocktray_header_record *header;
-    PyObject *value, *name;
-    if (part->disposition < ROCKTRAY_OTHERWISE)
-        return Py_BuildValue("s", names[part->disposition]);
-    if (take_mail(&it.input, self) < 0)
-        return NULL;
-    header = first_named(self, &it.input, part, "content-disposition");
-    value = header ? value_of(&it, header) : PyUnicode_FromString("");
-    give_back(&it.input);
-    name = value ? disposition_in(value) : NULL;
-    Py_XDECREF(value);
-    return name;
+    (void)self;
+    return Py_BuildValue("s", part->disposition < ROCKTRAY_OTHERWISE ? names[part->disposition] : "");
 }
 
-/* disposition(part): the name of the disposition of a part, or None. */
+/* disposition(part): the name of the disposition of a part, which is empty if it is none of the three; or None. */
 static PyObject *reading_disposition(PyObject *self, PyObject *index)
 {
     const struct rocktray_part *part = part_at(self, index);

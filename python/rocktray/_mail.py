@@ -122,6 +122,13 @@ class Mail:
             known[key] = find()
         return cast(Value, known[key])
 
+    @property
+    def _dispositions(self) -> Dict[str, Optional[str]]:
+        """The dispositions of the parts by their paths, as the JSON has them. The records only have the common ones."""
+        return self._remember(
+            "dispositions", lambda: {part["path"]: part["disposition"] for part in self.json["parts"]}
+        )
+
     def _value(self, name: bytes) -> Optional[str]:
         """The value of the first header with this name."""
         known = self._known

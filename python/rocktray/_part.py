@@ -105,7 +105,8 @@ class Part:
     @property
     def disposition(self) -> Optional[str]:
         """The disposition in lower case, such as 'attachment', or `None` without that header."""
-        return self._node.disposition
+        name = self._node.disposition
+        return self._mail._dispositions[self.path] if name == "" else name
 
     @property
     def file_name(self) -> Optional[str]:
