@@ -51,7 +51,7 @@ def entries(raw, tmp_path, format):
 
 # What the module returns for the inputs, by call.
 CALLS = {
-    "get_value": lambda row: value(row.inputs[0]),
+    "lenient_header_text": lambda row: value(row.inputs[0]),
     "date_of": lambda row: date(row.inputs[0]),
     "find_ids": lambda row: [as_bytes(it) for it in rocktray.read_ids(row.inputs[0].decode())],
     "find_any_ids": lambda row: [as_bytes(it) for it in rocktray.read_ids(row.inputs[0].decode(), needs_at=False)],
@@ -70,7 +70,8 @@ ROWS = rows()
 
 def is_of_a_table(row):
     """Whether an encoded word names a charset other than the four, which the module knows and these calls do not."""
-    return row.call in ("get_value", "mail") and any(not FOUR.fullmatch(label) for label in LABEL.findall(row.inputs[0]))
+    calls = ("get_value", "lenient_header_text", "mail")
+    return row.call in calls and any(not FOUR.fullmatch(label) for label in LABEL.findall(row.inputs[0]))
 
 
 @pytest.mark.parametrize("call", sorted(CALLS))
@@ -81,8 +82,6 @@ def test_rows(call):
         try:
             found = CALLS[call](row)
         except rocktray.Refused as error:
-            if call == "get_value":
-                continue  # the text after the value is no header, and `parse` reads it too
             found = refusal(error)
         except UnicodeDecodeError:
             continue  # texts of the module are UTF-8
@@ -90,6 +89,21 @@ def test_rows(call):
             assert found[0] == "error", row.place
         else:
             assert found == row.wanted, row.place
+
+
+def test_values_of_the_port():
+    """The values of its rows, beside a second reading of the rules by which the module reads them leniently."""
+    made = 0
+    for row in ROWS:
+        if row.call != "get_value" or is_of_a_table(row):
+            continue
+        try:
+            header = rocktray.parse(b"X:" + row.inputs[0]).headers[0]
+        except rocktray.Refused:
+            continue  # the text after the value is no header, and `parse` reads it too
+        assert header.value == by_lenient_rules.header_text(header.raw), row.place
+        made += 1
+    assert made > 100
 
 
 def headers_of(mail):
