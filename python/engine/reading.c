@@ -706,7 +706,7 @@ PyObject *disposition_of_part(PyObject *self, const struct rocktray_part *part)
     return Py_BuildValue("s", part->disposition < ROCKTRAY_OTHERWISE ? names[part->disposition] : "");
 }
 
-/* disposition(part): the name of the disposition of a part, which is empty if it is none of the three; or None. */
+/* disposition(part): the name of the disposition of a part, empty for any but the three above, or None without one. */
 static PyObject *reading_disposition(PyObject *self, PyObject *index)
 {
     const struct rocktray_part *part = part_at(self, index);
