@@ -1,5 +1,5 @@
 //! Reads a message: its header block, its type, its body and its parts.
-ghost use Rattle.std.specs.Prelude.{◌≡◌, Bool, false, ◌<◌, ◌≤◌, ◌+◌, ◌^◌, [], ◌∷◌, ◌++◌, length, drop, map, slice_range, take, IfOk, IsErr, Ok, OnOk};
+ghost use Rattle.std.specs.Prelude.{◌≡◌, Bool, false, ◌<◌, ◌≤◌, ◌+◌, ◌^◌, [], ◌∷◌, ◌++◌, length, drop, map, slice_range, take, IfErr, IfOk, IsErr, IsOkAnd, Ok, OnOk};
 ghost use Rattle.std.specs.List.{flat_map};
 ghost use Rattle.mail_codec.specs.Charset.{four_charsets};
 ghost use Rattle.mailparse.specs.Block.{header_count, header_part, read_block, read_headers};
@@ -338,25 +338,35 @@ fn parse_mail_recursive<'a, M: ReadingManner>(
         let (part_end, after) = cut_part(raw, start, line_delimiter.as_slice(), whole);
         let part = &raw[start..part_end];
         let begin = offset + start;
-        let read = parse_mail_recursive(alloc, left, part, begin, inner, levels - 1, manner)?;
-        push_part(&mut subparts, read)?;
+        push_part(
+            &mut subparts,
+            parse_mail_recursive(alloc, left, part, begin, inner, levels - 1, manner),
+        )?;
         next = after;
     }
     Ok(message_of(raw, offset, headers, ctype, body_offset, end, subparts))
 }
 
-/// Appends a part. What a failed push returns is as large as a part, so it is kept out of the frame
-/// of the function that recurses.
+/// Appends a part, or returns its refusal. A part is large, so it is taken out of its result here and
+/// not in the frame of the function that recurses.
 #[inline(never)]
-fn push_part<'a>(subparts: &mut Vec<ParsedMail<'a>>, part: ParsedMail<'a>) -> Result<(), AllocError>
-    ensures { OnOk result (subparts.new.items ≡ subparts.old.items ++ part.entry ∷ []) }
+fn push_part<'a>(
+    subparts: &mut Vec<ParsedMail<'a>>,
+    read: Result<ParsedMail<'a>, MailParseError>,
+) -> Result<(), MailParseError>
+    ensures pushed { OnOk result (IsOkAnd read.entry (λ part.
+        subparts.new.items ≡ subparts.old.items ++ part ∷ [])) }
+    ensures refused { (given : Reads Tree) → AnswersOrMemory tree_of read.entry given →
+        IfErr result (λ e. IsRefusalOrMemory e given) }
 {
-    subparts.push(part)?;
+    subparts.push(read?)?;
     Ok(())
 }
 
 /// Returns the refusal of the message that starts at `offset` of the mail; if the manner keeps
-/// refused messages, the message as plain text instead, without headers.
+/// refused messages, the message as plain text instead, without headers. It is kept out of the
+/// frame of the function that recurses.
+#[inline(never)]
 fn refused_or_kept<'a, M: ReadingManner>(
     alloc: Global,
     raw: &'a [u8],
@@ -379,8 +389,7 @@ fn refused_or_kept<'a, M: ReadingManner>(
     kept(alloc, raw, offset, refusal)
 }
 
-/// Returns a refused message as plain text without headers, unless memory ran out. It is kept out
-/// of the frame of the function that recurses.
+/// Returns a refused message as plain text without headers, unless memory ran out.
 #[inline(never)]
 fn kept<'a>(
     alloc: Global,

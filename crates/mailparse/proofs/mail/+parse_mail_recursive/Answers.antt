@@ -1,4 +1,4 @@
-use Rattle.std.proofs.Common.{cond, is_ok, ◌≡◌, ℕ, Bool, ◌+◌, ◌-◌, ◌<◌, ◌≤◌, ◌∷◌, [], ◌++◌, List, Option, Some, None, option_map, length, map, take, drop, slice_range, IfOk, Ok, Err, Result, refl, sym, ap, ◌∙◌, subst, arith}
+use Rattle.std.proofs.Common.{cond, is_ok, ◌≡◌, ℕ, Bool, ◌+◌, ◌-◌, ◌<◌, ◌≤◌, ◌∷◌, [], ◌++◌, List, Option, Some, None, option_map, length, map, take, drop, slice_range, IfOk, IsOkAnd, Ok, Err, Result, refl, sym, ap, ◌∙◌, subst, arith}
 use Rattle.std.specs.Global.{Vec}
 use Rattle.std.specs.Vec.{vec_len}
 use Rattle.std.proofs.lemmas.List.{map-append}
@@ -9,7 +9,7 @@ use Rattle.mailparse.specs.Block.{HeaderList, header_count, header_part, read_bl
 use Rattle.mailparse.specs.Mail.{Tree, tree, Forest, no_parts, forest, dash_boundary_of, whole_lines_for, or_kept, read_levels}
 use Rattle.mailparse.specs.Outcome.{Answers, AnswersOrMemory, IsRefusal}
 use Rattle.mailparse.specs.Refusal.{recursion_limit, Reads}
-use Rattle.mailparse.specs.Views.{content_type, header_list, in_digest, tree_of}
+use Rattle.mailparse.specs.Views.{content_type, header_list, in_digest, placements_of, tree_of}
 use Rattle.mailparse.specs.declared.error.MailParseError.{MailParseError}
 use Rattle.mailparse.specs.Header.{Header}
 use Rattle.mailparse.specs.declared.mail.message.ParsedMail.{ParsedMail}
@@ -242,10 +242,10 @@ pub cut_part-part_end-requires-clause-line_delimiter : goal.cut_part-part_end-re
 cut_part-part_end-requires-clause-line_delimiter g t c =
     rw c.as_slice-in-Some-next.ensures.value (IsLineDelimiter-of c.in-Some.line_delimiter.items (content_type c.in_ok-ctype.ctype) (made c.in_ok-line_delimiter.field-0 c.in-Some.line_delimiter _ c.in-Some.is c.in_ok-line_delimiter.ensures))
 
-pub returns-in_err-read-clause-read : goal.returns-in_err-read-clause-read
-returns-in_err-read-clause-read g t c =
+pub returns-in_err-push_part-clause-read : goal.returns-in_err-push_part-clause-read
+returns-in_err-push_part-clause-read g t c =
     let manner = g.M.ReadingManner.manner c.args.manner.now in
-    let p = err_from_is_err_and c.from_residual-in_err-read.result c.from_residual-in_err-read.ensures.1 in
+    let p = err_from_is_err_and c.from_residual-in_err-push_part.result c.from_residual-in_err-push_part.ensures.1 in
     let raw = c.args.raw.now in
     let headers = c.in-Ok.block.0.items in
     let body_offset = c.in-Ok.block.1 in
@@ -274,12 +274,17 @@ returns-in_err-read-clause-read g t c =
     let left : Leaves limit all_met c.loop-next.left here =
     subst (Leaves limit all_met c.loop-next.left) (met_from-some manner levels digest (drop 1 line_delimiter) raw start part_end after ends next)
     (subst (λ (o : Option ℕ). Leaves limit all_met c.loop-next.left (met_from manner levels digest (drop 1 line_delimiter) raw o)) c.in-Some-next.is c.loop-next.invariant.counted) in
-    rw (p.1, p.2) (IsRefusalOrMemory-along c.in_err-read.field-0.0 (limited c.loop-next.left (items_met manner levels digest bytes) (read_levels manner levels digest bytes))
+    rw (p.1, p.2) (IsRefusalOrMemory-along c.in_err-push_part.field-0.0 (limited c.loop-next.left (items_met manner levels digest bytes) (read_levels manner levels digest bytes))
     (limited limit all_met own)
     (λ r h. left.read own ∙ limited-refused c.loop-next.left (items_met manner levels digest bytes) more (read_levels manner levels digest bytes) own r h (λ e. read_levels-refused manner c.args.levels (in_digest c.args.default) raw r digest (slice_range raw start part_end) some e
     (whole ∙ ap (read_map (tree (record { bytes = raw; block = take body_offset raw; headers = headers; ctype = ctype; body = slice_range raw body_offset (preamble_end_as lines (drop 1 line_delimiter) raw body_offset) })))
     (parts_refused manner levels digest (drop 1 line_delimiter) raw (map tree_of c.loop-next.subparts.items) all start part_end r ends e before))))
-    c.in_err-read.ensures.read)
+    (c.in_err-push_part.ensures.refused (limited c.loop-next.left (items_met manner levels digest bytes) (read_levels manner levels digest bytes)) c.parse_mail_recursive.ensures.read))
+
+-- the part that a successful push took out of its result
+read_part : {Q : ParsedMail → Type 0} (r : Result ParsedMail MailParseError) → IsOkAnd r Q → (part : ParsedMail) × (r ≡ Ok part) × Q part
+read_part (Ok part) h = (part, refl, h)
+read_part (Err e) h = absurd h
 
 pub loop-next-preserved : goal.loop-next-preserved
 loop-next-preserved g t c =
@@ -297,11 +302,13 @@ loop-next-preserved g t c =
     let next : after ≡ next_part_as lines (drop 1 line_delimiter) raw start = c.cut_part-part_end.ensures.next ∙ ap (λ (t : Bool). next_part_as t (drop 1 c.as_slice-in-Some-next.result.now) raw start) c.has_whole_lines-whole.ensures ∙ ap (λ (l : List ℕ). next_part_as lines (drop 1 l) raw start) c.as_slice-in-Some-next.ensures.value in
     let all = parts_from manner levels digest (drop 1 line_delimiter) raw (first_part_as lines (drop 1 line_delimiter) raw body_offset) in
     let before = subst (λ (o : Option ℕ). with_trees (map tree_of c.loop-next.subparts.items) (parts_from manner levels digest (drop 1 line_delimiter) raw o) ≡ all) c.in-Some-next.is c.loop-next.invariant.all in
-    let part = c.in_ok-read.read in
+    let pushed_part = read_part c.parse_mail_recursive.result c.in_ok-push_part.ensures.pushed in
+    let part = pushed_part.0 in
+    let found = subst (λ (r : Result ParsedMail MailParseError). AnswersOrMemory tree_of r (limited c.loop-next.left (items_met manner levels digest (slice_range raw start part_end)) (read_levels manner levels digest (slice_range raw start part_end)))) pushed_part.1 c.parse_mail_recursive.ensures.read in
     let limit = c.args.left.now in
     let all_met = items_met manner c.args.levels (in_digest c.args.default) raw in
     let bytes = slice_range raw start part_end in
-    let part_read = limited-read c.loop-next.left (items_met manner levels digest bytes) (read_levels manner levels digest bytes) (tree_of part) c.in_ok-read.ensures.read in
+    let part_read = limited-read c.loop-next.left (items_met manner levels digest bytes) (read_levels manner levels digest bytes) (tree_of part) found in
     let more = met_from manner levels digest (drop 1 line_delimiter) raw after in
     let here : met_from manner levels digest (drop 1 line_delimiter) raw (Some start) ≡ items_met manner levels digest bytes + more =
     met_from-some manner levels digest (drop 1 line_delimiter) raw start part_end after ends next
@@ -310,19 +317,19 @@ loop-next-preserved g t c =
     subst (Leaves limit all_met c.loop-next.left) here
     (subst (λ (o : Option ℕ). Leaves limit all_met c.loop-next.left (met_from manner levels digest (drop 1 line_delimiter) raw o)) c.in-Some-next.is c.loop-next.invariant.counted) in
     let pushed : map tree_of c.push_part.new.subparts.items ≡ map tree_of c.loop-next.subparts.items ++ tree_of part ∷ [] =
-    ap (map tree_of) c.in_ok-push_part.ensures ∙ map-append tree_of c.loop-next.subparts.items (part ∷ []) in
+    ap (map tree_of) pushed_part.2 ∙ map-append tree_of c.loop-next.subparts.items (part ∷ []) in
     record {
       within = IfSome_then after c.cut_part-part_end.ensures.bounds.2 (λ x bounds. bounds.1);
       all = ap (λ (ts : List Tree). with_trees ts (parts_from manner levels digest (drop 1 line_delimiter) raw after)) pushed
           ∙ parts_step manner levels digest (drop 1 line_delimiter) raw (map tree_of c.loop-next.subparts.items) all start part_end after (tree_of part) ends next
           part_read before;
       counted = leaves_after limit all_met c.loop-next.left c.parse_mail_recursive.new.left (items_met manner levels digest bytes) more (read_levels manner levels digest bytes) (tree_of part) left
-          c.in_ok-read.ensures.read c.in_ok-read.ensures.left;
+          found (subst (λ (r : Result ParsedMail MailParseError). IfOk r (λ _. c.parse_mail_recursive.new.left ≡ less c.loop-next.left (items_met manner levels digest bytes))) pushed_part.1 c.parse_mail_recursive.ensures.left);
       placed =
           let placed = subst (λ (o : Option ℕ). ArePlaced manner.whole_lines c.args.offset (drop 1 line_delimiter) raw (first_part_as lines (drop 1 line_delimiter) raw body_offset) o c.loop-next.subparts.items) c.in-Some-next.is c.loop-next.invariant.placed in
-          subst (ArePlaced manner.whole_lines c.args.offset (drop 1 line_delimiter) raw (first_part_as lines (drop 1 line_delimiter) raw body_offset) after) (sym c.in_ok-push_part.ensures)
+          subst (ArePlaced manner.whole_lines c.args.offset (drop 1 line_delimiter) raw (first_part_as lines (drop 1 line_delimiter) raw body_offset) after) (sym pushed_part.2)
           (placed_step manner.whole_lines c.args.offset (drop 1 line_delimiter) raw (first_part_as lines (drop 1 line_delimiter) raw body_offset) c.loop-next.subparts.items start after part next
-          c.in_ok-read.ensures.places placed);
+          (subst (λ (r : Result ParsedMail MailParseError). IfOk r (λ mail. placements_of mail ≡ placements_as manner.whole_lines (c.args.offset + start) (tree_of mail))) pushed_part.1 c.parse_mail_recursive.ensures.places) placed);
     }
 
 pub returns-clause-read : goal.returns-clause-read
