@@ -1,15 +1,15 @@
--- The files that a mail carries (RFC 2183, section 2.3; RFC 2046, section 5.2.1), and the paths of
--- its parts (RFC 3501, section 6.4.5). The reading of a name in an unknown charset (RFC 2231,
--- section 4) is the crate's own rule.
-use Rattle.std.specs.Prelude.{ℕ, suc, Bool, true, false, not, ◌&&◌, ◌||◌, List, [], ◌∷◌, ◌++◌, filter, Option, Some, None, is_some, option_and_then, option_map, codes, decimal, if◌then◌else◌}
+-- The names of the files that a mail carries (RFC 2183, section 2.3; RFC 2046, section 5.2.1), and
+-- the paths of its parts (RFC 3501, section 6.4.5). The reading of a name in an unknown charset (RFC
+-- 2231, section 4) is the crate's own rule.
+use Rattle.std.specs.Prelude.{ℕ, suc, Bool, true, false, not, ◌&&◌, ◌||◌, List, [], ◌∷◌, ◌++◌, Option, Some, None, option_and_then, option_map, codes, decimal, if◌then◌else◌}
 use Rattle.std.specs.List.{after_first, list_any}
 use Rattle.std.specs.Str.{bytes_eq, is_utf8, trim}
 use Rattle.mail_codec.specs.Charset.{Charsets, text_of}
 use Rattle.mail_codec.specs.Places.{is_empty}
 use Rattle.mailparse.specs.ContentType.{ContentType, content_type_in}
-use Rattle.mailparse.specs.Disposition.{Disposition, Kind, attachment, disposition_in}
+use Rattle.mailparse.specs.Disposition.{Disposition, disposition_in}
 use Rattle.mailparse.specs.ExtendedValues.{is_apostrophe, text_in}
-use Rattle.mailparse.specs.Mail.{Node, Tree, Forest, tree, no_parts, part_and, root, shown_as_in}
+use Rattle.mailparse.specs.Mail.{Node, Tree, Forest, tree, no_parts, part_and}
 use Rattle.mailparse.specs.Map.{first_value_in}
 use Rattle.mailparse.specs.Pairs.{Texts}
 use Rattle.mailparse.specs.Value.{lenient_value_in}
@@ -63,11 +63,6 @@ typed_name ctype = name_among ctype.params (codes "name") (codes "name*")
 abbrev pub name_in : Disposition → ContentType → Option (List ℕ)
 name_in disposition ctype = first_text (shown_name disposition) (typed_name ctype)
 
--- the disposition is `attachment`
-abbrev pub is_attachment_disposition : Kind → Bool
-is_attachment_disposition attachment = true
-is_attachment_disposition _ = false
-
 -- a message has no parts; a forwarded message has no parts, since it is not parsed
 abbrev pub is_leaf : Tree → Bool
 is_leaf (tree node no_parts) = true
@@ -86,12 +81,6 @@ is_shown_type mimetype =
 -- file then
 abbrev pub is_shown : Node → Bool
 is_shown node = not (was_kept node) && is_shown_type node.ctype.mimetype
-
--- a disposition and a type are those of a file: the disposition is `attachment`, or there is a file
--- name
-abbrev pub describes_attachment : Disposition → ContentType → Bool
-describes_attachment disposition ctype =
-    is_attachment_disposition disposition.kind || is_some (name_in disposition ctype)
 
 -- the path of the part with this number in the message with this path: the numbers from the
 -- outermost, separated by dots
@@ -136,20 +125,3 @@ module _ (known : Charsets) where
   file_name node =
       name_by known (λ text. shown_name (disposition_in known text))
       (λ text. typed_name (content_type_in known text)) node
-
-  -- a message is a file: it has no parts, and its disposition and its type are those of a file
-  unfoldable pub is_attachment : Tree → Bool
-  is_attachment t = is_leaf t && describes_attachment (shown_as_in known (root t)) (root t).ctype
-
-  -- a message is saved when a mail is extracted: it has no parts and is no text that mail readers
-  -- show, or it is a file
-  abbrev pub is_extracted : Tree → Bool
-  is_extracted t = (is_leaf t && not (is_shown (root t))) || is_attachment t
-
-  -- the files among messages with paths
-  abbrev pub files_among : List (List ℕ × Tree) → List (List ℕ × Tree)
-  files_among messages = filter (λ p. is_attachment p.1) messages
-
-  -- the files of a whole message, with their paths
-  abbrev pub attachments : Tree → List (List ℕ × Tree)
-  attachments t = files_among (with_paths (whole_path t) t)

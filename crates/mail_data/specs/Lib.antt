@@ -15,6 +15,7 @@ pub mod CountedMails
 pub mod MailboxFormats
 pub mod MailboxViews
 pub mod lenient
+pub mod Attachments
 pub mod Texts
 pub mod TextViews
 pub mod Readable

@@ -3,9 +3,10 @@ use Rattle.std.specs.Prelude.{ℕ, Bool, true, false, not, ◌&&◌, ◌||◌, L
 use Rattle.std.specs.Str.{bytes_eq}
 use Rattle.mail_codec.specs.Charset.{Charsets}
 use Rattle.mail_codec.specs.Places.{is_empty}
-use Rattle.mailparse.specs.Mail.{Tree, root, shown_as_in, trees_within}
-use Rattle.mail_data.specs.Files.{is_attachment_disposition, is_attachment}
+use Rattle.mailparse.specs.Mail.{Tree, root, trees_within}
+use Rattle.mail_data.specs.Attachments.{is_attachment_disposition, is_attachment}
 use Rattle.mail_data.specs.Reports.{has_type}
+use Rattle.mail_data.specs.lenient.Dispositions.{lenient_disposition}
 use Rattle.mail_data.specs.lenient.Shown.{is_undivided}
 
 -- the first of two trees that exists
@@ -28,7 +29,7 @@ module _ (known : Charsets) where
   -- a part is no text: its disposition is `attachment`, or it is a file although a text may not
   -- have a name
   unfoldable pub is_no_text : Bool → Tree → Bool
-  is_no_text true t = is_attachment_disposition (shown_as_in known (root t)).kind
+  is_no_text true t = is_attachment_disposition (lenient_disposition known (root t))
   is_no_text false t = is_attachment known t
 
   -- a part is a text of this type

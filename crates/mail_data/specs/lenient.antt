@@ -21,3 +21,4 @@ pub mod Shown
 pub mod Folding
 pub mod Values
 pub mod ValueViews
+pub mod Dispositions

@@ -6,11 +6,10 @@ ghost use Rattle.mailparse.specs.Outcome.{AnswersOrMemory, IsMemory};
 ghost use Rattle.mailparse.specs.Pairs.{text_at};
 ghost use Rattle.mailparse.specs.Views as views;
 ghost use Rattle.mailparse.specs.Views.{content_type, kind, tree_of};
-ghost use Rattle.mail_data.specs.Files.{attachments, describes_attachment, file_name, filled};
-ghost use Rattle.mail_data.specs.Files.{is_attachment_disposition};
-ghost use Rattle.mail_data.specs.Files.{is_attachment, is_extracted, is_leaf, is_shown};
-ghost use Rattle.mail_data.specs.Files.{is_shown_type, name_among};
-ghost use Rattle.mail_data.specs.Files.{name_in, path_under, shown_name, typed_name};
+ghost use Rattle.mail_data.specs.Attachments.{attachments, describes_attachment, is_attachment};
+ghost use Rattle.mail_data.specs.Attachments.{is_attachment_disposition, is_extracted};
+ghost use Rattle.mail_data.specs.Files.{file_name, filled, is_leaf, is_shown, is_shown_type};
+ghost use Rattle.mail_data.specs.Files.{name_among, name_in, path_under, shown_name, typed_name};
 ghost use Rattle.mail_data.specs.Files.{whole_path};
 ghost use Rattle.mail_data.specs.FileViews.{attachment_view};
 ghost use Rattle.mail_data.specs.RawPaths.{file_name_or_path};
@@ -22,7 +21,7 @@ mod no_charsets;
 mod paths;
 mod windows;
 
-use crate::lenient::was_kept;
+use crate::lenient::{lenient_disposition, lenient_file_name, was_kept};
 use crate::places::push_places;
 use left_over::left_over_text;
 pub(crate) use left_over::text_of_octets;
@@ -240,11 +239,12 @@ pub fn filled_parameter<'p>(parameters: &'p BTreeMap<String, String>, name: &str
 }
 
 /// Returns whether a part is a file: it has no parts of its own, and its disposition is
-/// `attachment` or it has a file name (RFC 2183, sections 2.2 and 2.3).
+/// `attachment` or it has a file name (RFC 2183, sections 2.2 and 2.3), both read leniently, by
+/// `lenient_disposition` and `lenient_file_name`.
 ///
 /// So an image that is shown in the text counts if it has a name, and a forwarded message
-/// (`message/rfc822`), whose content is not parsed, counts like any other part. The disposition is
-/// read in the charsets `known` (RFC 2231, section 4). Allocates the disposition.
+/// (`message/rfc822`), whose content is not parsed, counts like any other part. Both are read in the
+/// charsets `known` (RFC 2231, section 4). Allocates the disposition and the name.
 ///
 /// # Errors
 ///
@@ -257,6 +257,8 @@ pub fn filled_parameter<'p>(parameters: &'p BTreeMap<String, String>, name: &str
 /// use mailparse::{SingleByteTable, parse_mail};
 ///
 /// let mail = parse_mail(alloc, b"Content-Disposition: inline; filename=a.txt\n\n")?;
+/// assert!(rt; is_attachment(alloc, &mail, &())?);
+/// let mail = parse_mail(alloc, b"Content-Disposition: attachment (x)\n\n")?;
 /// assert!(rt; is_attachment(alloc, &mail, &())?);
 ///
 /// let tables = [SingleByteTable { labels: &["x-euro"], high: &['€'; 128] }];
@@ -275,8 +277,12 @@ pub fn is_attachment<K: KnownCharsets>(
     if !is_leaf(part) {
         return Ok(false);
     }
-    let disposition = part.get_content_disposition_in(alloc, known)?;
-    Ok(describes_attachment(alloc, &disposition, &part.ctype)?)
+    let disposition = lenient_disposition(alloc, part, known)?;
+    if is_attachment_disposition(&disposition) {
+        return Ok(true);
+    }
+    let name = lenient_file_name(alloc, part, known)?;
+    Ok(name.is_some())
 }
 
 /// Returns whether a message has no parts (RFC 2046, section 5.1). A forwarded message
@@ -298,43 +304,30 @@ pub fn is_leaf(part: &ParsedMail<'_>) -> bool
     part.subparts.as_slice().is_empty()
 }
 
-/// Returns whether a part without parts of its own is a file, given its disposition and its type,
-/// for callers that have read both; `is_attachment` reads them. The disposition of a file is
-/// `attachment`, or there is a file name (RFC 2183, sections 2.2 and 2.3).
-///
-/// Allocates the name.
-///
-/// # Errors
-///
-/// `AllocError` if it runs out of memory.
+/// Returns whether a part without parts of its own is a file, given its disposition and its file
+/// name, for callers that have read both, by `lenient_disposition` and `lenient_file_name`;
+/// `is_attachment` reads them. The disposition of a file is `attachment`, or there is a file name
+/// (RFC 2183, sections 2.2 and 2.3). Does not allocate.
 ///
 /// # Examples
 ///
 /// ```rust
 /// use mail_data::files::describes_attachment;
-/// use mailparse::{parse_content_disposition, parse_content_type};
+/// use mailparse::DispositionType;
 ///
-/// let ctype = parse_content_type(alloc, "text/plain")?;
-/// let disposition = parse_content_disposition(alloc, "attachment")?;
-/// assert!(rt; describes_attachment(alloc, &disposition, &ctype)?);
-/// let disposition = parse_content_disposition(alloc, "inline")?;
-/// assert!(rt; !describes_attachment(alloc, &disposition, &ctype)?);
+/// assert!(rt; describes_attachment(&Some(DispositionType::Attachment), &None));
+/// assert!(rt; describes_attachment(&None, &Some(String::from_str(alloc, "a.txt")?)));
+/// assert!(rt; !describes_attachment(&Some(DispositionType::Inline), &None));
 /// ```
-pub fn describes_attachment(
-    alloc: Global,
-    disposition: &ParsedContentDisposition,
-    ctype: &ParsedContentType,
-) -> Result<bool, AllocError>
-    ensures { IfOk result (λ is. is
-        ≡ describes_attachment (views.disposition disposition.now) (content_type ctype.now)) }
+pub fn describes_attachment(disposition: &Option<DispositionType>, name: &Option<String>) -> bool
+    ensures { result
+        ≡ describes_attachment (option_map kind disposition.now) (text_found name.now) }
 {
-    if is_attachment_disposition(&disposition.disposition) {
-        return Ok(true);
-    }
-    Ok(named_file(alloc, disposition, ctype)?.is_some())
+    is_attachment_disposition(disposition) || name.is_some()
 }
 
-/// Returns whether a disposition is `attachment` (RFC 2183, section 2.2). Does not allocate.
+/// Returns whether there is a disposition, and it is `attachment` (RFC 2183, section 2.2). Does not
+/// allocate.
 ///
 /// # Examples
 ///
@@ -342,13 +335,14 @@ pub fn describes_attachment(
 /// use mail_data::files::is_attachment_disposition;
 /// use mailparse::DispositionType;
 ///
-/// assert!(rt; is_attachment_disposition(&DispositionType::Attachment));
-/// assert!(rt; !is_attachment_disposition(&DispositionType::Inline));
+/// assert!(rt; is_attachment_disposition(&Some(DispositionType::Attachment)));
+/// assert!(rt; !is_attachment_disposition(&Some(DispositionType::Inline)));
+/// assert!(rt; !is_attachment_disposition(&None));
 /// ```
-pub fn is_attachment_disposition(disposition: &DispositionType) -> bool
-    ensures { result ≡ is_attachment_disposition (kind disposition.now) }
+pub fn is_attachment_disposition(disposition: &Option<DispositionType>) -> bool
+    ensures { result ≡ is_attachment_disposition (option_map kind disposition.now) }
 {
-    matches!(disposition, DispositionType::Attachment)
+    matches!(disposition, Some(DispositionType::Attachment))
 }
 
 /// Returns whether a part is saved when the files of a mail are extracted: it is a file by
@@ -356,7 +350,7 @@ pub fn is_attachment_disposition(disposition: &DispositionType) -> bool
 /// text of a mail, by `is_shown` (RFC 2183, section 2.1).
 ///
 /// So an image without a name, a forwarded message and the status in a delivery report count. The
-/// disposition is read in the charsets `known` (RFC 2231, section 4). Allocates the disposition.
+/// disposition and the name are read in the charsets `known` (RFC 2231, section 4). Allocates both.
 ///
 /// # Errors
 ///
@@ -419,8 +413,8 @@ fn is_shown_type(mimetype: &str) -> bool
 /// Returns the files of a mail (RFC 2183, section 2), in the order in which they appear, each with
 /// the path of its part.
 ///
-/// Dispositions are read in the charsets `known` (RFC 2231, section 4). Allocates the list, the
-/// paths and each disposition in turn.
+/// Dispositions and names are read in the charsets `known` (RFC 2231, section 4). Allocates the
+/// list, the paths, and each disposition and name in turn.
 ///
 /// # Errors
 ///

@@ -8,7 +8,7 @@ ghost use Rattle.mail_data.specs.Texts.{text_type, text_type_of};
 ghost use Rattle.mail_data.specs.TextViews.{tree_found};
 
 use crate::files::{is_attachment, is_attachment_disposition};
-use crate::lenient::is_undivided;
+use crate::lenient::{is_undivided, lenient_disposition};
 use crate::reports::has_type;
 use mail_codec::charset::KnownCharsets;
 use mailparse::{MailParseError, ParsedMail};
@@ -22,9 +22,9 @@ use std::alloc::Global;
 /// `multipart/mixed` an HTML text takes precedence over the plain footer of a mailing list that
 /// follows it. A text with a file name is a file by `files::is_attachment`, and counts only if
 /// there is no other text and its disposition is not `attachment` (RFC 2183, section 2.1).
-/// Dispositions are read in the charsets `known` (RFC 2231, section 4). The type `text` alone is
+/// Dispositions and names are read leniently, in the charsets `known`. The type `text` alone is
 /// plain text, and so is a multipart that has no parts (`text_type_of`). `lenient::body_text`
-/// returns the text of the part. Allocates the list of parts and the dispositions.
+/// returns the text of the part. Allocates the list of parts, the dispositions and the names.
 ///
 /// # Errors
 ///
@@ -175,8 +175,8 @@ fn is_no_text<K: KnownCharsets>(
     if !may_have_name {
         return is_attachment(alloc, part, known);
     }
-    let disposition = part.get_content_disposition_in(alloc, known)?;
-    Ok(is_attachment_disposition(&disposition.disposition))
+    let disposition = lenient_disposition(alloc, part, known)?;
+    Ok(is_attachment_disposition(&disposition))
 }
 
 /// Returns the type of a text: `text` alone and an empty type are `text/plain` (RFC 2045, section

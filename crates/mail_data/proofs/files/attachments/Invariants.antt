@@ -1,7 +1,7 @@
 -- The files so far, and then those among the places that are left, are all.
 use Rattle.std.proofs.Common.{◌≡◌, ◌++◌, map}
 use Rattle.mailparse.specs.Views.{tree_of}
-use Rattle.mail_data.specs.Files.{attachments, files_among}
+use Rattle.mail_data.specs.Attachments.{attachments, files_among}
 use Rattle.mail_data.specs.FileViews.{attachment_view}
 use Rattle.mail_data.specs.PlaceViews.{numbered_view}
 use Rattle.mail_data.proofs.files.attachments.Given as goal
