@@ -1,10 +1,12 @@
 -- The findings of a mail: where programs may read something else; this crate's own words.
+use Rattle.std.specs.List.{list_any}
 use Rattle.std.specs.Prelude.{ℕ, suc, ◌+◌, ◌-◌, ◌^◌, Bool, true, false, ◌&&◌, ◌||◌, not, ◌==◌, min, List, [], ◌∷◌, ◌++◌, flat_map, length, drop, Option, Some, None, is_none, codes, if◌then◌else◌}
 use Rattle.mail_codec.specs.Ascii.{colon}
 use Rattle.mail_codec.specs.Places.{byte_place}
 use Rattle.mailparse.specs.Body.{BodyKind, in_base64, in_quoted_printable, in_7bit, in_8bit, in_binary}
 use Rattle.mailparse.specs.ContentType.{ContentType}
-use Rattle.mailparse.specs.Mail.{Tree, body_kind, root}
+use Rattle.mailparse.specs.Disposition.{Disposition}
+use Rattle.mailparse.specs.Mail.{Node, Tree, body_kind, root, shown_as}
 use Rattle.mailparse.specs.Placement.{Placement}
 use Rattle.mailparse.specs.Ranges.{Range}
 use Rattle.mail_data.specs.Files.{is_leaf}
@@ -13,13 +15,16 @@ use Rattle.mail_data.specs.PartPlaces.{Place, places}
 use Rattle.mail_check.specs.Bodies.{is_base64_lines}
 use Rattle.mail_check.specs.Bytes.{earlier, first_byte, first_offset, is_bad_escape, is_control, is_end_blank, is_escaped_end, is_high}
 use Rattle.mail_check.specs.Bytes.{is_lone_return, is_nul, mixed_line_end}
+use Rattle.mail_check.specs.FileNames.{has_two_names, has_untyped_name}
 use Rattle.mail_check.specs.Lines.{HeaderLine, begins_type, ends_block, has_blank_fold, has_comment_fold, has_high_value}
 use Rattle.mail_check.specs.Lines.{header_lines, is_bad_encoding, is_bad_key, is_composite, is_encoding, is_named}
 use Rattle.mail_check.specs.Lines.{is_other_message, second_named, single_names}
 use Rattle.mail_check.specs.Multiparts.{dash_of, is_bad_boundary, is_close, is_inside, is_tailed, late_delimiter}
 use Rattle.mail_check.specs.Names.{class_of}
 use Rattle.mail_check.specs.Senders.{is_bad_sender}
-use Rattle.mail_check.specs.Parameters.{has_extended, has_quoted_pair, has_quoted_special, has_word, is_bad_value, strict_value}
+use Rattle.mail_check.specs.WordBytes.{has_bad_octets}
+use Rattle.mail_check.specs.Words.{has_join, is_bad_name, is_bad_piece, is_worded, pieces}
+use Rattle.mail_check.specs.Parameters.{has_extended, has_other_name, has_quoted_pair, has_quoted_special, has_repeat, has_word, is_bad_value, none_seen, parameter_names, strict_value}
 use Rattle.mail_check.specs.declared.names.Class.{Class}
 use Rattle.mail_check.specs.declared.names.Name.{Name}
 use Rattle.mail_check.specs.declared.names.Name.TheVariants as name
@@ -99,18 +104,29 @@ line_findings spot size line =
     ++ listed_if spot name.Header8bit (has_high_value line))))
 
 -- a type or a disposition whose value is of this text, if that has the syntax that all programs know
-abbrev pub value_findings : Spot → Option (List ℕ) → List Finding
-value_findings spot None = []
-value_findings spot (Some bytes) =
+abbrev pub value_findings : Spot → List ℕ → List Finding
+value_findings spot bytes =
     listed_if spot name.QuotedSpecial (has_quoted_special bytes)
     ++ (listed_if spot name.QuotedPair (has_quoted_pair bytes)
     ++ (listed_if spot name.ExtendedParameter (has_extended bytes)
     ++ listed_if spot name.WordParameter (has_word bytes)))
 
+-- one whose parameters have these names
+abbrev pub name_findings : Spot → HeaderLine → List (List ℕ) → List Finding
+name_findings spot line names =
+    listed_if spot name.DuplicateParameter (has_repeat none_seen names)
+    ++ listed_if spot name.TwoNames (has_other_name line names)
+
+-- both, of a header whose value is of this text
+abbrev pub strict_findings : Spot → HeaderLine → Option (List ℕ) → List Finding
+strict_findings spot line None = []
+strict_findings spot line (Some bytes) =
+    value_findings spot bytes ++ name_findings spot line (parameter_names bytes)
+
 -- a header as a type or a disposition
 abbrev pub parameter_findings : Spot → HeaderLine → List Finding
 parameter_findings spot line =
-    listed_if spot name.TypeSyntax (is_bad_value line) ++ value_findings spot (strict_value line)
+    listed_if spot name.TypeSyntax (is_bad_value line) ++ strict_findings spot line (strict_value line)
 
 -- what one header says of a message of this type
 abbrev pub type_findings : Spot → ContentType → HeaderLine → List Finding
@@ -122,13 +138,31 @@ type_findings spot ctype line =
     ++ listed_if spot name.BadBoundary
     (is_named (codes "Content-Type") line && is_bad_boundary ctype)))
 
--- the findings of one header of a message
-abbrev pub header_findings : Place → HeaderLine → List Finding
-header_findings place line =
+-- a subject or a sender with these pieces
+abbrev pub word_findings : Spot → HeaderLine → List (List ℕ) → List Finding
+word_findings spot line found =
+    listed_if spot name.WordSyntax (list_any is_bad_piece found)
+    ++ (listed_if spot name.WordJoin (has_join [] found)
+    ++ (listed_if spot name.WordBytes (list_any has_bad_octets found)
+    ++ listed_if spot name.NameAddress (is_bad_name line found)))
+
+-- a header as a subject or a sender
+abbrev pub worded_findings : Spot → HeaderLine → List Finding
+worded_findings spot line = if is_worded line then word_findings spot line (pieces line.value) else []
+
+-- a header as a sender of the whole mail, before which no message comes
+abbrev pub sender_findings : ℕ → Spot → HeaderLine → List Finding
+sender_findings number spot line = listed_if spot name.FromSyntax (number == 0 && is_bad_sender line)
+
+-- the findings of one header of a message, given how many come before it
+abbrev pub header_findings : ℕ → Place → HeaderLine → List Finding
+header_findings number place line =
     let node = root place.part in
     let spot = spot_in place line.start (length line.bytes) in
     line_findings spot (length node.block) line
-    ++ (parameter_findings spot line ++ type_findings spot node.ctype line)
+    ++ (parameter_findings spot line
+    ++ (type_findings spot node.ctype line
+    ++ (sender_findings number spot line ++ worded_findings spot line)))
 
 -- the second header with a name, if there is one
 abbrev pub repeated : Place → Option HeaderLine → List Finding
@@ -146,18 +180,19 @@ abbrev pub has_none : List HeaderLine → Bool
 has_none [] = true
 has_none (line ∷ lines) = false
 
--- the findings of one header of a whole mail
-abbrev pub sender_findings : Place → HeaderLine → List Finding
-sender_findings place line =
-    listed_if (spot_in place line.start (length line.bytes)) name.FromSyntax (is_bad_sender line)
-
--- those of all headers, then of each name that occurs twice, and then of the senders of a whole mail, before which no message comes
+-- those of all headers, and then of each name that occurs twice
 abbrev pub block_findings : ℕ → Place → List HeaderLine → List Finding
 block_findings number place lines =
     listed_if (spot_in place 0 0) name.NoHeaders (has_none lines)
-    ++ (flat_map (header_findings place) lines
-    ++ (repeated_findings place lines single_names
-    ++ (if number == 0 then flat_map (sender_findings place) lines else [])))
+    ++ (flat_map (header_findings number place) lines ++ repeated_findings place lines single_names)
+
+-- ---- file names
+
+-- the file names of a message, which is to be shown so
+abbrev pub file_findings : Spot → Disposition → Node → List Finding
+file_findings spot shown node =
+    listed_if spot name.NoType (has_untyped_name shown node)
+    ++ listed_if spot name.TwoNames (has_two_names shown node.ctype)
 
 -- ---- the parts of a multipart
 
@@ -231,8 +266,9 @@ message_findings number place =
     (if number == 0 then byte_findings (spot_in place 0 1) node.bytes else [])
     ++ (listed_if (spot_in place 0 (length node.bytes)) name.Many (is_far number place)
     ++ (block_findings number place (header_lines node)
+    ++ (file_findings (spot_in place 0 (length node.block)) (shown_as node) node
     ++ (multipart_findings place (dash_of node.ctype)
-    ++ leaf_findings place)))
+    ++ leaf_findings place))))
 
 -- those of some messages, given how many come before them
 abbrev pub findings_from : ℕ → List Place → List Finding

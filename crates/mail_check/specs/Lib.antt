@@ -5,6 +5,9 @@ pub mod LineViews
 pub mod Multiparts
 pub mod Parameters
 pub mod Senders
+pub mod FileNames
+pub mod Words
+pub mod WordBytes
 pub mod Bodies
 pub mod Findings
 pub mod FindingViews

@@ -1,9 +1,9 @@
 -- Types and dispositions as all programs read them, and what some read differently in their parameters (RFC 2045, section 5.1;
 -- RFC 2183, section 2; RFC 2231); this crate's own words.
-use Rattle.std.specs.Prelude.{ℕ, ◌+◌, Bool, true, false, ◌&&◌, ◌||◌, not, ◌==◌, List, [], ◌∷◌, drop, take, Option, Some, None, is_none, is_some, codes, if◌then◌else◌}
-use Rattle.std.specs.Char.{is_ascii_alphanumeric, is_ascii_digit}
+use Rattle.std.specs.Prelude.{ℕ, ◌+◌, Bool, true, false, ◌&&◌, ◌||◌, not, ◌==◌, List, [], ◌∷◌, ◌++◌, drop, take, Option, Some, None, is_none, is_some, codes, encode_utf8, if◌then◌else◌}
+use Rattle.std.specs.Char.{is_ascii_alphanumeric, is_ascii_digit, to_ascii_lowercase}
 use Rattle.std.specs.List.{list_any}
-use Rattle.std.specs.Str.{str_eq_ignore_ascii_case}
+use Rattle.std.specs.Str.{bytes_eq, str_eq_ignore_ascii_case}
 use Rattle.mail_codec.specs.Ascii.{asterisk, backslash, carriage_return, equals_sign, is_blank, line_feed, quote, semicolon, slash, space, tab}
 use Rattle.mail_codec.specs.Places.{byte_place, text_place}
 use Rattle.mail_check.specs.Bytes.{is_control}
@@ -115,6 +115,50 @@ abbrev pub has_step : Step → ValueState → List ℕ → Bool
 has_step step state [] = false
 has_step step state (b ∷ bytes) = is_step step state b || has_step step (after_byte state b) bytes
 
+-- ---- the names of parameters
+
+-- a byte is one of a name if this is the state after it
+abbrev pub is_name_state : ValueState → Bool
+is_name_state Attribute = true
+is_name_state Star = true
+is_name_state _ = false
+
+-- it is the equals sign after a name
+abbrev pub ends_name : ValueState → Bool
+ends_name Equals = true
+ends_name StarEquals = true
+ends_name _ = false
+
+-- a name with one more byte, in lower case, if that is one of it; otherwise none
+abbrev pub name_with : ValueState → List ℕ → ℕ → List ℕ
+name_with next name b = if is_name_state next then name ++ encode_utf8 (to_ascii_lowercase b) else []
+
+-- the names among some bytes after a state, of the first of which this part was read
+abbrev pub names_after : ValueState → List ℕ → List ℕ → List (List ℕ)
+names_after state name [] = []
+names_after state name (b ∷ bytes) =
+    let next = after_byte state b in
+    if ends_name next then name ∷ names_after next [] bytes
+    else names_after next (name_with next name b) bytes
+
+-- the names of all parameters, in lower case, with their asterisks
+unfoldable pub parameter_names : List ℕ → List (List ℕ)
+parameter_names bytes = names_after Start [] bytes
+
+-- one of some names was seen, or comes after one that is equal
+abbrev pub has_repeat : (List ℕ → Bool) → List (List ℕ) → Bool
+has_repeat seen [] = false
+has_repeat seen (name ∷ names) =
+    if seen name then true else has_repeat (λ other. if bytes_eq name other then true else seen other) names
+
+-- none was
+abbrev pub none_seen : List ℕ → Bool
+none_seen name = false
+
+-- a name is among some
+abbrev pub is_among : List ℕ → List (List ℕ) → Bool
+is_among name names = list_any (bytes_eq name) names
+
 -- ---- headers
 
 -- a main type that all programs know
@@ -150,6 +194,12 @@ strict (Some bytes) = if is_strict bytes then Some bytes else None
 
 abbrev pub strict_value : HeaderLine → Option (List ℕ)
 strict_value line = strict (value_of line)
+
+-- the file name of the other header is among the names of a type or a disposition
+abbrev pub has_other_name : HeaderLine → List (List ℕ) → Bool
+has_other_name line names =
+    (is_type line && is_among (codes "filename") names)
+    || (is_disposition line && is_among (codes "name") names)
 
 -- a type or a disposition has another syntax
 abbrev pub is_bad_value : HeaderLine → Bool

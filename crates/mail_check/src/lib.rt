@@ -8,14 +8,18 @@
 #![tactic(auto)]
 
 mod bodies;
+mod file_names;
 pub mod laws;
 mod lines;
 mod listing;
 mod multipart;
 mod names;
+mod parameter_names;
 mod parameters;
 mod scan;
 mod senders;
+mod word_bytes;
+mod words;
 
 pub use listing::{Finding, findings};
 pub use names::{Class, Name};

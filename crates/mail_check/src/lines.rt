@@ -106,6 +106,13 @@ fn are_visible(bytes: &[u8]) -> bool
     bytes.iter().all(|byte| *byte > b' ' && *byte <= b'~')
 }
 
+/// Returns whether a byte is visible ASCII.
+pub(crate) fn is_visible(byte: u8) -> bool
+    ensures { result ≡ is_visible byte }
+{
+    byte > b' ' && byte <= b'~'
+}
+
 /// Returns whether a colon comes after blanks.
 fn has_second_colon(rest: &[u8]) -> bool
     ensures { result ≡ has_second_colon rest.now }

@@ -1,24 +1,25 @@
 //! The findings of a mail.
 ghost use Rattle.std.specs.Prelude.{◌≡◌, ◌++◌, ◌<◌, ◌||◌, ◌==◌, ◌∷◌, if◌then◌else◌, [], flat_map};
-ghost use Rattle.std.specs.Prelude.{length, map, IfErr, IfOk, Ok, OnOk, Some};
+ghost use Rattle.std.specs.Prelude.{length, map, string_bytes, IfErr, IfOk, Ok, OnOk, Some};
 ghost use Rattle.mailparse.specs.Body.{BodyKind};
 ghost use Rattle.mailparse.specs.BodyViews.{Content, IsBody, content_of};
-ghost use Rattle.mailparse.specs.Mail.{body_kind, root};
+ghost use Rattle.mailparse.specs.Mail.{body_kind, root, shown_as};
 ghost use Rattle.mailparse.specs.Outcome.{AnswersOrMemory, IsMemory};
-ghost use Rattle.mailparse.specs.Views.{placements_of, tree_of};
+ghost use Rattle.mailparse.specs.Views.{disposition, placements_of, tree_of};
 ghost use Rattle.mail_data.specs.InnerMails.{dot_count};
 ghost use Rattle.mail_data.specs.PlaceViews.{place_view};
 ghost use Rattle.mail_check.specs.FindingViews.{finding_view, spot_view};
 ghost use Rattle.mail_check.specs.Findings.{block_findings, byte_findings, delimiter_findings};
-ghost use Rattle.mail_check.specs.Findings.{encoded_findings, finding_at, findings};
+ghost use Rattle.mail_check.specs.Findings.{encoded_findings, file_findings, finding_at, findings};
 ghost use Rattle.mail_check.specs.Findings.{header_findings, is_far};
 ghost use Rattle.mail_check.specs.Findings.{leaf_findings, line_findings, listed, listed_if};
 ghost use Rattle.mail_check.specs.Findings.{message_findings, multipart_findings};
 ghost use Rattle.mail_check.specs.Findings.{parameter_findings, part_findings};
 ghost use Rattle.mail_check.specs.Findings.{has_none, is_single, quoted_findings, repeated};
-ghost use Rattle.mail_check.specs.Findings.{repeated_findings, sender_findings};
-ghost use Rattle.mail_check.specs.Findings.{spot_in, spot_of_body};
+ghost use Rattle.mail_check.specs.Findings.{name_findings, repeated_findings, spot_in};
+ghost use Rattle.mail_check.specs.Findings.{spot_of_body, strict_findings};
 ghost use Rattle.mail_check.specs.Findings.{type_findings, value_findings};
+ghost use Rattle.mail_check.specs.Findings.{word_findings, worded_findings};
 ghost use Rattle.mail_check.specs.LineViews.{line_view};
 ghost use Rattle.mail_codec.specs.Ascii.{colon};
 ghost use Rattle.mail_codec.specs.Places.{byte_place};
@@ -27,6 +28,7 @@ ghost use Rattle.mail_check.specs.declared.names.Name.TheVariants.{Preamble};
 ghost use Rattle.mail_check.specs.Multiparts.{dash_of};
 
 use crate::bodies::is_base64_lines;
+use crate::file_names::{has_two_names, has_untyped_name};
 use crate::lines::{
     HeaderLine, ends_block, has_blank_fold, has_comment_fold, has_high_value, header_lines,
     is_bad_encoding, is_bad_key, is_encoding, second_named,
@@ -36,17 +38,20 @@ use crate::multipart::{
     is_other_message, late_delimiter,
 };
 use crate::names::{Class, Name};
+use crate::parameter_names::{has_other_name, has_repeat, parameter_names};
 use crate::parameters::{
     has_extended, has_parameters, has_quoted_pair, has_quoted_special, has_word, is_type,
     strict_value,
 };
 use crate::scan::{Pattern, control_byte, earlier, first_match, from_offset, high_byte, later};
 use crate::senders::is_bad_sender;
+use crate::word_bytes::has_bad_word;
+use crate::words::{has_bad_piece, has_join, is_bad_name, is_worded, pieces};
 use mail_codec::bytescan::find_byte;
 use mail_data::files::is_leaf;
 use mail_data::places::{Place, places};
 use mailparse::body::Body;
-use mailparse::{MailParseError, ParsedMail};
+use mailparse::{MailParseError, ParsedContentDisposition, ParsedMail};
 use std::alloc::{AllocError, Global};
 use std::ops::Range;
 
@@ -132,6 +137,7 @@ fn push_message(
     let spot = spot_in(place, 0, place.part.raw_bytes.len());
     push_if(alloc, found, &spot, Name::Many, is_far(number, place))?;
     push_block(alloc, found, place, number)?;
+    push_files(alloc, found, place)?;
     push_multipart(alloc, found, place)?;
     push_leaf(alloc, found, place)
 }
@@ -232,30 +238,8 @@ fn push_headers(
 {
     let spot = spot_in(place, 0, 0);
     push_if(alloc, found, &spot, Name::NoHeaders, has_none(lines))?;
-    push_lines(alloc, found, place, lines)?;
-    push_repeated(alloc, found, place, lines)?;
-    if number == 0 {
-        push_senders(alloc, found, place, lines)?;
-    }
-    Ok(())
-}
-
-/// Appends the findings of the senders of a mail.
-fn push_senders(
-    alloc: Global,
-    found: &mut Vec<Finding>,
-    place: &Place<'_, '_>,
-    lines: &[HeaderLine<'_>],
-) -> Result<(), AllocError>
-    ensures { OnOk result (map finding_view found.new.items
-        ≡ map finding_view found.old.items
-        ++ flat_map (sender_findings (place_view place.now)) (map line_view lines.now)) }
-{
-    for line in lines {
-        let spot = spot_in(place, line.start, line.bytes.len());
-        push_if(alloc, found, &spot, Name::FromSyntax, is_bad_sender(line))?;
-    }
-    Ok(())
+    push_lines(alloc, found, place, number, lines)?;
+    push_repeated(alloc, found, place, lines)
 }
 
 /// Returns whether there is no header.
@@ -266,39 +250,83 @@ fn has_none(lines: &[HeaderLine<'_>]) -> bool
     lines.is_empty()
 }
 
-/// Appends the findings of each header.
+/// Appends the findings of each header of a message, given how many come before it.
 fn push_lines(
     alloc: Global,
     found: &mut Vec<Finding>,
     place: &Place<'_, '_>,
+    number: usize,
     lines: &[HeaderLine<'_>],
 ) -> Result<(), AllocError>
     ensures { OnOk result (map finding_view found.new.items
         ≡ map finding_view found.old.items
-        ++ flat_map (header_findings (place_view place.now)) (map line_view lines.now)) }
+        ++ flat_map (header_findings number (place_view place.now)) (map line_view lines.now)) }
 {
     for line in lines {
-        push_header(alloc, found, place, line)?;
+        push_header(alloc, found, place, number, line)?;
     }
     Ok(())
 }
 
-/// Appends the findings of one header of a message.
+/// Appends the findings of one header of a message, given how many come before it.
 fn push_header(
     alloc: Global,
     found: &mut Vec<Finding>,
     place: &Place<'_, '_>,
+    number: usize,
     line: &HeaderLine<'_>,
 ) -> Result<(), AllocError>
     ensures { OnOk result (map finding_view found.new.items
         ≡ map finding_view found.old.items
-        ++ header_findings (place_view place.now) (line_view line.now)) }
+        ++ header_findings number (place_view place.now) (line_view line.now)) }
 {
     let spot = spot_in(place, line.start, line.bytes.len());
     let size = place.part.get_headers().get_raw_bytes().len();
     push_line(alloc, found, &spot, size, line)?;
     push_parameters(alloc, found, &spot, line)?;
-    push_type(alloc, found, &spot, place.part, line)
+    push_type(alloc, found, &spot, place.part, line)?;
+    let is_bad = number == 0 && is_bad_sender(line);
+    push_if(alloc, found, &spot, Name::FromSyntax, is_bad)?;
+    push_worded(alloc, found, &spot, line)
+}
+
+/// Appends the findings of a header as a subject or a sender.
+fn push_worded(
+    alloc: Global,
+    found: &mut Vec<Finding>,
+    spot: &Spot<'_>,
+    line: &HeaderLine<'_>,
+) -> Result<(), AllocError>
+    ensures { OnOk result (map finding_view found.new.items
+        ≡ map finding_view found.old.items
+        ++ worded_findings (spot_view spot.now) (line_view line.now)) }
+{
+    if !is_worded(line) {
+        return Ok(());
+    }
+    let pieces = pieces(alloc, line.value)?;
+    push_words(alloc, found, spot, line, pieces.as_slice())
+}
+
+/// Appends the findings of a subject or a sender with these pieces.
+fn push_words(
+    alloc: Global,
+    found: &mut Vec<Finding>,
+    spot: &Spot<'_>,
+    line: &HeaderLine<'_>,
+    pieces: &[&[u8]],
+) -> Result<(), AllocError>
+    ensures { OnOk result (map finding_view found.new.items
+        ≡ map finding_view found.old.items
+        ++ word_findings (spot_view spot.now) (line_view line.now)
+        (map (λ piece. piece.now) pieces.now)) }
+{
+    push_if(alloc, found, spot, Name::WordSyntax, has_bad_piece(pieces))?;
+    push_if(alloc, found, spot, Name::WordJoin, has_join(pieces))?;
+    let has_bad = has_bad_word(alloc, pieces)?;
+    push_if(alloc, found, spot, Name::WordBytes, has_bad)?;
+    let is_bad = is_bad_name(alloc, line, pieces)?;
+    push_if(alloc, found, spot, Name::NameAddress, is_bad)
 }
 
 /// Appends the findings of how a header is written, in a block of this size.
@@ -347,9 +375,45 @@ fn push_parameters(
     let is_bad = has_parameters(line) && value.is_none();
     push_if(alloc, found, spot, Name::TypeSyntax, is_bad)?;
     match value {
-        Some(bytes) => push_value(alloc, found, spot, bytes),
+        Some(bytes) => push_strict(alloc, found, spot, line, bytes),
         None => Ok(()),
     }
+}
+
+/// Appends the findings of a type or a disposition of the syntax that all programs know.
+fn push_strict(
+    alloc: Global,
+    found: &mut Vec<Finding>,
+    spot: &Spot<'_>,
+    line: &HeaderLine<'_>,
+    bytes: &[u8],
+) -> Result<(), AllocError>
+    ensures { OnOk result (map finding_view found.new.items
+        ≡ map finding_view found.old.items
+        ++ strict_findings (spot_view spot.now) (line_view line.now) (Some bytes.now)) }
+{
+    push_value(alloc, found, spot, bytes)?;
+    let names = parameter_names(alloc, bytes)?;
+    push_names(alloc, found, spot, line, names.as_slice())
+}
+
+/// Appends the findings of the names of the parameters of a type or a disposition.
+fn push_names(
+    alloc: Global,
+    found: &mut Vec<Finding>,
+    spot: &Spot<'_>,
+    line: &HeaderLine<'_>,
+    names: &[String],
+) -> Result<(), AllocError>
+    ensures { OnOk result (map finding_view found.new.items
+        ≡ map finding_view found.old.items
+        ++ name_findings (spot_view spot.now) (line_view line.now)
+        (map string_bytes names.now)) }
+{
+    let repeats = has_repeat(alloc, names)?;
+    push_if(alloc, found, spot, Name::DuplicateParameter, repeats)?;
+    let has_other = has_other_name(line, names);
+    push_if(alloc, found, spot, Name::TwoNames, has_other)
 }
 
 /// Appends the findings of the parameters of a type or a disposition of the syntax that all
@@ -362,7 +426,7 @@ fn push_value(
 ) -> Result<(), AllocError>
     ensures { OnOk result (map finding_view found.new.items
         ≡ map finding_view found.old.items
-        ++ value_findings (spot_view spot.now) (Some bytes.now)) }
+        ++ value_findings (spot_view spot.now) bytes.now) }
 {
     let has_special = has_quoted_special(bytes);
     push_if(alloc, found, spot, Name::QuotedSpecial, has_special)?;
@@ -473,6 +537,53 @@ fn push_second(
         }
         None => Ok(()),
     }
+}
+
+/// Appends the findings of the file names of a message.
+fn push_files(
+    alloc: Global,
+    found: &mut Vec<Finding>,
+    place: &Place<'_, '_>,
+) -> Result<(), MailParseError>
+    ensures written { let node = root (tree_of place.now.part.now) in
+        OnOk result (map finding_view found.new.items ≡ map finding_view found.old.items
+        ++ file_findings (spot_in (place_view place.now) 0 (length node.block))
+        (shown_as node) node) }
+    ensures only_memory { IfErr result IsMemory }
+{
+    let shown = place.part.get_content_disposition(alloc)?;
+    let spot = spot_in(place, 0, place.part.get_headers().get_raw_bytes().len());
+    push_shown(alloc, found, &spot, place.part, &shown)?;
+    Ok(())
+}
+
+/// Appends the findings of the file names of a message, which is to be shown so.
+fn push_shown(
+    alloc: Global,
+    found: &mut Vec<Finding>,
+    spot: &Spot<'_>,
+    part: &ParsedMail<'_>,
+    shown: &ParsedContentDisposition,
+) -> Result<(), AllocError>
+    ensures { OnOk result (map finding_view found.new.items
+        ≡ map finding_view found.old.items
+        ++ file_findings (spot_view spot.now) (disposition shown.now)
+        (root (tree_of part.now))) }
+{
+    push_if(
+        alloc,
+        found,
+        spot,
+        Name::NoType,
+        has_untyped_name(shown, part),
+    )?;
+    push_if(
+        alloc,
+        found,
+        spot,
+        Name::TwoNames,
+        has_two_names(shown, &part.ctype),
+    )
 }
 
 /// Appends the findings of a multipart with a boundary.

@@ -66,6 +66,8 @@ pub enum Name {
     Duplicate,
     /// `type-syntax`
     TypeSyntax,
+    /// `duplicate-parameter`
+    DuplicateParameter,
     /// `quoted-special`
     QuotedSpecial,
     /// `quoted-pair`
@@ -74,8 +76,20 @@ pub enum Name {
     ExtendedParameter,
     /// `word-parameter`
     WordParameter,
+    /// `no-type`
+    NoType,
+    /// `two-names`
+    TwoNames,
     /// `from-syntax`
     FromSyntax,
+    /// `word-syntax`
+    WordSyntax,
+    /// `word-join`
+    WordJoin,
+    /// `word-bytes`
+    WordBytes,
+    /// `name-address`
+    NameAddress,
     /// `encoding-syntax`
     EncodingSyntax,
     /// `encoding-on-composite`
@@ -134,11 +148,18 @@ impl Name {
             Name::Header8bit => "header-8bit",
             Name::Duplicate => "duplicate",
             Name::TypeSyntax => "type-syntax",
+            Name::DuplicateParameter => "duplicate-parameter",
             Name::QuotedSpecial => "quoted-special",
             Name::QuotedPair => "quoted-pair",
             Name::ExtendedParameter => "extended-parameter",
             Name::WordParameter => "word-parameter",
+            Name::NoType => "no-type",
+            Name::TwoNames => "two-names",
             Name::FromSyntax => "from-syntax",
+            Name::WordSyntax => "word-syntax",
+            Name::WordJoin => "word-join",
+            Name::WordBytes => "word-bytes",
+            Name::NameAddress => "name-address",
             Name::EncodingSyntax => "encoding-syntax",
             Name::EncodingOnComposite => "encoding-on-composite",
             Name::OtherMessage => "other-message",
@@ -190,13 +211,20 @@ impl Name {
             | Name::DelimiterInside
             | Name::DelimiterTail
             | Name::NoClose
-            | Name::LateDelimiter => Class::Structure,
+            | Name::LateDelimiter
+            | Name::DuplicateParameter => Class::Structure,
             Name::Header8bit
             | Name::QuotedSpecial
             | Name::QuotedPair
             | Name::ExtendedParameter
             | Name::WordParameter
-            | Name::FromSyntax => Class::Name,
+            | Name::FromSyntax
+            | Name::WordSyntax
+            | Name::WordJoin
+            | Name::NameAddress
+            | Name::TwoNames
+            | Name::NoType
+            | Name::WordBytes => Class::Name,
             Name::EncodingSyntax | Name::Base64Syntax | Name::QpSyntax | Name::QpBlank =>
                 Class::Bytes,
             Name::EightBitBody => Class::Note,
@@ -253,6 +281,9 @@ impl Name {
             Name::TypeSyntax => {
                 "The type or disposition is not of the plain syntax that all readers know: they read other types, names or parameters."
             }
+            Name::DuplicateParameter => {
+                "A parameter occurs twice in the header: readers take the first or the last."
+            }
             Name::QuotedSpecial => {
                 "A parameter in quotes has a semicolon, a tab, a line end or spaces at its ends: readers cut it off or remove them."
             }
@@ -265,8 +296,26 @@ impl Name {
             Name::WordParameter => {
                 "A parameter has an encoded word: some readers decode it, others do not."
             }
+            Name::NoType => {
+                "The part has a file name and no type: some readers read no name then."
+            }
+            Name::TwoNames => {
+                "The part has two file names that differ, or a parameter of the other header: readers take one or the other."
+            }
             Name::FromSyntax => {
                 "The sender is not one address, or a plain name and one in angle brackets: readers take another address, or none."
+            }
+            Name::WordSyntax => {
+                "An encoded word is not of the plain syntax that all readers know: some decode it, others show it as it is written."
+            }
+            Name::WordJoin => {
+                "A Base64 word with padding is before one in the same charset: some readers join their letters before they decode them."
+            }
+            Name::WordBytes => {
+                "An encoded word has an unknown charset, bytes that its charset lacks, or control characters: readers show different texts."
+            }
+            Name::NameAddress => {
+                "The name of a sender has an at sign or hides a character of addresses in an encoded word: readers take another address."
             }
             Name::EncodingSyntax => {
                 "The transfer encoding is not exactly one of the five names: some readers decode the body, others do not."

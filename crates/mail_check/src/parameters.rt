@@ -83,7 +83,7 @@ pub(crate) fn is_type(line: &HeaderLine<'_>) -> bool
 }
 
 /// Returns whether a header has the disposition of its message.
-fn is_disposition(line: &HeaderLine<'_>) -> bool
+pub(crate) fn is_disposition(line: &HeaderLine<'_>) -> bool
     ensures { result ≡ is_disposition (line_view line.now) }
 {
     is_named(b"Content-Disposition", line)
@@ -240,7 +240,7 @@ fn is_star_step(state: ValueState, byte: u8) -> bool
 }
 
 /// Returns the state after one more byte.
-fn after_byte(state: ValueState, byte: u8) -> ValueState
+pub(crate) fn after_byte(state: ValueState, byte: u8) -> ValueState
     ensures { result ≡ after_byte state byte }
 {
     match state {

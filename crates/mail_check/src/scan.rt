@@ -194,7 +194,7 @@ fn digit_at(bytes: &[u8], at: usize) -> bool
 }
 
 /// Returns whether a byte is a digit of an escape.
-fn is_escape_digit(byte: u8) -> bool
+pub(crate) fn is_escape_digit(byte: u8) -> bool
     ensures { result ≡ is_escape_digit byte }
 {
     (byte >= b'0' && byte <= b'9') || (byte >= b'A' && byte <= b'F')

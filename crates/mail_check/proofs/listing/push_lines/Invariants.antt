@@ -9,5 +9,5 @@ use Rattle.mail_check.proofs.listing.push_lines.Given as goal
 
 abbrev pub invariant-loop-line : goal.invariant-loop-line
 invariant-loop-line l =
-    map finding_view l.found.items ++ flat_map (header_findings (place_view l.place)) (map line_view (drop l.line-index l.lines))
-    ≡ map finding_view l.fn.found.items ++ flat_map (header_findings (place_view l.place)) (map line_view l.lines)
+    map finding_view l.found.items ++ flat_map (header_findings l.number (place_view l.place)) (map line_view (drop l.line-index l.lines))
+    ≡ map finding_view l.fn.found.items ++ flat_map (header_findings l.number (place_view l.place)) (map line_view l.lines)

@@ -1,0 +1,8 @@
+-- A piece that is left is such exactly if one of all is.
+use Rattle.std.proofs.Common.{◌≡◌, drop, map}
+use Rattle.std.specs.List.{list_any}
+use Rattle.mail_check.specs.WordBytes.{has_bad_octets}
+use Rattle.mail_check.proofs.word_bytes.has_bad_word.Given as goal
+
+abbrev pub invariant-loop-piece : goal.invariant-loop-piece
+invariant-loop-piece l = list_any has_bad_octets (map (λ piece. piece.now) (drop l.piece-index l.found)) ≡ list_any has_bad_octets (map (λ piece. piece.now) l.found)
