@@ -1,9 +1,8 @@
 -- Texts of headers, under the charsets that are known, and faults of dates; the program's own form.
-use Rattle.std.specs.Prelude.{ℕ, false, List, Option, option_map, codes}
+use Rattle.std.specs.Prelude.{ℕ, false, List, Option, codes}
 use Rattle.mail_codec.specs.Charset.{Charsets}
-use Rattle.mailparse.specs.Disposition.{Disposition, Kind, inline, attachment, form_data, extension}
+use Rattle.mailparse.specs.Disposition.{Kind, inline, attachment, form_data, extension}
 use Rattle.mailparse.specs.Mail.{Node}
-use Rattle.mailparse.specs.Map.{first_with_key}
 use Rattle.mail_data.specs.declared.lenient.date.error.DateError.{DateError}
 use Rattle.mail_data.specs.declared.lenient.date.error.DateError.TheVariants.{Day, Month, Year, Time, Zone, TrailingText}
 use Rattle.mail_data.specs.Archive.{first_id, ids_of}
@@ -15,10 +14,6 @@ kind_text inline = codes "inline"
 kind_text attachment = codes "attachment"
 kind_text form_data = codes "form-data"
 kind_text (extension name) = name
-
--- the name of a part's disposition, or none if the part has no such header
-abbrev pub disposition_name : Disposition → Node → Option (List ℕ)
-disposition_name disposition node = option_map (λ header. kind_text disposition.kind) (first_with_key (codes "Content-Disposition") node.headers)
 
 -- the id of a part's content (RFC 2045, section 7): the first one in its header `Content-ID`
 abbrev pub content_id : Node → Option (List ℕ)

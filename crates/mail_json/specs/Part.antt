@@ -8,10 +8,11 @@ use Rattle.std.specs.Str.{bytes_eq}
 use Rattle.mail_codec.specs.Charset.{Charsets}
 use Rattle.mail_codec.specs.Places.{has_prefix}
 use Rattle.mailparse.specs.ContentType.{ContentType}
-use Rattle.mailparse.specs.Disposition.{Disposition}
-use Rattle.mailparse.specs.Mail.{Node, Tree, root}
+use Rattle.mailparse.specs.Disposition.{Kind}
+use Rattle.mailparse.specs.Mail.{Node, Tree}
 use Rattle.mailparse.specs.Pairs.{Texts}
-use Rattle.mail_data.specs.Files.{describes_attachment, is_attachment_disposition, is_leaf}
+use Rattle.mail_data.specs.Attachments.{describes_attachment, is_attachment_disposition}
+use Rattle.mail_data.specs.Files.{is_leaf}
 use Rattle.mail_data.specs.Bounce.{Delivery, recipients}
 use Rattle.mail_data.specs.Flowed.{unflowed_of}
 use Rattle.mail_data.specs.Reports.{report_blocks}
@@ -31,15 +32,16 @@ pub record Lists (texts : Texts) (pairs : List (List ℕ × List ℕ)) : Type 0 
   pub ordered : IsStrictlySortedBy (slice_cmp nat_cmp) (map (λ p. p.0) pairs)
   pub same : (name : List ℕ) → lookup (bytes_eq name) pairs ≡ texts name
 
--- a part of this disposition is an attachment: it has no parts, and its disposition and its type are those of one
-abbrev pub is_attachment : Tree → Disposition → Bool
-is_attachment part disposition = is_leaf part && describes_attachment disposition (root part).ctype
+-- a part of this disposition, or of none, and with this file name, or with none, is an attachment: it has no parts, and
+-- the two are those of one
+abbrev pub is_attachment : Tree → Option Kind → Option (List ℕ) → Bool
+is_attachment part disposition name = is_leaf part && describes_attachment disposition name
 
 -- a part of this disposition has a text that is shown: it is not marked as an attachment, has no parts, and is read as a
 -- text
-abbrev pub is_read : Tree → Disposition → Bool
+abbrev pub is_read : Tree → Option Kind → Bool
 is_read part disposition =
-    not (is_attachment_disposition disposition.kind) && is_leaf part && has_prefix (codes "text/") (text_type_of part)
+    not (is_attachment_disposition disposition) && is_leaf part && has_prefix (codes "text/") (text_type_of part)
 
 -- the path of a part of a mail that is inside the part with the path `inside`, or in none: the mail inside, if it has
 -- parts, has the path of that part and `.0`, so that no two parts have one path

@@ -7,14 +7,15 @@ use Rattle.mail_codec.specs.Ascii.{space}
 use Rattle.mail_codec.specs.Charset.{Charsets}
 use Rattle.mail_codec.specs.Latin1.{latin1_text}
 use Rattle.mailparse.specs.ContentType.{ContentType}
-use Rattle.mailparse.specs.Disposition.{Disposition}
+use Rattle.mailparse.specs.Disposition.{Kind}
 use Rattle.mailparse.specs.Header.{Header, key_text}
-use Rattle.mailparse.specs.Mail.{Node, Tree, root, shown_as_in}
+use Rattle.mailparse.specs.Mail.{Node, Tree, root}
 use Rattle.mailparse.specs.Map.{first_with_key}
 use Rattle.mailparse.specs.Refusal.{Reads, Refusal}
 use Rattle.mail_data.specs.Archive.{ids_of}
 use Rattle.mail_data.specs.Bounce.{Delivery, original_message_id}
-use Rattle.mail_data.specs.Files.{is_extracted}
+use Rattle.mail_data.specs.Attachments.{is_extracted}
+use Rattle.mail_data.specs.lenient.Dispositions.{lenient_disposition}
 use Rattle.mail_data.specs.lenient.FileNames.{lenient_file_name}
 use Rattle.mail_data.specs.PartPlaces.{Place, places}
 use Rattle.mail_data.specs.lenient.Date.{Dated, Zoned, zoned_date_of}
@@ -29,7 +30,7 @@ use Rattle.mail_address.specs.Mailbox.{Parts}
 use Rattle.mail_address.specs.Tokens.{delete}
 use Rattle.mail_json.specs.Addresses.{canonical, name_of, unless_empty}
 use Rattle.mail_json.specs.Body.{encoding_text}
-use Rattle.mail_json.specs.Fields.{content_id, date_fault_text, disposition_name, value_of}
+use Rattle.mail_json.specs.Fields.{content_id, date_fault_text, kind_text, value_of}
 use Rattle.mail_data.specs.InnerMails.{InnerMail}
 use Rattle.mail_data.specs.Reading.{mail_placements}
 use Rattle.mail_json.specs.Inside.{Listed, mails_inside, parts_inside, without_bytes}
@@ -187,18 +188,17 @@ abbrev pub AreValues : {A : Type 0} → (A → Json → Type 0) → List A → L
 AreValues Is [] values = values ≡ []
 AreValues Is (x ∷ xs) values = (first : Json) × (others : List Json) × Is x first × AreValues Is xs others × (values ≡ first ∷ others)
 
+-- the members of a disposition, of a file's name, and of the id of the content
+abbrev pub disposition_members : Option Kind → Option (List ℕ) → Node → List Member
+disposition_members disposition name node =
+    one (codes "disposition") (string_or_null (option_map kind_text disposition)) ++ one (codes "file_name") (string_or_null name)
+    ++ one (codes "content_id") (string_or_null (content_id node))
+
 -- Under the charsets that are known.
 module _ (known : Charsets) where
   -- a header: its name and the text of its value
   abbrev pub header_value : Header → Json
   header_value header = pair_value (key_text header, header_text known header.value)
-
-  -- the members of a disposition, of a file's name, and of the id of the content
-  abbrev pub disposition_members : Disposition → Node → List Member
-  disposition_members disposition node =
-      one (codes "disposition") (string_or_null (disposition_name disposition node))
-      ++ one (codes "file_name") (string_or_null (lenient_file_name known node))
-      ++ one (codes "content_id") (string_or_null (content_id node))
 
   -- the members of the text of a body that is shown or not
   abbrev pub shown_members : Bool → Option References → Bool → ContentType → Content → List Member
@@ -273,10 +273,11 @@ module _ (options : Options) where
   abbrev pub front_members : Option (List ℕ) → Option ℕ → Place → List (List ℕ × List ℕ) → List Member
   front_members inside start place pairs =
       let node = root place.part in
-      let disposition = shown_as_in options.known node in
+      let disposition = lenient_disposition options.known node in
+      let name = lenient_file_name options.known node in
       one (codes "path") (string (path_shown inside place.path)) ++ one (codes "inside") (string_or_null inside)
       ++ type_members node.ctype.mimetype node.ctype.charset pairs
-      ++ disposition_members options.known disposition node ++ one (codes "attachment") (boolean (is_attachment place.part disposition))
+      ++ disposition_members disposition name node ++ one (codes "attachment") (boolean (is_attachment place.part disposition name))
       ++ one (codes "extracted") (boolean (is_extracted options.known place.part))
       ++ one (codes "encoding") (string (encoding_text (lenient_body_kind node)))
       ++ bounds_in start place.placement.whole.start place.placement.whole.end ++ one (codes "size") (number_value (length node.body)) ++ refusal_members node
@@ -285,7 +286,7 @@ module _ (options : Options) where
   part_members inside start place pairs =
       let node = root place.part in
       let content = content_if options.decodes_bodies node in
-      let disposition = shown_as_in options.known node in
+      let disposition = lenient_disposition options.known node in
       front_members inside start place pairs ++ decoded_members content
       ++ one (codes "sha256") (string_or_null (hash_of (options.hashes && is_extracted options.known place.part) content))
       ++ one (codes "report") (report_value (report_if options.known options.decodes_bodies node))

@@ -3,16 +3,12 @@ ghost use Rattle.std.specs.Prelude.{◌≡◌, option_map, Ok};
 ghost use Rattle.mailparse.specs.Mail.{root};
 ghost use Rattle.mailparse.specs.Map.{text_found};
 ghost use Rattle.mailparse.specs.Outcome.{AnswersOrMemory};
-ghost use Rattle.mailparse.specs.Views as views;
 ghost use Rattle.mailparse.specs.Views.{kind, tree_of};
-ghost use Rattle.mail_json.specs.Fields.{content_id, disposition_name, kind_text, value_of};
+ghost use Rattle.mail_json.specs.Fields.{content_id, kind_text, value_of};
 
 use mail_data::archive::ids_of;
 use mail_data::lenient::{IdRule, first_header_text};
-use mailparse::{
-    DispositionType, KnownCharsets, MailHeaderMap, MailParseError, ParsedContentDisposition,
-    ParsedMail,
-};
+use mailparse::{DispositionType, KnownCharsets, MailParseError, ParsedMail};
 use std::alloc::Global;
 
 /// Returns the text of the first header with this name.
@@ -41,16 +37,13 @@ pub(crate) fn content_id(
     Ok(ids.into_iter().next())
 }
 
-/// Returns the name of the disposition of a part, or `None` if the part has no such header.
-pub(crate) fn disposition_name<'d>(
-    part: &ParsedMail<'_>,
-    disposition: &'d ParsedContentDisposition,
-) -> Option<&'d str>
+/// Returns the name of a disposition, if there is one.
+pub(crate) fn disposition_name(disposition: &Option<DispositionType>) -> Option<&str>
     ensures { option_map (λ name. name.now) result
-        ≡ disposition_name (views.disposition disposition.now) (root (tree_of part.now)) }
+        ≡ option_map kind_text (option_map kind disposition.now) }
 {
-    match part.headers.get_first_header("Content-Disposition") {
-        Some(_) => Some(kind_name(&disposition.disposition)),
+    match disposition {
+        Some(disposition) => Some(kind_name(disposition)),
         None => None,
     }
 }

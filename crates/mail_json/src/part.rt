@@ -6,8 +6,7 @@ ghost use Rattle.json.specs.Json.{Json, string};
 ghost use Rattle.mailparse.specs.Map.{text_found};
 ghost use Rattle.mailparse.specs.Mail.{root};
 ghost use Rattle.mailparse.specs.Outcome.{IsMemory};
-ghost use Rattle.mailparse.specs.Views as views;
-ghost use Rattle.mailparse.specs.Views.{content_type, tree_of};
+ghost use Rattle.mailparse.specs.Views.{content_type, kind, tree_of};
 ghost use Rattle.mail_data.specs.lenient.ContentViews.{content_view};
 ghost use Rattle.mail_data.specs.lenient.Refused.{kept_for};
 ghost use Rattle.mail_data.specs.PlaceViews.{place_view};
@@ -44,7 +43,8 @@ use mail_codec::charset::decode_latin1;
 use mail_data::files::{describes_attachment, is_attachment_disposition, is_leaf, is_shown};
 use mail_data::flowed::unflowed_of;
 use mail_data::lenient::{
-    Content, charset_used, lenient_file_name, lenient_header_text_ref, lenient_text, refusal,
+    Content, charset_used, lenient_disposition, lenient_file_name, lenient_header_text_ref,
+    lenient_text, refusal,
 };
 use mail_data::places::Place;
 use mail_data::reports::{Block, has_report, read_blocks};
@@ -52,8 +52,7 @@ use mail_data::texts::text_type_of;
 use mail_html::{Links, References, html_text};
 use mail_program::{Fault, refusal_of, sha256_text};
 use mailparse::{
-    KnownCharsets, MailHeader, MailParseError, ParsedContentDisposition, ParsedContentType,
-    ParsedMail,
+    DispositionType, KnownCharsets, MailHeader, MailParseError, ParsedContentType, ParsedMail,
 };
 use std::alloc::{AllocError, Global};
 use std::io::Write;
@@ -157,10 +156,11 @@ fn write_object<W: Write, K: KnownCharsets>(
     add_text(out, key!("charset"), part.ctype.charset.as_str())?;
     write_word(out, key!("params"))?;
     write_params(out, &part.ctype)?;
-    let disposition = part.get_content_disposition_in(alloc, known)?;
-    let attached = is_attachment(alloc, part, &disposition)?;
+    let disposition = lenient_disposition(alloc, part, known)?;
+    let name = lenient_file_name(alloc, part, known)?;
+    let attached = is_attachment(part, &disposition, &name);
     let extracted = is_extracted(part, attached);
-    write_disposition(alloc, out, part, &disposition, known)?;
+    write_disposition(alloc, out, part, &disposition, &name)?;
     add_flag(out, key!("attachment"), attached)?;
     add_flag(out, key!("extracted"), extracted)?;
     add_text(out, key!("encoding"), encoding_name(&decoded.body))?;
@@ -282,24 +282,26 @@ pub(crate) fn place_in(start: Option<usize>, at: usize) -> Option<usize>
     Some(start?.saturating_add(at))
 }
 
-/// Returns whether the body of a part of this disposition is a text that is shown: it has no parts
-/// of its own, is not marked as an attachment, and its type is that of a text, or a multipart.
+/// Returns whether the body of a part of this disposition, as `lenient_disposition` returns it, is a
+/// text that is shown: it has no parts of its own, is not marked as an attachment, and its type is
+/// that of a text, or a multipart.
 ///
 /// Does not allocate.
 ///
 /// # Examples
 ///
 /// ```rust
+/// use mail_data::lenient::lenient_disposition;
 /// use mail_json::is_read;
 /// use mailparse::parse_mail;
 ///
 /// let mail = parse_mail(alloc, b"Content-Type: text/html\n\n<p>Hello")?;
-/// assert!(rt; is_read(&mail, &mail.get_content_disposition(alloc)?));
+/// assert!(rt; is_read(&mail, &lenient_disposition(alloc, &mail, &())?));
 /// ```
-pub fn is_read(part: &ParsedMail<'_>, disposition: &ParsedContentDisposition) -> bool
-    ensures { result ≡ is_read (tree_of part.now) (views.disposition disposition.now) }
+pub fn is_read(part: &ParsedMail<'_>, disposition: &Option<DispositionType>) -> bool
+    ensures { result ≡ is_read (tree_of part.now) (option_map kind disposition.now) }
 {
-    !is_attachment_disposition(&disposition.disposition)
+    !is_attachment_disposition(disposition)
         && is_leaf(part)
         && text_type_of(part).starts_with("text/")
 }
@@ -330,55 +332,50 @@ fn write_parameter<W: Write>(out: &mut W, name: &str, value: &str) -> Result<(),
     write_text(out, value)
 }
 
-/// Returns whether a part of this disposition is an attachment: it has no parts of its own, and its
-/// disposition and its type are those of one.
+/// Returns whether a part of this disposition and with this file name, as `lenient_disposition` and
+/// `lenient_file_name` return them, is an attachment: it has no parts of its own, and the two are
+/// those of one.
 ///
-/// # Errors
-///
-/// `AllocError` if it runs out of memory.
+/// Does not allocate.
 ///
 /// # Examples
 ///
 /// ```rust
+/// use mail_data::lenient::{lenient_disposition, lenient_file_name};
 /// use mail_json::is_attachment;
 /// use mailparse::parse_mail;
 ///
-/// let mail = parse_mail(alloc, b"Content-Disposition: attachment; filename=a.txt\n\nHello")?;
-/// assert!(rt; is_attachment(alloc, &mail, &mail.get_content_disposition(alloc)?)?);
+/// let mail = parse_mail(alloc, b"Content-Disposition: inline; filename=a.txt\n\nHello")?;
+/// let disposition = lenient_disposition(alloc, &mail, &())?;
+/// let name = lenient_file_name(alloc, &mail, &())?;
+/// assert!(rt; is_attachment(&mail, &disposition, &name));
+/// assert!(rt; !is_attachment(&mail, &disposition, &None));
 /// ```
 pub fn is_attachment(
-    alloc: Global,
     part: &ParsedMail<'_>,
-    disposition: &ParsedContentDisposition,
-) -> Result<bool, AllocError>
-    ensures { IfOk result (λ is.
-        is ≡ is_attachment (tree_of part.now) (views.disposition disposition.now)) }
+    disposition: &Option<DispositionType>,
+    name: &Option<String>,
+) -> bool
+    ensures { result ≡ is_attachment (tree_of part.now) (option_map kind disposition.now)
+        (text_found name.now) }
 {
-    if !is_leaf(part) {
-        return Ok(false);
-    }
-    describes_attachment(alloc, disposition, &part.ctype)
+    is_leaf(part) && describes_attachment(disposition, name)
 }
 
 /// Writes the disposition, the name of the file, and the id of the content.
-fn write_disposition<W: Write, K: KnownCharsets>(
+fn write_disposition<W: Write>(
     alloc: Global,
     out: &mut W,
     part: &ParsedMail<'_>,
-    disposition: &ParsedContentDisposition,
-    known: &K,
+    disposition: &Option<DispositionType>,
+    name: &Option<String>,
 ) -> Result<(), Fault>
     ensures { AddsMembers (W.contents out.old) (W.contents out.new) result
-        (disposition_members (K.known known.now) (views.disposition disposition.now)
+        (disposition_members (option_map kind disposition.now) (text_found name.now)
         (root (tree_of part.now))) }
 {
-    let name = lenient_file_name(alloc, part, known)?;
     let id = content_id(alloc, part)?;
-    add_optional(
-        out,
-        key!("disposition"),
-        disposition_name(part, disposition),
-    )?;
+    add_optional(out, key!("disposition"), disposition_name(disposition))?;
     add_optional(out, key!("file_name"), name.as_deref())?;
     add_optional(out, key!("content_id"), id.as_deref())?;
     Ok(())

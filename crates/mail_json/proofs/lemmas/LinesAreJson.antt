@@ -11,12 +11,14 @@ use Rattle.json.specs.Strict.{keys}
 use Rattle.mail_codec.specs.Charset.{Charsets}
 use Rattle.mailparse.specs.ContentType.{ContentType}
 use Rattle.mailparse.specs.Header.{Header, key_text}
-use Rattle.mailparse.specs.Mail.{Node, Tree, root, shown_as_in}
+use Rattle.mailparse.specs.Mail.{Node, Tree, root}
 use Rattle.mailparse.specs.Refusal.{Reads, Refusal}
 use Rattle.mail_data.specs.lenient.Values.{header_text}
 use Rattle.mail_data.specs.Archive.{ids_of}
 use Rattle.mail_data.specs.Bounce.{Delivery, original_message_id}
-use Rattle.mail_data.specs.Files.{is_extracted}
+use Rattle.mail_data.specs.Attachments.{is_extracted}
+use Rattle.mail_data.specs.lenient.Dispositions.{lenient_disposition}
+use Rattle.mail_data.specs.lenient.FileNames.{lenient_file_name}
 use Rattle.mail_data.specs.Mailbox.{front_length}
 use Rattle.mail_data.specs.MailboxFormats.{entries_in, mail_in}
 use Rattle.mail_data.specs.MailboxParts.{Placed, in_range, part_start, placed_from}
@@ -126,9 +128,9 @@ module _ (options : Options) where
   part_good inside start place pairs ordered =
       let node = root place.part in
       let content = content_if options.decodes_bodies node in
-      let disposition = shown_as_in options.known node in
+      let disposition = lenient_disposition options.known node in
       let shows = is_read place.part disposition in
-      let attached = is_attachment place.part disposition in
+      let attached = is_attachment place.part disposition (lenient_file_name options.known node) in
       let extracted = is_extracted options.known place.part in
       let size = decoded_members content in
       let hash = string_or_null (hash_of (options.hashes && extracted) content) in

@@ -12,7 +12,7 @@ use Rattle.std.specs.Map.{keys_of, lookup}
 use Rattle.std.specs.Ordering.{is_eq, nat_cmp}
 use Rattle.std.specs.Str.{bytes_eq}
 use Rattle.std.specs.String.{string_bytes, string_cmp}
-use Rattle.mailparse.specs.Mail.{Node, Tree, root, shown_as_in}
+use Rattle.mailparse.specs.Mail.{Node, Tree, root}
 use Rattle.mailparse.specs.Pairs.{text_at}
 use Rattle.mailparse.specs.Views.{content_type, tree_of, tree_step}
 use Rattle.mailparse.specs.declared.mail.message.ParsedMail.{ParsedMail}
@@ -20,8 +20,11 @@ use Rattle.mailparse.specs.declared.mail.message.ParsedMail.TheFolds.{fold_out-P
 use Rattle.mailparse.specs.declared.mail.message.ParsedMail.TheViews.{out-ParsedMail}
 use Rattle.mail_codec.specs.Charset.{Charsets}
 use Rattle.mailparse.specs.ContentType.{ContentType}
-use Rattle.mail_data.specs.Files as files
-use Rattle.mail_data.specs.Files.{is_extracted, is_leaf, is_shown}
+use Rattle.mail_data.specs.Attachments as files
+use Rattle.mail_data.specs.Attachments.{is_extracted}
+use Rattle.mail_data.specs.Files.{is_leaf, is_shown}
+use Rattle.mail_data.specs.lenient.Dispositions.{lenient_disposition}
+use Rattle.mail_data.specs.lenient.FileNames.{lenient_file_name}
 use Rattle.mail_data.specs.lenient.Content.{Content, message_content}
 use Rattle.mail_data.specs.lenient.Texts.{BodyText, text_read}
 use Rattle.mail_json.specs.Options.{Options}
@@ -85,7 +88,7 @@ pub headers-out : (m : ParsedMail) → (out-ParsedMail m).headers.items ≡ (roo
 headers-out m = ap (λ (t : Tree). (root t).headers) (sym (fold_out-ParsedMail Tree tree_step m))
 
 -- a part is extracted if it is an attachment, or another part without parts that mail readers do not show
-pub extracted_is : (known : Charsets) (t : Tree) → ((is_leaf t && not (is_shown (root t))) || is_attachment t (shown_as_in known (root t))) ≡ is_extracted known t
+pub extracted_is : (known : Charsets) (t : Tree) → ((is_leaf t && not (is_shown (root t))) || is_attachment t (lenient_disposition known (root t)) (lenient_file_name known (root t))) ≡ is_extracted known t
 unfolding files.is_attachment
 extracted_is known t = refl
 

@@ -3,10 +3,11 @@ use Rattle.std.proofs.Common.{◌≡◌, ℕ, ℤ, Bool, true, false, List, [], 
 use Rattle.std.specs.Prelude.{codes, option_map, ◌&&◌}
 use Rattle.json.specs.Json.{Json, null, object, array, Members, item, member}
 use Rattle.json.specs.Value.{items_of}
-use Rattle.mailparse.specs.Mail.{Tree, root, shown_as_in}
+use Rattle.mailparse.specs.Mail.{Tree, root}
 use Rattle.mailparse.specs.Refusal.{Reads, Refusal}
 use Rattle.mail_data.specs.Bounce.{original_message_id}
-use Rattle.mail_data.specs.Files.{is_extracted}
+use Rattle.mail_data.specs.Attachments.{is_extracted}
+use Rattle.mail_data.specs.lenient.Dispositions.{lenient_disposition}
 use Rattle.mail_data.specs.InnerMails.{InnerMail}
 use Rattle.mail_data.specs.PartPlaces.{Place, places}
 use Rattle.mail_data.specs.Reading.{mail_placements}
@@ -50,7 +51,7 @@ module _ (options : Options) where
   part_without inside start place pairs =
       let node = root place.part in
       let content = message_content node in
-      let disposition = shown_as_in options.known node in
+      let disposition = lenient_disposition options.known node in
       let read = text_read options.known node.ctype.charset content in
       let wanted = options.hashes && is_extracted options.known place.part in
       let report = report_value (report_if options.known true node) in

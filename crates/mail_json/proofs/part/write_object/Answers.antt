@@ -1,16 +1,20 @@
-use Rattle.std.proofs.Common.{◌≡◌, List, ℕ, option_map, length, map, refl, sym, ap, subst, ◌∙◌}
+use Rattle.std.proofs.Common.{◌≡◌, List, ℕ, Option, option_map, length, map, refl, sym, ap, ap₂, subst, ◌∙◌}
 use Rattle.json.specs.Json.{boolean}
 use Rattle.std.specs.Prelude.{◌&&◌, ◌||◌, not}
-use Rattle.mail_data.specs.Files.{is_extracted, is_leaf, is_shown}
+use Rattle.mail_data.specs.Attachments.{is_extracted}
+use Rattle.mail_data.specs.Files.{is_leaf, is_shown}
+use Rattle.mail_data.specs.lenient.Dispositions.{lenient_disposition}
+use Rattle.mail_data.specs.lenient.FileNames.{lenient_file_name}
 use Rattle.std.proofs.lemmas.Result.{err_from_is_err_and}
 use Rattle.json.specs.Json.{string}
 use Rattle.mail_json.specs.Options.{options_of}
 use Rattle.mailparse.specs.BodyViews.{content_of}
 use Rattle.mailparse.specs.ContentType.{ContentType}
-use Rattle.mailparse.specs.Disposition.{Disposition}
+use Rattle.mailparse.specs.Disposition.{Kind}
 use Rattle.mailparse.specs.Header.{Header}
-use Rattle.mailparse.specs.Mail.{root, shown_as_in}
-use Rattle.mailparse.specs.Views.{disposition, tree_of}
+use Rattle.mailparse.specs.Mail.{root}
+use Rattle.mailparse.specs.Map.{text_found}
+use Rattle.mailparse.specs.Views.{kind, tree_of}
 use Rattle.mail_data.specs.lenient.ContentViews.{content_view}
 use Rattle.mail_data.specs.lenient.Encoding.{lenient_body_kind}
 use Rattle.mail_json.specs.Part.{Lists, content_if, hash_of, is_attachment, is_read, path_shown}
@@ -31,14 +35,15 @@ returns g c =
     let inside = option_map (λ path. path.now) c.args.form.inside in
     let m = c.args.decoded.now.place.now.part.now in
     let node = root (tree_of m) in
-    let kind = lenient_body_kind node in
+    let body_kind = lenient_body_kind node in
     let given = content_of node in
     let place = decoded_place c.args.decoded.now in
     let params = c.in_ok-write_params.ensures in
     let is_body = c.requires.body in
     let read = c.requires.content in
-    let same : shown_as_in known node ≡ disposition c.in_ok-disposition.disposition = ok_same _ _ c.in_ok-disposition.ensures in
-    let attached = c.in_ok-attached.ensures ∙ ap (is_attachment (tree_of m)) (sym same) in
+    let same : lenient_disposition known node ≡ option_map kind c.in_ok-disposition.disposition = ok_same _ _ c.in_ok-disposition.ensures in
+    let named : lenient_file_name known node ≡ text_found c.in_ok-name.name = ok_same _ _ c.in_ok-name.ensures in
+    let attached = c.is_attachment-attached.ensures ∙ ap₂ (is_attachment (tree_of m)) (sym same) (sym named) in
     let list = value_as (λ (hs : List Header). list_of (map (header_value known) hs)) _ _ _ _ (c.as_slice.ensures.value ∙ headers-out m) c.in_ok-write_list.ensures in
     let shows = c.is_read-shown.ensures ∙ ap (is_read (tree_of m)) (sym same) in
     let path-is = value_renamed (λ (path : List ℕ). string (path_shown inside path)) _ _ c.in_ok-add_path.ensures c.as_str.ensures.value in
@@ -46,12 +51,12 @@ returns g c =
     let charset-is = value_renamed (λ t. string t) _ _ c.in_ok-add_text-2.ensures (c.as_str-3.ensures.value ∙ ap (λ (t : ContentType). t.charset) (ctype-out m)) in
     let params-are = valued _ _ _ _ _ refl c.in_ok-write_word.ensures params.2 in
     let extracted = c.is_extracted-extracted.ensures ∙ ap (λ is. (is_leaf (tree_of m) && not (is_shown node)) || is) attached ∙ extracted_is known (tree_of m) in
-    let disposition-is = renamed c.in_ok-write_disposition.ensures (ap (λ (d : Disposition). disposition_members known d node) (sym same)) in
+    let disposition-is = renamed c.in_ok-write_disposition.ensures (ap₂ (λ (d : Option Kind) (name : Option (List ℕ)). disposition_members d name node) (sym same) (sym named)) in
     let attachment-is = value_renamed boolean _ _ c.in_ok-add_flag.ensures attached in
     let extracted-is = value_renamed boolean _ _ c.in_ok-add_flag-2.ensures extracted in
     let report-is = valued _ _ _ _ _ refl c.in_ok-write_word-2.ensures (value_as report_value _ _ _ _ (c.in_ok-report.ensures.read options.decodes_bodies read) c.in_ok-write_report.ensures) in
-    let encoding-is = value_renamed (λ t. string t) _ _ c.in_ok-add_text-3.ensures (c.encoding_name.ensures kind given is_body) in
-    let size-is = value_renamed number_value _ _ c.in_ok-add_number.ensures (ap (λ (raw : List ℕ). length raw) (c.get_raw.ensures.made kind given is_body)) in
+    let encoding-is = value_renamed (λ t. string t) _ _ c.in_ok-add_text-3.ensures (c.encoding_name.ensures body_kind given is_body) in
+    let size-is = value_renamed number_value _ _ c.in_ok-add_number.ensures (ap (λ (raw : List ℕ). length raw) (c.get_raw.ensures.made body_kind given is_body)) in
     let decoded-is = renamed c.in_ok-write_decoded_size.ensures (ap decoded_members read) in
     let hashed =
     c.as_deref.ensures.value ∙ c.in_ok-hash.ensures ∙ ap (λ is. hash_of is (option_map content_view c.args.decoded.now.content)) c.is_hashed.ensures
