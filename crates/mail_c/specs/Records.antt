@@ -1,19 +1,20 @@
 -- The records of a mail, of its parts and of their headers; the crate's own form.
-use Rattle.std.specs.Prelude.{ℕ, suc, ◌+◌, Bool, not, ◌&&◌, ◌||◌, nat_le, true, List, [], ◌∷◌, ◌++◌, length, drop, flat_map, Result, Ok, Err, codes, if◌then◌else◌}
+use Rattle.std.specs.Prelude.{ℕ, suc, ◌+◌, Bool, not, ◌&&◌, ◌||◌, nat_le, true, List, [], ◌∷◌, ◌++◌, length, drop, flat_map, Option, Result, Ok, Err, if◌then◌else◌}
 use Rattle.std.specs.Option.{option_map_or}
 use Rattle.mail_codec.specs.Charset.{Charsets}
 use Rattle.mail_codec.specs.Places.{values_below}
 use Rattle.mailparse.specs.Block.{HeaderList, before_dash_line, header_place, read_block}
 use Rattle.mailparse.specs.Body.{BodyKind, in_base64, in_quoted_printable, in_7bit, in_8bit, in_binary}
-use Rattle.mailparse.specs.Disposition.{Disposition, Kind, inline, attachment, form_data, extension}
+use Rattle.mailparse.specs.Disposition.{Kind, inline, attachment, form_data, extension}
 use Rattle.mailparse.specs.Header.{header_length, key_end, value_end, value_start}
-use Rattle.mailparse.specs.Mail.{Forest, Node, Tree, no_parts, part_and, root, shown_as_in, tree, trees_within}
-use Rattle.mailparse.specs.Map.{first_with_key}
+use Rattle.mailparse.specs.Mail.{Forest, Node, Tree, no_parts, part_and, root, tree, trees_within}
 use Rattle.mailparse.specs.Placement.{Placement}
 use Rattle.mail_data.specs.Files.{is_leaf, is_shown}
 use Rattle.mail_data.specs.InnerMails.{forwards}
 use Rattle.mail_data.specs.Reading.{mail_placements, mail_reading}
+use Rattle.mail_data.specs.lenient.Dispositions.{lenient_disposition}
 use Rattle.mail_data.specs.lenient.Encoding.{lenient_body_kind}
+use Rattle.mail_data.specs.lenient.FileNames.{lenient_file_name}
 use Rattle.mail_json.specs.Part.{is_attachment, is_read}
 use Rattle.mail_c.specs.Codes.{coded, too_many}
 use Rattle.mail_c.specs.declared.records.Part.{Part}
@@ -36,20 +37,20 @@ kind_number attachment = 2
 kind_number form_data = 3
 kind_number (extension name) = 4
 
--- the number of the disposition of a part: 0 without a header `Content-Disposition`
-abbrev pub disposition_number : Disposition → Node → ℕ
-disposition_number disposition node =
-    option_map_or (λ header. kind_number disposition.kind) (first_with_key (codes "Content-Disposition") node.headers) 0
+-- the number of a disposition, 0 if there is none
+abbrev pub disposition_number : Option Kind → ℕ
+disposition_number disposition = option_map_or kind_number disposition 0
 
 -- a flag, as a term of the sum
 abbrev pub bit : Bool → ℕ → ℕ
 bit is value = if is then value else 0
 
--- the flags of a part of this disposition: it has no parts; it is an attachment; it is extracted; its text is shown; it forwards a mail
-unfoldable pub flags : Tree → Disposition → ℕ
-flags t disposition =
-    bit (is_leaf t) 1 + bit (is_attachment t disposition) 2
-    + bit ((is_leaf t && not (is_shown (root t))) || is_attachment t disposition) 4
+-- the flags of a part of this disposition, or of none, and with this file name, or with none: it has no parts; it is an
+-- attachment; it is extracted; its text is shown; it forwards a mail
+unfoldable pub flags : Tree → Option Kind → Option (List ℕ) → ℕ
+flags t disposition name =
+    bit (is_leaf t) 1 + bit (is_attachment t disposition name) 2
+    + bit ((is_leaf t && not (is_shown (root t))) || is_attachment t disposition name) 4
     + bit (is_read t disposition) 8 + bit (forwards (root t)) 16
 
 -- ---- the messages of a mail
@@ -127,7 +128,7 @@ module _ (known : Charsets) where
   unfoldable pub part_record : ℕ → Item → Part
   part_record first item =
       let node = root item.part in
-      let disposition = shown_as_in known node in record {
+      let disposition = lenient_disposition known node in record {
         parent = item.family.parent;
         level = item.family.level;
         start = item.placement.whole.start;
@@ -137,8 +138,8 @@ module _ (known : Charsets) where
         first_header = first;
         header_count = length node.headers;
         encoding = encoding_number (lenient_body_kind node);
-        disposition = disposition_number disposition node;
-        flags = flags item.part disposition;
+        disposition = disposition_number disposition;
+        flags = flags item.part disposition (lenient_file_name known node);
       }
 
   -- the records of messages, one after another

@@ -1,28 +1,30 @@
 //! Records of a mail, of its parts and of their headers.
-ghost use Rattle.std.specs.Prelude.{Ok, ◌≡◌, ◌≤◌, ◌<◌, ◌+◌, ◌^◌, ◌++◌, [], ◌∷◌, length, map, vec_len, IfOk, OnOk};
+ghost use Rattle.std.specs.Prelude.{Ok, ◌≡◌, ◌≤◌, ◌<◌, ◌+◌, ◌^◌, ◌++◌, [], ◌∷◌, length, map, vec_len, IfOk, OnOk, option_map};
 ghost use Rattle.mailparse.specs.Body.{BodyKind};
 ghost use Rattle.mailparse.specs.BodyViews.{Content, IsBody};
-ghost use Rattle.mailparse.specs.Mail.{root, shown_as_in, trees_within};
+ghost use Rattle.mailparse.specs.Mail.{root, trees_within};
 ghost use Rattle.mailparse.specs.Views as views;
 ghost use Rattle.mailparse.specs.Views.{placement_of, placements_of, tree_of};
 ghost use Rattle.mail_c.specs.Codes.{IsCoded};
-ghost use Rattle.mailparse.specs.Disposition.{Disposition};
+ghost use Rattle.mail_data.specs.lenient.Dispositions.{lenient_disposition};
 ghost use Rattle.mail_data.specs.lenient.Encoding.{lenient_body_kind};
+ghost use Rattle.mail_data.specs.lenient.FileNames.{lenient_file_name};
 ghost use Rattle.mail_c.specs.Records.{bit, disposition_number, encoding_number, families, flags};
 ghost use Rattle.mail_c.specs.Records.{header_block, header_records, item_headers, items_of};
 ghost use Rattle.mail_c.specs.Records.{kind_number, limited, none, part_record, records, records_in};
 ghost use Rattle.mail_c.specs.RecordViews.{family_view, item_view, lists};
+ghost use Rattle.mail_json.specs.Part.{is_attachment};
 
 use crate::codes::{NO_MEMORY, TOO_MANY, code_of};
-use mail_data::files::{is_leaf, is_shown};
+use mail_data::files::{is_attachment_disposition, is_leaf, is_shown};
 use mail_data::inner_mails::forwards;
-use mail_data::lenient::lenient_body;
+use mail_data::lenient::{lenient_body, lenient_disposition, lenient_file_name};
 use mail_data::reading::read_mail;
-use mail_json::{is_attachment, is_read};
+use mail_json::is_read;
 use mailparse::body::Body;
 use mailparse::{
-    DispositionType, KnownCharsets, MailHeaderMap, MailParseError, ParsedContentDisposition,
-    ParsedMail, before_dash_line, count_headers, header_places, parse_headers,
+    DispositionType, KnownCharsets, MailParseError, ParsedMail, before_dash_line, count_headers,
+    header_places, parse_headers,
 };
 use std::alloc::{AllocError, Global};
 
@@ -353,24 +355,24 @@ fn disposition_of<K: KnownCharsets>(
     known: &K,
 ) -> Result<(u64, u64), MailParseError>
     ensures { let t = tree_of part.now in
-        let disposition = shown_as_in (K.known known.now) (root t) in
-        IfOk result (λ found. found
-        ≡ (disposition_number disposition (root t), flags t disposition)) }
+        let disposition = lenient_disposition (K.known known.now) (root t) in
+        IfOk result (λ found. found ≡ (
+          disposition_number disposition,
+          flags t disposition (lenient_file_name (K.known known.now) (root t)),
+        )) }
 {
-    let disposition = part.get_content_disposition_in(alloc, known)?;
-    let number = disposition_number(part, &disposition.disposition);
-    let flags = flags(alloc, part, &disposition)?;
-    Ok((number, flags))
+    let disposition = lenient_disposition(alloc, part, known)?;
+    let flags = flags(alloc, part, &disposition, known)?;
+    Ok((disposition_number(&disposition), flags))
 }
 
-/// Returns the number of the disposition of a part, 0 if it has no such header.
-fn disposition_number(part: &ParsedMail<'_>, kind: &DispositionType) -> u64
-    ensures { (d : Disposition) → d.kind ≡ views.kind kind.now →
-        result ≡ disposition_number d (root (tree_of part.now)) }
+/// Returns the number of a disposition, 0 if there is none.
+fn disposition_number(disposition: &Option<DispositionType>) -> u64
+    ensures { result ≡ disposition_number (option_map views.kind disposition.now) }
 {
-    match part.headers.get_first_header("Content-Disposition") {
+    match disposition {
         None => 0,
-        Some(_) => kind_number(kind),
+        Some(kind) => kind_number(kind),
     }
 }
 
@@ -388,19 +390,42 @@ fn kind_number(kind: &DispositionType) -> u64
 
 /// Returns the sum of the flags of a part of this disposition.
 #[tactic(auto, unfolding(crate::specs::Records::flags))]
-fn flags(
+fn flags<K: KnownCharsets>(
     alloc: Global,
     part: &ParsedMail<'_>,
-    disposition: &ParsedContentDisposition,
-) -> Result<u64, AllocError>
-    ensures { IfOk result (λ sum.
-        sum ≡ flags (tree_of part.now) (views.disposition disposition.now)) }
+    disposition: &Option<DispositionType>,
+    known: &K,
+) -> Result<u64, MailParseError>
+    ensures { let t = tree_of part.now in
+        IfOk result (λ sum. sum ≡ flags t (option_map views.kind disposition.now)
+        (lenient_file_name (K.known known.now) (root t))) }
 {
     let leaf = is_leaf(part);
-    let attached = is_attachment(alloc, part, disposition)?;
+    let attached = is_attachment(alloc, part, disposition, known)?;
     let extracted = (leaf && !is_shown(part)) || attached;
     let read = is_read(part, disposition);
     Ok(bit(leaf, 1) + bit(attached, 2) + bit(extracted, 4) + bit(read, 8) + bit(forwards(part), 16))
+}
+
+/// Returns whether a part of this disposition is an attachment. Its file name is read only if it
+/// decides that.
+fn is_attachment<K: KnownCharsets>(
+    alloc: Global,
+    part: &ParsedMail<'_>,
+    disposition: &Option<DispositionType>,
+    known: &K,
+) -> Result<bool, MailParseError>
+    ensures { let t = tree_of part.now in
+        IfOk result (λ is. is ≡ is_attachment t (option_map views.kind disposition.now)
+        (lenient_file_name (K.known known.now) (root t))) }
+{
+    if !is_leaf(part) {
+        return Ok(false);
+    }
+    if is_attachment_disposition(disposition) {
+        return Ok(true);
+    }
+    Ok(lenient_file_name(alloc, part, known)?.is_some())
 }
 
 /// Returns a flag as a term of the sum.

@@ -5,7 +5,7 @@ use Rattle.std.specs.Result.{result_ok}
 use Rattle.mail_codec.specs.Charset.{Charsets}
 use Rattle.mailparse.specs.Mail.{Node, Tree, root}
 use Rattle.mailparse.specs.Placement.{Placement}
-use Rattle.mail_data.specs.Files.{is_extracted}
+use Rattle.mail_data.specs.Attachments.{is_extracted}
 use Rattle.mail_data.specs.InnerMails.{InnerMail, forwards, inner_mails_within, places_under}
 use Rattle.mail_data.specs.PartPlaces.{Place, places}
 use Rattle.mail_data.specs.RawPaths.{file_name_or_path}

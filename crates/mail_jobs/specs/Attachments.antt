@@ -4,7 +4,7 @@ use Rattle.std.specs.Option.{unwrap_or}
 use Rattle.mail_codec.specs.Charset.{Charsets}
 use Rattle.mailparse.specs.Mail.{Node, Tree, root}
 use Rattle.mail_data.specs.FileNames.{safe_name}
-use Rattle.mail_data.specs.Files.{attachments}
+use Rattle.mail_data.specs.Attachments.{attachments}
 use Rattle.mail_data.specs.lenient.FileNames.{lenient_file_name}
 use Rattle.mail_data.specs.lenient.Content.{Content, message_content}
 

@@ -21,7 +21,9 @@ use Rattle.mail_c.specs.RecordViews.{family_view, item_view}
 use Rattle.mail_codec.specs.Places.{values_below}
 use Rattle.mailparse.specs.Block.{header_place}
 use Rattle.mailparse.specs.Header.{header_length, key_end, value_end, value_start}
-use Rattle.mailparse.specs.Mail.{root, shown_as_in}
+use Rattle.mailparse.specs.Mail.{root}
+use Rattle.mail_data.specs.lenient.Dispositions.{lenient_disposition}
+use Rattle.mail_data.specs.lenient.FileNames.{lenient_file_name}
 use Rattle.mail_c.specs.Records.{Family, Item, block_records, disposition_number, encoding_number, families, flags, header_block, header_record, header_records, item_headers, items_of, limited, mail_records, none, part_record, part_records, records, records_in}
 use Rattle.mail_c.specs.declared.records.HeaderRecord.{HeaderRecord}
 use Rattle.mail_c.specs.declared.records.Node.{Node}
@@ -190,7 +192,7 @@ next_header start raw number at key value last len old made new e k v u l m n =
 pub part_record-is : (known : Charsets) (first : ℕ) (item : Item) (parent level count encoding : ℕ) (shown : ℕ × ℕ) (whole body : Range) → parent ≡ item.family.parent
     → level ≡ item.family.level → item.placement.whole ≡ whole → item.placement.body ≡ body → count ≡ length (root item.part).headers
     → encoding ≡ encoding_number (lenient_body_kind (root item.part))
-    → ◌≡◌ {A = ℕ × ℕ} shown (disposition_number (shown_as_in known (root item.part)) (root item.part), flags item.part (shown_as_in known (root item.part)))
+    → ◌≡◌ {A = ℕ × ℕ} shown (disposition_number (lenient_disposition known (root item.part)), flags item.part (lenient_disposition known (root item.part)) (lenient_file_name known (root item.part)))
     → ◌≡◌ {A = Part} (record { parent = parent; level = level; start = whole.start; end = whole.end; body_start = body.start; body_end = body.end; first_header = first; header_count = count; encoding = encoding; disposition = shown.0; flags = shown.1 })
     (part_record known first item)
 unfolding part_record

@@ -16,7 +16,7 @@ use Rattle.mail_data.specs.PartPlaces.{Place}
 use Rattle.mail_data.specs.Reading.{mail_placements, mail_reading}
 use Rattle.mail_data.specs.lenient.Content.{Content}
 use Rattle.mail_extract.specs.Choice.{Choice}
-use Rattle.mail_data.specs.Files.{is_extracted}
+use Rattle.mail_data.specs.Attachments.{is_extracted}
 use Rattle.mail_extract.specs.Directory.{Creates, File, has_file}
 use Rattle.mail_extract.specs.Hash.{wanted_hash}
 use Rattle.mail_extract.specs.declared.hash.Hashing.{Hashing}
