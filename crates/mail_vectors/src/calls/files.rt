@@ -72,13 +72,15 @@ fn look_at<K: KnownCharsets>(answer: &mut Answer, row: &Row, known: &K) -> Outco
     Ok(())
 }
 
-/// `named_file DISPOSITION TYPE => NAME` and `describes_attachment DISPOSITION TYPE => TRUTH`
+/// `named_file DISPOSITION TYPE => NAME` and `describes_attachment DISPOSITION TYPE => TRUTH`, by that
+/// name and the kind of the disposition.
 fn describe(answer: &mut Answer, row: &Row) -> Outcome {
     let disposition = disposition_of(row)?;
     let ctype = type_of(row, 1)?;
+    let name = named_file(row.alloc, &disposition, &ctype)?;
     match row.call.as_str() {
-        "named_file" => answer.put(named_file(row.alloc, &disposition, &ctype)),
-        _ => answer.put(describes_attachment(row.alloc, &disposition, &ctype)),
+        "named_file" => answer.put(name),
+        _ => answer.put(describes_attachment(&Some(disposition.disposition), &name)),
     }
     Ok(())
 }

@@ -1,8 +1,8 @@
 //! The calls that read leniently. `find_ids TEXT => ID..` returns the ids with an `@`, and
 //! `find_any_ids TEXT => ID..` all. `lenient_nodes MAIL LEVELS => NODE..` and `lenient_file_names MAIL
 //! LEVELS => NAME..` read the mail in the manner of `Lenient` under all tables, and answer for the
-//! mail and then for each of its parts. `lenient_named_file DISPOSITION TYPE => NAME` takes raw
-//! values.
+//! mail and then for each of its parts; likewise `lenient_dispositions MAIL LEVELS => KIND..`, `none`
+//! without one. `lenient_named_file DISPOSITION TYPE => NAME` takes raw values.
 
 use crate::calls::bodies::push_raw;
 use crate::calls::files::part_at;
@@ -10,8 +10,8 @@ use crate::calls::tables::all_tables;
 use crate::notation::{Answer, Decision, FORM, Outcome, Row, Show};
 use mail_data::lenient::{
     ContentFault, DateError, IdRule, Lenient, base64_front, body_text, date_and_offset_of, date_of,
-    find_ids, lenient_body, lenient_content, lenient_file_name, lenient_header_text,
-    lenient_named_file, refusal, zoned_date_of,
+    find_ids, lenient_body, lenient_content, lenient_disposition, lenient_file_name,
+    lenient_header_text, lenient_named_file, refusal, zoned_date_of,
 };
 use mailparse::body::Body;
 use mailparse::{KnownCharsets, MAX_LEVELS, ParsedMail, parse_mail, parse_mail_as};
@@ -26,7 +26,9 @@ pub fn make(answer: &mut Answer, row: &Row) -> Decision {
         "lenient_content" => read_content(answer, row)?,
         "find_ids" => answer.put(find_ids(row.alloc, row.text(0), IdRule::WithAt)),
         "find_any_ids" => answer.put(find_ids(row.alloc, row.text(0), IdRule::Any)),
-        "lenient_nodes" | "lenient_file_names" => read_parts(answer, row, &all_tables())?,
+        "lenient_nodes" | "lenient_file_names" | "lenient_dispositions" => {
+            read_parts(answer, row, &all_tables())?;
+        }
         "lenient_named_file" => {
             let name = lenient_named_file(row.alloc, row.bytes(0), row.bytes(1), &all_tables());
             answer.put(name);
@@ -113,6 +115,7 @@ fn push_part(answer: &mut Answer, call: &str, part: &ParsedMail<'_>) {
     let alloc = answer.alloc;
     match call {
         "lenient_nodes" => push_node(answer, part),
+        "lenient_dispositions" => answer.put(lenient_disposition(alloc, part, &all_tables())),
         _ => answer.put(lenient_file_name(alloc, part, &all_tables())),
     }
 }

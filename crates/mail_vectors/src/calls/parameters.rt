@@ -43,9 +43,9 @@ impl Show for ParsedContentType {
     }
 }
 
-impl Show for &ParsedContentDisposition {
+impl Show for &DispositionType {
     fn show(self, answer: &mut Answer) {
-        match &self.disposition {
+        match self {
             DispositionType::Inline => answer.word("inline"),
             DispositionType::Attachment => answer.word("attachment"),
             DispositionType::FormData => answer.word("form-data"),
@@ -54,6 +54,18 @@ impl Show for &ParsedContentDisposition {
                 answer.put(name.as_str());
             }
         }
+    }
+}
+
+impl Show for DispositionType {
+    fn show(self, answer: &mut Answer) {
+        answer.put(&self);
+    }
+}
+
+impl Show for &ParsedContentDisposition {
+    fn show(self, answer: &mut Answer) {
+        answer.put(&self.disposition);
         answer.put(&self.params);
     }
 }
