@@ -397,6 +397,8 @@ DISPOSITIONS = {
     "attachment; filename*=UTF-8''%C3%9Cbersicht.pdf; filename=\"Ubersicht.pdf\"": ("\u00dcbersicht.pdf", "attachment"),
     "inline; filename=a; filename*=utf-8''..%2Fb": ("../b", "inline"),
     'inline; filename="a b.txt': ("a b.txt", "inline"),
+    "attachment (x); filename=report (1).pdf": ("report (1).pdf", "attachment"),
+    "(attachment) inline(x); filename=a.txt": ("a.txt", "inline"),
     'attachment; filename="=?utf-8?Q?a.pdf=22;_filename*=3Dutf-8\'\'b.exe?="': ("a.pdf\"; filename*=utf-8''b.exe", "attachment"),
 }
 
@@ -413,6 +415,25 @@ def test_names_of_dispositions(disposition, tmp_path):
     assert (part["file_name"], part["disposition"], part["attachment"], part["extracted"]) == (name, kind, True, True)
     shown = run([*command("show"), "-"], mail).stdout.decode()
     assert name in shown
+
+
+# dispositions with comments, and whether they are those of a file without a name (RFC 2045, section 5.1)
+COMMENTED = {
+    "attachment (x)": True, "attachment(x)": True, "(x) Attachment": True, "attachment (x; y)": True, "attachment (x": True,
+    "attachment\n (x\n (y) \\) z)": True, "inline (attachment)": False, "(attachment)": False, "inline; x=(attachment)": False,
+}
+
+
+@pytest.mark.parametrize("disposition", COMMENTED)
+def test_comments_in_dispositions(disposition, tmp_path):
+    """No comment hides a file, or makes one, in `extract` and `json`."""
+    mail = multipart(b"b", b"\nHi", f"Content-Disposition: {disposition}\n\nMZ".encode())
+    ended = run([*command("extract"), "--into", tmp_path], mail)
+    saved = [(tmp_path / json.loads(line)["saved"]).read_bytes() for line in ended.stdout.splitlines()]
+    assert (ended.returncode, saved) == (0, [b"MZ"] if COMMENTED[disposition] else [])
+    part = json.loads(run(command("json"), mail).stdout)["parts"][2]
+    assert part["disposition"] == ("attachment" if COMMENTED[disposition] else "inline")
+    assert (part["attachment"], part["extracted"], part["text"] is None) == (COMMENTED[disposition],) * 3
 
 
 def test_lines_follow_their_files(tmp_path):
