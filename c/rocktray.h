@@ -32,7 +32,7 @@
  *
  * Time. A call takes time linear in the length of its input, times the depth of nested parts.
  *
- * Stack. A call that reads a whole mail or part needs up to 160 KB of stack, if its parts are 100 levels deep or mails
+ * Stack. A call that reads a whole mail or part needs up to 136 KB of stack, if its parts are 100 levels deep or mails
  * forward mails. All other calls need up to 16 KB.
  *
  * ABI. Later versions with the same major number keep the calls, the codes, and the layout of the records. They may add
