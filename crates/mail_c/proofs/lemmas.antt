@@ -2,6 +2,9 @@ pub mod Buffer
 pub mod Ids
 pub mod Mailbox
 pub mod Texts
+pub mod FirstHeaders
+pub mod OwnHeaders
+pub mod HeaderLengths
 pub mod Records
 pub mod Ranges
 pub mod Strings

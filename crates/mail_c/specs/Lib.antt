@@ -2,6 +2,7 @@ pub mod Codes
 pub mod Buffer
 pub mod Results
 pub mod Numbers
+pub mod OwnHeaders
 pub mod Records
 pub mod RecordViews
 pub mod Ranges

@@ -32,6 +32,7 @@ mod buffer;
 mod codes;
 mod laws;
 mod numbers;
+mod places;
 mod ranges;
 mod recipients;
 mod records;

@@ -6,6 +6,7 @@ ghost use Rattle.mailparse.specs.Mail.{root, trees_within};
 ghost use Rattle.mailparse.specs.Views as views;
 ghost use Rattle.mailparse.specs.Views.{placement_of, placements_of, tree_of};
 ghost use Rattle.mail_c.specs.Codes.{IsCoded};
+ghost use Rattle.mail_c.specs.OwnHeaders.{AllOwn, AreFirstHeaders, HasOwnHeaders};
 ghost use Rattle.mail_data.specs.lenient.Dispositions.{lenient_disposition};
 ghost use Rattle.mail_data.specs.lenient.Encoding.{lenient_body_kind};
 ghost use Rattle.mail_data.specs.lenient.FileNames.{lenient_file_name};
@@ -16,6 +17,7 @@ ghost use Rattle.mail_c.specs.RecordViews.{family_view, item_view, lists};
 ghost use Rattle.mail_json.specs.Part.{is_attachment};
 
 use crate::codes::{NO_MEMORY, TOO_MANY, code_of};
+use crate::places::places_of;
 use mail_data::files::{is_attachment_disposition, is_leaf, is_shown};
 use mail_data::inner_mails::forwards;
 use mail_data::lenient::{lenient_body, lenient_disposition, lenient_file_name};
@@ -23,8 +25,8 @@ use mail_data::reading::read_mail;
 use mail_json::is_read;
 use mailparse::body::Body;
 use mailparse::{
-    DispositionType, KnownCharsets, MailParseError, ParsedMail, before_dash_line, count_headers,
-    header_places, parse_headers,
+    DispositionType, KnownCharsets, MailHeader, MailParseError, ParsedMail, before_dash_line,
+    count_headers, header_places, parse_headers,
 };
 use std::alloc::{AllocError, Global};
 
@@ -112,6 +114,7 @@ fn tree_records<K: KnownCharsets>(
     mail: &ParsedMail<'_>,
     known: &K,
 ) -> Result<Records, u32>
+    requires { AllOwn (trees_within (tree_of mail.now)) }
     ensures { let t = tree_of mail.now in IsCoded lists result (Ok (records_in (K.known known.now)
         (items_of (trees_within t) (placements_of mail.now) (families 0 none 0 t)))) }
 {
@@ -164,6 +167,7 @@ fn records_of<K: KnownCharsets>(
     mail: &ParsedMail<'_>,
     known: &K,
 ) -> Result<Records, MailParseError>
+    requires { AllOwn (trees_within (tree_of mail.now)) }
     ensures { let t = tree_of mail.now in IfOk result (λ found. lists found
         ≡ records_in (K.known known.now)
         (items_of (trees_within t) (placements_of mail.now) (families 0 none 0 t))) }
@@ -179,6 +183,7 @@ fn records_in<K: KnownCharsets>(
     nodes: &[Node<'_, '_>],
     known: &K,
 ) -> Result<Records, MailParseError>
+    requires { AllOwn (map (λ node. tree_of node.part.now) nodes.now) }
     ensures { IfOk result (λ found. lists found
         ≡ records_in (K.known known.now) (map item_view nodes.now)) }
 {
@@ -229,6 +234,7 @@ fn push_record<K: KnownCharsets>(
     node: &Node<'_, '_>,
     known: &K,
 ) -> Result<(), MailParseError>
+    requires { HasOwnHeaders (tree_of node.now.part.now) }
     ensures parts { OnOk result (records.new.parts.items ≡ records.old.parts.items
         ++ part_record (K.known known.now) (vec_len records.old.headers) (item_view node.now)
         ∷ []) }
@@ -237,8 +243,8 @@ fn push_record<K: KnownCharsets>(
 {
     let first = records.headers.len() as u64;
     let entry = record_of(alloc, node, first, known)?;
-    let (start, count) = (start_of(node.part), header_count(node.part));
-    push_headers(&mut records.headers, bytes_of(node.part), start, count)?;
+    let (start, read) = (start_of(node.part), headers_of(node.part));
+    push_read_headers(&mut records.headers, bytes_of(node.part), start, read)?;
     records.parts.push(entry)?;
     Ok(())
 }
@@ -287,11 +293,51 @@ fn header_count(part: &ParsedMail<'_>) -> usize
     part.headers.len()
 }
 
+/// Returns the headers of a message.
+fn headers_of<'m, 'a>(part: &'m ParsedMail<'a>) -> &'m [MailHeader<'a>]
+    ensures { result.now ≡ (root (tree_of part.now)).headers }
+{
+    part.headers.as_slice()
+}
+
 /// Returns the bytes of a message.
 fn bytes_of<'m>(part: &'m ParsedMail<'_>) -> &'m [u8]
     ensures { result.now ≡ (root (tree_of part.now)).bytes }
 {
     part.raw_bytes
+}
+
+/// Appends the records of the headers of a message that starts at this offset, which were read from
+/// its bytes.
+#[tactic(auto, unfolding(crate::specs::Records::header_records))]
+fn push_read_headers(
+    found: &mut Vec<HeaderRecord>,
+    raw: &[u8],
+    start: usize,
+    headers: &[MailHeader<'_>],
+) -> Result<(), AllocError>
+    requires { AreFirstHeaders raw.now headers.now }
+    ensures { OnOk result (found.new.items ≡ found.old.items
+        ++ header_records start raw.now (length headers.now)) }
+{
+    // A message ends within its mail, so the sum fits.
+    if usize::MAX - start < raw.len() {
+        return Err(AllocError);
+    }
+    let mut at = 0;
+    for header in headers {
+        let cut = places_of(&raw[at..], header);
+        let first = start + at;
+        found.push(HeaderRecord {
+            start: first as u64,
+            key_end: (first + cut.key_end) as u64,
+            value_start: (first + cut.value_start) as u64,
+            value_end: (first + cut.value_end) as u64,
+            end: (first + cut.length) as u64,
+        })?;
+        at += cut.length;
+    }
+    Ok(())
 }
 
 /// Appends the records of the first `count` headers of a message that starts at this offset.

@@ -17,6 +17,7 @@ use Rattle.mailparse.specs.Refusal.{Reads}
 use Rattle.mailparse.specs.declared.error.MailParseError.{MailParseError}
 use Rattle.mailparse.specs.declared.error.MailParseError.TheVariants.{QuotedPrintableDecodeError, Base64DecodeError, EncodingError, Generic, Memory}
 use Rattle.mail_c.specs.Codes.{IsCoded, coded, error_code, no_memory}
+use Rattle.mail_c.specs.OwnHeaders.{AllOwn, HasOwnHeaders}
 use Rattle.mail_c.specs.RecordViews.{family_view, item_view}
 use Rattle.mail_codec.specs.Places.{values_below}
 use Rattle.mailparse.specs.Block.{header_place}
@@ -123,6 +124,18 @@ pub items-first : (old nodes : List Node) (t : Tree) (ranges : List Placement) (
     → map item_view nodes ≡ items_of (trees_within t) ranges (families 0 parent 0 t)
 items-first old nodes t ranges parent count none empty are places have =
     items-added old nodes (trees_within t) ranges (families 0 parent 0 t) none are places (have ∙ ap (λ n. map family_view old ++ families n parent 0 t) empty)
+
+-- each has its own headers
+pub own-added : (old nodes : List Node) (t : Tree) → old ≡ [] → map (λ node. tree_of node.part.now) nodes ≡ map (λ node. tree_of node.part.now) old ++ trees_within t
+    → AllOwn (trees_within t) → AllOwn (map (λ node. tree_of node.part.now) nodes)
+own-added old nodes t none are own =
+    subst AllOwn (sym (are ∙ ap (λ (items : List Node). map (λ node. tree_of node.part.now) items ++ trees_within t) none)) own
+
+pub own-at : (nodes : List Node) (i : ℕ) (node : Node) (rest : List Node) → AllOwn (map (λ node. tree_of node.part.now) nodes) → drop i nodes ≡ node ∷ rest
+    → HasOwnHeaders (tree_of node.part.now)
+own-at nodes zero node rest own e = (subst (λ (ns : List Node). AllOwn (map (λ node. tree_of node.part.now) ns)) e own).0
+own-at [] (suc i) node rest own e = absurd (cc)
+own-at (first ∷ nodes) (suc i) node rest own e = own-at nodes i node rest own.1 e
 
 -- ---- records, one after another
 

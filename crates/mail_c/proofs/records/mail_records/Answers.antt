@@ -6,6 +6,7 @@ use Rattle.mail_c.specs.RecordViews.{lists}
 use Rattle.mail_c.specs.declared.records.HeaderRecord.{HeaderRecord}
 use Rattle.mail_c.specs.declared.records.Part.{Part}
 use Rattle.mail_c.proofs.lemmas.Records.{records_are, records_refused, refused_code}
+use Rattle.mail_c.proofs.lemmas.OwnHeaders.{mail_reading-own}
 use Rattle.mail_c.proofs.records.mail_records.Goals as goal
 
 pub returns-in-Ok : goal.returns-in-Ok
@@ -21,3 +22,8 @@ returns-in-Err g c =
     let raw = c.args.raw.now in
     ⊎_elim (λ memory. inl memory) (λ refused. inr (records_refused known c.args.limit raw _ refused))
     (refused_code c.in-Err.error (mail_reading known c.args.limit raw) _ c.in-Err.ensures.read c.code_of.ensures)
+
+pub tree_records-requires : goal.tree_records-requires
+tree_records-requires g c =
+    let known = g.K.KnownCharsets.known c.args.known.now in
+    mail_reading-own known c.args.limit c.args.raw.now (tree_of c.in-Ok.mail) c.in-Ok.ensures.read

@@ -6,7 +6,7 @@ use Rattle.mailparse.specs.Mail.{root}
 use Rattle.mail_c.specs.RecordViews.{item_view}
 use Rattle.mail_c.specs.Records.{item_headers}
 use Rattle.mail_c.specs.declared.records.HeaderRecord.{HeaderRecord}
-use Rattle.mail_c.proofs.lemmas.Records.{length-item_headers, more_headers, more_parts, records_all}
+use Rattle.mail_c.proofs.lemmas.Records.{length-item_headers, more_headers, more_parts, own-at, records_all}
 use Rattle.mail_c.proofs.records.records_in.Goals as goal
 
 pub loop-node-preserved : goal.loop-node-preserved
@@ -30,3 +30,8 @@ returns g c =
     let known = g.K.KnownCharsets.known c.args.known.now in
     let none = ap (map item_view) (drop_all c.loop-node.node-index c.args.nodes.now (omega arith)) in
     records_all known _ _ _ _ _ none c.loop-node.invariant.parts c.loop-node.invariant.headers
+
+pub push_record-requires : goal.push_record-requires
+push_record-requires g c =
+    own-at c.args.nodes.now c.loop-node.node-index c.node-item.result (drop (c.loop-node.node-index + 1) c.args.nodes.now) c.requires
+    (drop_next c.args.nodes.now c.loop-node.node-index c.node-item.result (omega arith) c.node-item.is)

@@ -1,9 +1,11 @@
-use Rattle.std.proofs.Common.{◌≡◌, List, length, map, ap, subst, ◌∙◌}
+use Rattle.std.proofs.Common.{◌≡◌, List, length, map, sym, ap, subst, ◌∙◌}
 use Rattle.std.specs.Prelude.{IfOk}
 use Rattle.mail_c.specs.RecordViews.{item_view, lists}
+use Rattle.mailparse.specs.Views.{tree_of}
+use Rattle.mail_c.specs.OwnHeaders.{AllOwn}
 use Rattle.mail_c.specs.Records.{Item, records_in}
 use Rattle.mail_c.specs.declared.records.Node.{Node}
-use Rattle.mail_c.proofs.lemmas.Records.{items-first}
+use Rattle.mail_c.proofs.lemmas.Records.{items-first, own-added}
 use Rattle.mail_c.proofs.records.records_of.Goals as goal
 
 pub returns : goal.returns
@@ -14,3 +16,8 @@ returns g c =
     ∙ items-first _ c.push_nodes.new.found.items _ _ _ _ c.new-nodes.ensures.items none c.in_ok-push_nodes.ensures.trees c.in_ok-push_nodes.ensures.ranges
     c.in_ok-push_nodes.ensures.families in
     subst (λ (items : List Item). IfOk c.records_in.result (λ found. lists found ≡ records_in known items)) same c.records_in.ensures
+
+pub records_in-requires : goal.records_in-requires
+records_in-requires g c =
+    subst (λ (nodes : List Node). AllOwn (map (λ node. tree_of node.part.now) nodes)) (sym c.as_slice.ensures.value)
+    (own-added c.new-nodes.result.items c.push_nodes.new.found.items (tree_of c.args.mail.now) c.new-nodes.ensures.items c.in_ok-push_nodes.ensures.trees c.requires)

@@ -1,0 +1,89 @@
+//! The offsets of a header that was read, from the lengths of its key and its value.
+ghost use Rattle.std.specs.Prelude.{◌≡◌, ◌≤◌, ◌==◌, suc, drop, min, not, length};
+ghost use Rattle.mail_codec.specs.Ascii.{space};
+ghost use Rattle.mail_codec.specs.Places.{begins, place_from};
+ghost use Rattle.mailparse.specs.Header.{header_length, header_of, is_line_feed};
+ghost use Rattle.mailparse.specs.Header.{key_end, value_end, value_start};
+
+use mail_codec::bytescan::find_byte;
+use mailparse::{HeaderPlaces, MailHeader};
+
+/// Returns where the key and the value of a header are that was read from the front of `raw`. It
+/// searches neither of them.
+#[tactic(auto, using(crate::proofs::lemmas::HeaderLengths::lengths))]
+pub(crate) fn places_of(raw: &[u8], header: &MailHeader<'_>) -> HeaderPlaces
+    requires { header.now ≡ header_of raw.now }
+    ensures key { result.key_end ≡ key_end raw.now }
+    ensures start { result.value_start ≡ value_start raw.now }
+    ensures end { result.value_end ≡ value_end raw.now }
+    ensures len { result.length ≡ header_length raw.now }
+    ensures order { (result.key_end ≤ result.value_start) × (result.value_start ≤ result.value_end)
+        × (result.value_end ≤ result.length) × (result.length ≤ length raw.now) }
+{
+    let key_end = header.get_key_raw().len();
+    let value_start = value_start(raw, key_end);
+    let value_end = value_start + header.get_value_raw().len();
+    let end = line_feed_from(raw, value_end);
+    HeaderPlaces {
+        key_end,
+        value_start,
+        value_end,
+        length: length_to(raw, end),
+    }
+}
+
+/// Returns the start of the value of a header whose key ends at `key`.
+#[tactic(auto, using(crate::proofs::lemmas::HeaderLengths::starts))]
+fn value_start(raw: &[u8], key: usize) -> usize
+    requires { key ≡ key_end raw.now }
+    ensures { result ≡ value_start raw.now }
+{
+    if !is_at(raw, key, b':') {
+        return key;
+    }
+    after_spaces(raw, key + 1)
+}
+
+/// Returns the offset of the first byte at or after `from` that is no space, or the length if
+/// there is none.
+fn after_spaces(raw: &[u8], from: usize) -> usize
+    requires within { from ≤ length raw.now }
+    ensures { result ≡ place_from (begins (λ b. not (b == space))) raw.now from }
+{
+    let mut at = from;
+    while is_at(raw, at, b' ') {
+        at += 1;
+    }
+    at
+}
+
+/// Returns whether this byte is at `place`.
+fn is_at(raw: &[u8], place: usize, byte: u8) -> bool
+    ensures { result ≡ begins (λ b. b == byte) (drop place raw.now) }
+{
+    match raw.get(place) {
+        Some(found) => *found == byte,
+        None => false,
+    }
+}
+
+/// Returns the offset of the first LF at or after `from`, or the length if there is none.
+#[tactic(auto, using(crate::proofs::lemmas::HeaderLengths::searches))]
+fn line_feed_from(raw: &[u8], from: usize) -> usize
+    requires within { from ≤ length raw.now }
+    ensures least { result ≡ place_from (begins is_line_feed) raw.now from }
+    ensures bounds { result ≤ length raw.now }
+{
+    match find_byte(&raw[from..], b'\n') {
+        Some(place) => from + place,
+        None => raw.len(),
+    }
+}
+
+/// Returns the length of a header that ends at `end`, including its LF.
+fn length_to(raw: &[u8], end: usize) -> usize
+    requires within { end ≤ length raw.now }
+    ensures { result ≡ min (suc end) (length raw.now) }
+{
+    if end < raw.len() { end + 1 } else { end }
+}
