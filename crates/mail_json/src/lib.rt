@@ -3,6 +3,7 @@
 
 mod addresses;
 mod body;
+mod bounced;
 mod decoded;
 mod escapes;
 mod fields;

@@ -20,6 +20,7 @@ ghost use Rattle.mail_program.specs.Streams.{Writes};
 ghost use Rattle.mail_json.specs.Written.{WritesOne};
 
 use crate::addresses::write_addresses;
+use crate::bounced::bounced_id;
 use crate::decoded::{Decoded, decoded_parts};
 use crate::fields::value_of;
 use crate::inside::{write_mails, write_parts};
@@ -33,7 +34,6 @@ use crate::origin::{Origin, write_origin};
 use crate::reports::write_reported;
 use mail_codec::charset::decode_latin1;
 use mail_data::archive::ids_of;
-use mail_data::bounce::original_message_id;
 use mail_data::lenient::{DateError, IdRule, zoned_date_of};
 use mail_data::places::places;
 use mail_program::Fault;
@@ -134,7 +134,7 @@ fn write_head<W: Write, K: KnownCharsets>(
     write_raw(alloc, out, mail)?;
     write_date(alloc, out, mail, known)?;
     write_ids(alloc, out, mail)?;
-    let bounced = original_message_id(alloc, mail)?;
+    let bounced = bounced_id(alloc, mail, parts)?;
     add_optional(out, key!("bounced_id"), bounced.as_deref())?;
     write_word(out, key!("recipients"))?;
     write_reported(alloc, out, mail, parts, options.decodes_bodies, known)?;
