@@ -26,4 +26,6 @@ pub mod QuotedPrintableEscapes
 pub mod QuotedPrintableLines
 pub mod QuotedPrintableSpecials
 pub mod QuotedPrintableLaw
+pub mod Uuencode
+pub mod UuencodeLaw
 pub mod Calendar

@@ -8,6 +8,8 @@ pub mod Front
 pub mod Utf7
 pub mod Base64
 pub mod QuotedPrintable
+pub mod Uuencode
+pub mod UuencodeViews
 pub mod Calendar
 pub mod Names
 pub mod private

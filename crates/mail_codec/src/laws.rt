@@ -1,9 +1,10 @@
 //! What the definitions mean, as laws over all bytes.
 //!
 //! Each function does nothing; its contract is the law.
-ghost use Rattle.std.specs.Prelude.{◌≡◌, ◌↔◌, ◌<◌, ◌≤◌, ℕ, Bool, true, List, Option, Ok, Err, length, slice_index};
+ghost use Rattle.std.specs.Prelude.{◌≡◌, ◌↔◌, ◌<◌, ◌≤◌, ◌+◌, ◌++◌, ℕ, All, flat_map, Bool, true, List, Option, Ok, Err, length, slice_index};
 ghost use Rattle.mail_codec.specs.Base64.{base64, IsBase64, IsBase64Fault};
 ghost use Rattle.mail_codec.specs.Places.{byte_place, either_place, first_place, place_from, text_place, HasByteAt, HasEitherAt, HasTextAt, IsFirstOf, IsFirstPlace, IsFirstPlaceFrom};
+ghost use Rattle.mail_codec.specs.Uuencode.{data_bytes, data_length, encoded_lines};
 ghost use Rattle.mail_codec.specs.Utf7.{is_direct, utf7_text};
 ghost use Rattle.mail_codec.specs.QuotedPrintable.{AreLines, IsQuotedPrintable, Line, lines_of, quoted_printable};
 
@@ -59,4 +60,17 @@ pub fn direct_bytes_stay_in_utf_7()
     ensures { (bytes : List ℕ)
         → ((at : ℕ) → at < length bytes → is_direct (slice_index bytes at) ≡ true)
         → utf7_text bytes ≡ bytes }
+{}
+
+/// What an encoder writes for the pieces of a file, a line for each of at most 63 bytes, decodes to
+/// the bytes of the pieces, and then to those of the lines after it.
+pub fn uuencode_is_undone()
+    ensures bytes { (pieces : List (List ℕ)) (rest : List ℕ)
+        → All (λ piece. (length piece < 64) × All (λ b. b < 256) piece) pieces
+        → data_bytes (encoded_lines pieces ++ rest)
+        ≡ flat_map (λ piece. piece) pieces ++ data_bytes rest }
+    ensures read { (pieces : List (List ℕ)) (rest : List ℕ)
+        → All (λ piece. (length piece < 64) × All (λ b. b < 256) piece) pieces
+        → data_length (encoded_lines pieces ++ rest)
+        ≡ length (encoded_lines pieces) + data_length rest }
 {}
