@@ -1,10 +1,10 @@
 -- Reading a message with a limit on its parts and headers; the project's own terms. Items are messages and headers.
-use Rattle.std.specs.Prelude.{ℕ, zero, suc, ◌+◌, ◌-◌, nat_lt, Bool, false, List, [], ◌∷◌, length, map, Option, Some, None, option_map, is_ok, Ok, Err, if◌then◌else◌}
+use Rattle.std.specs.Prelude.{ℕ, zero, suc, ◌+◌, nat_lt, Bool, false, List, [], ◌∷◌, length, map, Option, Some, None, is_ok, Ok, Err, if◌then◌else◌}
 use Rattle.mailparse.specs.Refusal.{Reads, too_many_items}
 use Rattle.mailparse.specs.Block.{HeaderList, read_block}
 use Rattle.mailparse.specs.ContentType.{ContentType}
 use Rattle.mailparse.specs.Manner.{Manner}
-use Rattle.mailparse.specs.Mail.{Tree, Forest, cut_of_as, is_digest, read_levels, read_mail_as}
+use Rattle.mailparse.specs.Mail.{Tree, cut_of_as, is_digest, read_levels, read_mail_as}
 use Rattle.mailparse.specs.Ranges.{slice}
 
 -- a reading in which this many items are met, refused if the limit is lower; `None` is no limit

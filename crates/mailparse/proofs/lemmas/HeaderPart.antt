@@ -5,9 +5,8 @@ use Rattle.std.proofs.lemmas.List.{drop_more, length-take, take_all}
 use Rattle.std.proofs.Math.ListN.{drop_of_length-le}
 use Rattle.mail_codec.specs.Places.{begins, first_place, place_from}
 use Rattle.mail_codec.proofs.lemmas.Places.{begins-at, place_from_here, place_from_next, place_from_passes}
-use Rattle.mailparse.specs.Refusal.{Reads}
 use Rattle.mailparse.specs.Header.{is_line_feed}
-use Rattle.mailparse.specs.Block.{HeaderList, headers_end, is_dash_line, ends_header_lines, header_lines_end, before_dash_line, header_part, read_block, read_headers}
+use Rattle.mailparse.specs.Block.{HeaderList, headers_end, is_dash_line, ends_header_lines, header_lines_end, before_dash_line, header_part, read_block}
 use Rattle.mailparse.proofs.lemmas.Block.{read_headers-bounded}
 
 -- ---- the front of the bytes

@@ -1,6 +1,5 @@
 -- What is met in a message, and what is left of a limit on it.
-use Rattle.std.proofs.Common.{◌≡◌, ℕ, cond, zero, suc, ◌+◌, ◌-◌, ◌<◌, ◌≤◌, Bool, true, false, List, [], ◌∷◌, ◌++◌, length, map, drop, slice_range, option_map, Option, Some, None, Result, Ok, Err, IfOk, is_ok, refl, sym, ap, ◌∙◌, subst, arith, nat_lt, length-append}
-use Rattle.std.specs.Prelude.{if◌then◌else◌}
+use Rattle.std.proofs.Common.{◌≡◌, ℕ, cond, zero, suc, ◌+◌, ◌-◌, ◌<◌, ◌≤◌, Bool, true, false, List, [], ◌∷◌, length, map, drop, slice_range, option_map, Option, Some, None, Result, Ok, Err, IfOk, is_ok, refl, sym, ap, ◌∙◌, subst, arith, nat_lt}
 use Rattle.mailparse.specs.Refusal.{Refusal, generic, encoding, base64_fault, Reads, too_many_items}
 use Rattle.mailparse.specs.Header.{Header}
 use Rattle.mailparse.specs.Header.{read_header}
@@ -8,7 +7,7 @@ use Rattle.mailparse.specs.Block.{HeaderList, block_end, read_block, read_header
 use Rattle.mailparse.specs.ContentType.{ContentType}
 use Rattle.mailparse.specs.Manner.{Manner}
 use Rattle.mailparse.specs.Ranges.{Range, slice}
-use Rattle.mailparse.specs.Delimiters.{first_part_as, next_part_as, end_from_as, Cut, cut_parts_as}
+use Rattle.mailparse.specs.Delimiters.{first_part_as, next_part_as, end_from_as, cut_parts_as}
 use Rattle.mailparse.specs.Mail.{Tree, root, kept_message, or_kept, is_digest, dash_boundary_of, whole_lines_for, read_levels}
 use Rattle.mailparse.specs.Limit.{headers_met, limited, met_in_each, met_in_parts, met_after, items_met}
 use Rattle.mailparse.specs.private.Limit.{less}
@@ -19,7 +18,7 @@ use Rattle.mailparse.specs.declared.error.MailParseError.TheVariants.{QuotedPrin
 use Rattle.std.specs.Cow.{cow_str_bytes}
 use Rattle.mailparse.proofs.lemmas.Outcome.{IsRefusal-along}
 use Rattle.mailparse.specs.declared.error.MailParseError.{MailParseError}
-use Rattle.mailparse.proofs.lemmas.Block.{with_front, block_end-some, block_end-err, block_end-header, read_headers-found, Bounded, read_headers-bounded}
+use Rattle.mailparse.proofs.lemmas.Block.{with_front, block_end-some, block_end-err, block_end-header, read_headers-found, read_headers-bounded}
 use Rattle.mailparse.proofs.lemmas.Delimiters.{part_ranges_as-none, part_ranges_as-some, part_ranges_as}
 use Rattle.mailparse.proofs.lemmas.Mail.{line_delimiter_some, or_kept-read}
 use Rattle.std.specs.Option.{option_map_or}

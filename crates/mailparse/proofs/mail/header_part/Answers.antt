@@ -1,4 +1,4 @@
-use Rattle.std.proofs.Common.{◌≡◌, ◌≤◌, true, length, ap, arith}
+use Rattle.std.proofs.Common.{true, length, ap, arith}
 use Rattle.mailparse.proofs.lemmas.HeaderPart.{header_part-≤}
 use Rattle.mailparse.proofs.mail.header_part.Goals as goal
 

@@ -1,6 +1,5 @@
-use Rattle.std.proofs.Common.{◌≡◌, ◌+◌, Bool, true, false, drop, length, sym, ◌∙◌, arith}
+use Rattle.std.proofs.Common.{true, false, sym, ◌∙◌, arith}
 use Rattle.std.proofs.lemmas.List.{take_rest}
-use Rattle.mailparse.specs.Block.{is_dash_line}
 use Rattle.mailparse.proofs.lemmas.HeaderPart.{before_dash_line-at, before_dash_line-none}
 use Rattle.mailparse.proofs.headers.dashes.before_dash_line.Goals as goal
 
