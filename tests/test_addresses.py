@@ -237,17 +237,22 @@ def group_of(text, found):
     return ["group", name_of(text.part(found.start(1), found.end(1))), str(len(members)), *sum(members, [])]
 
 
-def items_of(raw, group=group_of, single=single_of):
-    """The items of a list of addresses."""
-    text, at, items = Text.read(raw), 0, []
+def elements_of(text):
+    """The match of each element of a list: by GROUP where it is one, or else by SINGLE."""
+    at = 0
     while at < len(text.word):
         found = GROUP.match(text.word, at)
-        if found and NAME.fullmatch(found[1]):
-            items += group(text, found)
-        else:
+        if not found or not NAME.fullmatch(found[1]):
             found = SINGLE.match(text.word, at)
-            items += single(text.part(found.start(1), found.end(1)))
+        yield found
         at = found.end()
+
+
+def items_of(raw):
+    """The items of a list of addresses."""
+    text, items = Text.read(raw), []
+    for found in elements_of(text):
+        items += group_of(text, found) if found.re is GROUP else single_of(text.part(*found.span(1)))
     return items
 
 
@@ -374,12 +379,33 @@ def lenient_group(text, found):
     return ["group", name_of(text.part(found.start(1), found.end(1))), str(len(members)), *sum(members, [])]
 
 
+def lenient_items(raw):
+    """The items of a list, read leniently. Phrases before commas may begin the name of a mailbox with brackets."""
+    text, singles, items = Text.read(raw), [], []
+    for found in elements_of(text):
+        single = text.part(*found.span(1))
+        if found.re is SINGLE and set(found[1]) <= {"w"}:
+            continue
+        if found.re is SINGLE and NAME.fullmatch(found[1]) and found[0].endswith(","):
+            singles.append(found.span(1))
+            continue
+        if found.re is SINGLE:
+            is_named = "<" in found[1] and lenient_of(single)[:1] == ["mailbox"]
+            singles = [(singles[0][0], found.end(1))] if singles and is_named else [*singles, found.span(1)]
+        items += sum((lenient_single(text.part(*it)) for it in singles), [])
+        items += lenient_group(text, found) if found.re is GROUP else []
+        singles = []
+    return items + sum((lenient_single(text.part(*it)) for it in singles), [])
+
+
 def made_mailbox(chance):
     """The pieces of a mailbox."""
     address = chance.choice(ADDRESSES)
     if chance.random() < 0.3:
         return [address]
     name = [chance.choice(NAMES) for _ in range(chance.choice([0, 1, 1, 1, 2]))]
+    if chance.random() < 0.1:
+        name = [chance.choice(NAMES), b", ", *name]
     return [*name, b" ", b"<", chance.choice(ROUTES), address, b">"]
 
 
@@ -411,7 +437,7 @@ def test_addresses(part, seed, tmp_path):
     chance = random.Random(f"{seed} {part * PART}")
     values = [made_value(chance) for _ in range(PART)]
     rows = [Row("", "addresses", [it], items_of(it)) for it in values]
-    rows += [Row("", "lenient_addresses", [it], items_of(it, lenient_group, lenient_single)) for it in values]
+    rows += [Row("", "lenient_addresses", [it], lenient_items(it)) for it in values]
     file = tmp_path / "addresses.txt"
     file.write_text("\n".join(["== Made addresses", *map(line_of, rows), ""]))
     ended = run([program("mail_vectors"), file])

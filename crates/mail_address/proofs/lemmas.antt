@@ -23,3 +23,4 @@ pub mod Plain
 pub mod Groups
 pub mod Lenient
 pub mod LenientLists
+pub mod LenientCommas

@@ -3,15 +3,17 @@
 use Rattle.std.specs.Prelude.{◌≡◌, ℕ, suc, ◌+◌, ◌-◌, Bool, true, false, not, ◌&&◌, ◌||◌, ◌==◌, List, length, map, take, drop, min, flat_map, [], ◌∷◌, ◌++◌, Option, Some, None, is_none, option_map, codes, if◌then◌else◌}
 use Rattle.std.specs.List.{list_all, prefix_len}
 use Rattle.std.specs.Option.{is_some, option_or}
-use Rattle.mail_codec.specs.Ascii.{colon, less_than, opening_parenthesis, quote}
+use Rattle.mail_codec.specs.Ascii.{colon, comma, less_than, opening_parenthesis, quote}
 use Rattle.mail_codec.specs.Places.{begins, has_prefix, is_empty, text_place}
 use Rattle.mailparse.specs.Header.{Header}
+use Rattle.mailparse.specs.Map.{all_with_key}
 use Rattle.mail_address.specs.declared.tokens.Kind.{Kind}
 use Rattle.mail_address.specs.declared.tokens.Kind.TheVariants.{Comment, Quoted}
 use Rattle.mail_address.specs.declared.tokens.Span.TheVariants.{White, AfterAngle, BeforeAngle, BeforeAt, BeforeColon, BeforeOpening, BeforeWhite, Dots}
 use Rattle.mail_address.specs.Addresses.{Element, Group, Single, addresses, after_name, group, is_separator, items, members_at, name_len, single, single_at}
-use Rattle.mail_address.specs.Headers.{addresses_of, only_mailbox}
+use Rattle.mail_address.specs.Headers.{only_mailbox}
 use Rattle.mail_address.specs.Mailbox.{Parts, after_white, are_clean, is_domain, is_enclosed, is_local_part, is_phrase, mailbox_of, within_ends}
+use Rattle.mail_address.specs.Order.{start_of, text_of}
 use Rattle.mail_address.specs.Tokens.{at_sign, dot, far, front_token, is_all_white, run}
 
 -- ---- Names in comments.
@@ -316,6 +318,44 @@ opened_as start text None =
 abbrev pub reopened : Element → List Element
 reopened e = divided opened_as e
 
+-- ---- Commas in names.
+
+-- an element is words of a name before a comma: a phrase, so no address
+abbrev pub is_name_part : List ℕ → Element → Bool
+is_name_part raw (single s) = is_none s.mailbox && (is_phrase s.text && begins (λ b. b == comma) (drop (length s.text) (drop s.start raw)))
+is_name_part raw (group g) = false
+
+-- an element is a mailbox with an address in angle brackets
+abbrev pub is_bracketed : Element → Bool
+is_bracketed (single s) = has_brackets s.text && is_some (option_or s.mailbox (lenient_mailbox s.text))
+is_bracketed (group g) = false
+
+-- the first element that is no words of a name is such a mailbox
+abbrev pub has_bracketed : List ℕ → List Element → Bool
+has_bracketed raw [] = false
+has_bracketed raw (e ∷ es) = if is_name_part raw e then has_bracketed raw es else is_bracketed e
+
+-- the offset after an element
+abbrev pub end_of : Element → ℕ
+end_of e = start_of e + length (text_of e)
+
+-- the offset after that mailbox
+abbrev pub bracketed_end : List ℕ → List Element → ℕ
+bracketed_end raw [] = 0
+bracketed_end raw (e ∷ es) = if is_name_part raw e then bracketed_end raw es else end_of e
+
+-- the bytes between two offsets as an element, which is no mailbox by the grammar
+abbrev pub between : List ℕ → ℕ → ℕ → Element
+between raw start end = single (record { start = start; text = take (end - start) (drop start raw); mailbox = None })
+
+-- the elements of a list with these bytes, where a mailbox with an address in angle brackets is one with the words of its name
+-- that are before it
+abbrev pub joined : List ℕ → List Element → List Element
+joined raw [] = []
+joined raw (e ∷ es) =
+    if is_name_part raw e && has_bracketed raw es then between raw (start_of e) (bracketed_end raw es) ∷ drop 1 (joined raw es)
+    else e ∷ joined raw es
+
 -- ---- Lists.
 
 -- the elements that an element by the grammar is, read leniently
@@ -328,11 +368,15 @@ lenient_elements es = flat_map lenient_element es
 
 -- the elements of a list
 abbrev pub lenient_addresses : List ℕ → List Element
-lenient_addresses raw = lenient_elements (addresses raw)
+lenient_addresses raw = lenient_elements (joined raw (addresses raw))
+
+-- the elements in the values of some headers, in order
+abbrev pub lenient_addresses_in : List Header → List Element
+lenient_addresses_in headers = flat_map (λ h. lenient_addresses h.value) headers
 
 -- the elements in all headers with this name, in the order of the mail
-abbrev pub lenient_addresses_of : List ℕ → List Header → List Element
-lenient_addresses_of name headers = lenient_elements (addresses_of name headers)
+unfoldable pub lenient_addresses_of : List ℕ → List Header → List Element
+lenient_addresses_of name headers = lenient_addresses_in (all_with_key name headers)
 
 -- the sender of a mail: the only mailbox of its `Sender`, or else that of its `From`
 unfoldable pub lenient_sender_of : List Header → Option Single

@@ -1,17 +1,18 @@
 //! Lists of addresses, read leniently, and the sender of a mail.
-ghost use Rattle.std.specs.Prelude.{flat_map, ◌≡◌, ◌++◌, ◌∷◌, [], ◌+◌, ◌<◌, ◌^◌, length, map, option_map, IfOk, OnOk, Ok, None, Some, true};
+ghost use Rattle.std.specs.Prelude.{flat_map, ◌≡◌, ◌++◌, ◌∷◌, [], ◌+◌, ◌<◌, ◌≤◌, ◌^◌, drop, length, map, option_map, IfOk, OnOk, Ok, None, Some, true};
 ghost use Rattle.mailparse.specs.Outcome.{AnswersOrMemory};
 ghost use Rattle.mail_address.specs.AddressViews.{element_view, group_view, mailbox_view};
 ghost use Rattle.mail_address.specs.AddressViews.{member_view, unknown_view};
 ghost use Rattle.mail_address.specs.MailboxViews.{parts};
 ghost use Rattle.mail_address.specs.Addresses.{group, single};
-ghost use Rattle.mail_address.specs.Lenient.{has_bare_address, is_open_group, lenient_addresses};
+ghost use Rattle.mail_address.specs.Lenient.{has_bare_address, is_open_group, joined, lenient_addresses};
 ghost use Rattle.mail_address.specs.Lenient.{lenient_addresses_of, lenient_element, lenient_elements};
 ghost use Rattle.mail_address.specs.Lenient.{lenient_sender_of, open_group, parted};
 ghost use Rattle.mail_address.specs.Lenient.{refined, refined_as, refined_element, refined_single};
 
-use crate::headers::{addresses_of, only_mailbox};
+use crate::headers::only_mailbox;
 use crate::lenient::{lenient_mailbox, with_comment};
+use crate::lenient_commas::{between, is_bracketed, name_parts};
 use crate::lenient_opened::{has_open_comment, opened};
 use crate::lenient_several::{are_several, several};
 use crate::list::{
@@ -49,8 +50,9 @@ use std::alloc::{AllocError, Global};
 pub fn lenient_addresses(alloc: Global, raw: &[u8]) -> Result<AddressList<'_>, AllocError>
     ensures { IfOk result (λ list. map element_view list.items ≡ lenient_addresses raw.now) }
 {
-    let list = read_addresses(alloc, raw)?;
-    refined_list(alloc, list.as_slice())
+    let mut list = Vec::new(alloc);
+    push_addresses(alloc, &mut list, raw)?;
+    Ok(list)
 }
 
 /// Returns the elements of all headers with this name, as `lenient_addresses` reads them, in the
@@ -76,6 +78,7 @@ pub fn lenient_addresses(alloc: Global, raw: &[u8]) -> Result<AddressList<'_>, A
 ///     }
 /// }
 /// ```
+#[tactic(auto, unfolding(crate::specs::Lenient::lenient_addresses_of))]
 pub fn lenient_addresses_of<'m, M: MailHeaderMap>(
     alloc: Global,
     headers: &'m M,
@@ -84,8 +87,11 @@ pub fn lenient_addresses_of<'m, M: MailHeaderMap>(
     ensures { AnswersOrMemory (λ list. map element_view list.items) result
         (Ok (lenient_addresses_of name.now (M.present headers.now))) }
 {
-    let list = addresses_of(alloc, headers, name)?;
-    Ok(refined_list(alloc, list.as_slice())?)
+    let mut list = Vec::new(alloc);
+    for header in headers.get_all_headers(alloc, name)? {
+        push_addresses(alloc, &mut list, header.get_value_raw())?;
+    }
+    Ok(list)
 }
 
 /// Returns the sender of a mail as `sender_of` does, of the addresses that `lenient_addresses_of`
@@ -123,16 +129,77 @@ pub fn lenient_sender_of<'m, M: MailHeaderMap>(
     Ok(only_mailbox(&from))
 }
 
-/// Returns elements, read leniently.
-fn refined_list<'a>(alloc: Global, elements: &[Address<'a>]) -> Result<AddressList<'a>, AllocError>
-    ensures { IfOk result (λ list.
-        map element_view list.items ≡ lenient_elements (map element_view elements.now)) }
+/// Appends the elements of a value, read leniently.
+fn push_addresses<'a>(
+    alloc: Global,
+    list: &mut AddressList<'a>,
+    raw: &'a [u8],
+) -> Result<(), AllocError>
+    ensures { OnOk result (map element_view list.new.items
+        ≡ map element_view list.old.items ++ lenient_addresses raw.now) }
 {
-    let mut list = Vec::with_capacity(alloc, elements.len())?;
-    for element in elements {
-        push_element(alloc, &mut list, element)?;
+    let elements = read_addresses(alloc, raw)?;
+    push_joined(alloc, list, raw, elements.as_slice())
+}
+
+/// Appends elements, joined where a name contains a comma, and read leniently.
+fn push_joined<'a>(
+    alloc: Global,
+    list: &mut AddressList<'a>,
+    raw: &'a [u8],
+    elements: &[Address<'a>],
+) -> Result<(), AllocError>
+    ensures { OnOk result (map element_view list.new.items ≡ map element_view list.old.items
+        ++ lenient_elements (joined raw.now (map element_view elements.now))) }
+{
+    let mut rest = elements;
+    'fronts: while !rest.is_empty() {
+        let len = push_front(alloc, list, raw, rest)?;
+        rest = &rest[len..];
     }
-    Ok(list)
+    Ok(())
+}
+
+/// Appends the elements at the front as far as they are words of a name, and the one after these,
+/// joined where it has that name. Returns how many they are.
+fn push_front<'a>(
+    alloc: Global,
+    list: &mut AddressList<'a>,
+    raw: &'a [u8],
+    elements: &[Address<'a>],
+) -> Result<usize, AllocError>
+    requires { 0 < length elements.now }
+    ensures pushed { IfOk result (λ len. map element_view list.new.items
+        ++ lenient_elements (joined raw.now (map element_view (drop len elements.now)))
+        ≡ map element_view list.old.items
+        ++ lenient_elements (joined raw.now (map element_view elements.now))) }
+    ensures bounds { IfOk result (λ len. len ≤ length elements.now) }
+    ensures takes_some { IfOk result (λ len. 0 < len) }
+{
+    let names = name_parts(raw, elements);
+    if 0 < names && names < elements.len() && is_bracketed(&elements[names]) {
+        let whole = between(raw, &elements[0], &elements[names])?;
+        push_element(alloc, list, &whole)?;
+        return Ok(names + 1);
+    }
+    let len = elements.len().min(names + 1);
+    push_each(alloc, list, &elements[..len])?;
+    Ok(len)
+}
+
+/// Appends elements, read leniently.
+fn push_each<'a>(
+    alloc: Global,
+    list: &mut AddressList<'a>,
+    elements: &[Address<'a>],
+) -> Result<(), AllocError>
+    ensures { OnOk result (map element_view list.new.items ≡ map element_view list.old.items
+        ++ lenient_elements (map element_view elements.now)) }
+{
+    for element in elements {
+        push_element(alloc, list, element)?;
+    }
+    Ok(())
 }
 
 /// Appends the elements that an element by the grammar is.

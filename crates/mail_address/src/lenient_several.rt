@@ -14,7 +14,7 @@ use mail_codec::bytescan::find;
 use std::alloc::{AllocError, Global};
 
 /// Returns whether a text contains a pair of angle brackets outside of quotes and comments.
-fn has_brackets(text: &[u8]) -> bool
+pub(crate) fn has_brackets(text: &[u8]) -> bool
     ensures { result ≡ has_brackets text.now }
 {
     is_enclosed(front_token(&text[run(Span::BeforeAngle, text)..]).kind)

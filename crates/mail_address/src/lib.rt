@@ -14,6 +14,7 @@ mod folding;
 mod headers;
 pub mod laws;
 mod lenient;
+mod lenient_commas;
 mod lenient_list;
 mod lenient_opened;
 mod lenient_several;

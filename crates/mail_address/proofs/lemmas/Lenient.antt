@@ -6,13 +6,13 @@ use Rattle.std.proofs.lemmas.Bool.{and_parts, cond_both, cond-false, cond-true}
 use Rattle.std.proofs.lemmas.Grind.{flat_map-append}
 use Rattle.std.proofs.lemmas.List.{map-append}
 use Rattle.mailparse.specs.Header.{Header}
+use Rattle.mailparse.specs.Map.{all_with_key}
 use Rattle.mail_codec.specs.Places.{begins}
 use Rattle.mail_address.specs.declared.tokens.Span.TheVariants.{BeforeAngle, BeforeAt, BeforeOpening}
 use Rattle.mail_address.specs.Accepted.{IsAccepted}
 use Rattle.mail_address.specs.Addresses.{addresses, after_name, EachElement, EachSingle, Element, Group, group, members_at, name_len, Single, single}
 use Rattle.mail_address.specs.Grammar.{address, IsByGrammar, IsDomain, IsMailbox, named_address}
-use Rattle.mail_address.specs.Headers.{addresses_of}
-use Rattle.mail_address.specs.Lenient.{after_any_route, angle_mailbox, bare_mailbox, bare_name_len, closed_len, closed_mailbox, comment_name, has_brackets, has_no_opening, is_lenient_local, is_named_in_comment, is_open_group, IsComplete, lenient_addresses, lenient_addresses_of, lenient_element, lenient_elements, lenient_mailbox, lenient_name, lenient_parts, lenient_spec, open_group, opened_as, opened_mailbox, parted, refined, refined_as, refined_element, refined_single, reopened, with_comment, without_quote, without_root}
+use Rattle.mail_address.specs.Lenient.{after_any_route, angle_mailbox, bare_mailbox, bare_name_len, closed_len, closed_mailbox, comment_name, has_brackets, has_no_opening, has_open_comment, is_lenient_local, is_named_in_comment, is_open_group, IsComplete, joined, lenient_addresses, lenient_addresses_in, lenient_addresses_of, lenient_element, lenient_elements, lenient_mailbox, lenient_name, lenient_parts, lenient_spec, open_group, opened, opened_as, opened_mailbox, parted, refined, refined_as, refined_element, refined_single, reopened, with_comment, without_quote, without_root}
 use Rattle.mail_address.specs.Mailbox.{are_clean, is_domain, mailbox_of, Parts, within_ends}
 use Rattle.mail_address.specs.Order.{AreInOrder, start_of, text_of}
 use Rattle.mail_address.specs.Safe.{IsSafe}
@@ -20,9 +20,10 @@ use Rattle.mail_address.specs.Text.{address_bytes}
 use Rattle.mail_address.specs.Tokens.{far, front_token, run}
 use Rattle.mail_address.proofs.lemmas.Accepted.{address-accepted}
 use Rattle.mail_address.proofs.lemmas.Folding.{address-no_control, text-no_control}
-use Rattle.mail_address.proofs.lemmas.GrammarLists.{elements-follow, elements-have, members-follow, named-have, singles-have}
+use Rattle.mail_address.proofs.lemmas.GrammarLists.{elements-append, elements-follow, elements-have, members-follow, singles-have}
 use Rattle.mail_address.proofs.lemmas.GrammarMade.{domain-made, mailbox-made}
-use Rattle.mail_address.proofs.lemmas.LenientLists.{opened-are_in_order, opened-follow, parted-hold, parted-in_order}
+use Rattle.mail_address.proofs.lemmas.LenientCommas.{joined-hold}
+use Rattle.mail_address.proofs.lemmas.LenientLists.{divided-hold, opened-are_in_order, opened-hold, parted-hold, parted-in_order}
 
 -- ---- where the grammar suffices
 
@@ -196,12 +197,29 @@ elements-sound (single s ∷ es) are =
     element-then IsSingleSound (refined (single s)) (map refined es) (element-sound s.start s.text s.mailbox are.0) (elements-sound es are.1)
 elements-sound (group g ∷ es) are = (singles-sound g.members are.0, elements-sound es are.1)
 
-divided-sound : (es : List Element) → EachElement IsByGrammar es → EachElement IsSingleSound (lenient_elements es)
+opened_as-sound : (start : ℕ) (text : List ℕ) (o : Option Parts) → IsSingleSound (record { start = start; text = text; mailbox = o })
+    → EachElement IsSingleSound (opened_as start text o)
+opened_as-sound start text (Some m) is = (is, tt)
+opened_as-sound start text None is =
+    cond_both (has_open_comment text) (opened start text) (single (record { start = start; text = text; mailbox = None }) ∷ []) (EachElement IsSingleSound)
+    (λ e. elements-have IsSingleSound given-sound (opened start text) (opened-hold start text)) (λ e. (tt, tt))
+
+divided-sound : (es : List Element) → EachElement IsSingleSound es → EachElement IsSingleSound (lenient_elements es)
 divided-sound es are =
     let opened = flat_map reopened es in
     subst (EachElement IsSingleSound) (by_steps es)
     (parted-hold IsSingleSound (λ start text. lenient-sound text) (map refined opened)
-    (elements-sound opened (elements-have IsSingleSound given-sound opened (opened-follow es are))))
+    (elements-sound opened (divided-hold IsSingleSound IsSingleSound opened_as opened_as-sound (λ g is. is) es are)))
+
+value-sound : (raw : List ℕ) → EachElement IsSingleSound (lenient_addresses raw)
+value-sound raw =
+    divided-sound (joined raw (addresses raw))
+    (joined-hold IsSingleSound (λ start text. tt) raw (addresses raw) (elements-have IsSingleSound given-sound (addresses raw) (elements-follow raw)))
+
+values-sound : (headers : List Header) → EachElement IsSingleSound (lenient_addresses_in headers)
+values-sound [] = tt
+values-sound (h ∷ headers) =
+    elements-append IsSingleSound (lenient_addresses h.value) (lenient_addresses_in headers) (value-sound h.value) (values-sound headers)
 
 -- ---- what follows from that
 
@@ -226,11 +244,11 @@ module _ (P : Single → Type 0) (given : (s : Single) → IsSingleSound s → P
   elements-then (group g ∷ es) are = (singles-then g.members are.0, elements-then es are.1)
 
   pub lenient-have : (raw : List ℕ) → EachElement P (lenient_addresses raw)
-  lenient-have raw = elements-then (lenient_addresses raw) (divided-sound (addresses raw) (elements-follow raw))
+  lenient-have raw = elements-then (lenient_addresses raw) (value-sound raw)
 
   pub lenient_named-have : (name : List ℕ) (headers : List Header) → EachElement P (lenient_addresses_of name headers)
-  lenient_named-have name headers =
-      elements-then (lenient_addresses_of name headers) (divided-sound (addresses_of name headers) (named-have IsByGrammar (λ s is. is) name headers))
+  unfolding lenient_addresses_of
+  lenient_named-have name headers = elements-then (lenient_addresses_of name headers) (values-sound (all_with_key name headers))
 
 pub all_safe : (s : Single) → IsSingleSound s → IsSafe s
 all_safe = sound-safe

@@ -49,7 +49,7 @@ piece_len_some bytes low = omega arith
 module _ (P Q : Single → Type 0) (make : ℕ → List ℕ → Option Parts → List Element)
     (each : (start : ℕ) (text : List ℕ) (o : Option Parts) → P (record { start = start; text = text; mailbox = o }) → EachElement Q (make start text o))
     (members : (g : Group) → EachSingle P g.members → EachSingle Q g.members) where
-  divided-hold : (es : List Element) → EachElement P es → EachElement Q (flat_map (divided make) es)
+  pub divided-hold : (es : List Element) → EachElement P es → EachElement Q (flat_map (divided make) es)
   divided-hold [] are = tt
   divided-hold (single s ∷ es) are =
       elements-append Q (make s.start s.text s.mailbox) (flat_map (divided make) es) (each s.start s.text s.mailbox are.0) (divided-hold es are.1)
@@ -71,7 +71,7 @@ module _ (P : Single → Type 0) (given : (start : ℕ) (text : List ℕ) → P 
   pub parted-hold : (es : List Element) → EachElement P es → EachElement P (flat_map parted es)
   parted-hold es are = divided-hold P P parted_as parted_as-hold (λ g is. is) es are
 
-opened-hold : (start : ℕ) (text : List ℕ) → EachElement IsByGrammar (opened start text)
+pub opened-hold : (start : ℕ) (text : List ℕ) → EachElement IsByGrammar (opened start text)
 unfolding opened piece_at
 opened-hold start text =
     let len : ℕ = opened_len text in
@@ -81,26 +81,17 @@ opened-hold start text =
     (items-hold piece_at piece_len (EachElement IsByGrammar) tt (elements-append IsByGrammar)
     (λ at bytes. singles-follow (single_at at (take (separator_place bytes) bytes)) (single-follows at (take (separator_place bytes) bytes))) (start + after) (drop after text))
 
-opened_as-hold : (start : ℕ) (text : List ℕ) (o : Option Parts) → IsByGrammar (record { start = start; text = text; mailbox = o }) → EachElement IsByGrammar (opened_as start text o)
-opened_as-hold start text (Some m) is = (is, tt)
-opened_as-hold start text None is =
-    cond_both (has_open_comment text) (opened start text) (single (record { start = start; text = text; mailbox = None }) ∷ []) (EachElement IsByGrammar)
-    (λ e. opened-hold start text) (λ e. (is, tt))
-
-pub opened-follow : (es : List Element) → EachElement IsByGrammar es → EachElement IsByGrammar (flat_map reopened es)
-opened-follow es are = divided-hold IsByGrammar IsByGrammar opened_as opened_as-hold (λ g is. is) es are
-
 -- ---- the order of the elements
 
 -- the bytes from an offset on begin with these
-abbrev From : List ℕ → ℕ → List ℕ → Type 0
+abbrev pub From : List ℕ → ℕ → List ℕ → Type 0
 From raw start bytes = (after : List ℕ) × (drop start raw ≡ bytes ++ after)
 
 from-taken : (raw : List ℕ) (start : ℕ) (text : List ℕ) → take (length text) (drop start raw) ≡ text → From raw start text
 from-taken raw start text e =
     (drop (length text) (drop start raw), sym (take-append-drop (length text) (drop start raw)) ∙ ap (λ (t : List ℕ). t ++ drop (length text) (drop start raw)) e)
 
-taken-from : (raw : List ℕ) (start : ℕ) (text : List ℕ) → From raw start text → take (length text) (drop start raw) ≡ text
+pub taken-from : (raw : List ℕ) (start : ℕ) (text : List ℕ) → From raw start text → take (length text) (drop start raw) ≡ text
 taken-from raw start text from = ap (take (length text)) from.1 ∙ take_at text from.0 (length text) refl
 
 front-from : (raw : List ℕ) (start n : ℕ) (bytes : List ℕ) → From raw start bytes → From raw start (take n bytes)
@@ -112,7 +103,7 @@ unfolding front-from
 rest-from raw start n bytes low from =
     (from.0, sym (drop-drop n start raw) ∙ ap (drop n) (front-from raw start n bytes from).1 ∙ drop_at (take n bytes) (drop n bytes ++ from.0) n (length-take-le n bytes low))
 
-in_order-later : (first next : ℕ) (raw : List ℕ) (es : List Element) → first ≤ next → AreInOrder next raw es → AreInOrder first raw es
+pub in_order-later : (first next : ℕ) (raw : List ℕ) (es : List Element) → first ≤ next → AreInOrder next raw es → AreInOrder first raw es
 in_order-later first next raw [] low are = tt
 in_order-later first next raw (e ∷ es) low are = let starts = are.0 in (omega (arith, low, starts), are.1, are.2)
 

@@ -1,5 +1,7 @@
-use Rattle.std.proofs.Common.{refl}
+use Rattle.std.proofs.Common.{refl, ap, ◌∙◌}
 use Rattle.mail_address.specs.Addresses.{addresses}
+use Rattle.mail_address.specs.Lenient.{lenient_elements}
+use Rattle.mail_address.proofs.lemmas.LenientCommas.{joined-same}
 use Rattle.mail_address.proofs.lemmas.Lenient.{comment-domain, comment-local, lenient-same}
 use Rattle.mail_address.proofs.laws.lenient_reading_agrees_with_the_grammar.Goals as goal
 
@@ -8,5 +10,5 @@ returns c = record {
   mailboxes = λ start text m. refl;
   local_parts = comment-local;
   domains = comment-domain;
-  same = λ raw are. lenient-same (addresses raw) are;
+  same = λ raw are. ap lenient_elements (joined-same raw (addresses raw) are) ∙ lenient-same (addresses raw) are;
 }

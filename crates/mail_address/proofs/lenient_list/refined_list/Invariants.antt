@@ -1,8 +1,0 @@
--- The elements so far, read leniently.
-use Rattle.std.proofs.Common.{◌≡◌, map, take}
-use Rattle.mail_address.specs.AddressViews.{element_view}
-use Rattle.mail_address.specs.Lenient.{lenient_elements}
-use Rattle.mail_address.proofs.lenient_list.refined_list.Given as goal
-
-abbrev pub invariant-loop-element : goal.invariant-loop-element
-invariant-loop-element l = map element_view l.list.items ≡ lenient_elements (map element_view (take l.element-index l.elements))
