@@ -51,7 +51,8 @@ abbrev pub has_c1_after : ℕ → List ℕ → Bool
 has_c1_after before [] = false
 has_c1_after before (b ∷ bytes) = (before == 0xC2 && is_c1 b) || has_c1_after b bytes
 
--- a charset lacks some of the bytes, or reads one as a control character, as far as ISO 8859 and UTF-8 say
+-- the charset is not known here, or is US-ASCII, UTF-8 or a part of ISO 8859 and lacks some of the bytes or reads one as a
+-- control character
 abbrev pub are_lacked : List ℕ → List ℕ → Bool
 are_lacked label octets =
     if is_label_of label ascii_labels then is_some (first_byte is_high octets) else
@@ -73,7 +74,7 @@ label_of word = take (label_length word) (drop 2 word)
 unfoldable pub is_one_of : List ℕ → ℕ → Bool
 is_one_of some b = is_some (byte_place some b)
 
--- the n-th byte from the end of a text is none of some
+-- the n-th byte from the end of a text is not among these
 abbrev pub lacks_one : List ℕ → ℕ → List ℕ → Bool
 lacks_one some n text = not (begins (is_one_of some) (drop (length text - n) text))
 

@@ -81,12 +81,12 @@ unfoldable pub is_word : List ℕ → Bool
 is_word piece = nat_lt (length piece) 76 && is_closed (after_word_bytes Front piece)
 
 -- it looks as if an encoded word began or ended in it
-abbrev pub has_word_mark : List ℕ → Bool
-has_word_mark piece = is_some (text_place piece (codes "=?")) || is_some (text_place piece (codes "?="))
+abbrev pub has_word_delimiter : List ℕ → Bool
+has_word_delimiter piece = is_some (text_place piece (codes "=?")) || is_some (text_place piece (codes "?="))
 
--- but it is none
+-- it looks like an encoded word, and does not have the syntax of one
 abbrev pub is_bad_piece : List ℕ → Bool
-is_bad_piece piece = has_word_mark piece && not (is_word piece)
+is_bad_piece piece = has_word_delimiter piece && not (is_word piece)
 
 -- ---- the parts of a word
 

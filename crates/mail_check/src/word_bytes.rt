@@ -100,7 +100,7 @@ fn has_spare_bits(text: &[u8]) -> bool
     text.ends_with(b"=") && lacks_one(b"AEIMQUYcgkosw048", 2, text)
 }
 
-/// Returns whether the n-th byte from the end of a text is none of some.
+/// Returns whether the n-th byte from the end of a text is not among these.
 fn lacks_one(some: &[u8], n: usize, text: &[u8]) -> bool
     ensures { result ≡ lacks_one some.now n text.now }
 {

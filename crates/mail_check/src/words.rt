@@ -5,7 +5,7 @@ ghost use Rattle.mail_check.specs.Bytes.{first_byte};
 ghost use Rattle.mail_check.specs.LineViews.{line_view};
 ghost use Rattle.mail_check.specs.Words.{after_charset, after_label, after_word_byte};
 ghost use Rattle.mail_check.specs.Words.{after_word_bytes, begins_as, later_piece};
-ghost use Rattle.mail_check.specs.Words.{has_early_at, has_join, has_word_mark, hides_address, in_q};
+ghost use Rattle.mail_check.specs.Words.{has_early_at, has_join, has_word_delimiter, hides_address, in_q};
 ghost use Rattle.mail_check.specs.Words.{is_bad_name, is_bad_piece, is_closed, is_gap, is_in_base64};
 ghost use Rattle.mail_check.specs.Words.{is_label_byte, is_padded, is_sender, is_sender_mark};
 ghost use Rattle.mail_check.specs.Words.{is_word, is_worded, joins, label_length, octets_of};
@@ -101,7 +101,7 @@ fn is_gap(byte: u8) -> bool
     byte == b' ' || byte == b'\t' || byte == b'\n' || byte == b'\r'
 }
 
-/// Returns whether one of some pieces looks like an encoded word and is none.
+/// Returns whether a piece among these looks like an encoded word and does not have the syntax of one.
 pub(crate) fn has_bad_piece(found: &[&[u8]]) -> bool
     ensures { result ≡ list_any is_bad_piece (map (λ piece. piece.now) found.now) }
 {
@@ -113,16 +113,16 @@ pub(crate) fn has_bad_piece(found: &[&[u8]]) -> bool
     false
 }
 
-/// Returns whether a piece looks like an encoded word and is none.
+/// Returns whether a piece looks like an encoded word and does not have the syntax of one.
 fn is_bad_piece(piece: &[u8]) -> bool
     ensures { result ≡ is_bad_piece piece.now }
 {
-    has_word_mark(piece) && !is_word(piece)
+    has_word_delimiter(piece) && !is_word(piece)
 }
 
 /// Returns whether an encoded word may begin or end in a piece.
-fn has_word_mark(piece: &[u8]) -> bool
-    ensures { result ≡ has_word_mark piece.now }
+fn has_word_delimiter(piece: &[u8]) -> bool
+    ensures { result ≡ has_word_delimiter piece.now }
 {
     find(piece, b"=?").is_some() || find(piece, b"?=").is_some()
 }
