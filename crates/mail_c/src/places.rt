@@ -8,8 +8,8 @@ ghost use Rattle.mailparse.specs.Header.{key_end, value_end, value_start};
 use mail_codec::bytescan::find_byte;
 use mailparse::{HeaderPlaces, MailHeader};
 
-/// Returns where the key and the value of a header are that was read from the front of `raw`. It
-/// searches neither of them.
+/// Returns the offsets in the header that was read at the front of `raw`. Its key and its value are
+/// not searched.
 #[tactic(auto, using(crate::proofs::lemmas::HeaderLengths::lengths))]
 pub(crate) fn places_of(raw: &[u8], header: &MailHeader<'_>) -> HeaderPlaces
     requires { header.now ≡ header_of raw.now }
@@ -44,8 +44,8 @@ fn value_start(raw: &[u8], key: usize) -> usize
     after_spaces(raw, key + 1)
 }
 
-/// Returns the offset of the first byte at or after `from` that is no space, or the length if
-/// there is none.
+/// Returns the offset of the first byte at or after `from` that is not a space, or the length if
+/// all are spaces.
 fn after_spaces(raw: &[u8], from: usize) -> usize
     requires within { from ≤ length raw.now }
     ensures { result ≡ place_from (begins (λ b. not (b == space))) raw.now from }
@@ -57,11 +57,11 @@ fn after_spaces(raw: &[u8], from: usize) -> usize
     at
 }
 
-/// Returns whether this byte is at `place`.
-fn is_at(raw: &[u8], place: usize, byte: u8) -> bool
-    ensures { result ≡ begins (λ b. b == byte) (drop place raw.now) }
+/// Returns whether this byte is at `offset`.
+fn is_at(raw: &[u8], offset: usize, byte: u8) -> bool
+    ensures { result ≡ begins (λ b. b == byte) (drop offset raw.now) }
 {
-    match raw.get(place) {
+    match raw.get(offset) {
         Some(found) => *found == byte,
         None => false,
     }
@@ -75,7 +75,7 @@ fn line_feed_from(raw: &[u8], from: usize) -> usize
     ensures bounds { result ≤ length raw.now }
 {
     match find_byte(&raw[from..], b'\n') {
-        Some(place) => from + place,
+        Some(distance) => from + distance,
         None => raw.len(),
     }
 }

@@ -28,7 +28,7 @@ spaces-front (b ∷ f) r none = elim (cases_Bool (not (eqb b 32))) [
 feed-is_no_space : (b : ℕ) → eqb b 10 ≡ true → not (eqb b 32) ≡ true
 feed-is_no_space b e = ap (λ n. not (eqb n 32)) (eqb-true b 10 e)
 
--- the bytes after a header are none, or begin with its LF
+-- there are no bytes after a header, or they begin with its LF
 module _ (r : List ℕ) (feed : 0 < length r → begins is_line_feed r ≡ true) where
   no_space-there : first_place no_space r ≡ 0
   no_space-there = by_bytes r feed
