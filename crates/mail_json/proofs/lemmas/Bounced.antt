@@ -1,5 +1,5 @@
 -- Lemmas on the part that a bounce returns.
-use Rattle.std.proofs.Common.{◌≡◌, ℕ, ◌+◌, suc, String, Global, Result, List, [], ◌∷◌, ◌++◌, length, drop, map, Option, Bor, true, false, Some, None, option_map, refl, sym, ap, subst, ◌∙◌, arith, length-append}
+use Rattle.std.proofs.Common.{◌≡◌, ℕ, ◌+◌, String, Global, Result, List, [], ◌∷◌, ◌++◌, length, drop, map, Option, Bor, true, false, Some, None, option_map, refl, sym, ap, subst, ◌∙◌, arith, length-append}
 use Rattle.std.proofs.lemmas.List.{drop-drop, drop-map}
 use Rattle.std.proofs.lemmas.Bool.{cond-false, cond-true}
 use Rattle.std.specs.List.{AllByRecursion}
@@ -90,10 +90,6 @@ id_found r t part e h =
     subst (λ (out : Option (List ℕ)). IfOk r (λ id. text_found id ≡ out))
     (ap (λ (o : Option Tree). option_map_or (λ (part : Tree). id_among (fields (message_content (root part)).bytes)) o None) e) h
 
-pub no_id : (t : Tree) → ◌≡◌ {A = Option Tree} None (report_part has_original t) → None ≡ original_message_id t
-unfolding original_message_id
-no_id t e = ap (λ (o : Option Tree). option_map_or (λ (part : Tree). id_among (fields (message_content (root part)).bytes)) o None) e
-
 -- ---- the parts of a mail among which it is
 
 -- of a report they are its own parts
@@ -104,7 +100,7 @@ report_found m items is has =
     ap (λ (ms : List ParsedMail). first_part has_original (forest (map tree_of ms))) is
     ∙ sym (ap (report_part has_original) e ∙ cond-true _ _ _ (ap (λ (t : Tree). has_type (codes "multipart/report") (root t)) (sym e) ∙ has))
 
--- of another mail there are none
+-- another mail has no such part
 pub no_report : (m : ParsedMail) → has_type (codes "multipart/report") (root (tree_of m)) ≡ false → None ≡ report_part has_original (tree_of m)
 no_report m has =
     let e = fold_out-ParsedMail Tree tree_step m in

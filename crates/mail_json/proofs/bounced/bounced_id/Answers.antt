@@ -3,7 +3,7 @@ use Rattle.std.specs.Prelude.{IfSome}
 use Rattle.mailparse.specs.Views.{tree_of}
 use Rattle.mail_json.specs.DecodedViews.{IsDecoded, decoded_tree}
 use Rattle.mail_json.specs.declared.decoded.Decoded.{Decoded}
-use Rattle.mail_json.proofs.lemmas.Bounced.{id_found, no_id}
+use Rattle.mail_json.proofs.lemmas.Bounced.{id_found}
 use Rattle.mail_json.proofs.bounced.bounced_id.Goals as goal
 
 pub returns-clause-read : goal.returns-clause-read
