@@ -20,6 +20,7 @@ use Rattle.mail_check.specs.Lines.{HeaderLine, begins_type, ends_block, has_blan
 use Rattle.mail_check.specs.Lines.{header_lines, is_bad_encoding, is_bad_key, is_composite, is_encoding, is_named}
 use Rattle.mail_check.specs.Lines.{is_other_message, second_named, single_names}
 use Rattle.mail_check.specs.Multiparts.{dash_of, is_bad_boundary, is_close, is_inside, is_tailed, late_delimiter}
+use Rattle.mail_check.specs.LineTests.{begins_file, first_line, is_long_line}
 use Rattle.mail_check.specs.Names.{class_of}
 use Rattle.mail_check.specs.Senders.{is_bad_sender}
 use Rattle.mail_check.specs.WordBytes.{has_bad_octets}
@@ -91,6 +92,11 @@ byte_findings spot bytes =
     listed spot name.Nul (first_offset (is_nul bytes) bytes)
     ++ (listed spot name.LoneCr (first_offset (is_lone_return bytes) bytes)
     ++ listed spot name.MixedLineEnds (mixed_line_end bytes))
+
+-- these, and the first long line
+abbrev pub first_findings : Spot → List ℕ → List Finding
+first_findings spot bytes =
+    byte_findings spot bytes ++ listed spot name.LongLine (first_line is_long_line bytes)
 
 -- ---- the headers of a message
 
@@ -242,6 +248,16 @@ encoded_findings place in_7bit body =
 encoded_findings place in_8bit body = []
 encoded_findings place in_binary body = []
 
+-- the first line of a text that begins a file
+abbrev pub file_line : ContentType → List ℕ → Option ℕ
+file_line ctype body = if begins_type (codes "text/") ctype then first_line begins_file body else None
+
+-- the findings of the body of a message
+abbrev pub body_findings : Place → Node → List Finding
+body_findings place node =
+    encoded_findings place (body_kind node) node.body
+    ++ listed (spot_of_body place 1) name.Uuencode (file_line node.ctype node.body)
+
 -- a message has no parts and is no multipart
 abbrev pub is_single : Tree → Bool
 is_single t = is_leaf t && not (begins_type (codes "multipart") (root t).ctype)
@@ -249,9 +265,7 @@ is_single t = is_leaf t && not (begins_type (codes "multipart") (root t).ctype)
 -- the findings of its body
 abbrev pub leaf_findings : Place → List Finding
 leaf_findings place =
-    let node = root place.part in
-    if is_single place.part
-    then encoded_findings place (body_kind node) node.body else []
+    if is_single place.part then body_findings place (root place.part) else []
 
 -- ---- all
 
@@ -263,7 +277,7 @@ is_far number place = number == 100 || dot_count place.path == 9
 abbrev pub message_findings : ℕ → Place → List Finding
 message_findings number place =
     let node = root place.part in
-    (if number == 0 then byte_findings (spot_in place 0 1) node.bytes else [])
+    (if number == 0 then first_findings (spot_in place 0 1) node.bytes else [])
     ++ (listed_if (spot_in place 0 (length node.bytes)) name.Many (is_far number place)
     ++ (block_findings number place (header_lines node)
     ++ (file_findings (spot_in place 0 (length node.block)) (shown_as node) node

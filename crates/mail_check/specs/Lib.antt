@@ -1,5 +1,6 @@
 pub mod Names
 pub mod Bytes
+pub mod LineTests
 pub mod Lines
 pub mod LineViews
 pub mod Multiparts

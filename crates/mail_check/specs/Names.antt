@@ -10,6 +10,7 @@ abbrev pub text_of : Name → List ℕ
 text_of name.Nul = codes "nul"
 text_of name.LoneCr = codes "lone-cr"
 text_of name.MixedLineEnds = codes "mixed-line-ends"
+text_of name.LongLine = codes "long-line"
 text_of name.Many = codes "many"
 text_of name.NoHeaders = codes "no-headers"
 text_of name.NoBlankLine = codes "no-blank-line"
@@ -45,6 +46,7 @@ text_of name.Base64Syntax = codes "base64-syntax"
 text_of name.QpSyntax = codes "qp-syntax"
 text_of name.QpBlank = codes "qp-blank"
 text_of name.EightBitBody = codes "8bit-body"
+text_of name.Uuencode = codes "uuencode"
 
 -- the text of a class
 abbrev pub class_text : Class → List ℕ
@@ -58,6 +60,7 @@ abbrev pub class_of : Name → Class
 class_of name.Nul = class.Structure
 class_of name.LoneCr = class.Structure
 class_of name.MixedLineEnds = class.Structure
+class_of name.LongLine = class.Note
 class_of name.Many = class.Structure
 class_of name.NoHeaders = class.Structure
 class_of name.NoBlankLine = class.Structure
@@ -93,12 +96,14 @@ class_of name.Base64Syntax = class.Bytes
 class_of name.QpSyntax = class.Bytes
 class_of name.QpBlank = class.Bytes
 class_of name.EightBitBody = class.Note
+class_of name.Uuencode = class.Note
 
 -- the sentence of a name
 abbrev pub sentence_of : Name → List ℕ
 sentence_of name.Nul = codes "The mail contains a NUL byte: readers in C may end the line or the mail there."
 sentence_of name.LoneCr = codes "A CR has no LF after it: some readers end the line there."
 sentence_of name.MixedLineEnds = codes "A line end is not like the first one of the mail: some readers end lines at CR LF alone."
+sentence_of name.LongLine = codes "A line has more than 998 bytes: mail servers may cut or fold it."
 sentence_of name.Many = codes "The part is nested 10 levels deep or has 100 messages and parts before it: readers have limits."
 sentence_of name.NoHeaders = codes "The message has no headers: what follows may be read as headers, or its empty lines be lost."
 sentence_of name.NoBlankLine = codes "The headers end with their part, without an empty line: readers differ in where the body begins."
@@ -134,3 +139,4 @@ sentence_of name.Base64Syntax = codes "The Base64 is not lines of whole groups w
 sentence_of name.QpSyntax = codes "An equals sign begins no escape in upper case and no soft line break, or a control character occurs: readers keep or drop it."
 sentence_of name.QpBlank = codes "Blanks end a line of quoted-printable, a soft line break ends the body, or a line end is escaped: readers keep or drop it."
 sentence_of name.EightBitBody = codes "A body in 7bit or quoted-printable has bytes that are not ASCII."
+sentence_of name.Uuencode = codes "A line of the text begins a file in uuencode or yEnc: some programs take the file out of the text."

@@ -10,6 +10,7 @@
 mod bodies;
 mod file_names;
 pub mod laws;
+mod line_tests;
 mod lines;
 mod listing;
 mod multipart;

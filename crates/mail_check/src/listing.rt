@@ -9,7 +9,8 @@ ghost use Rattle.mailparse.specs.Views.{disposition, placements_of, tree_of};
 ghost use Rattle.mail_data.specs.InnerMails.{dot_count};
 ghost use Rattle.mail_data.specs.PlaceViews.{place_view};
 ghost use Rattle.mail_check.specs.FindingViews.{finding_view, spot_view};
-ghost use Rattle.mail_check.specs.Findings.{block_findings, byte_findings, delimiter_findings};
+ghost use Rattle.mail_check.specs.Findings.{block_findings, body_findings, byte_findings};
+ghost use Rattle.mail_check.specs.Findings.{delimiter_findings, file_line, first_findings};
 ghost use Rattle.mail_check.specs.Findings.{encoded_findings, file_findings, finding_at, findings};
 ghost use Rattle.mail_check.specs.Findings.{header_findings, is_far};
 ghost use Rattle.mail_check.specs.Findings.{leaf_findings, line_findings, listed, listed_if};
@@ -24,11 +25,12 @@ ghost use Rattle.mail_check.specs.LineViews.{line_view};
 ghost use Rattle.mail_codec.specs.Ascii.{colon};
 ghost use Rattle.mail_codec.specs.Places.{byte_place};
 ghost use Rattle.mail_check.specs.Lines.{header_lines, second_named, single_names};
-ghost use Rattle.mail_check.specs.declared.names.Name.TheVariants.{Preamble};
+ghost use Rattle.mail_check.specs.declared.names.Name.TheVariants.{Preamble, Uuencode};
 ghost use Rattle.mail_check.specs.Multiparts.{dash_of};
 
 use crate::bodies::is_base64_lines;
 use crate::file_names::{has_two_names, has_untyped_name};
+use crate::line_tests::{file_line, long_line};
 use crate::lines::{
     HeaderLine, ends_block, has_blank_fold, has_comment_fold, has_high_value, header_lines,
     is_bad_encoding, is_bad_key, is_encoding, second_named,
@@ -152,14 +154,17 @@ fn push_first(
     ensures { OnOk result (map finding_view found.new.items
         ≡ map finding_view found.old.items
         ++ (if number == 0
-        then byte_findings (spot_in (place_view place.now) 0 1)
+        then first_findings (spot_in (place_view place.now) 0 1)
         (root (tree_of place.now.part.now)).bytes
         else [])) }
 {
     if number > 0 {
         return Ok(());
     }
-    push_bytes(alloc, found, &spot_in(place, 0, 1), place.part.raw_bytes)
+    let spot = spot_in(place, 0, 1);
+    push_bytes(alloc, found, &spot, place.part.raw_bytes)?;
+    let long = long_line(place.part.raw_bytes);
+    push_at(alloc, found, &spot, Name::LongLine, long)
 }
 
 /// Appends the findings of line ends and NUL bytes.
@@ -715,11 +720,12 @@ fn push_body(
 ) -> Result<(), MailParseError>
     ensures written { let node = root (tree_of place.now.part.now) in
         OnOk result (map finding_view found.new.items ≡ map finding_view found.old.items
-        ++ encoded_findings (place_view place.now) (body_kind node) node.body) }
+        ++ body_findings (place_view place.now) node) }
     ensures only_memory { IfErr result IsMemory }
 {
     let body = place.part.get_body_encoded(alloc)?;
     push_encoded(alloc, found, place, &body)?;
+    push_text(alloc, found, place, body.get_raw())?;
     Ok(())
 }
 
@@ -760,6 +766,26 @@ fn push_encoded(
         }
         Body::EightBit(_) | Body::Binary(_) => Ok(()),
     }
+}
+
+/// Appends the finding of a file in the text of a message with this body.
+fn push_text(
+    alloc: Global,
+    found: &mut Vec<Finding>,
+    place: &Place<'_, '_>,
+    body: &[u8],
+) -> Result<(), AllocError>
+    ensures { OnOk result (map finding_view found.new.items
+        ≡ map finding_view found.old.items
+        ++ listed (spot_of_body (place_view place.now) 1) Uuencode
+        (file_line (root (tree_of place.now.part.now)).ctype body.now)) }
+{
+    let line = if begins_type(b"text/", place.part) {
+        file_line(body)
+    } else {
+        None
+    };
+    push_at(alloc, found, &spot_of_body(place, 1), Name::Uuencode, line)
 }
 
 /// Appends the findings of a body in quoted-printable.

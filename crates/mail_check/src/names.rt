@@ -48,6 +48,8 @@ pub enum Name {
     LoneCr,
     /// `mixed-line-ends`
     MixedLineEnds,
+    /// `long-line`
+    LongLine,
     /// `many`
     Many,
     /// `no-headers`
@@ -118,6 +120,8 @@ pub enum Name {
     QpBlank,
     /// `8bit-body`
     EightBitBody,
+    /// `uuencode`
+    Uuencode,
 }
 
 impl Name {
@@ -139,6 +143,7 @@ impl Name {
             Name::Nul => "nul",
             Name::LoneCr => "lone-cr",
             Name::MixedLineEnds => "mixed-line-ends",
+            Name::LongLine => "long-line",
             Name::Many => "many",
             Name::NoHeaders => "no-headers",
             Name::NoBlankLine => "no-blank-line",
@@ -174,6 +179,7 @@ impl Name {
             Name::QpSyntax => "qp-syntax",
             Name::QpBlank => "qp-blank",
             Name::EightBitBody => "8bit-body",
+            Name::Uuencode => "uuencode",
         }
     }
 
@@ -227,7 +233,7 @@ impl Name {
             | Name::WordBytes => Class::Name,
             Name::EncodingSyntax | Name::Base64Syntax | Name::QpSyntax | Name::QpBlank =>
                 Class::Bytes,
-            Name::EightBitBody => Class::Note,
+            Name::LongLine | Name::EightBitBody | Name::Uuencode => Class::Note,
         }
     }
 
@@ -254,6 +260,7 @@ impl Name {
             Name::MixedLineEnds => {
                 "A line end is not like the first one of the mail: some readers end lines at CR LF alone."
             }
+            Name::LongLine => { "A line has more than 998 bytes: mail servers may cut or fold it." }
             Name::Many => {
                 "The part is nested 10 levels deep or has 100 messages and parts before it: readers have limits."
             }
@@ -356,6 +363,9 @@ impl Name {
             }
             Name::EightBitBody => {
                 "A body in 7bit or quoted-printable has bytes that are not ASCII."
+            }
+            Name::Uuencode => {
+                "A line of the text begins a file in uuencode or yEnc: some programs take the file out of the text."
             }
         }
     }

@@ -9,8 +9,10 @@ ghost use Rattle.mail_check.specs.Bytes.{is_escaped_end, is_high, later};
 ghost use Rattle.mail_check.specs.Bytes.{byte_at, first_byte, first_offset, is_line_left};
 ghost use Rattle.mail_check.specs.Bytes.{is_bare_line_feed, is_blank_fold, is_comment_fold};
 ghost use Rattle.mail_check.specs.Bytes.{is_lone_return, is_return_feed};
+ghost use Rattle.mail_check.specs.LineTests.{begins_file, is_before, is_long_line};
 ghost use Rattle.mail_check.specs.private.Patterns.{first_lead, matches_at, second_lead};
 
+use crate::line_tests::{begins_file, is_long_line};
 use mail_codec::bytescan::find_either;
 
 /// What is searched for. Each begins with one of two bytes.
@@ -34,6 +36,10 @@ pub(crate) enum Pattern {
     EndBlank,
     /// An equals sign before nothing but line ends, or an escaped CR or LF.
     EscapedEnd,
+    /// A LF, and after it a line of more than 998 bytes.
+    LongLine,
+    /// A LF, and after it a line that begins a file.
+    FileLine,
 }
 
 /// Returns the offset of the first occurrence of a pattern.
@@ -62,7 +68,7 @@ fn first_lead(pattern: Pattern) -> u8
     match pattern {
         Pattern::Nul => 0,
         Pattern::LoneReturn | Pattern::ReturnFeed => b'\r',
-        Pattern::BareLineFeed | Pattern::BlankFold => b'\n',
+        Pattern::BareLineFeed | Pattern::BlankFold | Pattern::LongLine | Pattern::FileLine => b'\n',
         Pattern::CommentFold => b')',
         Pattern::BadEscape | Pattern::EscapedEnd => b'=',
         Pattern::EndBlank => b' ',
@@ -94,12 +100,14 @@ fn matches_at(pattern: Pattern, bytes: &[u8], at: usize) -> bool
         Pattern::BadEscape => is_bad_escape(bytes, at),
         Pattern::EndBlank => is_end_blank(bytes, at),
         Pattern::EscapedEnd => is_escaped_end(bytes, at),
+        Pattern::LongLine => byte_at(bytes, at, b'\n') && is_long_line(&bytes[at + 1..]),
+        Pattern::FileLine => byte_at(bytes, at, b'\n') && begins_file(&bytes[at + 1..]),
     }
 }
 
 /// Returns whether a byte is at an offset.
 #[inline(always)]
-fn byte_at(bytes: &[u8], at: usize, byte: u8) -> bool
+pub(crate) fn byte_at(bytes: &[u8], at: usize, byte: u8) -> bool
     ensures { result ≡ byte_at bytes.now at byte }
 {
     match bytes.get(at) {

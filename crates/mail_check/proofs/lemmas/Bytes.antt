@@ -1,5 +1,5 @@
 -- Lemmas on searches of bytes.
-use Rattle.std.proofs.Common.{◌≡◌, ◌∙◌, ◌+◌, ◌-◌, ◌<◌, ◌≤◌, ℕ, Bool, true, false, cond, List, [], ◌∷◌, length, take, drop, refl, sym, ap, Some, None, arith, length-drop, inl, inr}
+use Rattle.std.proofs.Common.{◌≡◌, ◌∙◌, ◌+◌, ◌-◌, ◌<◌, ◌≤◌, ℕ, Bool, true, false, cond, List, [], ◌∷◌, length, take, drop, refl, sym, ap, Option, Some, None, arith, length-drop, inl, inr}
 use Rattle.std.specs.Prelude.{nat_lt, ◌&&◌, ◌||◌, ◌==◌}
 use Rattle.std.specs.Option.{unwrap_or}
 use Rattle.std.specs.List.{position_or_len}
@@ -12,7 +12,7 @@ use Rattle.mail_codec.proofs.lemmas.Utf7.{position_unwrapped}
 use Rattle.mail_check.specs.Bytes.{first_offset}
 use Rattle.mail_check.specs.private.Patterns.{first_lead, matches_at, second_lead}
 use Rattle.mail_check.specs.declared.scan.Pattern.{Pattern}
-use Rattle.mail_check.specs.declared.scan.Pattern.TheVariants.{Nul, LoneReturn, ReturnFeed, BareLineFeed, BlankFold, CommentFold, BadEscape, EndBlank, EscapedEnd}
+use Rattle.mail_check.specs.declared.scan.Pattern.TheVariants.{Nul, LoneReturn, ReturnFeed, BareLineFeed, BlankFold, CommentFold, BadEscape, EndBlank, EscapedEnd, LongLine, FileLine}
 
 -- the first byte that passes, or the length
 pub first_unwrapped : (test : ℕ → Bool) (xs : List ℕ)
@@ -34,6 +34,13 @@ unfolding first_offset
 offset-none test bytes before =
     let is : least test (length bytes) ≡ length bytes = least-is test (length bytes) (length bytes) (omega arith) before (λ h. absurd (omega arith)) in
     rw (is, le-ltb (length bytes) (length bytes) (omega arith)) refl
+
+pub offset_within : (test : ℕ → Bool) (bytes : List ℕ) (p : ℕ) → Some p ≡ first_offset test bytes → p < length bytes
+unfolding first_offset
+offset_within test bytes p h = elim (cases_lt (least test (length bytes)) (length bytes)) [
+  | inl l ↦ let e = lt-ltb (least test (length bytes)) (length bytes) l in let s = rw e at h in let same = ap (λ (o : Option ℕ). unwrap_or o 0) s in omega (arith, l, same)
+  | inr g ↦ let e = le-ltb (least test (length bytes)) (length bytes) g in let s = rw e at h in absurd (cc)
+]
 
 -- ---- patterns
 
@@ -61,6 +68,8 @@ no_lead CommentFold bytes p h = and_false _ _ (not_first _ _ (drop p bytes) h)
 no_lead BadEscape bytes p h = and_false _ _ (not_first _ _ (drop p bytes) h)
 no_lead EndBlank bytes p h = and_false _ _ h
 no_lead EscapedEnd bytes p h = and_false _ _ (not_first _ _ (drop p bytes) h)
+no_lead LongLine bytes p h = and_false _ _ (not_first _ _ (drop p bytes) h)
+no_lead FileLine bytes p h = and_false _ _ (not_first _ _ (drop p bytes) h)
 
 -- a search for all that passes a test has come to an offset, and finds the next place that passes a weaker one, or none
 module _ (lead : List ℕ → Bool) (test : ℕ → Bool) (bytes : List ℕ) (from : ℕ) (within : from ≤ length bytes)

@@ -86,4 +86,4 @@ plain_bytes_are_clean spot bytes = (clean_bytes spot bytes, plain_bytes spot byt
 -- those of a mail begin with those of its bytes
 pub clean_is_plain : (t : Tree) → findings t (placements 0 t) ≡ [] → HasPlainBytes (root t).bytes
 unfolding findings
-clean_is_plain (tree node parts) h = clean_bytes _ node.bytes (left_empty _ _ (left_empty _ _ h))
+clean_is_plain (tree node parts) h = clean_bytes _ node.bytes (left_empty _ _ (left_empty _ _ (left_empty _ _ h)))

@@ -13,10 +13,11 @@ use Rattle.mail_data.specs.Files.{is_leaf}
 use Rattle.mail_data.specs.PartPlaces.{Place}
 use Rattle.mail_check.specs.Bodies.{is_base64_lines}
 use Rattle.mail_check.specs.Bytes.{earlier, first_byte, first_offset, is_bad_escape, is_control, is_end_blank, is_escaped_end, is_high, is_lone_return, is_nul, mixed_line_end}
-use Rattle.mail_check.specs.Findings.{Finding, Spot, block_findings, byte_findings, delimiter_findings, encoded_findings, finding_at, has_none, header_findings, is_far, is_single}
+use Rattle.mail_check.specs.Findings.{Finding, Spot, block_findings, body_findings, byte_findings, delimiter_findings, encoded_findings, finding_at, has_none, header_findings, is_far, is_single, file_line, first_findings}
 use Rattle.mail_check.specs.Findings.{line_findings, listed, listed_if, message_findings, multipart_findings, parameter_findings, part_findings, quoted_findings, file_findings, name_findings, repeated, sender_findings, strict_findings, word_findings, worded_findings}
 use Rattle.mail_check.specs.Findings.{spot_in, spot_of_body, type_findings, value_findings}
 use Rattle.mail_check.specs.FileNames.{has_two_names, has_untyped_name}
+use Rattle.mail_check.specs.LineTests.{first_line, is_long_line}
 use Rattle.mail_check.specs.Lines.{HeaderLine, ends_block, has_blank_fold, has_comment_fold, has_high_value, header_lines, is_bad_encoding, is_bad_key, is_composite, is_encoding, is_named}
 use Rattle.mail_check.specs.Lines.{is_other_message, second_named, single_names}
 use Rattle.mail_check.specs.Multiparts.{dash_of, is_bad_boundary, is_close, is_inside, is_tailed, late_delimiter}
@@ -59,6 +60,9 @@ on_bytes : (spot : Spot) (bytes : List ℕ) → On spot.path (byte_findings spot
 on_bytes spot bytes =
     both spot.path _ _ (on_listed spot name.Nul (first_offset (is_nul bytes) bytes))
     (both spot.path _ _ (on_listed spot name.LoneCr (first_offset (is_lone_return bytes) bytes)) (on_listed spot name.MixedLineEnds (mixed_line_end bytes)))
+
+on_first : (spot : Spot) (bytes : List ℕ) → On spot.path (first_findings spot bytes)
+on_first spot bytes = both spot.path _ _ (on_bytes spot bytes) (on_listed spot name.LongLine (first_line is_long_line bytes))
 
 on_line : (spot : Spot) (size : ℕ) (line : HeaderLine) → On spot.path (line_findings spot size line)
 on_line spot size line =
@@ -162,11 +166,15 @@ module _ (place : Place) where
   on_encoded in_8bit body = none place.path
   on_encoded in_binary body = none place.path
 
+  on_body : (node : Node) → On place.path (body_findings place node)
+  on_body node =
+      both place.path _ _ (on_encoded (body_kind node) node.body) (on_listed (spot_of_body place 1) name.Uuencode (file_line node.ctype node.body))
+
   pub paths_are_of_parts : (number : ℕ) → On place.path (message_findings number place)
   paths_are_of_parts number =
       let node = root place.part in
-      both place.path _ _ (on_either place.path (number == 0) _ (on_bytes (spot_in place 0 1) node.bytes))
+      both place.path _ _ (on_either place.path (number == 0) _ (on_first (spot_in place 0 1) node.bytes))
       (both place.path _ _ (on_listed_if (spot_in place 0 (length node.bytes)) name.Many (is_far number place))
       (both place.path _ _ (on_block number (header_lines node))
       (both place.path _ _ (on_files (spot_in place 0 (length node.block)) (shown_as node) node)
-      (both place.path _ _ (on_multipart (dash_of node.ctype)) (on_either place.path (is_single place.part) _ (on_encoded (body_kind node) node.body))))))
+      (both place.path _ _ (on_multipart (dash_of node.ctype)) (on_either place.path (is_single place.part) _ (on_body node))))))
