@@ -13,6 +13,7 @@ use Rattle.mail_data.specs.Files.{is_leaf}
 use Rattle.mail_data.specs.InnerMails.{dot_count}
 use Rattle.mail_data.specs.PartPlaces.{Place, places}
 use Rattle.mail_check.specs.Bodies.{is_base64_lines}
+use Rattle.mail_check.specs.HiddenBits.{hidden_bits}
 use Rattle.mail_check.specs.Bytes.{earlier, first_byte, first_offset, is_bad_escape, is_control, is_end_blank, is_escaped_end, is_high}
 use Rattle.mail_check.specs.Bytes.{is_lone_return, is_nul, mixed_line_end}
 use Rattle.mail_check.specs.FileNames.{has_two_names, has_untyped_name}
@@ -238,10 +239,15 @@ quoted_findings spot body =
     (earlier (first_offset (is_end_blank body) body) (first_offset (is_escaped_end body) body))
     ++ listed spot name.EightBitBody (first_byte is_high body))
 
+-- the findings of a body in Base64
+abbrev pub base64_findings : Place → List ℕ → List Finding
+base64_findings place body =
+    listed_if (spot_of_body place (length body)) name.Base64Syntax (not (is_base64_lines body))
+    ++ listed (spot_of_body place 4) name.Base64Bits (hidden_bits body)
+
 -- the findings of a body in this encoding
 abbrev pub encoded_findings : Place → BodyKind → List ℕ → List Finding
-encoded_findings place in_base64 body =
-    listed_if (spot_of_body place (length body)) name.Base64Syntax (not (is_base64_lines body))
+encoded_findings place in_base64 body = base64_findings place body
 encoded_findings place in_quoted_printable body = quoted_findings (spot_of_body place 1) body
 encoded_findings place in_7bit body =
     listed (spot_of_body place 1) name.EightBitBody (first_byte is_high body)

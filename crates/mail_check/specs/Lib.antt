@@ -10,6 +10,7 @@ pub mod FileNames
 pub mod Words
 pub mod WordBytes
 pub mod Bodies
+pub mod HiddenBits
 pub mod Findings
 pub mod FindingViews
 pub mod Clean

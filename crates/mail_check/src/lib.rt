@@ -9,6 +9,7 @@
 
 mod bodies;
 mod file_names;
+mod hidden_bits;
 pub mod laws;
 mod line_tests;
 mod lines;

@@ -9,7 +9,7 @@ ghost use Rattle.mailparse.specs.Views.{disposition, placements_of, tree_of};
 ghost use Rattle.mail_data.specs.InnerMails.{dot_count};
 ghost use Rattle.mail_data.specs.PlaceViews.{place_view};
 ghost use Rattle.mail_check.specs.FindingViews.{finding_view, spot_view};
-ghost use Rattle.mail_check.specs.Findings.{block_findings, body_findings, byte_findings};
+ghost use Rattle.mail_check.specs.Findings.{base64_findings, block_findings, body_findings, byte_findings};
 ghost use Rattle.mail_check.specs.Findings.{delimiter_findings, file_line, first_findings};
 ghost use Rattle.mail_check.specs.Findings.{encoded_findings, file_findings, finding_at, findings};
 ghost use Rattle.mail_check.specs.Findings.{header_findings, is_far};
@@ -30,6 +30,7 @@ ghost use Rattle.mail_check.specs.Multiparts.{dash_of};
 
 use crate::bodies::is_base64_lines;
 use crate::file_names::{has_two_names, has_untyped_name};
+use crate::hidden_bits::hidden_bits;
 use crate::line_tests::{file_line, long_line};
 use crate::lines::{
     HeaderLine, ends_block, has_blank_fold, has_comment_fold, has_high_value, header_lines,
@@ -743,17 +744,7 @@ fn push_encoded(
 {
     let spot = spot_of_body(place, 1);
     match body {
-        Body::Base64(base64) => {
-            let raw = base64.get_raw();
-            let spot = spot_of_body(place, raw.len());
-            push_if(
-                alloc,
-                found,
-                &spot,
-                Name::Base64Syntax,
-                !is_base64_lines(raw),
-            )
-        }
+        Body::Base64(base64) => push_base64(alloc, found, place, base64.get_raw()),
         Body::QuotedPrintable(quoted) => push_quoted(alloc, found, &spot, quoted.get_raw()),
         Body::SevenBit(text) => {
             push_at(
@@ -766,6 +757,29 @@ fn push_encoded(
         }
         Body::EightBit(_) | Body::Binary(_) => Ok(()),
     }
+}
+
+/// Appends the findings of a body in Base64.
+fn push_base64(
+    alloc: Global,
+    found: &mut Vec<Finding>,
+    place: &Place<'_, '_>,
+    raw: &[u8],
+) -> Result<(), AllocError>
+    ensures { OnOk result (map finding_view found.new.items
+        ≡ map finding_view found.old.items ++ base64_findings (place_view place.now) raw.now) }
+{
+    let whole = spot_of_body(place, raw.len());
+    let has_fault = !is_base64_lines(raw);
+    push_if(alloc, found, &whole, Name::Base64Syntax, has_fault)?;
+    let bits = hidden_bits(raw);
+    push_at(
+        alloc,
+        found,
+        &spot_of_body(place, 4),
+        Name::Base64Bits,
+        bits,
+    )
 }
 
 /// Appends the finding of a file in the text of a message with this body.

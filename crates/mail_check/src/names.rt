@@ -114,6 +114,8 @@ pub enum Name {
     LateDelimiter,
     /// `base64-syntax`
     Base64Syntax,
+    /// `base64-bits`
+    Base64Bits,
     /// `qp-syntax`
     QpSyntax,
     /// `qp-blank`
@@ -176,6 +178,7 @@ impl Name {
             Name::NoClose => "no-close",
             Name::LateDelimiter => "late-delimiter",
             Name::Base64Syntax => "base64-syntax",
+            Name::Base64Bits => "base64-bits",
             Name::QpSyntax => "qp-syntax",
             Name::QpBlank => "qp-blank",
             Name::EightBitBody => "8bit-body",
@@ -233,7 +236,7 @@ impl Name {
             | Name::WordBytes => Class::Name,
             Name::EncodingSyntax | Name::Base64Syntax | Name::QpSyntax | Name::QpBlank =>
                 Class::Bytes,
-            Name::LongLine | Name::EightBitBody | Name::Uuencode => Class::Note,
+            Name::LongLine | Name::Base64Bits | Name::EightBitBody | Name::Uuencode => Class::Note,
         }
     }
 
@@ -354,6 +357,9 @@ impl Name {
             }
             Name::Base64Syntax => {
                 "The Base64 is not lines of whole groups with padding at the end alone: readers stop, skip or go on."
+            }
+            Name::Base64Bits => {
+                "The last letter of the Base64 before its padding has bits that make no byte and are not 0: they may hide data."
             }
             Name::QpSyntax => {
                 "An equals sign begins no escape in upper case and no soft line break, or a control character occurs: readers keep or drop it."

@@ -91,7 +91,7 @@ fn has_bad_octets(alloc: Global, piece: &[u8]) -> Result<bool, AllocError>
 
 /// Returns whether the last letter of a text in Base64 with padding has a bit that makes no byte
 /// and is not 0.
-fn has_spare_bits(text: &[u8]) -> bool
+pub(crate) fn has_spare_bits(text: &[u8]) -> bool
     ensures { result ≡ has_spare_bits text.now }
 {
     if text.ends_with(b"==") {

@@ -12,6 +12,7 @@ use Rattle.mailparse.specs.Mail.{Node, body_kind, root, shown_as}
 use Rattle.mail_data.specs.Files.{is_leaf}
 use Rattle.mail_data.specs.PartPlaces.{Place}
 use Rattle.mail_check.specs.Bodies.{is_base64_lines}
+use Rattle.mail_check.specs.HiddenBits.{hidden_bits}
 use Rattle.mail_check.specs.Bytes.{earlier, first_byte, first_offset, is_bad_escape, is_control, is_end_blank, is_escaped_end, is_high, is_lone_return, is_nul, mixed_line_end}
 use Rattle.mail_check.specs.Findings.{Finding, Spot, block_findings, body_findings, byte_findings, delimiter_findings, encoded_findings, finding_at, has_none, header_findings, is_far, is_single, file_line, first_findings}
 use Rattle.mail_check.specs.Findings.{line_findings, listed, listed_if, message_findings, multipart_findings, parameter_findings, part_findings, quoted_findings, file_findings, name_findings, repeated, sender_findings, strict_findings, word_findings, worded_findings}
@@ -160,7 +161,9 @@ module _ (place : Place) where
       (both place.path _ _ (on_parts size dash text) (on_delimiters (spot_in place size (length dash)) dash text))
 
   on_encoded : (kind : BodyKind) (body : List ℕ) → On place.path (encoded_findings place kind body)
-  on_encoded in_base64 body = on_listed_if (spot_of_body place (length body)) name.Base64Syntax (not (is_base64_lines body))
+  on_encoded in_base64 body =
+      both place.path _ _ (on_listed_if (spot_of_body place (length body)) name.Base64Syntax (not (is_base64_lines body)))
+      (on_listed (spot_of_body place 4) name.Base64Bits (hidden_bits body))
   on_encoded in_quoted_printable body = on_quoted (spot_of_body place 1) body
   on_encoded in_7bit body = on_listed (spot_of_body place 1) name.EightBitBody (first_byte is_high body)
   on_encoded in_8bit body = none place.path

@@ -1,0 +1,45 @@
+//! Bits of a body in Base64 that make no byte.
+ghost use Rattle.std.specs.Prelude.{◌≡◌, ◌<◌, length};
+ghost use Rattle.mail_check.specs.HiddenBits.{hidden_bits, padding_end, spare_group};
+
+use crate::bodies::is_base64_lines;
+use crate::scan::byte_at;
+use crate::word_bytes::has_spare_bits;
+use crate::words::up_to;
+use mail_codec::bytescan::find_byte;
+
+/// Returns the offset of the group in lines of Base64 that hides bits in its last letter.
+pub(crate) fn hidden_bits(body: &[u8]) -> Option<usize>
+    ensures { result ≡ hidden_bits body.now }
+{
+    if !is_base64_lines(body) {
+        return None;
+    }
+    match find_byte(body, b'=') {
+        Some(place) => spare_group(body, padding_end(body, place)),
+        None => None,
+    }
+}
+
+/// Returns the offset after the padding that begins at an offset.
+fn padding_end(body: &[u8], start: usize) -> usize
+    requires within { start < length body.now }
+    ensures { result ≡ padding_end body.now start }
+{
+    if byte_at(body, start + 1, b'=') {
+        start + 2
+    } else {
+        start + 1
+    }
+}
+
+/// Returns the offset of the group that ends at one, if it hides bits in its last letter.
+fn spare_group(body: &[u8], end: usize) -> Option<usize>
+    ensures { result ≡ spare_group body.now end }
+{
+    if has_spare_bits(up_to(body, end)) {
+        Some(end.saturating_sub(4))
+    } else {
+        None
+    }
+}
