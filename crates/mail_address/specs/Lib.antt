@@ -8,6 +8,7 @@ pub mod Headers
 pub mod Lenient
 pub mod PhraseWords
 pub mod Text
+pub mod ShownNames
 pub mod Order
 pub mod Enclosed
 pub mod Names

@@ -22,6 +22,7 @@ mod list;
 mod mailbox;
 mod phrase_words;
 mod plain;
+mod shown_names;
 mod text;
 mod tokens;
 mod writer;

@@ -14,10 +14,12 @@ ghost use Rattle.mail_address.specs.Addresses.{name_len, separator_len, single_a
 ghost use Rattle.mail_address.specs.AddressViews.{element_view, group_view, mailbox_view};
 ghost use Rattle.mail_address.specs.AddressViews.{member_view};
 ghost use Rattle.mail_address.specs.MailboxViews.{parts};
+ghost use Rattle.mail_address.specs.ShownNames.{shown_display_name};
 ghost use Rattle.mail_address.specs.private.Plain.{IsFront, IsSingle};
 
 use crate::mailbox::{is_phrase, mailbox_of};
 use crate::plain::{Level, Plain, ends_single, plain_mailbox};
+use crate::shown_names::shown_name;
 use crate::text::{address_text, bare_text, name_text};
 use crate::tokens::{Span, begins_at, is_all_white, run};
 use mail_codec::charset::KnownCharsets;
@@ -81,6 +83,39 @@ impl<'a> Mailbox<'a> {
             (phrase_text self.now.display_name.now)) }
     {
         name_text(alloc, self.display_name, known)
+    }
+
+    /// Returns the display name as people see it: what `get_display_name` returns, and if that
+    /// begins and ends with `"`, or with `'`, without these two.
+    ///
+    /// Some programs encode a name together with its quotes, and some write `'` around it. An
+    /// apostrophe at one end alone stays, and of quotes within quotes only the outer ones are left
+    /// out. Allocates the text.
+    ///
+    /// # Errors
+    ///
+    /// `MailParseError::Memory` if memory runs out.
+    ///
+    /// # Examples
+    ///
+    /// ```rust
+    /// use mail_address::{Address, lenient_addresses};
+    ///
+    /// for address in &lenient_addresses(alloc, b"=?utf-8?Q?=22Ann=2C_B=22?= <ann@example.org>")? {
+    ///     if let Address::Mailbox(mailbox) = address {
+    ///         assert_eq!(rt; mailbox.get_shown_name(alloc, &())?.as_str(), "Ann, B");
+    ///     }
+    /// }
+    /// ```
+    pub fn get_shown_name<K: KnownCharsets>(
+        &self,
+        alloc: Global,
+        known: &K,
+    ) -> Result<String, MailParseError>
+        ensures { GivesText result (shown_display_name (K.known known.now)
+            self.now.display_name.now) }
+    {
+        shown_name(alloc, self.display_name, known)
     }
 
     /// Returns the address in canonical form, `local@domain`: without comments, folding and
@@ -229,6 +264,37 @@ impl<'a> Group<'a> {
             (phrase_text self.now.display_name.now)) }
     {
         name_text(alloc, self.display_name, known)
+    }
+
+    /// Returns the display name as people see it: what `get_display_name` returns, and if that
+    /// begins and ends with `"`, or with `'`, without these two.
+    ///
+    /// Allocates the text.
+    ///
+    /// # Errors
+    ///
+    /// `MailParseError::Memory` if memory runs out.
+    ///
+    /// # Examples
+    ///
+    /// ```rust
+    /// use mail_address::{Address, lenient_addresses};
+    ///
+    /// for address in &lenient_addresses(alloc, b"'The team': ann@example.org;")? {
+    ///     if let Address::Group(group) = address {
+    ///         assert_eq!(rt; group.get_shown_name(alloc, &())?.as_str(), "The team");
+    ///     }
+    /// }
+    /// ```
+    pub fn get_shown_name<K: KnownCharsets>(
+        &self,
+        alloc: Global,
+        known: &K,
+    ) -> Result<String, MailParseError>
+        ensures { GivesText result (shown_display_name (K.known known.now)
+            self.now.display_name.now) }
+    {
+        shown_name(alloc, self.display_name, known)
     }
 }
 
