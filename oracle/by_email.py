@@ -79,19 +79,24 @@ def value_of(mail, name):
     return header_text(raw_value(mail, name))
 
 
+def shown_name(name):
+    """A display name as people see it: without the quotes or the apostrophes around it."""
+    return name[1:-1] if len(name) > 1 and name[0] == name[-1] and name[0] in "\"'" else name
+
+
 def mailbox_object(address):
     """The object of a mailbox, or of what has no `@` and so is no address."""
     if "@" not in address.addr_spec:
         return {"unknown": without_surrogates(str(address))}
-    name = without_surrogates(address.display_name)
+    name = shown_name(without_surrogates(address.display_name))
     return {"name": name or None, "address": without_surrogates(address.addr_spec)}
 
 
 def with_comment(address, mailbox):
     """The object of a mailbox. If it has no display name, its first comment is one, as for `email.utils.parseaddr`."""
     found = mailbox_object(address)
-    if "address" in found and not found["name"] and mailbox.comments:
-        found["name"] = without_surrogates(shown(mailbox.comments[0])).strip() or None
+    if "address" in found and not address.display_name and mailbox.comments:
+        found["name"] = shown_name(without_surrogates(shown(mailbox.comments[0])).strip()) or None
     return found
 
 
@@ -106,7 +111,7 @@ def addresses_of(mail, name):
             for group, element in zip(email.policy.default.header_factory(key, joined).groups, parsed):
                 members = [with_comment(*both) for both in zip(group.addresses, element.all_mailboxes)]
                 if group.display_name is not None:
-                    members = [{"group": without_surrogates(group.display_name), "members": members}]
+                    members = [{"group": shown_name(without_surrogates(group.display_name)), "members": members}]
                 found += members
     return found
 

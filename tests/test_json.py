@@ -237,6 +237,7 @@ def test_addresses():
         b"Pete(A nice \\) chap) <pete(his account)@silly.test(his host)>", b"\"a b\"@example.org",
         b"\"Joe Q. Public\" <john.q.public@example.com>", b"<boss@nil.test>, \"Giant; \\\"Big\\\" Box\" <s@example.net>",
         b"ann@example.org (Ann), <bob@example.org> (=?utf-8?q?Bob_M=2E?=), A Group: joe@where.test (Joe);",
+        b"=?utf-8?Q?=22Ann=2C_B=22?= <a@b>, 'Dan' <d@e>, O'Brien <o@b>, 'A Group': 'Ed' <ed@a.test>;",
     ):
         mail = b"".join(name + b": " + value + b"\n" for name in (b"From", b"To", b"CC", b"Bcc", b"Reply-To")) + b"\n"
         found, wanted = objects([], mail, 0, repr(value))[0], mail_object(mail)
@@ -246,6 +247,7 @@ def test_addresses():
         (b"a at b, c@d", [{"unknown": "a at b"}, {"name": None, "address": "c@d"}]),
         (b"all: \xe9, a@b;", [{"group": "all", "members": [{"unknown": " \xe9"}, {"name": None, "address": "a@b"}]}]),
         (b'"" <a@b>', [{"name": None, "address": "a@b"}]),
+        (b"\"'Ann'\" <a@b>, '' <c@d>", [{"name": "Ann", "address": "a@b"}, {"name": None, "address": "c@d"}]),
         (b"boss@c <eve@d>", [{"name": "boss@c", "address": "eve@d"}]),
         (b"undisclosed-recipients:", [{"group": "undisclosed-recipients", "members": []}]),
         (b"all: Ann [x] <a@b>;", [{"group": "all", "members": [{"name": "Ann [x]", "address": "a@b"}]}]),

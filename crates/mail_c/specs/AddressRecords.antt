@@ -4,7 +4,8 @@ use Rattle.mail_codec.specs.Charset.{Charsets}
 use Rattle.mail_address.specs.Addresses.{Element, Single, group, single}
 use Rattle.mail_address.specs.Lenient.{lenient_addresses}
 use Rattle.mail_address.specs.Mailbox.{Parts}
-use Rattle.mail_json.specs.Addresses.{canonical, name_of}
+use Rattle.mail_address.specs.ShownNames.{shown_display_name}
+use Rattle.mail_json.specs.Addresses.{canonical}
 use Rattle.mail_c.specs.Codes.{no_memory}
 use Rattle.mail_c.specs.Records.{none}
 use Rattle.mail_c.specs.Rows.{rows_from}
@@ -54,7 +55,7 @@ addresses_found (Err e) = Err no_memory
 module _ (known : Charsets) where
   -- the entry of a mailbox, or of text that is none
   abbrev pub found_entry : ℕ → Option Parts → List ℕ → Entry
-  found_entry index (Some parts) text = record { kind = 0; group = index; name = name_of known parts.display_name; address = canonical parts }
+  found_entry index (Some parts) text = record { kind = 0; group = index; name = shown_display_name known parts.display_name; address = canonical parts }
   found_entry index None text = record { kind = 2; group = index; name = []; address = text }
 
   -- the entry of an element in the group with this index, or in none
@@ -63,7 +64,7 @@ module _ (known : Charsets) where
 
   -- the entry of a group with this name
   abbrev pub group_entry : List ℕ → Entry
-  group_entry name = record { kind = 1; group = none; name = name_of known name; address = [] }
+  group_entry name = record { kind = 1; group = none; name = shown_display_name known name; address = [] }
 
   -- the entries of an element, the first of which has this index: of a group also those of its members
   abbrev pub element_entries : ℕ → Element → List Entry

@@ -104,7 +104,7 @@ fn push_group<K: KnownCharsets>(
         (group_view group.now).members) found.new) }
 {
     let index = found.records.len() as u64;
-    let name = group.get_display_name(alloc, known)?;
+    let name = group.get_shown_name(alloc, known)?;
     push_entry(found, name.as_bytes(), b"", 1, NONE)?;
     push_members(alloc, found, group.members.as_slice(), index, known)
 }
@@ -157,7 +157,7 @@ fn push_mailbox<K: KnownCharsets>(
         AreRecords (entries ++ single_entry (K.known known.now) group (mailbox_view mailbox.now)
         ∷ []) found.new) }
 {
-    let name = mailbox.get_display_name(alloc, known)?;
+    let name = mailbox.get_shown_name(alloc, known)?;
     let address = mailbox.get_address(alloc)?;
     push_entry(found, name.as_bytes(), address.as_bytes(), 0, group)
 }

@@ -1,9 +1,8 @@
 -- The texts of addresses in the headers of a mail; the program's own form.
 use Rattle.std.specs.Prelude.{ℕ, List, [], ◌∷◌, Option, Some, None}
-use Rattle.mail_codec.specs.Charset.{Charsets}
-use Rattle.mailparse.specs.Value.{lenient_value_in, value_text}
+use Rattle.mailparse.specs.Value.{value_text}
 use Rattle.mail_address.specs.Mailbox.{Parts}
-use Rattle.mail_address.specs.Text.{address_bytes, phrase_text}
+use Rattle.mail_address.specs.Text.{address_bytes}
 
 -- a text, or none if it is empty
 abbrev pub unless_empty : List ℕ → Option (List ℕ)
@@ -13,9 +12,3 @@ unless_empty (b ∷ bs) = Some (b ∷ bs)
 -- the address of a mailbox in canonical form
 abbrev pub canonical : Parts → List ℕ
 canonical parts = value_text (address_bytes parts.local_part parts.domain)
-
--- Under the charsets that are known.
-module _ (known : Charsets) where
-  -- the text of a display name, which is decoded after the list is cut into its elements
-  abbrev pub name_of : List ℕ → List ℕ
-  name_of phrase = lenient_value_in known (phrase_text phrase)

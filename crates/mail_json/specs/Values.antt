@@ -27,8 +27,9 @@ use Rattle.mail_data.specs.lenient.Values.{header_text}
 use Rattle.mail_address.specs.Addresses.{Element, Single, single, group}
 use Rattle.mail_address.specs.Lenient.{lenient_addresses_of}
 use Rattle.mail_address.specs.Mailbox.{Parts}
+use Rattle.mail_address.specs.ShownNames.{shown_display_name}
 use Rattle.mail_address.specs.Tokens.{delete}
-use Rattle.mail_json.specs.Addresses.{canonical, name_of, unless_empty}
+use Rattle.mail_json.specs.Addresses.{canonical, unless_empty}
 use Rattle.mail_json.specs.Body.{encoding_text}
 use Rattle.mail_json.specs.Fields.{content_id, date_fault_text, kind_text, value_of}
 use Rattle.mail_data.specs.InnerMails.{InnerMail}
@@ -219,7 +220,7 @@ module _ (known : Charsets) where
   -- the object of a mailbox; of an element without members; of a group; of an element of a list
   abbrev pub mailbox_value : Parts → Json
   mailbox_value parts =
-      object_of (one (codes "name") (string_or_null (unless_empty (name_of known parts.display_name))) ++ one (codes "address") (string (canonical parts)))
+      object_of (one (codes "name") (string_or_null (unless_empty (shown_display_name known parts.display_name))) ++ one (codes "address") (string (canonical parts)))
 
   abbrev pub single_or_unknown_value : Option Parts → List ℕ → Json
   single_or_unknown_value (Some parts) text = mailbox_value parts
@@ -230,7 +231,7 @@ module _ (known : Charsets) where
 
   abbrev pub group_value : List ℕ → List Single → Json
   group_value name members =
-      object_of (one (codes "group") (string (name_of known name)) ++ one (codes "members") (list_of (map single_value members)))
+      object_of (one (codes "group") (string (shown_display_name known name)) ++ one (codes "members") (list_of (map single_value members)))
 
   abbrev pub element_value : Element → Json
   element_value (single s) = single_value s

@@ -102,7 +102,7 @@ fn write_group<W: Write, K: KnownCharsets>(
     ensures { Writes (W.contents out.old) (W.contents out.new) result (text_of (group_value
         (K.known known.now) group.now.display_name.now (group_view group.now).members)) }
 {
-    let name = group.get_display_name(alloc, known)?;
+    let name = group.get_shown_name(alloc, known)?;
     add_text(out, first_key!("group"), name.as_str())?;
     write_word(out, key!("members"))?;
     write_list(alloc, out, group.members.as_slice(), known)?;
@@ -119,7 +119,7 @@ fn write_mailbox<W: Write, K: KnownCharsets>(
     ensures { Writes (W.contents out.old) (W.contents out.new) result
         (text_of (single_value (K.known known.now) (mailbox_view mailbox.now))) }
 {
-    let name = unless_empty(mailbox.get_display_name(alloc, known)?);
+    let name = unless_empty(mailbox.get_shown_name(alloc, known)?);
     let address = mailbox.get_address(alloc)?;
     add_optional(out, first_key!("name"), name.as_deref())?;
     add_text(out, key!("address"), address.as_str())?;

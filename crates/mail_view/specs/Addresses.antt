@@ -6,7 +6,8 @@ use Rattle.mailparse.specs.Value.{lenient_value_in, value_text}
 use Rattle.mail_address.specs.Addresses.{Element, Single, single, group}
 use Rattle.mail_address.specs.Lenient.{lenient_addresses_of}
 use Rattle.mail_address.specs.Mailbox.{Parts}
-use Rattle.mail_address.specs.Text.{address_bytes, phrase_text}
+use Rattle.mail_address.specs.ShownNames.{shown_display_name}
+use Rattle.mail_address.specs.Text.{address_bytes}
 use Rattle.mail_view.specs.Line.{Line, line}
 use Rattle.mail_view.specs.Names.{shown_name}
 use Rattle.mail_view.specs.declared.line.Prefix.{Prefix}
@@ -21,7 +22,7 @@ module _ (known : Charsets) where
   -- the text of a mailbox: its address in canonical form, after its display name
   abbrev pub mailbox_text : Parts → List ℕ
   mailbox_text parts =
-      named (lenient_value_in known (phrase_text parts.display_name)) (value_text (address_bytes parts.local_part parts.domain))
+      named (shown_display_name known parts.display_name) (value_text (address_bytes parts.local_part parts.domain))
 
   -- the text of an element without members; of one that is no address that of a name
   abbrev pub single_of : Option Parts → List ℕ → List ℕ
@@ -33,7 +34,7 @@ module _ (known : Charsets) where
 
   -- the text of the name of a group
   abbrev pub group_text : List ℕ → List ℕ
-  group_text name = shown_name (lenient_value_in known (phrase_text name)) ++ codes ":"
+  group_text name = shown_name (shown_display_name known name) ++ codes ":"
 
   -- the lines of an element: of a group its name, and then its members
   abbrev pub element_lines : Prefix → Element → List Line

@@ -116,7 +116,7 @@ fn mailbox_text<K: KnownCharsets>(
 ) -> Result<String, MailParseError>
     ensures { GivesText result (single_text (K.known known.now) (mailbox_view mailbox.now)) }
 {
-    let name = mailbox.get_display_name(alloc, known)?;
+    let name = mailbox.get_shown_name(alloc, known)?;
     let address = mailbox.get_address(alloc)?;
     Ok(named(alloc, name.as_str(), address)?)
 }
@@ -159,7 +159,7 @@ fn group_text<K: KnownCharsets>(
 ) -> Result<String, MailParseError>
     ensures { GivesText result (group_text (K.known known.now) group.now.display_name.now) }
 {
-    let name = group.get_display_name(alloc, known)?;
+    let name = group.get_shown_name(alloc, known)?;
     let mut text = String::new(alloc);
     push_name(&mut text, name.as_str())?;
     text.push_str(":")?;

@@ -6,7 +6,7 @@ use Rattle.std.proofs.Math.Seq.{drop-cons}
 use Rattle.mail_address.specs.AddressViews.{member_view}
 use Rattle.mail_address.specs.Addresses.{Single}
 use Rattle.mail_address.specs.declared.list.Member.{Member}
-use Rattle.mail_json.specs.Addresses.{name_of}
+use Rattle.mail_address.specs.ShownNames.{shown_display_name}
 use Rattle.mail_c.specs.Records.{none}
 use Rattle.mail_c.proofs.lemmas.Rows.{length-rows, row-appended}
 use Rattle.mail_c.specs.AddressRecords.{AreRecords, Entry, addresses_found, entry_record, entry_text, group_entry, records_from, single_entry, strings_of}
@@ -55,7 +55,7 @@ on_ok (Err e) f h = h
 
 -- the entries of a group and of its members were appended
 pub group_appended : (known : Charsets) (new : AddressRecords) (entries : List Entry) (name display : List ℕ) (index : ℕ) (slice members : List Single)
-    → name ≡ name_of known display → index ≡ length entries → slice ≡ members
+    → name ≡ shown_display_name known display → index ≡ length entries → slice ≡ members
     → AreRecords ((entries ++ record { kind = 1; group = none; name = name; address = [] } ∷ []) ++ map (single_entry known index) slice) new
     → AreRecords (entries ++ group_entry known display ∷ map (single_entry known (length entries)) members) new
 group_appended known new entries name display index slice members n i s are =

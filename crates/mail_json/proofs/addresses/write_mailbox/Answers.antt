@@ -8,6 +8,6 @@ use Rattle.mail_json.proofs.addresses.write_mailbox.Goals as goal
 
 pub returns : goal.returns
 returns g c =
-    let name = value_renamed string_or_null _ _ c.in_ok-add_optional.ensures (c.as_deref.ensures.value ∙ c.unless_empty-name.ensures ∙ ap unless_empty (sym (ok_same _ _ c.in_ok-get_display_name.ensures))) in
+    let name = value_renamed string_or_null _ _ c.in_ok-add_optional.ensures (c.as_deref.ensures.value ∙ c.unless_empty-name.ensures ∙ ap unless_empty (sym (ok_same _ _ c.in_ok-get_shown_name.ensures))) in
     let address = value_renamed (λ t. string t) _ _ c.in_ok-add_text.ensures (c.as_str.ensures.value ∙ c.in_ok-address.ensures) in
     closed _ c.write_word.result _ (name ⨾ address) c.write_word.ensures refl
