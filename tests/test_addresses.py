@@ -37,6 +37,8 @@ MEMBER = re.compile(r"([^,]*),?")
 WORDS = {
     b"=?utf-8?q?boss=40corp=2Ecom_=3Cboss=40corp=2Ecom=3E=2C?=": "boss@corp.com <boss@corp.com>,",
     b"=?UTF-8?Q?=22=2C?=": '",',
+    b"=?utf-8?Q?=22Ann=2C_B=22?=": '"Ann, B"',
+    b"=?utf-8?Q?=27?=": "'",
     b"=?utf-8?B?w6k=?=": "\u00e9",
     b"=?iso-8859-1?q?Andr=E9?=": "Andr\u00e9",
     b"=?utf-8?q?a=3A_b=3B?=": "a: b;",
@@ -45,6 +47,7 @@ SPACED = [b" %b " % word for word in WORDS]
 NAMES = SPACED + [
     b'"Doe, Ann"', b"Ann Doe", b"J. R. Dobbs", b'"a\\"b"', b"Who?", b'"Ann\r\n Doe"', "J\u00f6rg".encode("latin-1"),
     b'" =?utf-8?B?w6k=?= x"', b'"a\0b"', b"#!$%&*+-/^_`{|}~'", "\u03b1\u03b2".encode(), b"Ann (x, (y) \\)) Doe", b"boss@corp.com",
+    b"'Ann'", b"'Ann", b"B'", b"'",
 ]
 ADDRESSES = [
     b"ann@example.org", b"x@xn--bcher-kva.example", "joe@b\u00fccher.example".encode(), b'"a b"@c', b'"a"."b"@c', b"a@[1.2.3.4]",
@@ -398,6 +401,18 @@ def lenient_items(raw):
     return items + sum((lenient_single(text.part(*it)) for it in singles), [])
 
 
+def shown_names(items):
+    """The names of the mailboxes and groups in these items as people see them: without the quotes around them."""
+    names, items = [], iter(items)
+    for kind in items:
+        name = next(items)
+        if kind != "unknown":
+            next(items)
+            is_quoted = len(name) > 1 and name[:1] == name[-1:] and name[:1] in (b'"', b"'")
+            names.append(name[1:-1] if is_quoted else name)
+    return names
+
+
 def made_mailbox(chance):
     """The pieces of a mailbox."""
     address = chance.choice(ADDRESSES)
@@ -437,8 +452,10 @@ def test_addresses(part, seed, tmp_path):
     chance = random.Random(f"{seed} {part * PART}")
     values = [made_value(chance) for _ in range(PART)]
     rows = [Row("", "addresses", [it], items_of(it)) for it in values]
-    rows += [Row("", "lenient_addresses", [it], lenient_items(it)) for it in values]
+    found = [lenient_items(it) for it in values]
+    rows += [Row("", "lenient_addresses", [it], items) for it, items in zip(values, found)]
+    rows += [Row("", "shown_names", [it], shown_names(items)) for it, items in zip(values, found)]
     file = tmp_path / "addresses.txt"
     file.write_text("\n".join(["== Made addresses", *map(line_of, rows), ""]))
     ended = run([program("mail_vectors"), file])
-    assert ended.stderr.splitlines()[-1] == b"%d passed, 0 failed" % (2 * PART), ended.stdout[:5000]
+    assert ended.stderr.splitlines()[-1] == b"%d passed, 0 failed" % (3 * PART), ended.stdout[:5000]

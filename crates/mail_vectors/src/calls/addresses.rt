@@ -9,6 +9,7 @@
 //! lenient_addresses VALUE => ITEM..        and the next two, read leniently
 //! lenient_addresses_of MAIL NAME => ITEM..
 //! lenient_sender_of MAIL => mailbox NAME ADDRESS | none
+//! shown_names VALUE => NAME..              of mailboxes and groups read leniently, as people see them
 //! write_mailboxes [NAME LOCAL DOMAIN].. => BYTES
 //! write_group NAME [NAME LOCAL DOMAIN].. => BYTES
 //! read_written [NAME LOCAL DOMAIN].. => ITEM..     the elements of what `write_mailboxes` writes
@@ -35,6 +36,7 @@ pub fn make(answer: &mut Answer, row: &Row) -> Decision {
         "lenient_addresses" => list_leniently(answer, row)?,
         "lenient_addresses_of" => list_named_leniently(answer, row)?,
         "lenient_sender_of" => find_lenient_sender(answer, row)?,
+        "shown_names" => list_shown_names(answer, row)?,
         "write_mailboxes" => answer.put(written(row)),
         "write_group" => answer.put(written_group(row)),
         "read_written" => read_written(answer, row)?,
@@ -89,6 +91,33 @@ fn find_lenient_sender(answer: &mut Answer, row: &Row) -> Outcome {
         None => answer.word("none"),
     }
     Ok(())
+}
+
+/// Writes the names of a list that is read leniently, as people see them.
+fn list_shown_names(answer: &mut Answer, row: &Row) -> Outcome {
+    for address in &lenient_addresses(row.alloc, row.bytes(0))? {
+        write_shown_names(answer, address);
+    }
+    Ok(())
+}
+
+/// Writes the names of an element, as people see them.
+fn write_shown_names(answer: &mut Answer, address: &Address<'_>) {
+    match address {
+        Address::Mailbox(mailbox) => answer.put(mailbox.get_shown_name(answer.alloc, &())),
+        Address::Group(group) => write_group_names(answer, group),
+        Address::Unknown(_) => {}
+    }
+}
+
+/// Writes the names of a group and of its mailboxes, as people see them.
+fn write_group_names(answer: &mut Answer, group: &Group<'_>) {
+    answer.put(group.get_shown_name(answer.alloc, &()));
+    for member in &group.members {
+        if let Member::Mailbox(mailbox) = member {
+            answer.put(mailbox.get_shown_name(answer.alloc, &()));
+        }
+    }
 }
 
 /// Writes the sender of a mail.
