@@ -1,12 +1,15 @@
 -- Names of files that other programs may read differently (RFC 2183, section 2.3); this crate's own words.
-use Rattle.std.specs.Prelude.{ℕ, Bool, false, ◌&&◌, not, List, Option, Some, None, is_none, is_some, codes}
+use Rattle.std.specs.Prelude.{ℕ, ◌-◌, Bool, false, ◌&&◌, ◌||◌, ◌==◌, not, nat_lt, List, length, drop, Option, Some, None, is_none, is_some, chars, codes}
+use Rattle.std.specs.List.{list_any}
 use Rattle.std.specs.Str.{bytes_eq}
-use Rattle.mail_codec.specs.Places.{is_empty}
+use Rattle.mail_codec.specs.Ascii.{colon, is_blank}
+use Rattle.mail_codec.specs.Places.{begins, is_empty}
 use Rattle.mailparse.specs.ContentType.{ContentType}
 use Rattle.mailparse.specs.Disposition.{Disposition}
 use Rattle.mailparse.specs.Mail.{Node}
 use Rattle.mailparse.specs.Map.{first_with_key}
-use Rattle.mail_data.specs.Files.{filled}
+use Rattle.mail_data.specs.FileNames.{is_unsafe}
+use Rattle.mail_data.specs.Files.{filled, name_in}
 
 -- two names differ, and the second is not empty
 abbrev pub are_two : List ℕ → List ℕ → Bool
@@ -31,3 +34,42 @@ abbrev pub has_untyped_name : Disposition → Node → Bool
 has_untyped_name shown node =
     is_some (filled (shown.params (codes "filename")))
     && lacks_type node
+
+-- ---- names that are not safe
+
+-- a character is in a range
+abbrev pub is_within : ℕ → ℕ → ℕ → Bool
+is_within low high c = not (nat_lt c low) && not (nat_lt high c)
+
+-- a character that changes the direction of text, or that ends a line or a paragraph
+abbrev pub is_direction : ℕ → Bool
+is_direction c =
+    c == 0x61C || (is_within 0x200E 0x200F c || (is_within 0x2028 0x202E c || is_within 0x2066 0x2069 c))
+
+-- a slash, a backslash, a colon, a control character, or one of these
+abbrev pub is_risky : ℕ → Bool
+is_risky c = is_unsafe c || (c == colon || is_direction c)
+
+-- a name contains such a character
+abbrev pub has_risky : List ℕ → Bool
+has_risky name = list_any is_risky (chars name)
+
+abbrev pub dot : ℕ
+dot = 46
+
+-- a dot or a blank
+abbrev pub is_filler : ℕ → Bool
+is_filler b = b == dot || is_blank b
+
+-- one of these is at an end of a name
+abbrev pub has_filler : List ℕ → Bool
+has_filler name = begins is_filler name || begins is_filler (drop (length name - 1) name)
+
+-- a name is there, and it contains such a character or has a dot or a blank at an end
+abbrev pub is_unsafe_name : Option (List ℕ) → Bool
+is_unsafe_name None = false
+is_unsafe_name (Some name) = has_risky name || has_filler name
+
+-- the name of the file of a message is not safe
+abbrev pub has_unsafe_name : Disposition → ContentType → Bool
+has_unsafe_name shown ctype = is_unsafe_name (name_in shown ctype)

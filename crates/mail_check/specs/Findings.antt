@@ -16,7 +16,7 @@ use Rattle.mail_check.specs.Bodies.{is_base64_lines}
 use Rattle.mail_check.specs.HiddenBits.{hidden_bits}
 use Rattle.mail_check.specs.Bytes.{earlier, first_byte, first_offset, is_bad_escape, is_control, is_end_blank, is_escaped_end, is_high}
 use Rattle.mail_check.specs.Bytes.{is_lone_return, is_nul, mixed_line_end}
-use Rattle.mail_check.specs.FileNames.{has_two_names, has_untyped_name}
+use Rattle.mail_check.specs.FileNames.{has_two_names, has_unsafe_name, has_untyped_name}
 use Rattle.mail_check.specs.Lines.{HeaderLine, begins_type, ends_block, has_blank_fold, has_comment_fold, has_high_value}
 use Rattle.mail_check.specs.Lines.{header_lines, is_bad_encoding, is_bad_key, is_composite, is_encoding, is_named}
 use Rattle.mail_check.specs.Lines.{is_other_message, second_named, single_names}
@@ -199,7 +199,8 @@ block_findings number place lines =
 abbrev pub file_findings : Spot → Disposition → Node → List Finding
 file_findings spot shown node =
     listed_if spot name.NoType (has_untyped_name shown node)
-    ++ listed_if spot name.TwoNames (has_two_names shown node.ctype)
+    ++ (listed_if spot name.TwoNames (has_two_names shown node.ctype)
+    ++ listed_if spot name.UnsafeName (has_unsafe_name shown node.ctype))
 
 -- ---- the parts of a multipart
 

@@ -1,12 +1,16 @@
 //! Names of files that other programs may read differently.
-ghost use Rattle.std.specs.Prelude.{◌≡◌};
+ghost use Rattle.std.specs.Prelude.{◌≡◌, ◌-◌, IfOk, drop, length};
+ghost use Rattle.mail_codec.specs.Places.{begins};
 ghost use Rattle.mailparse.specs.Mail.{root};
 ghost use Rattle.mailparse.specs.Views as views;
 ghost use Rattle.mailparse.specs.Views.{content_type, tree_of};
-ghost use Rattle.mail_check.specs.FileNames.{are_two, has_two_names, has_untyped_name, lacks_type};
+ghost use Rattle.mail_check.specs.FileNames.{are_two, has_filler, has_risky, has_two_names};
+ghost use Rattle.mail_check.specs.FileNames.{has_unsafe_name, has_untyped_name, is_direction};
+ghost use Rattle.mail_check.specs.FileNames.{is_filler, is_risky, lacks_type};
 
-use mail_data::files::filled_parameter;
+use mail_data::files::{filled_parameter, named_file};
 use mailparse::{MailHeaderMap, ParsedContentDisposition, ParsedContentType, ParsedMail};
+use std::alloc::{AllocError, Global};
 
 /// Returns whether the file names in a disposition and a type differ.
 pub(crate) fn has_two_names(shown: &ParsedContentDisposition, ctype: &ParsedContentType) -> bool
@@ -47,5 +51,70 @@ fn lacks_type(part: &ParsedMail<'_>) -> bool
     match part.headers.get_first_header("Content-Type") {
         Some(_) => false,
         None => true,
+    }
+}
+
+/// Returns whether the name of the file in a disposition and a type is not safe.
+pub(crate) fn has_unsafe_name(
+    alloc: Global,
+    shown: &ParsedContentDisposition,
+    ctype: &ParsedContentType,
+) -> Result<bool, AllocError>
+    ensures { IfOk result (λ is. is
+        ≡ has_unsafe_name (views.disposition shown.now) (content_type ctype.now)) }
+{
+    match named_file(alloc, shown, ctype)? {
+        Some(name) => Ok(has_risky(name.as_str()) || has_filler(name.as_bytes())),
+        None => Ok(false),
+    }
+}
+
+/// Returns whether a name contains a character that a path may have, a control character, or one
+/// that changes the direction of text.
+fn has_risky(name: &str) -> bool
+    ensures { result ≡ has_risky name.now }
+{
+    for c in name.chars() {
+        if is_risky(c) {
+            return true;
+        }
+    }
+    false
+}
+
+/// Returns whether a character is one of these.
+fn is_risky(c: char) -> bool
+    ensures { result ≡ is_risky c }
+{
+    c == '/' || c == '\\' || c.is_control() || c == ':' || is_direction(c)
+}
+
+/// Returns whether a character changes the direction of text, or ends a line or a paragraph.
+fn is_direction(c: char) -> bool
+    ensures { result ≡ is_direction c }
+{
+    matches!(
+        c,
+        '\u{61c}'
+            | '\u{200e}'..='\u{200f}'
+            | '\u{2028}'..='\u{202e}'
+            | '\u{2066}'..='\u{2069}'
+    )
+}
+
+/// Returns whether a name has a dot or a blank at an end.
+fn has_filler(name: &[u8]) -> bool
+    ensures { result ≡ has_filler name.now }
+{
+    filler_at(name, 0) || filler_at(name, name.len().saturating_sub(1))
+}
+
+/// Returns whether a dot or a blank is at an offset.
+fn filler_at(name: &[u8], at: usize) -> bool
+    ensures { result ≡ begins is_filler (drop at name.now) }
+{
+    match name.get(at) {
+        Some(byte) => *byte == b'.' || *byte == b' ' || *byte == b'\t',
+        None => false,
     }
 }

@@ -29,7 +29,7 @@ ghost use Rattle.mail_check.specs.declared.names.Name.TheVariants.{Preamble, Uue
 ghost use Rattle.mail_check.specs.Multiparts.{dash_of};
 
 use crate::bodies::is_base64_lines;
-use crate::file_names::{has_two_names, has_untyped_name};
+use crate::file_names::{has_two_names, has_unsafe_name, has_untyped_name};
 use crate::hidden_bits::hidden_bits;
 use crate::line_tests::{file_line, long_line};
 use crate::lines::{
@@ -589,7 +589,9 @@ fn push_shown(
         spot,
         Name::TwoNames,
         has_two_names(shown, &part.ctype),
-    )
+    )?;
+    let is_unsafe = has_unsafe_name(alloc, shown, &part.ctype)?;
+    push_if(alloc, found, spot, Name::UnsafeName, is_unsafe)
 }
 
 /// Appends the findings of a multipart with a boundary.

@@ -82,6 +82,8 @@ pub enum Name {
     NoType,
     /// `two-names`
     TwoNames,
+    /// `unsafe-name`
+    UnsafeName,
     /// `from-syntax`
     FromSyntax,
     /// `word-syntax`
@@ -162,6 +164,7 @@ impl Name {
             Name::WordParameter => "word-parameter",
             Name::NoType => "no-type",
             Name::TwoNames => "two-names",
+            Name::UnsafeName => "unsafe-name",
             Name::FromSyntax => "from-syntax",
             Name::WordSyntax => "word-syntax",
             Name::WordJoin => "word-join",
@@ -236,7 +239,11 @@ impl Name {
             | Name::WordBytes => Class::Name,
             Name::EncodingSyntax | Name::Base64Syntax | Name::QpSyntax | Name::QpBlank =>
                 Class::Bytes,
-            Name::LongLine | Name::Base64Bits | Name::EightBitBody | Name::Uuencode => Class::Note,
+            Name::LongLine
+            | Name::UnsafeName
+            | Name::Base64Bits
+            | Name::EightBitBody
+            | Name::Uuencode => Class::Note,
         }
     }
 
@@ -311,6 +318,9 @@ impl Name {
             }
             Name::TwoNames => {
                 "The part has two file names that differ, or a parameter of the other header: readers take one or the other."
+            }
+            Name::UnsafeName => {
+                "The name of the file has a slash, a colon, a control character or one that changes the direction of text, or a dot or blank at an end."
             }
             Name::FromSyntax => {
                 "The sender is not one address, or a plain name and one in angle brackets: readers take another address, or none."

@@ -17,7 +17,7 @@ use Rattle.mail_check.specs.Bytes.{earlier, first_byte, first_offset, is_bad_esc
 use Rattle.mail_check.specs.Findings.{Finding, Spot, block_findings, body_findings, byte_findings, delimiter_findings, encoded_findings, finding_at, has_none, header_findings, is_far, is_single, file_line, first_findings}
 use Rattle.mail_check.specs.Findings.{line_findings, listed, listed_if, message_findings, multipart_findings, parameter_findings, part_findings, quoted_findings, file_findings, name_findings, repeated, sender_findings, strict_findings, word_findings, worded_findings}
 use Rattle.mail_check.specs.Findings.{spot_in, spot_of_body, type_findings, value_findings}
-use Rattle.mail_check.specs.FileNames.{has_two_names, has_untyped_name}
+use Rattle.mail_check.specs.FileNames.{has_two_names, has_unsafe_name, has_untyped_name}
 use Rattle.mail_check.specs.LineTests.{first_line, is_long_line}
 use Rattle.mail_check.specs.Lines.{HeaderLine, ends_block, has_blank_fold, has_comment_fold, has_high_value, header_lines, is_bad_encoding, is_bad_key, is_composite, is_encoding, is_named}
 use Rattle.mail_check.specs.Lines.{is_other_message, second_named, single_names}
@@ -126,7 +126,8 @@ on_worded spot line = on_either spot.path (is_worded line) _ (on_words spot line
 
 on_files : (spot : Spot) (shown : Disposition) (node : Node) → On spot.path (file_findings spot shown node)
 on_files spot shown node =
-    both spot.path _ _ (on_listed_if spot name.NoType (has_untyped_name shown node)) (on_listed_if spot name.TwoNames (has_two_names shown node.ctype))
+    both spot.path _ _ (on_listed_if spot name.NoType (has_untyped_name shown node))
+    (both spot.path _ _ (on_listed_if spot name.TwoNames (has_two_names shown node.ctype)) (on_listed_if spot name.UnsafeName (has_unsafe_name shown node.ctype)))
 
 module _ (place : Place) where
   on_header : (number : ℕ) (line : HeaderLine) → On place.path (header_findings number place line)
