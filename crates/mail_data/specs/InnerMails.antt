@@ -1,11 +1,11 @@
 -- The mails inside a mail and inside those, with the paths of the parts that contain them; the
 -- paths of their parts (RFC 3501, section 6.4.5).
-use Rattle.std.specs.Prelude.{ℕ, zero, suc, ◌+◌, ◌-◌, ◌^◌, Bool, true, false, ◌&&◌, ◌||◌, ◌==◌, min, nat_lt, List, [], ◌∷◌, length, filter, flat_map, Option, Some, None, codes, if◌then◌else◌}
+use Rattle.std.specs.Prelude.{ℕ, zero, suc, ◌+◌, ◌-◌, ◌^◌, Bool, false, not, ◌&&◌, ◌||◌, ◌==◌, min, nat_lt, List, [], ◌∷◌, length, filter, flat_map, Option, Some, None, codes, if◌then◌else◌}
 use Rattle.std.specs.Option.{option_map_or}
 use Rattle.std.specs.Result.{result_err, result_ok}
 use Rattle.std.specs.Str.{bytes_eq}
 use Rattle.mail_codec.specs.Charset.{Charsets}
-use Rattle.mailparse.specs.Body.{BodyKind, in_base64, in_quoted_printable, in_7bit, in_8bit, in_binary}
+use Rattle.mailparse.specs.Body.{is_encoded}
 use Rattle.mailparse.specs.Mail.{Node, Tree, read_mail_as, read_mail_in, root}
 use Rattle.mailparse.specs.Manner.{Manner}
 use Rattle.mailparse.specs.Placement.{Placement, placements, placements_as}
@@ -14,7 +14,7 @@ use Rattle.mail_data.specs.Files.{is_leaf, path_under, with_paths}
 use Rattle.mail_data.specs.PartPlaces.{Place, placed}
 use Rattle.mail_data.specs.Reading.{mail_placements, mail_reading}
 use Rattle.mail_data.specs.lenient.Content.{message_content}
-use Rattle.mail_data.specs.lenient.Encoding.{lenient_body_kind}
+use Rattle.mail_data.specs.lenient.Encoding.{LenientKind, in_uuencode, lenient_body_kind, standard}
 
 -- ---- paths
 
@@ -49,12 +49,9 @@ abbrev pub mail_bytes : Place → List ℕ
 mail_bytes place = (message_content (root place.part)).bytes
 
 -- a body in this encoding is not encoded
-abbrev pub is_plain : BodyKind → Bool
-is_plain in_base64 = false
-is_plain in_quoted_printable = false
-is_plain in_7bit = true
-is_plain in_8bit = true
-is_plain in_binary = true
+abbrev pub is_plain : LenientKind → Bool
+is_plain (standard kind) = not (is_encoded kind)
+is_plain in_uuencode = false
 
 -- the offset of the mail in a part, given that of the mail that contains the part: none if it is
 -- encoded or that one has none

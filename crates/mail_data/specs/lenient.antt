@@ -4,6 +4,7 @@ pub mod Base64Views
 pub mod Ids
 pub mod IdViews
 pub mod Encoding
+pub mod EncodingViews
 pub mod Comments
 pub mod Date
 pub mod DateViews

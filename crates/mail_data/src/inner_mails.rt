@@ -1,8 +1,7 @@
 //! The mails inside a mail, with the paths of the parts that contain them.
 ghost use Rattle.std.specs.Prelude.{◌≡◌, ◌||◌, ◌++◌, [], ◌∷◌, map, option_and_then, string_bytes};
 ghost use Rattle.std.specs.Prelude.{Some, IfErr, IfOk, OnOk, Ok};
-ghost use Rattle.mailparse.specs.Body.{BodyKind};
-ghost use Rattle.mailparse.specs.BodyViews.{Content, IsBody, content_of};
+ghost use Rattle.mailparse.specs.BodyViews.{Content, content_of};
 ghost use Rattle.mailparse.specs.Mail.{root};
 ghost use Rattle.mailparse.specs.Outcome.{AnswersOrMemory, IsMemory, refusal_of};
 ghost use Rattle.mailparse.specs.Views.{placements_of, tree_of};
@@ -12,10 +11,11 @@ ghost use Rattle.mail_data.specs.InnerMails.{places_under};
 ghost use Rattle.mail_data.specs.InnerMailViews.{inner_view};
 ghost use Rattle.mail_data.specs.PlaceViews.{place_view};
 ghost use Rattle.mail_data.specs.lenient.Content.{lenient_content};
-ghost use Rattle.mail_data.specs.lenient.Encoding.{lenient_body_kind};
+ghost use Rattle.mail_data.specs.lenient.Encoding.{LenientKind, lenient_body_kind};
+ghost use Rattle.mail_data.specs.lenient.EncodingViews.{IsLenientBody};
 
 use crate::files::{is_leaf, path_under};
-use crate::lenient::{lenient_body, lenient_content};
+use crate::lenient::{LenientBody, lenient_body, lenient_content};
 use crate::places::{Place, push_places};
 use mail_codec::charset::KnownCharsets;
 use mailparse::body::Body;
@@ -164,8 +164,8 @@ fn push_inner<M: ReadingManner>(
 }
 
 /// Returns the bytes of the mail in a body.
-fn held_bytes(alloc: Global, body: &Body<'_>) -> Result<Vec<u8>, MailParseError>
-    ensures read { (kind : BodyKind) (given : Content) → IsBody kind given body.now →
+fn held_bytes(alloc: Global, body: &LenientBody<'_>) -> Result<Vec<u8>, MailParseError>
+    ensures read { (kind : LenientKind) (given : Content) → IsLenientBody kind given body.now →
         IfOk result (λ bytes. bytes.items ≡ (lenient_content kind given.raw).bytes) }
     ensures only_memory { IfErr result IsMemory }
 {
@@ -297,9 +297,13 @@ fn dot_count(path: &str) -> usize
 /// assert_eq!(rt; mail_start(Some(0), &places[0], &body), Some(30));
 /// ```
 #[tactic(auto, unfolding(crate::specs::InnerMails::mail_start))]
-pub fn mail_start(start: Option<usize>, place: &Place<'_, '_>, body: &Body<'_>) -> Option<usize>
+pub fn mail_start(
+    start: Option<usize>,
+    place: &Place<'_, '_>,
+    body: &LenientBody<'_>,
+) -> Option<usize>
     ensures { let node = root (tree_of place.now.part.now) in
-        IsBody (lenient_body_kind node) (content_of node) body.now →
+        IsLenientBody (lenient_body_kind node) (content_of node) body.now →
         result ≡ mail_start start (place_view place.now) }
 {
     let Some(start) = start else {
@@ -312,13 +316,14 @@ pub fn mail_start(start: Option<usize>, place: &Place<'_, '_>, body: &Body<'_>) 
 }
 
 /// Returns whether a body is not encoded.
-fn is_plain(body: &Body<'_>) -> bool
-    ensures { (kind : BodyKind) (given : Content) → IsBody kind given body.now →
+fn is_plain(body: &LenientBody<'_>) -> bool
+    ensures { (kind : LenientKind) (given : Content) → IsLenientBody kind given body.now →
         result ≡ is_plain kind }
 {
     match body {
-        Body::Base64(_) | Body::QuotedPrintable(_) => false,
-        Body::SevenBit(_) | Body::EightBit(_) | Body::Binary(_) => true,
+        LenientBody::Standard(Body::Base64(_) | Body::QuotedPrintable(_)) => false,
+        LenientBody::Standard(Body::SevenBit(_) | Body::EightBit(_) | Body::Binary(_)) => true,
+        LenientBody::Uuencode(_) => false,
     }
 }
 

@@ -23,7 +23,7 @@ pub(crate) use content::part_content;
 pub use content::{Content, ContentFault, lenient_content};
 pub use date::{DateError, date_and_offset_of, date_of, zoned_date_of};
 pub use dispositions::lenient_disposition;
-pub use encoding::lenient_body;
+pub use encoding::{LenientBody, lenient_body};
 pub use file_names::{lenient_file_name, lenient_named_file};
 pub use ids::{IdRule, find_ids};
 pub use manner::{Lenient, lenient_type};

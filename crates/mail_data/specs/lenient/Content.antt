@@ -1,13 +1,16 @@
 -- The bytes of a body, even if it is damaged; the crate's own rule.
-use Rattle.std.specs.Prelude.{ℕ, List, Option, Some, None, Ok, Err}
-use Rattle.mailparse.specs.Body.{BodyKind, decoded}
+use Rattle.std.specs.Prelude.{ℕ, ◌+◌, ◌-◌, ◌/◌, Bool, ◌==◌, nat_lt, List, length, filter, slice_range, codes, Option, Some, None, Ok, Err, if◌then◌else◌}
+use Rattle.std.specs.Option.{option_map_or}
+use Rattle.mail_codec.specs.Ascii.{line_feed}
+use Rattle.mail_codec.specs.Uuencode.{File, data_bytes, first_file}
+use Rattle.mailparse.specs.Body.{decoded}
 use Rattle.mailparse.specs.Mail.{Node}
-use Rattle.mailparse.specs.Refusal.{Reads, Refusal}
+use Rattle.mailparse.specs.Refusal.{Reads, Refusal, generic}
 use Rattle.mail_data.specs.lenient.Base64.{Recovered, base64_front}
-use Rattle.mail_data.specs.lenient.Encoding.{lenient_body_kind}
+use Rattle.mail_data.specs.lenient.Encoding.{LenientKind, in_uuencode, lenient_body_kind, standard}
 
--- the bytes that can be read, why the strict reading refuses the body, if it does, and the number
--- of bytes of the body that were ignored
+-- the bytes that can be read, why the body is refused, if it is, and the number of bytes of the body
+-- that were ignored
 pub record Content : Type 0 where
   pub bytes : List ℕ
   pub fault : Option Refusal
@@ -27,10 +30,49 @@ abbrev pub read_or_front : List ℕ → Reads (List ℕ) → Content
 read_or_front raw (Ok bytes) = all_of bytes
 read_or_front raw (Err refusal) = front_of refusal (base64_front raw)
 
+-- the refusal of a body in uuencode
+abbrev pub uuencode_fault : Refusal
+uuencode_fault = generic (codes "The body has no whole uuencoded file")
+
+-- bytes that are not all of a body in uuencode, of which so many at the end were ignored
+abbrev pub damaged_uuencode : List ℕ → ℕ → Content
+damaged_uuencode bytes ignored =
+    record { bytes = bytes; fault = Some uuencode_fault; ignored = ignored }
+
+-- the number of lines, each with its LF
+abbrev pub feed_count : List ℕ → ℕ
+feed_count lines = length (filter (λ b. b == line_feed) lines)
+
+-- lines so short that they may encode more than twice their own bytes: of fewer than 32 bytes on
+-- average, but for two of them
+unfoldable pub has_short_lines : List ℕ → Bool
+has_short_lines lines = nat_lt (length lines / 32 + 2) (feed_count lines)
+
+-- the bytes that lines encode; if their file is damaged, this many bytes after them are ignored
+abbrev pub decoded_lines : List ℕ → Bool → ℕ → Content
+decoded_lines lines is_ended after =
+    if is_ended then all_of (data_bytes lines) else damaged_uuencode (data_bytes lines) after
+
+-- the bytes of a file in a body, or the body itself if the lines of the file are so short
+abbrev pub file_content : List ℕ → File → Content
+file_content raw file =
+    let lines = slice_range raw file.lines.start file.lines.end in
+    if has_short_lines lines then damaged_uuencode raw 0
+    else decoded_lines lines file.is_ended (length raw - file.block.end)
+
+-- the bytes of the first uuencoded file in a body, or the body itself if it has none
+unfoldable pub uuencode_content : List ℕ → Content
+uuencode_content raw = option_map_or (file_content raw) (first_file raw) (damaged_uuencode raw 0)
+
 -- the content of a body in this transfer encoding
-unfoldable pub lenient_content : BodyKind → List ℕ → Content
-lenient_content kind raw = read_or_front raw (decoded kind raw)
+unfoldable pub lenient_content : LenientKind → List ℕ → Content
+lenient_content (standard kind) raw = read_or_front raw (decoded kind raw)
+lenient_content in_uuencode raw = uuencode_content raw
 
 -- the content of the body of a message
 abbrev pub message_content : Node → Content
 message_content node = lenient_content (lenient_body_kind node) node.body
+
+-- the bytes of a body, or its refusal
+abbrev pub whole : Content → Reads (List ℕ)
+whole content = option_map_or Err content.fault (Ok content.bytes)

@@ -2,20 +2,15 @@
 use Rattle.std.specs.Prelude.{option_map}
 use Rattle.std.specs.Cow.{cow_slice_items}
 use Rattle.mailparse.specs.Refusal.{Refusal, base64_fault}
-use Rattle.mailparse.specs.declared.error.MailParseError.{MailParseError}
-use Rattle.mailparse.specs.declared.error.MailParseError.TheVariants.{Base64DecodeError}
 use Rattle.mail_data.specs.lenient.Content as words
 use Rattle.mail_data.specs.declared.lenient.content.Content.{Content}
 use Rattle.mail_data.specs.declared.lenient.content.ContentFault.{ContentFault}
-use Rattle.mail_data.specs.declared.lenient.content.ContentFault.TheVariants.{Base64}
+use Rattle.mail_data.specs.declared.lenient.content.ContentFault.TheVariants.{Base64, Uuencode}
 
 -- the refusal that a fault is
 abbrev pub fault_view : ContentFault → Refusal
 fault_view (Base64 fault) = base64_fault fault.group
-
--- the error that the strict reading returns for it
-abbrev pub error_of : ContentFault → MailParseError
-error_of (Base64 fault) = Base64DecodeError fault
+fault_view Uuencode = words.uuencode_fault
 
 -- the bytes, the fault and the number of bytes that were ignored
 abbrev pub content_view : Content → words.Content

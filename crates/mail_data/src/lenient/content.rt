@@ -1,20 +1,25 @@
 //! The bytes of a body, even if it is damaged.
-ghost use Rattle.std.specs.Prelude.{◌≡◌, IfErr, IfOk};
+ghost use Rattle.std.specs.Prelude.{◌≡◌, ◌≤◌, length, IfErr, IfOk};
 ghost use Rattle.std.specs.Cow.{cow_slice_items};
+ghost use Rattle.mail_codec.specs.UuencodeViews.{file_view};
 ghost use Rattle.mailparse.specs.Body.{BodyKind};
 ghost use Rattle.mailparse.specs.BodyViews as bodies;
 ghost use Rattle.mailparse.specs.BodyViews.{IsBody};
 ghost use Rattle.mailparse.specs.Mail.{root};
-ghost use Rattle.mailparse.specs.Outcome.{IsMemory};
+ghost use Rattle.mailparse.specs.Outcome.{Answers, IsMemory};
 ghost use Rattle.mailparse.specs.Views.{tree_of};
-ghost use Rattle.mail_data.specs.lenient.Content.{lenient_content, message_content};
+ghost use Rattle.mail_data.specs.lenient.Content.{file_content, lenient_content, message_content};
+ghost use Rattle.mail_data.specs.lenient.Content.{damaged_uuencode, feed_count, has_short_lines, uuencode_content, whole};
 ghost use Rattle.mail_data.specs.lenient.ContentViews.{content_view};
+ghost use Rattle.mail_data.specs.lenient.Encoding.{LenientKind, standard};
+ghost use Rattle.mail_data.specs.lenient.EncodingViews.{IsLenientBody};
 
 use super::base64::base64_front;
-use super::encoding::lenient_body;
+use super::encoding::{LenientBody, lenient_body};
+use mail_codec::transfer::{Uuencoded, decode_uuencode, find_uuencode};
 use mailparse::body::Body;
 use mailparse::{Base64Fault, MailParseError, ParsedMail};
-use std::alloc::Global;
+use std::alloc::{AllocError, Global};
 use std::borrow::CowSlice;
 
 /// The bytes of a body, as `lenient_content` returns them.
@@ -22,10 +27,38 @@ use std::borrow::CowSlice;
 pub struct Content<'b> {
     /// The decoded bytes: all of them, or those that could be read.
     pub bytes: CowSlice<'b, u8>,
-    /// The damage, or `None` if `Body::decoded` reads the body.
+    /// The damage, or `None` if the body is whole.
     pub fault: Option<ContentFault>,
-    /// The number of bytes of a damaged body that were ignored, as `base64_front` counts them.
+    /// The number of bytes of a damaged body that were ignored: of Base64 as `base64_front` counts
+    /// them, and of a uuencoded file those after its data.
     pub ignored: usize,
+}
+
+impl<'b> Content<'b> {
+    /// Returns the decoded bytes of a body that is whole (RFC 2045, section 6). Does not allocate.
+    ///
+    /// # Errors
+    ///
+    /// The error for the damage of a body that is not.
+    ///
+    /// # Examples
+    ///
+    /// ```rust
+    /// use mail_data::lenient::{lenient_body, lenient_content};
+    /// use mailparse::parse_mail;
+    ///
+    /// let mail = parse_mail(alloc, b"Content-Transfer-Encoding: base64\n\naGVs!")?;
+    /// let content = lenient_content(alloc, &lenient_body(alloc, &mail)?)?;
+    /// assert!(rt; content.whole().is_err());
+    /// ```
+    pub fn whole(self) -> Result<CowSlice<'b, u8>, MailParseError>
+        ensures { Answers cow_slice_items result (whole (content_view self.entry)) }
+    {
+        match self.fault {
+            Some(fault) => Err(MailParseError::from(fault)),
+            None => Ok(self.bytes),
+        }
+    }
 }
 
 /// The damage of a body.
@@ -33,16 +66,23 @@ pub struct Content<'b> {
 pub enum ContentFault {
     /// The Base64 of the body, with the group that `Body::decoded` refuses.
     Base64(Base64Fault),
+    /// A body in uuencode has no uuencoded file, or no line `end` follows the data of the first.
+    Uuencode,
 }
 
 impl From<ContentFault> for MailParseError {
-    ghost use Rattle.mail_data.specs.lenient.ContentViews.{error_of};
+    ghost use Rattle.std.specs.Prelude.{Some};
+    ghost use Rattle.mailparse.specs.Outcome.{refusal_of};
+    ghost use Rattle.mail_data.specs.lenient.ContentViews.{fault_view};
 
-    ghost from_gives = { λ fault error. error ≡ error_of fault };
+    ghost from_gives = { λ fault error. refusal_of error ≡ Some (fault_view fault) };
 
     fn from(fault: ContentFault) -> MailParseError {
         match fault {
             ContentFault::Base64(fault) => MailParseError::Base64DecodeError(fault),
+            ContentFault::Uuencode => {
+                MailParseError::Generic("The body has no whole uuencoded file")
+            }
         }
     }
 }
@@ -50,6 +90,10 @@ impl From<ContentFault> for MailParseError {
 /// Returns the bytes of a body without its transfer encoding (RFC 2045, section 6): those that
 /// `Body::decoded` returns, or if that refuses damaged Base64, those that `base64_front` returns,
 /// the fault, and how many bytes were ignored.
+///
+/// Of a body in uuencode they are those of the first uuencoded file in it, as `find_uuencode` and
+/// `decode_uuencode` of `mail_codec::transfer` read it. If the file is damaged, they are those of
+/// its data, and if there is no file, those of the body itself.
 ///
 /// Borrows the body if it is not encoded, and otherwise allocates the bytes.
 ///
@@ -70,9 +114,26 @@ impl From<ContentFault> for MailParseError {
 /// assert_eq!(rt; content.fault, Some(ContentFault::Base64(Base64Fault { group: 1 })));
 /// assert_eq!(rt; content.ignored, 1);
 /// ```
-pub fn lenient_content<'b>(alloc: Global, body: &Body<'b>) -> Result<Content<'b>, MailParseError>
-    ensures read { (kind : BodyKind) (given : bodies.Content) → IsBody kind given body.now →
+pub fn lenient_content<'b>(
+    alloc: Global,
+    body: &LenientBody<'b>,
+) -> Result<Content<'b>, MailParseError>
+    ensures read { (kind : LenientKind) (given : bodies.Content) →
+        IsLenientBody kind given body.now →
         IfOk result (λ content. content_view content ≡ lenient_content kind given.raw) }
+    ensures only_memory { IfErr result IsMemory }
+{
+    match body {
+        LenientBody::Standard(body) => standard_content(alloc, body),
+        LenientBody::Uuencode(raw) => Ok(uuencode_content(alloc, raw)?),
+    }
+}
+
+/// Returns the bytes of a body in an encoding of RFC 2045.
+fn standard_content<'b>(alloc: Global, body: &Body<'b>) -> Result<Content<'b>, MailParseError>
+    ensures read { (kind : BodyKind) (given : bodies.Content) → IsBody kind given body.now →
+        IfOk result (λ content.
+        content_view content ≡ lenient_content (standard kind) given.raw) }
     ensures only_memory { IfErr result IsMemory }
 {
     let error = match body.decoded(alloc) {
@@ -95,6 +156,73 @@ pub fn lenient_content<'b>(alloc: Global, body: &Body<'b>) -> Result<Content<'b>
             })
         }
         error => Err(error),
+    }
+}
+
+/// Returns the bytes of the first uuencoded file in a body, or those of the body if it has none.
+#[tactic(auto, unfolding(crate::specs::lenient::Content::uuencode_content))]
+fn uuencode_content<'b>(alloc: Global, raw: &'b [u8]) -> Result<Content<'b>, AllocError>
+    ensures { IfOk result (λ content. content_view content ≡ uuencode_content raw.now) }
+{
+    match find_uuencode(raw) {
+        Some(file) => file_content(alloc, raw, &file),
+        None => Ok(damaged_uuencode(CowSlice::Borrowed(raw), 0)),
+    }
+}
+
+/// Returns the bytes of a uuencoded file in a body.
+fn file_content<'b>(
+    alloc: Global,
+    raw: &'b [u8],
+    file: &Uuencoded,
+) -> Result<Content<'b>, AllocError>
+    requires lines { (file.now.lines.start ≤ file.now.lines.end)
+        × (file.now.lines.end ≤ length raw.now) }
+    requires block { file.now.block.end ≤ length raw.now }
+    ensures { IfOk result (λ content.
+        content_view content ≡ file_content raw.now (file_view file.now)) }
+{
+    let lines = &raw[file.lines.start..file.lines.end];
+    if has_short_lines(lines) {
+        return Ok(damaged_uuencode(CowSlice::Borrowed(raw), 0));
+    }
+    let decoded = decode_uuencode(alloc, lines)?;
+    let bytes = CowSlice::Owned(decoded.bytes);
+    if file.is_ended {
+        return Ok(Content {
+            bytes,
+            fault: None,
+            ignored: 0,
+        });
+    }
+    Ok(damaged_uuencode(bytes, raw.len() - file.block.end))
+}
+
+/// Returns whether lines are so short that they may encode more than twice their own bytes. A letter
+/// that is missing at the end of a line counts, so a short line can encode 63 bytes.
+#[tactic(auto, unfolding(crate::specs::lenient::Content::has_short_lines))]
+fn has_short_lines(lines: &[u8]) -> bool
+    ensures { result ≡ has_short_lines lines.now }
+{
+    feed_count(lines) > lines.len() / 32 + 2
+}
+
+/// Returns the number of lines, each with its LF.
+fn feed_count(lines: &[u8]) -> usize
+    ensures { result ≡ feed_count lines.now }
+{
+    lines.iter().filter(|byte| **byte == b'\n').count()
+}
+
+/// Returns bytes that are not all of a body in uuencode.
+fn damaged_uuencode(bytes: CowSlice<'_, u8>, ignored: usize) -> Content<'_>
+    ensures { content_view result
+        ≡ damaged_uuencode (cow_slice_items bytes.entry) ignored }
+{
+    Content {
+        bytes,
+        fault: Some(ContentFault::Uuencode),
+        ignored,
     }
 }
 

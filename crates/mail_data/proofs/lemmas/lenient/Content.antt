@@ -1,29 +1,31 @@
 -- Lemmas on the content of a body.
-use Rattle.std.proofs.Common.{◌≡◌, ℕ, List, Some, None, Result, Ok, Err, refl, sym, ap, subst, ◌∙◌}
+use Rattle.std.proofs.Common.{◌≡◌, ℕ, List, None, Result, Ok, Err, refl, sym, ap, subst, ◌∙◌}
 use Rattle.std.specs.Cow.{cow_str_bytes}
 use Rattle.mail_codec.specs.Base64.{base64}
 use Rattle.mail_codec.specs.Places.{without_ascii_whitespace}
 use Rattle.mailparse.specs.Body.{BodyKind, in_base64, in_quoted_printable, in_7bit, in_8bit, in_binary, base64_bytes, decoded}
-use Rattle.mailparse.specs.Outcome.{IsMemory, IsRefusalOrMemory, refusal_of}
+use Rattle.mailparse.specs.Outcome.{IsMemory, IsRefusalOrMemory}
 use Rattle.mailparse.specs.Refusal.{Reads, Refusal, generic, encoding, base64_fault}
 use Rattle.mailparse.specs.declared.error.Base64Fault.{Base64Fault}
 use Rattle.mailparse.specs.declared.error.MailParseError.{MailParseError}
 use Rattle.mailparse.specs.declared.error.MailParseError.TheVariants.{QuotedPrintableDecodeError, Base64DecodeError, EncodingError, Generic, Memory}
 use Rattle.mail_data.specs.lenient.Base64.{Recovered, base64_front}
-use Rattle.mail_data.specs.lenient.Content.{Content, front_of, lenient_content, read_or_front}
-use Rattle.mail_data.specs.lenient.ContentViews.{error_of, fault_view}
-use Rattle.mail_data.specs.declared.lenient.content.ContentFault.{ContentFault}
-use Rattle.mail_data.specs.declared.lenient.content.ContentFault.TheVariants.{Base64}
+use Rattle.mail_data.specs.lenient.Content.{Content, front_of, lenient_content, read_or_front, uuencode_content}
+use Rattle.mail_data.specs.lenient.Encoding.{LenientKind, in_uuencode, standard}
 
 pub content-whole : (kind : BodyKind) (raw bytes : List ℕ) → decoded kind raw ≡ Ok bytes
-    → ◌≡◌ {A = Content} (lenient_content kind raw) (record { bytes = bytes; fault = None; ignored = 0 })
+    → ◌≡◌ {A = Content} (lenient_content (standard kind) raw) (record { bytes = bytes; fault = None; ignored = 0 })
 unfolding lenient_content
 content-whole kind raw bytes e = ap (read_or_front raw) e
 
 pub content-front : (kind : BodyKind) (raw : List ℕ) (front : Recovered) (refusal : Refusal) → decoded kind raw ≡ Err refusal → front ≡ base64_front raw
-    → lenient_content kind raw ≡ front_of refusal front
+    → lenient_content (standard kind) raw ≡ front_of refusal front
 unfolding lenient_content
 content-front kind raw front refusal e is = ap (read_or_front raw) e ∙ ap (front_of refusal) (sym is)
+
+pub content-uuencoded : (kind : LenientKind) (raw text : List ℕ) → kind ≡ in_uuencode → text ≡ raw → uuencode_content text ≡ lenient_content kind raw
+unfolding lenient_content
+content-uuencoded kind raw text is same = ap uuencode_content same ∙ ap (λ (k : LenientKind). lenient_content k raw) (sym is)
 
 -- the refusal that an error for a fault reports
 pub fault-refused : (error : MailParseError) (fault : Base64Fault) (given : Reads (List ℕ)) → error ≡ Base64DecodeError fault
@@ -42,10 +44,6 @@ refused-base64 in_quoted_printable raw refusal e = absurd (cc)
 refused-base64 in_7bit raw refusal e = absurd (cc)
 refused-base64 in_8bit raw refusal e = absurd (cc)
 refused-base64 in_binary raw refusal e = absurd (cc)
-
--- the refusal in the error for a fault
-pub fault-refusal : (fault : ContentFault) → refusal_of (error_of fault) ≡ Some (fault_view fault)
-fault-refusal (Base64 fault) = refl
 
 -- any other error is out of memory
 pub other-memory : (error : MailParseError) (kind : BodyKind) (raw : List ℕ) → IsRefusalOrMemory error (decoded kind raw)
