@@ -91,6 +91,7 @@ struct test {
 
 #define PART "Content-Type: text/plain; charset="
 #define IN_BASE64 "Content-Transfer-Encoding: base64\n\n"
+#define IN_UUENCODE "Content-Transfer-Encoding: x-uuencode\n\nbegin 644 a\n#0V%T\n"
 #define REPORT "Content-Type: multipart/report; boundary=b\n\n--b\nContent-Type: message/delivery-status\n\n"
 
 static const struct test tests[] = {
@@ -104,6 +105,8 @@ static const struct test tests[] = {
     { CONTENT, BYTES(IN_BASE64 "Zm9v*mFy"), NOTHING, 0, ROCKTRAY_NOT_BASE64, NOTHING },
     { CONTENT, BYTES("Content-Transfer-Encoding: quoted-printable\n\na=3Db=\nc"), NOTHING, 0, ROCKTRAY_DONE,
       BYTES("a=bc") },
+    { CONTENT, BYTES(IN_UUENCODE "`\nend\n"), NOTHING, 0, ROCKTRAY_DONE, BYTES("Cat") },
+    { CONTENT, BYTES(IN_UUENCODE), NOTHING, 0, ROCKTRAY_REFUSED, NOTHING },
     { CONTENT, BYTES("\n\0\xff"), NOTHING, 0, ROCKTRAY_DONE, BYTES("\0\xff") },
     { CONTENT, NOTHING, NOTHING, 0, ROCKTRAY_DONE, BYTES("") },
     /* headers that cannot be read */
@@ -191,6 +194,9 @@ static const struct test tests[] = {
     { BODY, BYTES("a=3D\0\xff"), NOTHING, ROCKTRAY_BINARY, ROCKTRAY_DONE, BYTES("a=3D\0\xff") },
     { BODY, BYTES("a=3D"), NOTHING, 77, ROCKTRAY_DONE, BYTES("a=3D") },
     { BODY, NOTHING, NOTHING, ROCKTRAY_7BIT, ROCKTRAY_DONE, BYTES("") },
+    /* POSIX.1, uuencode */
+    { BODY, BYTES("begin 644 a\n#0V%T\n`\nend\n"), NOTHING, ROCKTRAY_UUENCODE, ROCKTRAY_DONE, BYTES("Cat") },
+    { DAMAGED_BODY, BYTES("begin 644 a\n#0V%T\n"), NOTHING, ROCKTRAY_UUENCODE, ROCKTRAY_DONE, BYTES("Cat") },
     { BODY_TEXT, BYTES("5 \x80"), BYTES("text/plain; charset=windows-1252"), ROCKTRAY_8BIT, ROCKTRAY_DONE,
       BYTES("5 \xe2\x82\xac") },
     { BODY_TEXT, BYTES("0NI="), BYTES("text/plain; charset=koi8-r"), ROCKTRAY_BASE64, ROCKTRAY_DONE,

@@ -96,7 +96,8 @@ enum rocktray_encoding {
     ROCKTRAY_8BIT = 1,
     ROCKTRAY_BINARY = 2,
     ROCKTRAY_QUOTED_PRINTABLE = 3,
-    ROCKTRAY_BASE64 = 4
+    ROCKTRAY_BASE64 = 4,
+    ROCKTRAY_UUENCODE = 5 /* x-uuencode, uuencode, x-uue or uue */
 };
 
 /* The disposition of a part. */
@@ -222,7 +223,8 @@ uint32_t rocktray_safe_name(const void *name, size_t name_length, void *buffer, 
 
 /* Writes the decoded bytes of a body: the file, if it is one. `encoding` is that of the part's record; any other number
  * is as ROCKTRAY_7BIT. Sets *is_damaged to whether the body is damaged: then the result is the bytes that can be read.
- * Only Base64 can be damaged. *is_damaged is unchanged after any code but ROCKTRAY_DONE and ROCKTRAY_TOO_SHORT. */
+ * Only Base64 and uuencode can be damaged; a body in uuencode is also if it has no uuencoded file, and then the result
+ * is the body. *is_damaged is unchanged after any code but ROCKTRAY_DONE and ROCKTRAY_TOO_SHORT. */
 uint32_t rocktray_body(uint64_t encoding, const void *body, size_t body_length, void *buffer, size_t capacity,
                        size_t *needed, bool *is_damaged);
 
@@ -272,12 +274,13 @@ uint32_t rocktray_unquoted(const void *mail, size_t mail_length, void *buffer, s
 uint32_t rocktray_json(const void *mail, size_t mail_length, void *buffer, size_t capacity, size_t *needed);
 
 /* Writes the decoded bytes of the body of a mail or a part, without its transfer encoding: the file, if it is one.
- * `part` is the part's own bytes. Refuses with ROCKTRAY_NOT_BASE64. */
+ * `part` is the part's own bytes. Refuses with ROCKTRAY_NOT_BASE64, and a body in uuencode without a whole uuencoded file
+ * with ROCKTRAY_REFUSED. */
 uint32_t rocktray_content(const void *part, size_t part_length, void *buffer, size_t capacity, size_t *needed);
 
 /* Writes the text of the body of a mail or a part in UTF-8. It is decoded leniently: bytes outside the alphabet of
- * Base64 are ignored, damaged Base64 is decoded up to the damage, and text without a known charset is decoded as UTF-8
- * if it is valid, and otherwise as windows-1252. Refuses no mail. */
+ * Base64 are ignored, damaged Base64 and uuencode is decoded up to the damage, and text without a known charset is
+ * decoded as UTF-8 if it is valid, and otherwise as windows-1252. Refuses no mail. */
 uint32_t rocktray_text(const void *part, size_t part_length, void *buffer, size_t capacity, size_t *needed);
 
 /* Writes the text of a header in UTF-8, as rocktray_value does. `number` selects one of the headers

@@ -1,7 +1,7 @@
 -- What is read of ranges of a mail: of raw values, of names and of bodies; the crate's own form.
 use Rattle.std.specs.Prelude.{◌≡◌, ◌⊎◌, ℕ, Bool, ◌==◌, List, Option, Some, is_some, Result, Ok, Err, if◌then◌else◌}
 use Rattle.mail_codec.specs.Charset.{Charsets}
-use Rattle.mailparse.specs.Body.{BodyKind, in_base64, in_quoted_printable, in_7bit}
+use Rattle.mailparse.specs.Body.{in_base64, in_quoted_printable, in_7bit}
 use Rattle.mailparse.specs.ContentType.{ContentType}
 use Rattle.mailparse.specs.Refusal.{◌>>=◌}
 use Rattle.mailparse.specs.Value.{lenient_value_in}
@@ -11,6 +11,7 @@ use Rattle.mail_data.specs.lenient.FileNames.{lenient_name_in}
 use Rattle.mail_data.specs.QuotedLines as quoted
 use Rattle.mail_data.specs.Reading.{mail_reading}
 use Rattle.mail_data.specs.lenient.Content.{lenient_content}
+use Rattle.mail_data.specs.lenient.Encoding.{LenientKind, in_uuencode, standard}
 use Rattle.mail_data.specs.lenient.Manner.{lenient_type_in}
 use Rattle.mail_data.specs.lenient.Texts.{text_read}
 use Rattle.mail_data.specs.lenient.Values.{header_text}
@@ -19,9 +20,12 @@ use Rattle.mail_c.specs.Codes.{no_memory}
 use Rattle.mail_c.specs.Results.{no_limit, text_in}
 use Rattle.mail_c.specs.declared.ranges.Decoded as made
 
--- the transfer encoding with a number; any other number than these two is that of a body that is not encoded
-abbrev pub kind_numbered : ℕ → BodyKind
-kind_numbered number = if number == 4 then in_base64 else (if number == 3 then in_quoted_printable else in_7bit)
+-- the transfer encoding with a number; any other number than these three is that of a body that is not encoded
+abbrev pub kind_numbered : ℕ → LenientKind
+kind_numbered number =
+    if number == 4 then standard in_base64
+    else (if number == 3 then standard in_quoted_printable
+    else (if number == 5 then in_uuencode else standard in_7bit))
 
 -- a name that is safe in any directory
 unfoldable pub safe_name : List ℕ → Found

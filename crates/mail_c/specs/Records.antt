@@ -4,7 +4,7 @@ use Rattle.std.specs.Option.{option_map_or}
 use Rattle.mail_codec.specs.Charset.{Charsets}
 use Rattle.mail_codec.specs.Places.{values_below}
 use Rattle.mailparse.specs.Block.{HeaderList, before_dash_line, header_place, read_block}
-use Rattle.mailparse.specs.Body.{BodyKind, in_base64, in_quoted_printable, in_7bit, in_8bit, in_binary}
+use Rattle.mailparse.specs.Body.{in_base64, in_quoted_printable, in_7bit, in_8bit, in_binary}
 use Rattle.mailparse.specs.Disposition.{Kind, inline, attachment, form_data, extension}
 use Rattle.mailparse.specs.Header.{header_length, key_end, value_end, value_start}
 use Rattle.mailparse.specs.Mail.{Forest, Node, Tree, no_parts, part_and, root, tree, trees_within}
@@ -13,7 +13,7 @@ use Rattle.mail_data.specs.Files.{is_leaf, is_shown}
 use Rattle.mail_data.specs.InnerMails.{forwards}
 use Rattle.mail_data.specs.Reading.{mail_placements, mail_reading}
 use Rattle.mail_data.specs.lenient.Dispositions.{lenient_disposition}
-use Rattle.mail_data.specs.lenient.Encoding.{lenient_body_kind}
+use Rattle.mail_data.specs.lenient.Encoding.{LenientKind, in_uuencode, lenient_body_kind, standard}
 use Rattle.mail_data.specs.lenient.FileNames.{lenient_file_name}
 use Rattle.mail_json.specs.Part.{is_attachment, is_read}
 use Rattle.mail_c.specs.Codes.{coded, too_many}
@@ -23,12 +23,13 @@ use Rattle.mail_c.specs.declared.records.HeaderRecord.{HeaderRecord}
 -- ---- the numbers of a record
 
 -- the number of a transfer encoding
-abbrev pub encoding_number : BodyKind → ℕ
-encoding_number in_7bit = 0
-encoding_number in_8bit = 1
-encoding_number in_binary = 2
-encoding_number in_quoted_printable = 3
-encoding_number in_base64 = 4
+abbrev pub encoding_number : LenientKind → ℕ
+encoding_number (standard in_7bit) = 0
+encoding_number (standard in_8bit) = 1
+encoding_number (standard in_binary) = 2
+encoding_number (standard in_quoted_printable) = 3
+encoding_number (standard in_base64) = 4
+encoding_number in_uuencode = 5
 
 -- the number of a kind of disposition
 abbrev pub kind_number : Kind → ℕ

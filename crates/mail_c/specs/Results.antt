@@ -3,13 +3,12 @@ use Rattle.std.specs.Prelude.{◌≡◌, ◌^◌, ◌-◌, ℕ, Bool, true, fals
 use Rattle.std.specs.Str.{is_utf8}
 use Rattle.mail_codec.specs.Charset.{Charsets, four_charsets}
 use Rattle.mailparse.specs.Block.{read_block}
-use Rattle.mailparse.specs.Body.{decoded}
 use Rattle.mailparse.specs.Header.{Header}
 use Rattle.mailparse.specs.Mail.{root}
 use Rattle.mailparse.specs.Map.{all_with_key}
 use Rattle.mailparse.specs.Refusal.{◌>>=◌, Reads, encoding}
 use Rattle.mail_data.specs.Reading.{mail_reading}
-use Rattle.mail_data.specs.lenient.Encoding.{lenient_body_kind}
+use Rattle.mail_data.specs.lenient.Content.{message_content, whole}
 use Rattle.mail_data.specs.lenient.Ids.{found_ids}
 use Rattle.mail_data.specs.lenient.Texts.{body_text}
 use Rattle.mail_data.specs.lenient.Values.{header_text}
@@ -34,8 +33,7 @@ no_limit = 2 ^ 64 - 1
 unfoldable pub content : List ℕ → Found
 content raw = do
   mail ← mail_reading four_charsets no_limit raw
-  let node = root mail
-  bytes ← decoded (lenient_body_kind node) node.body
+  bytes ← whole (message_content (root mail))
   Ok (Some bytes)
 
 -- the header with this name and this number, counting from 0

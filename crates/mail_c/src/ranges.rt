@@ -1,9 +1,9 @@
 //! What is read of ranges of a mail: of raw values, of names and of bodies.
 ghost use Rattle.std.specs.Prelude.{◌≡◌, Ok, Some, IfOk};
-ghost use Rattle.mailparse.specs.Body.{kind_named};
 ghost use Rattle.mailparse.specs.BodyViews.{name_of};
 ghost use Rattle.mailparse.specs.Outcome.{AnswersOrMemory};
 ghost use Rattle.mailparse.specs.Views.{content_type};
+ghost use Rattle.mail_data.specs.lenient.Encoding.{lenient_kind_named};
 ghost use Rattle.mail_c.specs.Buffer.{bytes_found, output};
 ghost use Rattle.mail_c.specs.Ranges.{WritesDecodedOr, body, body_charset, body_text, bounced_id};
 ghost use Rattle.mail_c.specs.Ranges.{decoded_view};
@@ -16,12 +16,11 @@ use crate::results::{NO_LIMIT, text_in};
 use mail_data::bounce::original_message_id;
 use mail_data::files::safe_file_name;
 use mail_data::lenient::{
-    charset_used, lenient_content, lenient_header_text, lenient_named_file, lenient_text,
-    lenient_type,
+    LenientBody, charset_used, lenient_content, lenient_header_text, lenient_named_file,
+    lenient_text, lenient_type,
 };
 use mail_data::mailbox::quoted;
 use mail_data::reading::read_mail;
-use mailparse::body::Body;
 use mailparse::{KnownCharsets, MailParseError, ParsedContentType, value_text_in};
 use std::alloc::{AllocError, Global};
 
@@ -116,7 +115,7 @@ pub(crate) fn body(alloc: Global, raw: &[u8], encoding: u64) -> Result<Decoded, 
 {
     let ctype = ParsedContentType::default(alloc)?;
     let name = encoding_named(alloc, encoding)?;
-    let body = Body::new(raw, &ctype, &name);
+    let body = LenientBody::new(raw, &ctype, &name);
     let content = lenient_content(alloc, &body)?;
     let is_damaged = content.fault.is_some();
     let bytes = content.bytes.into_owned(alloc)?;
@@ -136,7 +135,7 @@ pub(crate) fn body_text<K: KnownCharsets>(
 {
     let ctype = type_of(alloc, raw_type, known)?;
     let name = encoding_named(alloc, encoding)?;
-    let body = Body::new(raw, &ctype, &name);
+    let body = LenientBody::new(raw, &ctype, &name);
     let content = lenient_content(alloc, &body)?;
     let is_damaged = content.fault.is_some();
     let text = lenient_text(alloc, content.bytes.as_slice(), &ctype, known)?;
@@ -157,22 +156,26 @@ pub(crate) fn body_charset<K: KnownCharsets>(
 {
     let ctype = type_of(alloc, raw_type, known)?;
     let name = encoding_named(alloc, encoding)?;
-    let body = Body::new(raw, &ctype, &name);
+    let body = LenientBody::new(raw, &ctype, &name);
     let content = lenient_content(alloc, &body)?;
     let charset = charset_used(content.bytes.as_slice(), &ctype, known);
     Ok(Some(charset.as_bytes().to_vec(alloc)?))
 }
 
 /// Returns the name of the transfer encoding with a number, if bodies are encoded in it.
-#[tactic(auto, unfolding(mailparse::specs::Body::kind_named))]
+#[tactic(auto, unfolding(mailparse::specs::Body::kind_named, mail_data::specs::lenient::Encoding::lenient_kind_named))]
 fn encoding_named(alloc: Global, number: u64) -> Result<Option<String>, AllocError>
-    ensures { IfOk result (λ name. kind_named (name_of name) ≡ kind_numbered number) }
+    ensures { IfOk result (λ name.
+        lenient_kind_named (name_of name) ≡ kind_numbered number) }
 {
     if number == 4 {
         return Ok(Some(String::from_str(alloc, "base64")?));
     }
     if number == 3 {
         return Ok(Some(String::from_str(alloc, "quoted-printable")?));
+    }
+    if number == 5 {
+        return Ok(Some(String::from_str(alloc, "x-uuencode")?));
     }
     Ok(None)
 }

@@ -1,14 +1,14 @@
 //! Records of a mail, of its parts and of their headers.
 ghost use Rattle.std.specs.Prelude.{Ok, ◌≡◌, ◌≤◌, ◌<◌, ◌+◌, ◌^◌, ◌++◌, [], ◌∷◌, length, map, vec_len, IfOk, OnOk, option_map};
-ghost use Rattle.mailparse.specs.Body.{BodyKind};
-ghost use Rattle.mailparse.specs.BodyViews.{Content, IsBody};
+ghost use Rattle.mailparse.specs.BodyViews.{Content};
 ghost use Rattle.mailparse.specs.Mail.{root, trees_within};
 ghost use Rattle.mailparse.specs.Views as views;
 ghost use Rattle.mailparse.specs.Views.{placement_of, placements_of, tree_of};
 ghost use Rattle.mail_c.specs.Codes.{IsCoded};
 ghost use Rattle.mail_c.specs.OwnHeaders.{AllOwn, AreFirstHeaders, HasOwnHeaders};
 ghost use Rattle.mail_data.specs.lenient.Dispositions.{lenient_disposition};
-ghost use Rattle.mail_data.specs.lenient.Encoding.{lenient_body_kind};
+ghost use Rattle.mail_data.specs.lenient.Encoding.{LenientKind, lenient_body_kind};
+ghost use Rattle.mail_data.specs.lenient.EncodingViews.{IsLenientBody};
 ghost use Rattle.mail_data.specs.lenient.FileNames.{lenient_file_name};
 ghost use Rattle.mail_c.specs.Records.{bit, disposition_number, encoding_number, families, flags};
 ghost use Rattle.mail_c.specs.Records.{header_block, header_records, item_headers, items_of};
@@ -20,7 +20,7 @@ use crate::codes::{NO_MEMORY, TOO_MANY, code_of};
 use crate::places::places_of;
 use mail_data::files::{is_attachment_disposition, is_leaf, is_shown};
 use mail_data::inner_mails::forwards;
-use mail_data::lenient::{lenient_body, lenient_disposition, lenient_file_name};
+use mail_data::lenient::{LenientBody, lenient_body, lenient_disposition, lenient_file_name};
 use mail_data::reading::read_mail;
 use mail_json::is_read;
 use mailparse::body::Body;
@@ -381,16 +381,17 @@ fn encoding_of(alloc: Global, part: &ParsedMail<'_>) -> Result<u64, MailParseErr
 }
 
 /// Returns the number of the transfer encoding of a body.
-fn encoding_number(body: &Body<'_>) -> u64
-    ensures { (kind : BodyKind) (given : Content) → IsBody kind given body.now →
+fn encoding_number(body: &LenientBody<'_>) -> u64
+    ensures { (kind : LenientKind) (given : Content) → IsLenientBody kind given body.now →
         result ≡ encoding_number kind }
 {
     match body {
-        Body::SevenBit(_) => 0,
-        Body::EightBit(_) => 1,
-        Body::Binary(_) => 2,
-        Body::QuotedPrintable(_) => 3,
-        Body::Base64(_) => 4,
+        LenientBody::Standard(Body::SevenBit(_)) => 0,
+        LenientBody::Standard(Body::EightBit(_)) => 1,
+        LenientBody::Standard(Body::Binary(_)) => 2,
+        LenientBody::Standard(Body::QuotedPrintable(_)) => 3,
+        LenientBody::Standard(Body::Base64(_)) => 4,
+        LenientBody::Uuencode(_) => 5,
     }
 }
 

@@ -1,19 +1,27 @@
 //! The calls whose results are bytes, under any charsets.
 ghost use Rattle.std.specs.Prelude.{◌≡◌, ◌++◌, IfOk, OnOk, flat_map, map, string_bytes};
+ghost use Rattle.std.specs.Cow.{cow_slice_items};
+ghost use Rattle.mailparse.specs.Mail.{root};
 ghost use Rattle.mailparse.specs.Outcome.{Answers, AnswersOrMemory, IsMemory};
+ghost use Rattle.mailparse.specs.Views.{tree_of};
+ghost use Rattle.mail_data.specs.lenient.Content.{message_content, whole};
 ghost use Rattle.mail_data.specs.lenient.IdViews as ids_seen;
 ghost use Rattle.mail_c.specs.Buffer.{Gives, bytes_found};
 ghost use Rattle.mail_c.specs.Results.{IsJson, bracketed, content, ids, raw_value};
 ghost use Rattle.mail_c.specs.Results.{links_if, readable, text, text_in, text_of_html, value};
 
-use mail_data::lenient::{IdRule, body_text, find_ids, lenient_body, lenient_header_text};
+use mail_data::lenient::{
+    IdRule, body_text, find_ids, lenient_body, lenient_content, lenient_header_text,
+};
 use mail_data::readable::readable_text;
 use mail_data::reading::read_mail;
 use mail_html::{Links, References, html_text};
 use mail_json::{LineOptions, Origin, write_mail};
-use mailparse::{KnownCharsets, MailHeaderMap, MailParseError, before_dash_line, parse_headers};
+use mailparse::{
+    KnownCharsets, MailHeaderMap, MailParseError, ParsedMail, before_dash_line, parse_headers,
+};
 use std::alloc::{AllocError, Global};
-use std::borrow::CowStr;
+use std::borrow::{CowSlice, CowStr};
 
 /// The limit of the calls that have none: no mail has more messages, parts and headers.
 pub(crate) const NO_LIMIT: usize = usize::MAX;
@@ -56,8 +64,20 @@ pub(crate) fn content(alloc: Global, raw: &[u8]) -> Result<Option<Vec<u8>>, Mail
     ensures { AnswersOrMemory bytes_found result (content raw.now) }
 {
     let mail = read_mail(alloc, raw, NO_LIMIT, &())?;
-    let body = lenient_body(alloc, &mail)?;
-    Ok(Some(body.decoded(alloc)?.into_owned(alloc)?))
+    Ok(Some(whole_content(alloc, &mail)?.into_owned(alloc)?))
+}
+
+/// Returns the decoded bytes of the body of a part, if it is whole.
+fn whole_content<'m>(
+    alloc: Global,
+    part: &'m ParsedMail<'_>,
+) -> Result<CowSlice<'m, u8>, MailParseError>
+    ensures { AnswersOrMemory cow_slice_items result
+        (whole (message_content (root (tree_of part.now)))) }
+{
+    let body = lenient_body(alloc, part)?;
+    let content = lenient_content(alloc, &body)?;
+    content.whole()
 }
 
 /// Returns the text of the body of a message.

@@ -22,7 +22,7 @@ pub struct StoredFile<'m> {
     pub path: String,
     /// A safe name, `unnamed` if the mail gives none. Two files may have the same.
     pub name: String,
-    /// Its bytes; if its Base64 is damaged, those before the damage.
+    /// Its bytes; if its body is damaged, those that can be read.
     pub content: Content<'m>,
 }
 

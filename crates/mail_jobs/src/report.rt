@@ -103,6 +103,7 @@ fn push_file(lines: &mut String, file: &StoredFile<'_>) -> Result<(), AllocError
         Some(ContentFault::Base64(fault)) => {
             write!(lines, ", and a fault in Base64 group {}\n", fault.group)
         }
+        Some(ContentFault::Uuencode) => lines.push_str(", and no whole uuencoded file\n"),
         None => lines.push('\n'),
     }
 }

@@ -1,6 +1,6 @@
 -- What a contract sees of a part with its content.
 use Rattle.std.specs.Prelude.{◌≡◌, Bool, true, false, Option, Some, None, option_map, if◌then◌else◌}
-use Rattle.mailparse.specs.BodyViews.{IsBody, content_of}
+use Rattle.mailparse.specs.BodyViews.{content_of}
 use Rattle.mailparse.specs.Mail.{Tree, root}
 use Rattle.mailparse.specs.Views.{tree_of}
 use Rattle.mail_data.specs.InnerMails.{holds_mail}
@@ -9,6 +9,7 @@ use Rattle.mail_data.specs.PlaceViews.{place_view}
 use Rattle.mail_data.specs.lenient.Content.{Content, message_content}
 use Rattle.mail_data.specs.lenient.ContentViews.{content_view}
 use Rattle.mail_data.specs.lenient.Encoding.{lenient_body_kind}
+use Rattle.mail_data.specs.lenient.EncodingViews.{IsLenientBody}
 use Rattle.mail_json.specs.Part.{content_if}
 use Rattle.mail_json.specs.declared.decoded.Decoded.{Decoded}
 
@@ -26,6 +27,6 @@ mail_if false place = if holds_mail place then Some (message_content (root place
 
 -- a part has its body, its content if bodies are decoded, and otherwise that of the mail that it contains
 pub record IsDecoded (decodes : Bool) (part : Decoded) : Type 0 where
-  pub body : IsBody (lenient_body_kind (root (decoded_tree part))) (content_of (root (decoded_tree part))) part.body
+  pub body : IsLenientBody (lenient_body_kind (root (decoded_tree part))) (content_of (root (decoded_tree part))) part.body
   pub content : option_map content_view part.content ≡ content_if decodes (root (decoded_tree part))
   pub mail : option_map content_view part.mail ≡ mail_if decodes (decoded_place part)

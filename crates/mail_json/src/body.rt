@@ -1,21 +1,24 @@
 //! The encoding of a body.
 ghost use Rattle.std.specs.Prelude.{◌≡◌};
-ghost use Rattle.mailparse.specs.Body.{BodyKind};
-ghost use Rattle.mailparse.specs.BodyViews.{Content, IsBody};
+ghost use Rattle.mailparse.specs.BodyViews.{Content};
+ghost use Rattle.mail_data.specs.lenient.Encoding.{LenientKind};
+ghost use Rattle.mail_data.specs.lenient.EncodingViews.{IsLenientBody};
 ghost use Rattle.mail_json.specs.Body.{encoding_text};
 
+use mail_data::lenient::LenientBody;
 use mailparse::body::Body;
 
 /// Returns the name of the transfer encoding of a body.
-pub(crate) fn encoding_name(body: &Body<'_>) -> &'static str
-    ensures { (kind : BodyKind) (given : Content) → IsBody kind given body.now →
+pub(crate) fn encoding_name(body: &LenientBody<'_>) -> &'static str
+    ensures { (kind : LenientKind) (given : Content) → IsLenientBody kind given body.now →
         result.now ≡ encoding_text kind }
 {
     match body {
-        Body::Base64(_) => "base64",
-        Body::QuotedPrintable(_) => "quoted-printable",
-        Body::SevenBit(_) => "7bit",
-        Body::EightBit(_) => "8bit",
-        Body::Binary(_) => "binary",
+        LenientBody::Standard(Body::Base64(_)) => "base64",
+        LenientBody::Standard(Body::QuotedPrintable(_)) => "quoted-printable",
+        LenientBody::Standard(Body::SevenBit(_)) => "7bit",
+        LenientBody::Standard(Body::EightBit(_)) => "8bit",
+        LenientBody::Standard(Body::Binary(_)) => "binary",
+        LenientBody::Uuencode(_) => "x-uuencode",
     }
 }

@@ -1,7 +1,7 @@
 //! Parts with their contents: each body is decoded once, whoever reads it.
 ghost use Rattle.std.specs.List.{AllByRecursion};
 ghost use Rattle.std.specs.Prelude.{◌≡◌, map, option_map, true, Bool, IfErr, IfOk};
-ghost use Rattle.mailparse.specs.BodyViews.{IsBody, content_of};
+ghost use Rattle.mailparse.specs.BodyViews.{content_of};
 ghost use Rattle.mailparse.specs.Mail.{Tree, root};
 ghost use Rattle.mailparse.specs.Outcome.{IsMemory};
 ghost use Rattle.mailparse.specs.Views.{tree_of};
@@ -9,15 +9,15 @@ ghost use Rattle.mail_data.specs.InnerMails.{holds_mail, mail_bytes};
 ghost use Rattle.mail_data.specs.PlaceViews.{place_view};
 ghost use Rattle.mail_data.specs.lenient.ContentViews.{content_view};
 ghost use Rattle.mail_data.specs.lenient.Encoding.{lenient_body_kind};
+ghost use Rattle.mail_data.specs.lenient.EncodingViews.{IsLenientBody};
 ghost use Rattle.mail_json.specs.Part.{content_if};
 ghost use Rattle.mail_json.specs.DecodedViews.{IsDecoded, decoded_place, mail_if};
 
 use crate::options::LineOptions;
 use mail_data::inner_mails::holds_mail;
-use mail_data::lenient::{Content, lenient_body, lenient_content};
+use mail_data::lenient::{Content, LenientBody, lenient_body, lenient_content};
 use mail_data::places::Place;
 use mailparse::MailParseError;
-use mailparse::body::Body;
 use std::alloc::Global;
 
 /// A part with its body and its content, as `decoded_parts` returns it.
@@ -26,7 +26,7 @@ pub struct Decoded<'p, 'm, 'a> {
     /// The part and its place.
     pub place: &'p Place<'m, 'a>,
     /// Its body.
-    pub body: Body<'m>,
+    pub body: LenientBody<'m>,
     /// Its content, or `None` if bodies are not decoded.
     pub content: Option<Content<'m>>,
     /// If bodies are not decoded, the content of a part that contains a mail that is read.
@@ -99,11 +99,12 @@ fn decoded_part<'p, 'm, 'a>(
 /// Returns the content of a body, or `None` if bodies are not decoded.
 fn content_if<'b>(
     alloc: Global,
-    body: &Body<'b>,
+    body: &LenientBody<'b>,
     decodes_bodies: bool,
 ) -> Result<Option<Content<'b>>, MailParseError>
-    ensures read { (part : Tree) → IsBody (lenient_body_kind (root part)) (content_of (root part))
-        body.now → IfOk result (λ content.
+    ensures read { (part : Tree) →
+        IsLenientBody (lenient_body_kind (root part)) (content_of (root part)) body.now →
+        IfOk result (λ content.
         option_map content_view content ≡ content_if decodes_bodies (root part)) }
     ensures only_memory { IfErr result IsMemory }
 {
@@ -118,11 +119,11 @@ fn content_if<'b>(
 fn mail_if<'b>(
     alloc: Global,
     place: &Place<'_, '_>,
-    body: &Body<'b>,
+    body: &LenientBody<'b>,
     decodes_bodies: bool,
 ) -> Result<Option<Content<'b>>, MailParseError>
     ensures read { let node = root (tree_of place.now.part.now) in
-        IsBody (lenient_body_kind node) (content_of node) body.now → IfOk result (λ content.
+        IsLenientBody (lenient_body_kind node) (content_of node) body.now → IfOk result (λ content.
         option_map content_view content ≡ mail_if decodes_bodies (place_view place.now)) }
     ensures only_memory { IfErr result IsMemory }
 {

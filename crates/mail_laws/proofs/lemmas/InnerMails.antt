@@ -7,7 +7,7 @@ use Rattle.std.specs.Result.{result_ok}
 use Rattle.std.proofs.lemmas.Bool.{cond_both}
 use Rattle.std.proofs.lemmas.List.{length-take, length-drop, map-append}
 use Rattle.mail_codec.specs.Charset.{Charsets}
-use Rattle.mailparse.specs.Body.{BodyKind, decoded, in_base64, in_quoted_printable, in_7bit, in_8bit, in_binary}
+use Rattle.mailparse.specs.Body.{decoded, in_base64, in_quoted_printable, in_7bit, in_8bit, in_binary}
 use Rattle.mailparse.specs.Mail.{strict, Node, Tree, tree, Forest, no_parts, part_and, nodes, read_mail_as, read_mail_in, root, trees_in, trees_within}
 use Rattle.mailparse.specs.Manner.{Manner}
 use Rattle.mailparse.specs.Placement.{Placement, placements, placements_as}
@@ -18,7 +18,7 @@ use Rattle.mail_data.specs.InnerMails.{InnerMail, holds_mail, inner_mails, inner
 use Rattle.mail_data.specs.PartPlaces.{Place, placed}
 use Rattle.mail_data.specs.Reading.{mail_placements, mail_reading}
 use Rattle.mail_data.specs.lenient.Content.{lenient_content}
-use Rattle.mail_data.specs.lenient.Encoding.{lenient_body_kind}
+use Rattle.mail_data.specs.lenient.Encoding.{LenientKind, in_uuencode, lenient_body_kind, standard}
 use Rattle.mail_data.specs.lenient.Manner.{lenient}
 use Rattle.mail_laws.specs.InnerMails.{AreAt}
 use Rattle.mail_laws.specs.RangeTree.{RangeTree, range_tree, RangeForest, no_ranges, ranges_and, range_root, tree_there, wholes, AreNested, AllNested, wholes_and_bodies, wholes_and_bodies_in, ranges_as}
@@ -147,13 +147,14 @@ map-map-bodies (m ∷ messages) = ap (λ (texts : List (List ℕ)). (root m.1).b
 
 -- ---- the mail in a part
 
-plain-content : (kind : BodyKind) (raw : List ℕ) → is_plain kind ≡ true → (lenient_content kind raw).bytes ≡ raw
+plain-content : (kind : LenientKind) (raw : List ℕ) → is_plain kind ≡ true → (lenient_content kind raw).bytes ≡ raw
 unfolding lenient_content decoded
-plain-content in_base64 raw h = absurd (cc)
-plain-content in_quoted_printable raw h = absurd (cc)
-plain-content in_7bit raw h = refl
-plain-content in_8bit raw h = refl
-plain-content in_binary raw h = refl
+plain-content (standard in_base64) raw h = absurd (cc)
+plain-content (standard in_quoted_printable) raw h = absurd (cc)
+plain-content (standard in_7bit) raw h = refl
+plain-content (standard in_8bit) raw h = refl
+plain-content (standard in_binary) raw h = refl
+plain-content in_uuencode raw h = absurd (cc)
 
 min-left : (a b : ℕ) → a ≤ b → min a b ≡ a
 min-left a b h = omega (arith, h)

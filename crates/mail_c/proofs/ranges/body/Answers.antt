@@ -1,8 +1,8 @@
 use Rattle.std.proofs.Common.{◌≡◌, Ok, rules, ap, ◌∙◌}
 use Rattle.std.specs.Cow.{cow_slice_items}
-use Rattle.mailparse.specs.Body.{BodyKind}
 use Rattle.mail_data.specs.lenient.Content.{lenient_content}
 use Rattle.mail_data.specs.lenient.ContentViews.{content_view, fault_view}
+use Rattle.mail_data.specs.lenient.Encoding.{LenientKind}
 use Rattle.mail_data.proofs.lemmas.lenient.Texts.{some-mapped}
 use Rattle.mail_c.proofs.lemmas.Ranges.{body-is}
 use Rattle.mail_c.proofs.ranges.body.Goals as goal
@@ -11,7 +11,7 @@ pub returns : goal.returns
 returns c =
     let raw = c.args.raw.now in
     let content = content_view c.in_ok-content.content in
-    let read = c.in_ok-content.ensures.read _ _ c.new-body.ensures ∙ ap (λ (k : BodyKind). lenient_content k raw) c.in_ok-name.ensures in
+    let read = c.in_ok-content.ensures.read _ _ c.new-body.ensures ∙ ap (λ (k : LenientKind). lenient_content k raw) c.in_ok-name.ensures in
     let owned : c.in_ok-bytes.bytes.items ≡ cow_slice_items c.in_ok-content.content.bytes = search rules in
     let damaged = c.is_some-is_damaged.ensures ∙ some-mapped fault_view c.in_ok-content.content.fault in
     ap (λ d. Ok d) (body-is c.args.encoding raw content _ _ read owned damaged)

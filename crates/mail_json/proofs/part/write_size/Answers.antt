@@ -1,10 +1,8 @@
 use Rattle.std.proofs.Common.{Option, length, option_map, sym, ap, ◌∙◌}
 use Rattle.std.specs.Prelude.{codes}
 use Rattle.std.specs.Cow.{cow_slice_items}
-use Rattle.mailparse.specs.Outcome.{refusal_of}
 use Rattle.mail_data.specs.declared.lenient.content.ContentFault.{ContentFault}
 use Rattle.mail_data.specs.lenient.ContentViews.{fault_view}
-use Rattle.mail_data.proofs.lemmas.lenient.Content.{fault-refusal}
 use Rattle.mail_program.specs.Refusal.{refusal_text}
 use Rattle.mail_json.specs.Printed.{number_value, one, string_or_null}
 use Rattle.mail_json.specs.Values.{size_members}
@@ -23,6 +21,6 @@ pub returns-in_ok-add_optional-in-Some : goal.returns-in_ok-add_optional-in-Some
 returns-in_ok-add_optional-in-Some g c =
     let size = length (cow_slice_items c.args.content.now.bytes) in
     let fault = c.in-Some.fault in
-    let why = c.as_deref.ensures.value ∙ c.in_ok-text-in-Some.ensures.read ∙ ap (option_map refusal_text) (ap refusal_of c.from.ensures ∙ fault-refusal fault) in
+    let why = c.as_deref.ensures.value ∙ c.in_ok-text-in-Some.ensures.read ∙ ap (option_map refusal_text) c.from.ensures in
     renamed (c.in_ok-add_null-in-Some.ensures ⨾ value_renamed string_or_null _ _ c.in_ok-add_optional-in-Some.ensures why)
     (ap (λ (f : Option ContentFault). size_members (option_map fault_view f) size) (sym c.in-Some.is))
