@@ -9,9 +9,9 @@ use crate::calls::files::part_at;
 use crate::calls::tables::all_tables;
 use crate::notation::{Answer, Decision, FORM, Outcome, Row, Show};
 use mail_data::lenient::{
-    ContentFault, DateError, IdRule, Lenient, base64_front, body_text, date_and_offset_of, date_of,
-    find_ids, lenient_body, lenient_content, lenient_disposition, lenient_file_name,
-    lenient_header_text, lenient_named_file, refusal, zoned_date_of,
+    ContentFault, DateError, IdRule, Lenient, LenientBody, base64_front, body_text,
+    date_and_offset_of, date_of, find_ids, lenient_body, lenient_content, lenient_disposition,
+    lenient_file_name, lenient_header_text, lenient_named_file, refusal, zoned_date_of,
 };
 use mailparse::body::Body;
 use mailparse::{KnownCharsets, MAX_LEVELS, ParsedMail, parse_mail, parse_mail_as};
@@ -53,7 +53,7 @@ fn read_front(answer: &mut Answer, row: &Row) -> Outcome {
 }
 
 /// `lenient_body MAIL PART => KIND RAW`, and the decoded bytes where the kind is `base64` or
-/// `quoted-printable`. The whole mail is part 0.
+/// `quoted-printable`; the kind may also be `x-uuencode`. The whole mail is part 0.
 fn read_body(answer: &mut Answer, row: &Row) -> Outcome {
     let mail = parse_mail(row.alloc, row.bytes(0))?;
     let part = part_at(row.alloc, &mail, row.number(1))?;
@@ -61,10 +61,18 @@ fn read_body(answer: &mut Answer, row: &Row) -> Outcome {
     Ok(())
 }
 
-fn write_body(answer: &mut Answer, body: &Body<'_>) {
-    push_raw(answer, body);
-    if let Body::Base64(body) | Body::QuotedPrintable(body) = body {
-        answer.put(body.get_decoded(answer.alloc));
+fn write_body(answer: &mut Answer, body: &LenientBody<'_>) {
+    match body {
+        LenientBody::Standard(body) => {
+            push_raw(answer, body);
+            if let Body::Base64(body) | Body::QuotedPrintable(body) = body {
+                answer.put(body.get_decoded(answer.alloc));
+            }
+        }
+        LenientBody::Uuencode(raw) => {
+            answer.word("x-uuencode");
+            answer.put(*raw);
+        }
     }
 }
 
@@ -84,7 +92,8 @@ fn header_text(row: &Row) -> Result<String, AllocError> {
 }
 
 /// `lenient_content MAIL => BYTES GROUP IGNORED` of the whole mail, GROUP the index of the group
-/// that is refused or `none`, and IGNORED the number of bytes that were ignored.
+/// that is refused, `uuencode` if a uuencoded file is damaged or missing, or `none`, and IGNORED the
+/// number of bytes that were ignored.
 fn read_content(answer: &mut Answer, row: &Row) -> Outcome {
     let mail = parse_mail(row.alloc, row.bytes(0))?;
     let body = lenient_body(row.alloc, &mail)?;
@@ -92,6 +101,7 @@ fn read_content(answer: &mut Answer, row: &Row) -> Outcome {
     answer.put(content.bytes.as_slice());
     match content.fault {
         Some(ContentFault::Base64(fault)) => answer.put(fault.group),
+        Some(ContentFault::Uuencode) => answer.word("uuencode"),
         None => answer.word("none"),
     }
     answer.put(content.ignored);
