@@ -204,6 +204,12 @@ def body_of(part):
     return part.get_payload(decode=True)
 
 
+def encoding_of(part):
+    """The name of the transfer encoding of a part, one for those of uuencode."""
+    name = (part.get("content-transfer-encoding") or "7bit").lower()
+    return "x-uuencode" if name in ("uuencode", "x-uue", "uue") else name
+
+
 def text_of(part, body):
     """The text of a part and the name of its charset, or None where it is no text or marked as an attachment. A
     multipart without parts is a text."""
@@ -244,7 +250,7 @@ def part_object(inside, path, part, report):
         "content_id": content_id(part),
         "attachment": is_file(part),
         "extracted": is_saved(part),
-        "encoding": (part.get("content-transfer-encoding") or "7bit").lower(),
+        "encoding": encoding_of(part),
         "decoded_size": len(body),
         "report": report,
         "headers": [[name, header_text(value)] for name, value in part.raw_items()],

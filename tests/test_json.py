@@ -198,11 +198,22 @@ def test_charsets():
         assert (found["parts"][1]["text"], found["parts"][2]["file_name"]) == (text, f"{text}.pdf"), label
 
 
+def test_uuencode():
+    """Bodies in uuencode, by each of its names."""
+    body = b"\n\nHello,\n\nbegin 644 a.txt\n&8V%FPZD*\n`\nend\n\nBye\n"
+    for name in (b"x-uuencode", b"X-UUencode", b"uuencode", b"x-uue", b"uue"):
+        for head in (b"Content-Type: text/plain; charset=utf-8", b"Content-Type: image/png; name=a.png"):
+            compare(head + b"\nContent-Transfer-Encoding: " + name + body, f"{name}")
+
+
 def test_faults():
     """A refused body, dates and mails."""
     found = objects([], b"Content-Transfer-Encoding: base64\n\naGVs**8=", 0, "a refused body")[0]["parts"][0]
     assert (found["size"], found["decoded_size"], found["damaged"]) == (8, None, True), "a refused body"
     assert found["error"] == "Base64 decode error: group 1 is no Base64 group", "a refused body"
+    found = objects([], b"Content-Transfer-Encoding: x-uuencode\n\nbegin 644 a\n#0V%T\n", 0, "uuencode that is cut off")[0]["parts"][0]
+    assert (found["decoded_size"], found["text"], found["damaged"]) == (None, "Cat", True), "uuencode that is cut off"
+    assert found["error"] == "The body has no whole uuencoded file", "uuencode that is cut off"
     found = objects([], b"Date: 32 x\n\n", 0, "a refused date")[0]
     assert (found["date"], found["date_error"]) == (None, "no day of the month"), "a refused date"
     found = objects([], b"Date: soon\n\n", 0, "a date without a number")[0]

@@ -17,6 +17,7 @@ if TYPE_CHECKING:
 NO_MEMORY = 2
 TOO_DEEP = 18
 NOT_BASE64 = 19
+REFUSED = 21
 TOO_MANY = 22
 DATE_YEAR = 34
 # the most parts and headers of a mail, unless the caller gives a limit

@@ -12,7 +12,8 @@ if TYPE_CHECKING:
 
 # the numbers of rocktray.h
 IDENTITIES = (0, 1, 2)
-ENCODINGS = ("7bit", "8bit", "binary", "quoted-printable", "base64")
+ENCODINGS = ("7bit", "8bit", "binary", "quoted-printable", "base64", "x-uuencode")
+UUENCODE = 5
 IS_LEAF, IS_ATTACHMENT, IS_EXTRACTED, IS_TEXT, IS_MAIL = 1, 2, 4, 8, 16
 # how many mails may be inside one another, and the most numbers in the path of a part whose mail is read
 LEVELS = 100

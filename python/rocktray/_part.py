@@ -7,7 +7,7 @@ from typing import TYPE_CHECKING, Any, Dict, List, Optional, Tuple
 
 from . import _engine, _library
 from ._library import Refused
-from ._node import ENCODINGS, IS_ATTACHMENT, IS_EXTRACTED, IS_TEXT, Node, bytes_of
+from ._node import ENCODINGS, IS_ATTACHMENT, IS_EXTRACTED, IS_TEXT, UUENCODE, Node, bytes_of
 
 if TYPE_CHECKING:
     from ._mail import Mail
@@ -153,7 +153,7 @@ class Part:
 
     @property
     def encoding(self) -> str:
-        """The transfer encoding of the body, such as 'base64'."""
+        """The transfer encoding of the body, such as 'base64'. That of each name of uuencode is 'x-uuencode'."""
         return ENCODINGS[self._node.encoding]
 
     @property
@@ -198,10 +198,13 @@ class Part:
 
     @property
     def content(self) -> bytes:
-        """The decoded bytes of the body, without its transfer encoding. Raises `Refused` if it is not valid Base64:
-        `is_damaged` says so before, and `extracted_content` has its front.
+        """The decoded bytes of the body, without its transfer encoding; of uuencode those of the first file in it. Raises
+        `Refused` if it is not valid Base64, or has no whole uuencoded file: `is_damaged` says so before, and
+        `extracted_content` has what can be read.
         """
         content, is_damaged = self._node.body()
+        if is_damaged and self._node.encoding == UUENCODE:
+            raise Refused("The body has no whole uuencoded file", _library.REFUSED)
         if is_damaged:
             raise Refused(f"Base64 decode error: group {self._bad_group()} is no Base64 group", _library.NOT_BASE64)
         return content
@@ -218,7 +221,7 @@ class Part:
         return len(body) // 4
 
     def extracted_content(self) -> bytes:
-        """The bytes that `rocktray extract` saves: the content, or of damaged Base64 the bytes that can be read. If the
+        """The bytes that `rocktray extract` saves: the content, or of a damaged body the bytes that can be read. If the
         body is empty, as that of a multipart without parts, they are all bytes after the headers.
 
         >>> part = next(parse(b"Content-Type: image/png\\nContent-Transfer-Encoding: base64\\n\\niVBORw0K*").walk())
@@ -246,7 +249,7 @@ class Part:
 
     @property
     def text(self) -> Optional[str]:
-        """The text, if the part is a text and no attachment, otherwise `None`. Of damaged Base64 it is the front."""
+        """The text, if the part is a text and no attachment, otherwise `None`. Of a damaged body it is what can be read."""
         return self._node.text
 
     def text_of_html(self, links: bool = False) -> Optional[str]:
@@ -267,7 +270,9 @@ class Part:
 
     @property
     def is_damaged(self) -> bool:
-        """Whether the body is damaged Base64: `content` is refused, and a text is what can be read of it."""
+        """Whether the body is damaged Base64, or has the encoding uuencode and no whole file in it: `content` is refused,
+        and a text is what can be read of it.
+        """
         return self._node.size[1]
 
     def __eq__(self, other: object) -> bool:

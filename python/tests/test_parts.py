@@ -1,6 +1,7 @@
 """Parts: files, those of forwarded mails, the tree, sizes, ids and reports, as Python's email finds them."""
 
 import base64
+import binascii
 import email
 import random
 
@@ -159,6 +160,23 @@ def test_damaged_bodies():
             with pytest.raises(rocktray.Refused, match=f"group {len(front) // 3} is no Base64 group"):
                 part.content
     assert not any(part.is_damaged for part in rocktray.parse(NESTED).walk())
+
+
+def test_uuencode():
+    """The first uuencoded file of a body, as Python's email reads it, and what can be read of one that is cut off."""
+    chance = random.Random(6)
+    for size in [0, 1, 2, 3, 44, 45, 46, 1000]:
+        front = bytes(chance.randrange(256) for _ in range(size))
+        lines = [binascii.b2a_uu(front[at : at + 45], backtick=chance.random() < 0.5) for at in range(0, size, 45)]
+        name = chance.choice([b"x-uuencode", b"X-UUE", b"uuencode", b"uue"])
+        raw = b"Content-Type: image/png; name=a\nContent-Transfer-Encoding: " + name + b"\n\nHello\nbegin 644 a.png\n" + b"".join(lines)
+        part = next(rocktray.parse(raw + b"`\nend\n").walk())
+        assert part.encoding == "x-uuencode" and not part.is_damaged
+        assert part.content == email.message_from_bytes(raw + b"`\nend\n").get_payload(decode=True) == front
+        part = next(rocktray.parse(raw).walk())
+        assert part.is_damaged and part.decoded_size is None and part.extracted_content() == front
+        with pytest.raises(rocktray.Refused, match="The body has no whole uuencoded file"):
+            part.content
 
 
 def test_damaged_preamble():
