@@ -1,5 +1,5 @@
 //! Records of a mail, of its parts and of their headers.
-ghost use Rattle.std.specs.Prelude.{Ok, ◌≡◌, ◌≤◌, ◌<◌, ◌+◌, ◌^◌, ◌++◌, [], ◌∷◌, length, map, vec_len, IfOk, OnOk, option_map};
+ghost use Rattle.std.specs.Prelude.{Ok, Some, ◌≡◌, ◌≤◌, ◌<◌, ◌+◌, ◌^◌, ◌++◌, [], ◌∷◌, length, map, vec_len, IfOk, IfSome, OnOk, option_map};
 ghost use Rattle.mailparse.specs.BodyViews.{Content};
 ghost use Rattle.mailparse.specs.Mail.{root, trees_within};
 ghost use Rattle.mailparse.specs.Views as views;
@@ -7,7 +7,7 @@ ghost use Rattle.mailparse.specs.Views.{placement_of, placements_of, tree_of};
 ghost use Rattle.mail_c.specs.Codes.{IsCoded};
 ghost use Rattle.mail_c.specs.OwnHeaders.{AllOwn, AreFirstHeaders, HasOwnHeaders};
 ghost use Rattle.mail_data.specs.lenient.Dispositions.{lenient_disposition};
-ghost use Rattle.mail_data.specs.lenient.Encoding.{LenientKind, lenient_body_kind};
+ghost use Rattle.mail_data.specs.lenient.Encoding.{LenientKind, lenient_body_kind, lenient_kind};
 ghost use Rattle.mail_data.specs.lenient.EncodingViews.{IsLenientBody};
 ghost use Rattle.mail_data.specs.lenient.FileNames.{lenient_file_name};
 ghost use Rattle.mail_c.specs.Records.{bit, disposition_number, encoding_number, families, flags};
@@ -25,8 +25,8 @@ use mail_data::reading::read_mail;
 use mail_json::is_read;
 use mailparse::body::Body;
 use mailparse::{
-    DispositionType, KnownCharsets, MailHeader, MailParseError, ParsedMail, before_dash_line,
-    count_headers, header_places, parse_headers,
+    DispositionType, KnownCharsets, MailHeader, MailHeaderMap, MailParseError, ParsedMail,
+    before_dash_line, count_headers, header_places, parse_headers,
 };
 use std::alloc::{AllocError, Global};
 
@@ -371,13 +371,44 @@ fn push_headers(
     Ok(())
 }
 
-/// Returns the number of the transfer encoding of a part.
+/// Returns the number of the transfer encoding of a part. A header that is a name and nothing else,
+/// as nearly every one is, is read once and in place.
+#[tactic(auto, unfolding(mail_data::specs::lenient::Encoding::lenient_kind, mail_data::specs::lenient::Encoding::lenient_kind_named, mailparse::specs::Body::kind_named))]
 fn encoding_of(alloc: Global, part: &ParsedMail<'_>) -> Result<u64, MailParseError>
     ensures { IfOk result (λ number.
         number ≡ encoding_number (lenient_body_kind (root (tree_of part.now)))) }
 {
+    let Some(header) = part.headers.get_first_header("Content-Transfer-Encoding") else {
+        return Ok(0);
+    };
+    let name = header.get_value_ref(alloc)?;
+    if let Some(number) = number_named(name.as_str().as_bytes()) {
+        return Ok(number);
+    }
     let body = lenient_body(alloc, part)?;
     Ok(encoding_number(&body))
+}
+
+/// Returns the number of the transfer encoding with this name, or `None` if no encoding has it.
+fn number_named(name: &[u8]) -> Option<u64>
+    ensures { IfSome result (λ number. number ≡ encoding_number (lenient_kind (Some name.now))) }
+{
+    if name.eq_ignore_ascii_case(b"7bit") {
+        return Some(0);
+    }
+    if name.eq_ignore_ascii_case(b"quoted-printable") {
+        return Some(3);
+    }
+    if name.eq_ignore_ascii_case(b"base64") {
+        return Some(4);
+    }
+    if name.eq_ignore_ascii_case(b"8bit") {
+        return Some(1);
+    }
+    if name.eq_ignore_ascii_case(b"binary") {
+        return Some(2);
+    }
+    None
 }
 
 /// Returns the number of the transfer encoding of a body.
