@@ -50,7 +50,7 @@ pub(crate) fn addresses<K: KnownCharsets>(
 {
     let list = lenient_addresses(alloc, raw)?;
     let mut found = AddressRecords {
-        records: Vec::new(alloc),
+        records: Vec::with_capacity(alloc, list.len())?,
         strings: Vec::new(alloc),
     };
     push_elements(alloc, &mut found, list.as_slice(), known)?;
@@ -196,6 +196,7 @@ fn push_entry(
         } ∷ []) found.new) }
 {
     let start = found.strings.len() as u64;
+    found.strings.reserve(name.len() + address.len())?;
     found.strings.extend_from_slice(name)?;
     let middle = found.strings.len() as u64;
     found.strings.extend_from_slice(address)?;

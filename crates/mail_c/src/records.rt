@@ -154,7 +154,9 @@ fn first_headers(
     if limit < count {
         return Err(TOO_MANY);
     }
-    let mut found = Vec::new(alloc);
+    let Ok(mut found) = Vec::with_capacity(alloc, count) else {
+        return Err(NO_MEMORY);
+    };
     match push_headers(&mut found, raw, 0, count) {
         Ok(()) => Ok(found),
         Err(_) => Err(NO_MEMORY),
@@ -188,7 +190,7 @@ fn records_in<K: KnownCharsets>(
         ≡ records_in (K.known known.now) (map item_view nodes.now)) }
 {
     let mut records = Records {
-        parts: Vec::new(alloc),
+        parts: Vec::with_capacity(alloc, nodes.len())?,
         headers: Vec::new(alloc),
     };
     for node in nodes {
@@ -324,6 +326,7 @@ fn push_read_headers(
     if usize::MAX - start < raw.len() {
         return Err(AllocError);
     }
+    found.reserve(headers.len())?;
     let mut at = 0;
     for header in headers {
         let cut = places_of(&raw[at..], header);
