@@ -3,6 +3,7 @@ pub mod Buffer
 pub mod Results
 pub mod Numbers
 pub mod OwnHeaders
+pub mod Nameless
 pub mod Records
 pub mod RecordViews
 pub mod Ranges

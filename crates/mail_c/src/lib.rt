@@ -31,6 +31,7 @@ mod addresses;
 mod buffer;
 mod codes;
 mod laws;
+mod nameless;
 mod numbers;
 mod places;
 mod ranges;

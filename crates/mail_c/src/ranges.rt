@@ -12,6 +12,7 @@ ghost use Rattle.mail_c.specs.Ranges.{unquoted, value};
 
 use crate::buffer::write_items;
 use crate::codes::NO_MEMORY;
+use crate::nameless::is_nameless_value;
 use crate::results::{NO_LIMIT, text_in};
 use mail_data::bounce::original_message_id;
 use mail_data::files::safe_file_name;
@@ -61,6 +62,9 @@ pub(crate) fn file_name<K: KnownCharsets>(
     ensures { AnswersOrMemory bytes_found result
         (file_name (K.known known.now) disposition.now ctype.now) }
 {
+    if is_nameless_value(alloc, disposition)? && is_nameless_value(alloc, ctype)? {
+        return Ok(None);
+    }
     match lenient_named_file(alloc, disposition, ctype, known)? {
         Some(name) => Ok(Some(name.into_bytes())),
         None => Ok(None),

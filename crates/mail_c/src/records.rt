@@ -17,6 +17,7 @@ ghost use Rattle.mail_c.specs.RecordViews.{family_view, item_view, lists};
 ghost use Rattle.mail_json.specs.Part.{is_attachment};
 
 use crate::codes::{NO_MEMORY, TOO_MANY, code_of};
+use crate::nameless::is_nameless_part;
 use crate::places::places_of;
 use mail_data::files::{is_attachment_disposition, is_leaf, is_shown};
 use mail_data::inner_mails::forwards;
@@ -505,6 +506,9 @@ fn is_attachment<K: KnownCharsets>(
     }
     if is_attachment_disposition(disposition) {
         return Ok(true);
+    }
+    if is_nameless_part(alloc, part)? {
+        return Ok(false);
     }
     Ok(lenient_file_name(alloc, part, known)?.is_some())
 }

@@ -1,0 +1,415 @@
+-- Lemmas on headers that clearly give no file name.
+use Rattle.std.proofs.Common.{◌≡◌, ℕ, zero, suc, ◌<◌, Bool, true, false, cond, not, ◌&&◌, ◌||◌, eqb, ltb, List, [], ◌∷◌, ◌++◌, map, take, drop, Option, Some, None, Ok, refl, sym, ap, ◌∙◌, arith}
+use Rattle.std.proofs.lemmas.Bool.{agree_below, agree_below_at, and_from, and_parts, and_right, false_from_ne_true, false≢true, ltb-true, not-true, or_from}
+use Rattle.std.proofs.lemmas.Slice.Eq.{bytes_eq-Decides}
+use Rattle.std.proofs.lemmas.Str.{chars-IsAscii, encodes-IsAscii}
+use Rattle.std.specs.Char.{is_ascii_whitespace, is_whitespace, to_ascii_lowercase}
+use Rattle.std.specs.List.{before_first, after_first, list_any, position_or_len}
+use Rattle.std.specs.Map.{update, update_all}
+use Rattle.std.specs.Option.{is_some, option_and_then, option_map, option_map_or, option_to_list}
+use Rattle.std.specs.Prelude.{codes, chars, encode_utf8_all, length}
+use Rattle.std.specs.Str.{IsAscii, bytes_eq, drop_trailing_whitespace, skip_leading_whitespace, str_to_ascii_lowercase, trim, trim_end, trim_start}
+use Rattle.mail_codec.specs.Charset.{Charsets}
+use Rattle.mailparse.proofs.lemmas.StarFree.{parameters_are_pairs}
+use Rattle.mailparse.specs.Continuations.{parameters_in}
+use Rattle.mailparse.specs.Pairs.{Texts, is_equals, last_of, no_texts, pair_of, pairs_in, pairs_of}
+use Rattle.mailparse.specs.Segments.{QuoteState, outside, after, ends, segments, segments_from, with_front, unescape}
+use Rattle.mailparse.specs.Sections.{is_star}
+use Rattle.mailparse.specs.private.Continuations.{has_star}
+use Rattle.mail_data.specs.Attachments.{is_attachment_disposition}
+use Rattle.mail_data.specs.Files.{filled, first_text, is_leaf, name_from, no_charsets}
+use Rattle.mail_data.specs.lenient.FileNames.{extended_text, lenient_file_name, lenient_name_in, name_among, shown_name, typed_name}
+use Rattle.mail_data.specs.lenient.Guess.{or_guessed}
+use Rattle.mail_json.specs.Part.{is_attachment}
+use Rattle.mailparse.specs.ContentType.{content_type_in}
+use Rattle.mailparse.specs.Disposition.{Kind, disposition_in}
+use Rattle.mailparse.specs.Mail.{Node, Tree, root}
+use Rattle.mailparse.specs.Map.{first_value_in}
+use Rattle.mailparse.specs.Refusal.{Reads}
+use Rattle.mailparse.specs.Value.{lenient_value_in}
+use Rattle.mail_c.specs.Ranges.{file_name}
+use Rattle.mail_c.specs.Nameless.{is_a, is_m, is_nameless, is_nameless_after, is_nameless_part, is_nameless_value, lacks_name, may_follow}
+use Rattle.mail_data.specs.lenient.Repairs as repairs
+use Rattle.mail_data.specs.lenient.Repairs.{after_name, after_quoted, after_run, after_value, apostrophes, begins_parameter, extended_are_alone, for_extended, missing, missing_apostrophes, repaired, repaired_from, semicolon_unless}
+
+-- ---- parts of such a text
+
+-- after another byte, which is no `a`
+follows : (last other b : ℕ) → is_a other ≡ false → may_follow last b ≡ true → may_follow other b ≡ true
+follows last other b other_is h =
+    let parts = and_parts _ _ h in
+    let more = and_parts _ _ parts.1 in
+    and_from _ _ parts.0 (and_from _ _ more.0 (ap not (and_right (is_m b) (is_a other) other_is)))
+
+after_other : (last other : ℕ) (bytes : List ℕ) → is_a other ≡ false → is_nameless_after last bytes ≡ true → is_nameless_after other bytes ≡ true
+after_other last other [] other_is h = refl
+after_other last other (b ∷ bytes) other_is h =
+    let parts = and_parts _ _ h in
+    and_from _ _ (follows last other b other_is parts.0) parts.1
+
+-- the bytes after the first one
+rest_of : (last b : ℕ) (bytes : List ℕ) → is_nameless_after last (b ∷ bytes) ≡ true → is_nameless bytes ≡ true
+rest_of last b bytes h = after_other b 0 bytes refl (and_parts _ _ h).1
+
+front_of : (n last : ℕ) (bytes : List ℕ) → is_nameless_after last bytes ≡ true → is_nameless_after last (take n bytes) ≡ true
+front_of zero last bytes h = refl
+front_of (suc n) last [] h = refl
+front_of (suc n) last (b ∷ bytes) h =
+    let parts = and_parts _ _ h in
+    and_from _ _ parts.0 (front_of n b bytes parts.1)
+
+either : (last : ℕ) (t : Bool) (one other : List ℕ) → is_nameless_after last one ≡ true → is_nameless_after last other ≡ true → is_nameless_after last (cond t one other) ≡ true
+either last true one other h k = h
+either last false one other h k = k
+
+ascii : (last : ℕ) (bytes : List ℕ) → is_nameless_after last bytes ≡ true → IsAscii bytes
+ascii last [] h i = omega arith
+ascii last (b ∷ bytes) h zero = ltb-true b 128 (and_parts _ _ (and_parts _ _ h).0).0
+ascii last (b ∷ bytes) h (suc i) = ascii b bytes (and_parts _ _ h).1 i
+
+-- ---- a text with what it lacks
+
+-- a character that is put in
+abbrev Fill : ℕ → Type 0
+Fill x = ((last : ℕ) → may_follow last x ≡ true) × (is_a x ≡ false)
+
+abbrev Fills : List ℕ → Type 0
+Fills [] = Unit
+Fills (x ∷ xs) = Fill x × Fills xs
+
+either_fills : (t : Bool) (one other : List ℕ) → Fills one → Fills other → Fills (cond t one other)
+either_fills true one other h k = h
+either_fills false one other h k = k
+
+apostrophe_fills : Fill 39
+apostrophe_fills = (λ last. refl, refl)
+
+semicolon_fills : (t : Bool) → Fills (semicolon_unless t)
+semicolon_fills true = tt
+semicolon_fills false = ((λ last. refl, refl), tt)
+
+apostrophes_fill : (n : ℕ) → Fills (apostrophes n)
+apostrophes_fill zero = tt
+apostrophes_fill (suc zero) = (apostrophe_fills, tt)
+apostrophes_fill (suc (suc n)) = (apostrophe_fills, (apostrophe_fills, tt))
+
+extended_fills : (t : Bool) (cs : List ℕ) → Fills (for_extended t cs)
+extended_fills t cs = either_fills t (apostrophes (missing_apostrophes 2 cs)) [] (apostrophes_fill (missing_apostrophes 2 cs)) tt
+
+-- characters that are put in before another one
+filled_before : (xs : List ℕ) (last other c : ℕ) (rest : List ℕ) → Fills xs → ((b : ℕ) → may_follow last b ≡ true → may_follow other b ≡ true)
+    → may_follow last c ≡ true → is_nameless_after c rest ≡ true → is_nameless_after other (xs ++ c ∷ rest) ≡ true
+filled_before [] last other c rest fill fits here more = and_from _ _ (fits c here) more
+filled_before (x ∷ xs) last other c rest fill fits here more =
+    and_from _ _ (fill.0.0 other) (filled_before xs last x c rest fill.1 (λ b m. follows last x b fill.0.1 m) here more)
+
+-- a position in the text, which has no name outside its crate
+data Spot : Type 0 where
+  before_word in_word after_word in_name after_star before_text in_text after_blank in_quotes after_backslash after_text before_extended in_extended in_run run_backslash : Spot
+
+-- characters with what is missing, the first of which has this position
+abbrev mended : Bool → Spot → List ℕ → List ℕ
+mended t before_word cs = repaired_from t (after_value 47) cs
+mended t in_word cs = repaired_from t (after_value 97) cs
+mended t after_word cs = repaired_from t (repairs.after (after_value 97) 32) cs
+mended t in_name cs = repaired_from t (after_value 59) cs
+mended t after_star cs = repaired_from t (after_name 42) cs
+mended t before_text cs = repaired_from t (after_name 61) cs
+mended t in_text cs = repaired_from t (repairs.after_text 97) cs
+mended t after_blank cs = repaired_from t (repairs.after_text 32) cs
+mended t in_quotes cs = repaired_from t (after_quoted 97) cs
+mended t after_backslash cs = repaired_from t (after_quoted 92) cs
+mended t after_text cs = repaired_from t (after_quoted 34) cs
+mended t before_extended cs = repaired_from t (repairs.after_star 61) cs
+mended t in_extended cs = repaired_from t (repairs.after (repairs.after_star 61) 34) cs
+mended t in_run cs = repaired_from t (after_value 34) cs
+mended t run_backslash cs = repaired_from t (after_run 92) cs
+
+-- the characters after another one are so, whatever its position
+abbrev GoOn : Bool → ℕ → List ℕ → Type 0
+GoOn t c cs = (spot : Spot) → is_nameless_after c (mended t spot cs) ≡ true
+
+choose : {P : Type 0} (made : P → List ℕ → List ℕ) (c : ℕ) (cs : List ℕ) (t : Bool) (one other : P) → is_nameless_after c (made one cs) ≡ true
+    → is_nameless_after c (made other cs) ≡ true → is_nameless_after c (made (cond t one other) cs) ≡ true
+choose made c cs true one other h k = h
+choose made c cs false one other h k = k
+
+choose_here : {P : Type 0} (before made : P → List ℕ → List ℕ) (next : P → ℕ → P) (last c : ℕ) (cs : List ℕ) (t : Bool) (one other : P)
+    → is_nameless_after last (before one (c ∷ cs) ++ c ∷ made (next one c) cs) ≡ true
+    → is_nameless_after last (before other (c ∷ cs) ++ c ∷ made (next other c) cs) ≡ true
+    → is_nameless_after last (before (cond t one other) (c ∷ cs) ++ c ∷ made (next (cond t one other) c) cs) ≡ true
+choose_here before made next last c cs true one other h k = h
+choose_here before made next last c cs false one other h k = k
+
+value_next : (t : Bool) (c : ℕ) (cs : List ℕ) → GoOn t c cs → is_nameless_after c (repaired_from t (after_value c) cs) ≡ true
+value_next t c cs on =
+    choose (repaired_from t) c cs (eqb c 59) _ _ (on in_name) (choose (repaired_from t) c cs (eqb c 47) _ _ (on before_word) (choose (repaired_from t) c cs (eqb c 34) _ _ (on in_run) (on in_word)))
+
+name_next : (t : Bool) (c : ℕ) (cs : List ℕ) → GoOn t c cs → is_nameless_after c (repaired_from t (after_name c) cs) ≡ true
+name_next t c cs on =
+    choose (repaired_from t) c cs (eqb c 61) _ _ (on before_text) (choose (repaired_from t) c cs (eqb c 42) _ _ (on after_star) (choose (repaired_from t) c cs (eqb c 34) _ _ (on in_run) (on in_name)))
+
+text_next : (t : Bool) (c : ℕ) (cs : List ℕ) → GoOn t c cs → is_nameless_after c (repaired_from t (repairs.after_text c) cs) ≡ true
+text_next t c cs on =
+    choose (repaired_from t) c cs (eqb c 59) _ _ (on in_name) (choose (repaired_from t) c cs (eqb c 34) _ _ (on in_run) (choose (repaired_from t) c cs (is_ascii_whitespace c) _ _ (on after_blank) (on in_text)))
+
+quoted_next : (t : Bool) (c : ℕ) (cs : List ℕ) → GoOn t c cs → is_nameless_after c (repaired_from t (after_quoted c) cs) ≡ true
+quoted_next t c cs on =
+    choose (repaired_from t) c cs (eqb c 34) _ _ (on after_text) (choose (repaired_from t) c cs (eqb c 92) _ _ (on after_backslash) (on in_quotes))
+
+run_next : (t : Bool) (c : ℕ) (cs : List ℕ) → GoOn t c cs → is_nameless_after c (repaired_from t (after_run c) cs) ≡ true
+run_next t c cs on =
+    choose (repaired_from t) c cs (eqb c 34) _ _ (on in_text) (choose (repaired_from t) c cs (eqb c 92) _ _ (on run_backslash) (on in_run))
+
+-- what is put in before a character, the character, and the rest
+put : (xs : List ℕ) (last c : ℕ) (more : List ℕ) → Fills xs → may_follow last c ≡ true → is_nameless_after c more ≡ true → is_nameless_after last (xs ++ c ∷ more) ≡ true
+put xs last c more fill here on = filled_before xs last last c more fill (λ b m. m) here on
+
+text_here : (t : Bool) (last c : ℕ) (cs : List ℕ) → may_follow last c ≡ true → GoOn t c cs → is_nameless_after last (mended t in_text (c ∷ cs)) ≡ true
+text_here t last c cs here on = put [] last c (repaired_from t (repairs.after (repairs.after_text 97) c) cs) tt here (text_next t c cs on)
+
+end_here : (t : Bool) (last c : ℕ) (cs : List ℕ) → may_follow last c ≡ true → GoOn t c cs → is_nameless_after last (mended t after_text (c ∷ cs)) ≡ true
+end_here t last c cs here on =
+    put (semicolon_unless (is_ascii_whitespace c || eqb c 59)) last c (repaired_from t (repairs.after (after_quoted 34) c) cs) (semicolon_fills _) here
+    (choose (repaired_from t) c cs (is_ascii_whitespace c) _ _ (on after_text) (name_next t c cs on))
+
+spot_here : (t : Bool) (spot : Spot) (last c : ℕ) (cs : List ℕ) → may_follow last c ≡ true → GoOn t c cs → is_nameless_after last (mended t spot (c ∷ cs)) ≡ true
+spot_here t before_word last c cs here on =
+    put [] last c (repaired_from t (repairs.after (after_value 47) c) cs) tt here (choose (repaired_from t) c cs (is_ascii_whitespace c) _ _ (on before_word) (value_next t c cs on))
+spot_here t in_word last c cs here on =
+    put [] last c (repaired_from t (repairs.after (after_value 97) c) cs) tt here (choose (repaired_from t) c cs (is_ascii_whitespace c) _ _ (on after_word) (value_next t c cs on))
+spot_here t after_word last c cs here on =
+    put (semicolon_unless ((is_ascii_whitespace c || eqb c 59) || eqb c 47)) last c (repaired_from t (repairs.after (repairs.after (after_value 97) 32) c) cs) (semicolon_fills _) here
+    (choose (repaired_from t) c cs (is_ascii_whitespace c) _ _ (on after_word) (choose (repaired_from t) c cs (eqb c 47) _ _ (on before_word) (name_next t c cs on)))
+spot_here t in_name last c cs here on = put [] last c (repaired_from t (repairs.after (after_value 59) c) cs) tt here (name_next t c cs on)
+spot_here t after_star last c cs here on =
+    put [] last c (repaired_from t (repairs.after (after_name 42) c) cs) tt here (choose (repaired_from t) c cs (is_ascii_whitespace c) _ _ (on after_star) (choose (repaired_from t) c cs (eqb c 61) _ _ (on before_extended) (name_next t c cs on)))
+spot_here t before_text last c cs here on =
+    put [] last c (repaired_from t (repairs.after (after_name 61) c) cs) tt here (choose (repaired_from t) c cs (is_ascii_whitespace c) _ _ (on before_text) (choose (repaired_from t) c cs (eqb c 34) _ _ (on in_quotes) (text_next t c cs on)))
+spot_here t before_extended last c cs here on =
+    put (cond (is_ascii_whitespace c || eqb c 34) [] (for_extended t (c ∷ cs))) last c (repaired_from t (repairs.after (repairs.after_star 61) c) cs)
+    (either_fills (is_ascii_whitespace c || eqb c 34) [] (for_extended t (c ∷ cs)) tt (extended_fills t (c ∷ cs))) here
+    (choose (repaired_from t) c cs (is_ascii_whitespace c) _ _ (on before_extended) (choose (repaired_from t) c cs (eqb c 34) _ _ (on in_extended) (text_next t c cs on)))
+spot_here t in_text last c cs here on = text_here t last c cs here on
+spot_here t after_blank last c cs here on =
+    choose_here (missing t) (repaired_from t) repairs.after last c cs (begins_parameter (c ∷ cs)) _ _ (end_here t last c cs here on) (text_here t last c cs here on)
+spot_here t in_quotes last c cs here on = put [] last c (repaired_from t (repairs.after (after_quoted 97) c) cs) tt here (quoted_next t c cs on)
+spot_here t in_extended last c cs here on = put (for_extended t (c ∷ cs)) last c (repaired_from t (repairs.after (repairs.after (repairs.after_star 61) 34) c) cs) (extended_fills t (c ∷ cs)) here (quoted_next t c cs on)
+spot_here t after_backslash last c cs here on = put [] last c (repaired_from t (repairs.after (after_quoted 92) c) cs) tt here (on in_quotes)
+spot_here t after_text last c cs here on = end_here t last c cs here on
+spot_here t in_run last c cs here on = put [] last c (repaired_from t (repairs.after (after_value 34) c) cs) tt here (run_next t c cs on)
+spot_here t run_backslash last c cs here on = put [] last c (repaired_from t (repairs.after (after_run 92) c) cs) tt here (on in_run)
+
+end_of : (t : Bool) (spot : Spot) (last : ℕ) → is_nameless_after last (mended t spot []) ≡ true
+end_of t before_word last = refl
+end_of t in_word last = refl
+end_of t after_word last = refl
+end_of t in_name last = refl
+end_of t after_star last = refl
+end_of t before_text last = refl
+end_of t in_text last = refl
+end_of t after_blank last = refl
+end_of t in_quotes last = refl
+end_of t after_backslash last = refl
+end_of t after_text last = refl
+end_of t before_extended last = refl
+end_of t in_extended last = refl
+end_of t in_run last = refl
+end_of t run_backslash last = refl
+
+mended_after : (t : Bool) (spot : Spot) (last : ℕ) (cs : List ℕ) → is_nameless_after last cs ≡ true → is_nameless_after last (mended t spot cs) ≡ true
+mended_after t spot last [] h = end_of t spot last
+mended_after t spot last (c ∷ cs) h =
+    let parts = and_parts _ _ h in
+    spot_here t spot last c cs parts.0 (λ other. mended_after t other c cs parts.1)
+
+nameless-repaired : (text : List ℕ) → is_nameless text ≡ true → is_nameless (repaired text) ≡ true
+unfolding repaired
+nameless-repaired text h =
+    let alone = extended_are_alone text in
+    let made = mended_after alone before_word 0 text h in
+    ap (λ cs. is_nameless (encode_utf8_all (mended alone before_word cs))) (chars-IsAscii text (ascii 0 text h))
+    ∙ ap is_nameless (encodes-IsAscii (mended alone before_word text) (ascii 0 (mended alone before_word text) made)) ∙ made
+
+-- ---- its segments
+
+abbrev AreNameless : ℕ → List (List ℕ) → Type 0
+AreNameless last [] = Unit
+AreNameless last (s ∷ more) = (is_nameless_after last s ≡ true) × AreNameless 0 more
+
+either_list : (last : ℕ) (t : Bool) (one other : List (List ℕ)) → AreNameless last one → AreNameless last other → AreNameless last (cond t one other)
+either_list last true one other h k = h
+either_list last false one other h k = k
+
+in_front : (last b : ℕ) (parts : List (List ℕ)) → may_follow last b ≡ true → AreNameless b parts → AreNameless last (with_front (b ∷ []) parts)
+in_front last b [] here are = (and_from _ _ here refl, tt)
+in_front last b (s ∷ more) here are = (and_from _ _ here are.0, are.1)
+
+segments_after : (state : QuoteState) (last : ℕ) (text : List ℕ) → is_nameless_after last text ≡ true → AreNameless last (segments_from state text)
+segments_after state last [] h = (refl, tt)
+segments_after state last (b ∷ text) h =
+    let parts = and_parts _ _ h in
+    either_list last (ends state b) ([] ∷ segments_from outside text) (with_front (b ∷ []) (segments_from (after state b) text))
+    (refl, segments_after outside 0 text (after_other b 0 text refl parts.1))
+    (in_front last b (segments_from (after state b) text) parts.0 (segments_after (after state b) b text parts.1))
+
+after_first_one : (parts : List (List ℕ)) → AreNameless 0 parts → AreNameless 0 (drop 1 parts)
+after_first_one [] are = tt
+after_first_one (s ∷ more) are = are.1
+
+-- ---- its keys
+
+skipped : (cs : List ℕ) → is_nameless cs ≡ true → is_nameless (skip_leading_whitespace cs) ≡ true
+skipped [] h = refl
+skipped (c ∷ cs) h = either 0 (is_whitespace c) (skip_leading_whitespace cs) (c ∷ cs) (skipped cs (rest_of 0 c cs h)) h
+
+dropped : (last : ℕ) (cs : List ℕ) → is_nameless_after last cs ≡ true → is_nameless_after last (drop_trailing_whitespace cs) ≡ true
+dropped last [] h = refl
+dropped last (c ∷ cs) h =
+    let parts = and_parts _ _ h in
+    either last (is_whitespace c && eqb (length (drop_trailing_whitespace cs)) 0) [] (c ∷ drop_trailing_whitespace cs) refl
+    (and_from _ _ parts.0 (dropped c cs parts.1))
+
+trimmed_start : (text : List ℕ) → is_nameless text ≡ true → is_nameless (trim_start text) ≡ true
+unfolding trim_start
+trimmed_start text h =
+    let made = skipped text h in
+    ap (λ cs. is_nameless (encode_utf8_all (skip_leading_whitespace cs))) (chars-IsAscii text (ascii 0 text h))
+    ∙ ap is_nameless (encodes-IsAscii (skip_leading_whitespace text) (ascii 0 (skip_leading_whitespace text) made)) ∙ made
+
+trimmed_end : (text : List ℕ) → is_nameless text ≡ true → is_nameless (trim_end text) ≡ true
+unfolding trim_end
+trimmed_end text h =
+    let made = dropped 0 text h in
+    ap (λ cs. is_nameless (encode_utf8_all (drop_trailing_whitespace cs))) (chars-IsAscii text (ascii 0 text h))
+    ∙ ap is_nameless (encodes-IsAscii (drop_trailing_whitespace text) (ascii 0 (drop_trailing_whitespace text) made)) ∙ made
+
+low_ascii : agree_below (λ b. ltb (to_ascii_lowercase b) 128) (λ b. ltb b 128) 128 ≡ true
+low_ascii = refl
+
+low_star : agree_below (λ b. eqb (to_ascii_lowercase b) 42) (λ b. eqb b 42) 128 ≡ true
+low_star = refl
+
+low_a : agree_below (λ b. is_a (to_ascii_lowercase b)) is_a 128 ≡ true
+low_a = refl
+
+low_m : agree_below (λ b. is_m (to_ascii_lowercase b)) is_m 128 ≡ true
+low_m = refl
+
+lowered : (last low : ℕ) (text : List ℕ) → is_a low ≡ is_a last → is_nameless_after last text ≡ true → is_nameless_after low (str_to_ascii_lowercase text) ≡ true
+lowered last low [] same h = refl
+lowered last low (b ∷ text) same h =
+    let parts = and_parts _ _ h in
+    let small : b < 128 = ltb-true b 128 (and_parts _ _ parts.0).0 in
+    let one = agree_below_at (λ b. ltb (to_ascii_lowercase b) 128) (λ b. ltb b 128) 128 b low_ascii small in
+    let two = agree_below_at (λ b. eqb (to_ascii_lowercase b) 42) (λ b. eqb b 42) 128 b low_star small in
+    let three = agree_below_at (λ b. is_m (to_ascii_lowercase b)) is_m 128 b low_m small in
+    let here : may_follow low (to_ascii_lowercase b) ≡ may_follow last b = λ i. one i && (not (two i) && not (three i && same i)) in
+    and_from _ _ (here ∙ parts.0)
+    (lowered b (to_ascii_lowercase b) text (agree_below_at (λ b. is_a (to_ascii_lowercase b)) is_a 128 b low_a small) parts.1)
+
+key_of : (segment : List ℕ) → is_nameless segment ≡ true → is_nameless (str_to_ascii_lowercase (trim (before_first is_equals segment))) ≡ true
+key_of segment h =
+    lowered 0 0 (trim (before_first is_equals segment)) refl
+    (trimmed_end (trim_start (before_first is_equals segment)) (trimmed_start (before_first is_equals segment) (front_of (position_or_len is_equals segment) 0 segment h)))
+
+abbrev HaveNoNames : List (List ℕ × List ℕ) → Type 0
+HaveNoNames [] = Unit
+HaveNoNames (p ∷ ps) = (is_nameless p.0 ≡ true) × HaveNoNames ps
+
+pair_before : (t : Bool) (p : List ℕ × List ℕ) (ps : List (List ℕ × List ℕ)) → is_nameless p.0 ≡ true → HaveNoNames ps
+    → HaveNoNames (option_to_list (cond t (Some p) None) ++ ps)
+pair_before true p ps h are = (h, are)
+pair_before false p ps h are = are
+
+pairs_have : (parts : List (List ℕ)) → AreNameless 0 parts → HaveNoNames (pairs_in parts)
+unfolding pair_of
+pairs_have [] are = tt
+pairs_have (s ∷ more) are =
+    pair_before (ltb (position_or_len is_equals s) (length s)) (str_to_ascii_lowercase (trim (before_first is_equals s)), unescape (trim (after_first is_equals s)))
+    (pairs_in more) (key_of s are.0) (pairs_have more are.1)
+
+-- ---- its parameters
+
+nothing : (ps : List (List ℕ × List ℕ)) (texts : Texts) (name : List ℕ) → HaveNoNames ps → is_nameless name ≡ false → texts name ≡ None
+    → update_all bytes_eq texts ps name ≡ None
+nothing [] texts name are other none = none
+nothing (p ∷ ps) texts name are other none =
+    let apart = false_from_ne_true (bytes_eq p.0 name) (λ e. false≢true (sym other ∙ ap is_nameless (sym ((bytes_eq-Decides p.0 name).0 e)) ∙ are.0)) in
+    nothing ps (update bytes_eq texts p.0 (Some p.1)) name are.1 other (ap (λ t. cond t (Some p.1) (texts name)) apart ∙ none)
+
+star_free : (last : ℕ) (name : List ℕ) → is_nameless_after last name ≡ true → has_star name ≡ false
+star_free last [] h = refl
+star_free last (b ∷ name) h =
+    let parts = and_parts _ _ h in
+    or_from _ _ (not-true _ (and_parts _ _ (and_parts _ _ parts.0).1).0) (star_free b name parts.1)
+
+no_parameter : (known : Charsets) (text name : List ℕ) → is_nameless text ≡ true → is_nameless name ≡ false → parameters_in known (pairs_of text) name ≡ None
+unfolding pairs_of segments
+no_parameter known text name h other =
+    let parts = drop 1 (segments text) in
+    let are = pairs_have parts (after_first_one (segments text) (segments_after outside 0 text h)) in
+    let starred : (n : List ℕ) → has_star n ≡ true → last_of (pairs_in parts) n ≡ None =
+    λ n star. nothing (pairs_in parts) no_texts n are (false_from_ne_true _ (λ e. false≢true (sym (star_free 0 n e) ∙ star))) refl in
+    parameters_are_pairs known (pairs_in parts) starred name ∙ nothing (pairs_in parts) no_texts name are other refl
+
+-- ---- the file name
+
+-- a text that has no name in a disposition or in a type
+abbrev Nameless : (List ℕ → Option (List ℕ)) → Type 0
+Nameless read = (text : List ℕ) → is_nameless text ≡ true → read text ≡ None
+
+none_among : (known : Charsets) (texts : Texts) (key extended : List ℕ) → texts key ≡ None → texts extended ≡ None → name_among known texts key extended ≡ None
+none_among known texts key extended one other =
+    ap (λ t. first_text (filled (option_map (extended_text known) t)) (filled (texts key))) other ∙ ap (λ t. filled t) one
+
+none_shown : (known : Charsets) → Nameless (shown_name known)
+unfolding shown_name disposition_in
+none_shown known text h =
+    let whole = repaired text in
+    let made = nameless-repaired text h in
+    none_among known (parameters_in (or_guessed known) (pairs_of whole)) (codes "filename") (codes "filename*")
+    (no_parameter (or_guessed known) whole (codes "filename") made refl) (no_parameter (or_guessed known) whole (codes "filename*") made refl)
+
+none_typed : (known : Charsets) → Nameless (typed_name known)
+unfolding typed_name content_type_in
+none_typed known text h =
+    let whole = repaired text in
+    let made = nameless-repaired text h in
+    none_among known (parameters_in (or_guessed known) (pairs_of whole)) (codes "name") (codes "name*")
+    (no_parameter (or_guessed known) whole (codes "name") made refl) (no_parameter (or_guessed known) whole (codes "name*") made refl)
+
+-- in neither of two texts
+none_found : (known : Charsets) (one other : Option (List ℕ)) → one ≡ None → other ≡ None
+    → option_and_then (λ name. filled (Some (lenient_value_in known name))) (first_text one other) ≡ None
+none_found known one other e f =
+    ap (λ t. option_and_then (λ name. filled (Some (lenient_value_in known name))) (first_text t other)) e
+    ∙ ap (λ t. option_and_then (λ name. filled (Some (lenient_value_in known name))) t) f
+
+none_read : (read : List ℕ → Option (List ℕ)) (value : Option (List ℕ)) → Nameless read → option_map_or is_nameless value true ≡ true → option_and_then read value ≡ None
+none_read read None less h = refl
+none_read read (Some text) less h = less text h
+
+-- a part has none
+pub nameless-part : (known : Charsets) (node : Node) → is_nameless_part node ≡ true → lenient_file_name known node ≡ None
+unfolding lenient_file_name
+nameless-part known node h =
+    let parts = and_parts _ _ h in
+    none_found known (name_from (shown_name known) (codes "Content-Disposition") node) (name_from (typed_name known) (codes "Content-Type") node)
+    (none_read (shown_name known) (first_value_in no_charsets (codes "Content-Disposition") node.headers) (none_shown known) parts.0)
+    (none_read (typed_name known) (first_value_in no_charsets (codes "Content-Type") node.headers) (none_typed known) parts.1)
+
+-- so it is no attachment, unless its disposition says so
+pub nameless-attachment : (known : Charsets) (t : Tree) (disposition : Option Kind) → is_attachment_disposition disposition ≡ false → is_nameless_part (root t) ≡ true
+    → false ≡ is_attachment t disposition (lenient_file_name known (root t))
+nameless-attachment known t disposition shown h =
+    sym (and_right (is_leaf t) _ (or_from _ _ shown (ap (λ (name : Option (List ℕ)). is_some name) (nameless-part known (root t) h))))
+
+-- two raw values have none
+pub nameless-values : (known : Charsets) (disposition ctype : List ℕ) → is_nameless_value disposition ≡ true → is_nameless_value ctype ≡ true
+    → file_name known disposition ctype ≡ Ok None
+unfolding file_name lenient_name_in
+nameless-values known disposition ctype h k =
+    ap (λ (name : Option (List ℕ)). Ok name)
+    (none_found known (shown_name known (lenient_value_in no_charsets disposition)) (typed_name known (lenient_value_in no_charsets ctype))
+    (none_shown known (lenient_value_in no_charsets disposition) h) (none_typed known (lenient_value_in no_charsets ctype) k))

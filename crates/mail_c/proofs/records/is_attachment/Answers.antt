@@ -1,0 +1,9 @@
+use Rattle.std.proofs.Common.{option_map, sym, ◌∙◌}
+use Rattle.mailparse.specs.Views.{kind, tree_of}
+use Rattle.mail_c.proofs.lemmas.Nameless.{nameless-attachment}
+use Rattle.mail_c.proofs.records.is_attachment.Goals as goal
+
+pub returns-then-branch : goal.returns-then-branch
+returns-then-branch g c =
+    nameless-attachment (g.K.KnownCharsets.known c.args.known.now) (tree_of c.args.part.now) (option_map kind c.args.disposition.now)
+    (sym c.is_attachment_disposition.ensures ∙ c.if-is_attachment_disposition.false) (sym c.in_ok-is_nameless_part.ensures ∙ c.if-branch.true)

@@ -1,0 +1,42 @@
+-- Headers that clearly give no file name. The parameters that give one are `name` and `filename`, with or without a star, so their
+-- names contain `am`. Nothing is said of texts that contain a `*` or bytes that are not ASCII; the crate's own rule.
+use Rattle.std.specs.Prelude.{ℕ, Bool, true, not, ◌&&◌, ◌||◌, ◌==◌, nat_lt, List, [], ◌∷◌, codes}
+use Rattle.std.specs.Option.{option_map_or}
+use Rattle.mail_codec.specs.Ascii.{asterisk}
+use Rattle.mailparse.specs.Mail.{Node}
+use Rattle.mailparse.specs.Map.{first_value_in}
+use Rattle.mailparse.specs.Value.{lenient_value_in}
+use Rattle.mail_data.specs.Files.{no_charsets}
+
+-- `a` or `A`
+abbrev pub is_a : ℕ → Bool
+is_a b = b == 97 || b == 65
+
+-- `m` or `M`
+abbrev pub is_m : ℕ → Bool
+is_m b = b == 109 || b == 77
+
+-- a byte may stand after the byte `last`: both are not `am`
+abbrev pub may_follow : ℕ → ℕ → Bool
+may_follow last b = nat_lt b 128 && (not (b == asterisk) && not (is_m b && is_a last))
+
+-- each of the bytes may stand after the one before it, the first after the byte `last`
+abbrev pub is_nameless_after : ℕ → List ℕ → Bool
+is_nameless_after last [] = true
+is_nameless_after last (b ∷ bytes) = may_follow last b && is_nameless_after b bytes
+
+-- a text clearly gives no file name
+abbrev pub is_nameless : List ℕ → Bool
+is_nameless text = is_nameless_after 0 text
+
+-- the raw value of a header clearly gives none
+abbrev pub is_nameless_value : List ℕ → Bool
+is_nameless_value raw = is_nameless (lenient_value_in no_charsets raw)
+
+-- the first header of a message with this name clearly gives none, or there is no such header
+abbrev pub lacks_name : List ℕ → Node → Bool
+lacks_name header node = option_map_or is_nameless (first_value_in no_charsets header node.headers) true
+
+-- neither the disposition of a message nor its type gives one
+abbrev pub is_nameless_part : Node → Bool
+is_nameless_part node = lacks_name (codes "Content-Disposition") node && lacks_name (codes "Content-Type") node
