@@ -1,5 +1,5 @@
 -- Headers that clearly give no file name. The parameters that give one are `name` and `filename`, with or without a star, so their
--- names contain `am`. Nothing is said of texts that contain a `*` or bytes that are not ASCII; the crate's own rule.
+-- names contain `am`. A text with a `*` or with bytes that are not ASCII counts as one that may give a name; the crate's own rule.
 use Rattle.std.specs.Prelude.{ℕ, Bool, true, not, ◌&&◌, ◌||◌, ◌==◌, nat_lt, List, [], ◌∷◌, codes}
 use Rattle.std.specs.Option.{option_map_or}
 use Rattle.mail_codec.specs.Ascii.{asterisk}
@@ -16,11 +16,11 @@ is_a b = b == 97 || b == 65
 abbrev pub is_m : ℕ → Bool
 is_m b = b == 109 || b == 77
 
--- a byte may stand after the byte `last`: both are not `am`
+-- a byte may follow the byte `last`: it is ASCII and no `*`, and the two are not `am`
 abbrev pub may_follow : ℕ → ℕ → Bool
 may_follow last b = nat_lt b 128 && (not (b == asterisk) && not (is_m b && is_a last))
 
--- each of the bytes may stand after the one before it, the first after the byte `last`
+-- each of the bytes may follow the one before it, and the first the byte `last`
 abbrev pub is_nameless_after : ℕ → List ℕ → Bool
 is_nameless_after last [] = true
 is_nameless_after last (b ∷ bytes) = may_follow last b && is_nameless_after b bytes

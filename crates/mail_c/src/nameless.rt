@@ -1,5 +1,5 @@
-//! Headers that clearly give no file name, so that nobody need read their parameters.
-ghost use Rattle.std.specs.Prelude.{◌≡◌, IfOk, Ok};
+//! Headers that clearly give no file name, so that their parameters need not be read.
+ghost use Rattle.std.specs.Prelude.{◌≡◌, true, false, codes, IfOk, Ok};
 ghost use Rattle.mailparse.specs.Mail.{root};
 ghost use Rattle.mailparse.specs.Outcome.{AnswersOrMemory};
 ghost use Rattle.mailparse.specs.Views.{tree_of};
@@ -10,10 +10,20 @@ use mail_data::files::NoCharsets;
 use mailparse::{MailHeaderMap, MailParseError, ParsedMail, value_text_in};
 use std::alloc::{AllocError, Global};
 
-/// Returns whether a part clearly has no file name: neither its disposition nor its type gives one.
-pub(crate) fn is_nameless_part(alloc: Global, part: &ParsedMail<'_>) -> Result<bool, AllocError>
+/// Returns whether a part clearly has no file name: neither its disposition, if it has one, nor its
+/// type gives one.
+pub(crate) fn is_nameless_part(
+    alloc: Global,
+    part: &ParsedMail<'_>,
+    has_disposition: bool,
+) -> Result<bool, AllocError>
+    requires { has_disposition ≡ false →
+        lacks_name (codes "Content-Disposition") (root (tree_of part.now)) ≡ true }
     ensures { IfOk result (λ is. is ≡ is_nameless_part (root (tree_of part.now))) }
 {
+    if !has_disposition {
+        return lacks_name(alloc, part, "Content-Type");
+    }
     if !lacks_name(alloc, part, "Content-Disposition")? {
         return Ok(false);
     }
@@ -56,7 +66,8 @@ fn is_nameless(text: &[u8]) -> bool
     true
 }
 
-/// Returns whether a byte may stand after the byte `last`: both are not `am`, as in `name`.
+/// Returns whether a byte may follow the byte `last`: it is ASCII and no `*`, and the two are not
+/// `am`, as in `name`.
 fn may_follow(last: u8, byte: u8) -> bool
     ensures { result ≡ may_follow last byte }
 {

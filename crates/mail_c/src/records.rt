@@ -470,7 +470,7 @@ fn kind_number(kind: &DispositionType) -> u64
     }
 }
 
-/// Returns the sum of the flags of a part of this disposition.
+/// Returns the sum of the flags of a part with this disposition.
 #[tactic(auto, unfolding(crate::specs::Records::flags))]
 fn flags<K: KnownCharsets>(
     alloc: Global,
@@ -478,6 +478,8 @@ fn flags<K: KnownCharsets>(
     disposition: &Option<DispositionType>,
     known: &K,
 ) -> Result<u64, MailParseError>
+    requires { option_map views.kind disposition.now
+        ≡ lenient_disposition (K.known known.now) (root (tree_of part.now)) }
     ensures { let t = tree_of part.now in
         IfOk result (λ sum. sum ≡ flags t (option_map views.kind disposition.now)
         (lenient_file_name (K.known known.now) (root t))) }
@@ -489,7 +491,7 @@ fn flags<K: KnownCharsets>(
     Ok(bit(leaf, 1) + bit(attached, 2) + bit(extracted, 4) + bit(read, 8) + bit(forwards(part), 16))
 }
 
-/// Returns whether a part of this disposition is an attachment. Its file name is read only if it
+/// Returns whether a part with this disposition is an attachment. Its file name is read only if it
 /// decides that.
 fn is_attachment<K: KnownCharsets>(
     alloc: Global,
@@ -497,6 +499,8 @@ fn is_attachment<K: KnownCharsets>(
     disposition: &Option<DispositionType>,
     known: &K,
 ) -> Result<bool, MailParseError>
+    requires { option_map views.kind disposition.now
+        ≡ lenient_disposition (K.known known.now) (root (tree_of part.now)) }
     ensures { let t = tree_of part.now in
         IfOk result (λ is. is ≡ is_attachment t (option_map views.kind disposition.now)
         (lenient_file_name (K.known known.now) (root t))) }
@@ -507,7 +511,7 @@ fn is_attachment<K: KnownCharsets>(
     if is_attachment_disposition(disposition) {
         return Ok(true);
     }
-    if is_nameless_part(alloc, part)? {
+    if is_nameless_part(alloc, part, disposition.is_some())? {
         return Ok(false);
     }
     Ok(lenient_file_name(alloc, part, known)?.is_some())

@@ -1,31 +1,34 @@
 -- Lemmas on headers that clearly give no file name.
-use Rattle.std.proofs.Common.{◌≡◌, ℕ, zero, suc, ◌<◌, Bool, true, false, cond, not, ◌&&◌, ◌||◌, eqb, ltb, List, [], ◌∷◌, ◌++◌, map, take, drop, Option, Some, None, Ok, refl, sym, ap, ◌∙◌, arith}
+use Rattle.std.proofs.Common.{◌≡◌, ℕ, zero, suc, ◌<◌, Bool, true, false, cond, not, ◌&&◌, ◌||◌, eqb, ltb, List, [], ◌∷◌, ◌++◌, take, drop, Option, Some, None, Ok, refl, sym, ap, ◌∙◌, arith}
 use Rattle.std.proofs.lemmas.Bool.{agree_below, agree_below_at, and_from, and_parts, and_right, false_from_ne_true, false≢true, ltb-true, not-true, or_from}
 use Rattle.std.proofs.lemmas.Slice.Eq.{bytes_eq-Decides}
 use Rattle.std.proofs.lemmas.Str.{chars-IsAscii, encodes-IsAscii}
 use Rattle.std.specs.Char.{is_ascii_whitespace, is_whitespace, to_ascii_lowercase}
-use Rattle.std.specs.List.{before_first, after_first, list_any, position_or_len}
+use Rattle.std.specs.List.{before_first, after_first, position_or_len}
 use Rattle.std.specs.Map.{update, update_all}
 use Rattle.std.specs.Option.{is_some, option_and_then, option_map, option_map_or, option_to_list}
-use Rattle.std.specs.Prelude.{codes, chars, encode_utf8_all, length}
+use Rattle.std.specs.Prelude.{codes, encode_utf8_all, length}
 use Rattle.std.specs.Str.{IsAscii, bytes_eq, drop_trailing_whitespace, skip_leading_whitespace, str_to_ascii_lowercase, trim, trim_end, trim_start}
 use Rattle.mail_codec.specs.Charset.{Charsets}
 use Rattle.mailparse.proofs.lemmas.StarFree.{parameters_are_pairs}
 use Rattle.mailparse.specs.Continuations.{parameters_in}
 use Rattle.mailparse.specs.Pairs.{Texts, is_equals, last_of, no_texts, pair_of, pairs_in, pairs_of}
 use Rattle.mailparse.specs.Segments.{QuoteState, outside, after, ends, segments, segments_from, with_front, unescape}
-use Rattle.mailparse.specs.Sections.{is_star}
 use Rattle.mailparse.specs.private.Continuations.{has_star}
 use Rattle.mail_data.specs.Attachments.{is_attachment_disposition}
 use Rattle.mail_data.specs.Files.{filled, first_text, is_leaf, name_from, no_charsets}
+use Rattle.mail_data.specs.lenient.Dispositions.{lenient_disposition, lenient_kind}
+use Rattle.mail_data.specs.lenient.Values.{header_text}
 use Rattle.mail_data.specs.lenient.FileNames.{extended_text, lenient_file_name, lenient_name_in, name_among, shown_name, typed_name}
 use Rattle.mail_data.specs.lenient.Guess.{or_guessed}
 use Rattle.mail_json.specs.Part.{is_attachment}
 use Rattle.mailparse.specs.ContentType.{content_type_in}
 use Rattle.mailparse.specs.Disposition.{Kind, disposition_in}
 use Rattle.mailparse.specs.Mail.{Node, Tree, root}
-use Rattle.mailparse.specs.Map.{first_value_in}
-use Rattle.mailparse.specs.Refusal.{Reads}
+use Rattle.mailparse.specs.Header.{Header}
+use Rattle.mailparse.specs.Map.{first_value_in, first_with_key}
+use Rattle.mailparse.specs.Views.{kind}
+use Rattle.mailparse.specs.declared.disposition.DispositionType.{DispositionType}
 use Rattle.mailparse.specs.Value.{lenient_value_in}
 use Rattle.mail_c.specs.Ranges.{file_name}
 use Rattle.mail_c.specs.Nameless.{is_a, is_m, is_nameless, is_nameless_after, is_nameless_part, is_nameless_value, lacks_name, may_follow}
@@ -398,6 +401,18 @@ nameless-part known node h =
     none_found known (name_from (shown_name known) (codes "Content-Disposition") node) (name_from (typed_name known) (codes "Content-Type") node)
     (none_read (shown_name known) (first_value_in no_charsets (codes "Content-Disposition") node.headers) (none_shown known) parts.0)
     (none_read (typed_name known) (first_value_in no_charsets (codes "Content-Type") node.headers) (none_typed known) parts.1)
+
+-- a part without a disposition has none in that
+pub no_disposition : (known : Charsets) (node : Node) (found : Option DispositionType) → option_map kind found ≡ lenient_disposition known node → is_some found ≡ false
+    → lacks_name (codes "Content-Disposition") node ≡ true
+unfolding lenient_disposition
+no_disposition known node (Some shown) same none = absurd (false≢true (sym none))
+no_disposition known node None same none = by_header (first_with_key (codes "Content-Disposition") node.headers) same
+  where
+    by_header : (header : Option Header) → None ≡ option_map lenient_kind (option_map (λ h. header_text known h.value) header)
+        → option_map_or is_nameless (option_map (λ h. lenient_value_in no_charsets h.value) header) true ≡ true
+    by_header None same = refl
+    by_header (Some h) same = absurd (cc)
 
 -- so it is no attachment, unless its disposition says so
 pub nameless-attachment : (known : Charsets) (t : Tree) (disposition : Option Kind) → is_attachment_disposition disposition ≡ false → is_nameless_part (root t) ≡ true

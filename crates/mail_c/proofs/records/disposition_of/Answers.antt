@@ -17,3 +17,6 @@ returns g c =
     let number = c.disposition_number.ensures ∙ ap disposition_number (sym same) in
     let sum = c.in_ok-flags.ensures ∙ ap (λ (d : Option Kind). flags t d (lenient_file_name known (root t))) (sym same) in
     ap (λ (n : ℕ). (n, c.in_ok-flags.flags)) number ∙ ap (λ (n : ℕ). (disposition_number shown, n)) sum
+
+pub flags-requires : goal.flags-requires
+flags-requires g c = sym (ok_same _ _ c.in_ok-disposition.ensures)

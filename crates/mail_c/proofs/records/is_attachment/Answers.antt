@@ -1,9 +1,15 @@
 use Rattle.std.proofs.Common.{option_map, sym, ◌∙◌}
 use Rattle.mailparse.specs.Views.{kind, tree_of}
-use Rattle.mail_c.proofs.lemmas.Nameless.{nameless-attachment}
+use Rattle.mailparse.specs.Mail.{root}
+use Rattle.mail_c.proofs.lemmas.Nameless.{nameless-attachment, no_disposition}
 use Rattle.mail_c.proofs.records.is_attachment.Goals as goal
 
 pub returns-then-branch : goal.returns-then-branch
 returns-then-branch g c =
     nameless-attachment (g.K.KnownCharsets.known c.args.known.now) (tree_of c.args.part.now) (option_map kind c.args.disposition.now)
     (sym c.is_attachment_disposition.ensures ∙ c.if-is_attachment_disposition.false) (sym c.in_ok-is_nameless_part.ensures ∙ c.if-branch.true)
+
+pub is_nameless_part-requires : goal.is_nameless_part-requires
+is_nameless_part-requires g c = λ none.
+    no_disposition (g.K.KnownCharsets.known c.args.known.now) (root (tree_of c.args.part.now)) c.args.disposition.now c.requires
+    (sym c.is_some.ensures ∙ none)
