@@ -160,8 +160,8 @@ fn push_joined<'a>(
     Ok(())
 }
 
-/// Appends the elements at the front as far as they are words of a name, and the one after these,
-/// joined where it has that name. Returns how many they are.
+/// Appends the elements at the front that are words of a name and the one after them, joined if it
+/// has that name. Returns the number of elements.
 fn push_front<'a>(
     alloc: Global,
     list: &mut AddressList<'a>,

@@ -34,7 +34,7 @@ read_or_front raw (Err refusal) = front_of refusal (base64_front raw)
 abbrev pub uuencode_fault : Refusal
 uuencode_fault = generic (codes "The body has no whole uuencoded file")
 
--- bytes that are not all of a body in uuencode, of which so many at the end were ignored
+-- bytes that are not all of a body in uuencode, and the number of bytes at its end that were ignored
 abbrev pub damaged_uuencode : List ℕ → ℕ → Content
 damaged_uuencode bytes ignored =
     record { bytes = bytes; fault = Some uuencode_fault; ignored = ignored }

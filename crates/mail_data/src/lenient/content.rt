@@ -66,7 +66,8 @@ impl<'b> Content<'b> {
 pub enum ContentFault {
     /// The Base64 of the body, with the group that `Body::decoded` refuses.
     Base64(Base64Fault),
-    /// A body in uuencode has no uuencoded file, or no line `end` follows the data of the first.
+    /// A body in uuencode has no uuencoded file, the lines of the first are too short, or no line
+    /// `end` follows its data.
     Uuencode,
 }
 
@@ -93,9 +94,10 @@ impl From<ContentFault> for MailParseError {
 ///
 /// Of a body in uuencode they are those of the first uuencoded file in it, as `find_uuencode` and
 /// `decode_uuencode` of `mail_codec::transfer` read it. If the file is damaged, they are those of
-/// its data, and if there is no file, those of the body itself.
+/// its data. If there is no file, they are those of the body itself, and so they are if the lines
+/// of the file, but for two of them, have fewer than 32 bytes on average.
 ///
-/// Borrows the body if it is not encoded, and otherwise allocates the bytes.
+/// Borrows the body if it is not encoded or its bytes are the result, and otherwise allocates them.
 ///
 /// # Errors
 ///
