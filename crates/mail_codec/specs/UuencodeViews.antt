@@ -1,5 +1,4 @@
 -- What a contract sees of uuencoded files.
-use Rattle.std.specs.Prelude.{ℕ, List}
 use Rattle.mail_codec.specs.Uuencode.{File}
 use Rattle.mail_codec.specs.declared.transfer.uuencode.Uuencoded.{Uuencoded}
 

@@ -6,4 +6,4 @@ mod uuencode;
 
 pub use self::base_64::{decode_base64, decode_base64_body};
 pub use self::quoted_printable::decode_quoted_printable;
-pub use self::uuencode::{Uudecoded, Uuencoded, decode_uuencode, find_uuencode};
+pub use self::uuencode::{Uudecoded, Uuencoded, decode_uuencode, find_uuencode, uudecoded_exceeds};

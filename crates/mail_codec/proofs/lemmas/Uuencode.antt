@@ -1,8 +1,8 @@
 -- Uuencoded text by its lines, and a line by its groups.
-use Rattle.std.proofs.Common.{◌≡◌, ◌⊎◌, ℕ, zero, suc, ◌+◌, ◌-◌, ◌*◌, ◌/◌, ◌%◌, ◌<◌, ◌≤◌, min, Bool, true, false, cond, List, [], ◌∷◌, ◌++◌, length, take, drop, get_or, refl, sym, ap, ◌∙◌, arith, inl, inr, append-nil, append_assoc, None, Some}
+use Rattle.std.proofs.Common.{◌≡◌, ℕ, zero, suc, ◌+◌, ◌-◌, ◌<◌, ◌≤◌, min, Bool, true, false, cond, List, [], ◌∷◌, ◌++◌, length, take, drop, refl, sym, ap, ◌∙◌, arith, inl, inr, append-nil, append_assoc, None, Some}
 use Rattle.std.specs.Prelude.{◌&&◌, nat_lt, codes, Option}
 use Rattle.std.specs.Char.{is_ascii_whitespace}
-use Rattle.std.specs.List.{flat_map, list_all, position_or_len, slice_split}
+use Rattle.std.specs.List.{flat_map, list_all, position_or_len}
 use Rattle.std.specs.Option.{option_map}
 use Rattle.std.proofs.lemmas.Bool.{and_parts, cases_lt}
 use Rattle.std.proofs.lemmas.Bool.Decides.{nat_tests}
@@ -11,7 +11,7 @@ use Rattle.std.proofs.lemmas.List.Splits.{slice_split_none, slice_split_first}
 use Rattle.std.proofs.lemmas.List.Sums.{fails_before_first}
 use Rattle.mail_codec.specs.Places.{begins, first_place, has_prefix, place_from}
 use Rattle.mail_codec.specs.Uuencode.{File, after_line, begin_from, begins_file, bytes_of, data_bytes, data_length, data_lines, ends_file, file_at, file_of, first_bytes, first_file, is_data, is_letter, is_lf, line_at, line_bytes, lines_length, lines_of, mode_end, name_end, name_start, needed, value_at}
-use Rattle.mail_codec.proofs.lemmas.Places.{first_place-begins, first_place-≤}
+use Rattle.mail_codec.proofs.lemmas.Places.{first_place-begins}
 
 -- ---- a group of a line
 
@@ -40,7 +40,19 @@ pub group_end : (left : ℕ) (rest bytes all : List ℕ) → left ≡ 0 → byte
 group_end left rest bytes all none is =
     sym (append-nil bytes) ∙ ap (λ (n : ℕ). bytes ++ bytes_of n rest) (sym none) ∙ is
 
+-- as many bytes as are asked for
+bytes_of-length : (count : ℕ) (text : List ℕ) → length (bytes_of count text) ≡ count
+unfolding first_bytes
+bytes_of-length zero text = refl
+bytes_of-length (suc zero) text = refl
+bytes_of-length (suc (suc zero)) text = refl
+bytes_of-length (suc (suc (suc count))) text = ap (λ (n : ℕ). suc (suc (suc n))) (bytes_of-length count (drop 4 text))
+
 -- ---- a line
+
+pub line_bytes-length : (line : List ℕ) → length (line_bytes line) ≡ value_at line 0
+unfolding line_bytes
+line_bytes-length line = bytes_of-length (value_at line 0) (drop 1 line)
 
 pub line_bytes-is : (line letters : List ℕ) (count : ℕ) → letters ≡ drop 1 line → count ≡ value_at line 0 → bytes_of count letters ≡ line_bytes line
 unfolding line_bytes
@@ -310,3 +322,9 @@ pub record IsCounting (text : List ℕ) (at : ℕ) : Type 0 where
 pub record IsPassing (text : List ℕ) (at : ℕ) : Type 0 where
   pub within : at ≤ length text
   pub same : begin_from at (lines_of (drop at text)) ≡ begin_from 0 (lines_of text)
+
+-- lines read up to an offset: what is left of a limit, and the bytes of the rest
+pub record IsWithin (text : List ℕ) (at limit left : ℕ) : Type 0 where
+  pub within : at ≤ length text
+  pub less : left ≤ limit
+  pub counted : length (data_bytes (drop at text)) + limit ≡ length (data_bytes text) + left

@@ -39,8 +39,8 @@ pub struct Uudecoded {
 ///
 /// The lines are those between `begin` and `end`. The first letter of each is the number of its
 /// bytes, of which four letters encode three. Letters that are missing at the end of a line were
-/// blanks, and what follows those needed is ignored. A line gives at most 63 bytes. Allocates the
-/// bytes.
+/// blanks, and what follows those needed is ignored. So a line gives at most 63 bytes, and one of two
+/// bytes can: `uudecoded_exceeds` says whether the result would be too long. Allocates the bytes.
 ///
 /// # Errors
 ///
@@ -72,6 +72,41 @@ pub fn decode_uuencode(alloc: Global, lines: &[u8]) -> Result<Uudecoded, AllocEr
         at = next;
     }
     Ok(Uudecoded { bytes, read: at })
+}
+
+/// Returns whether uuencoded lines encode more bytes than a limit.
+///
+/// The bytes are those that `decode_uuencode` returns. Nothing is decoded: only the first letter of
+/// each line counts. Does not allocate.
+///
+/// # Examples
+///
+/// ```rust
+/// use mail_codec::transfer::uudecoded_exceeds;
+///
+/// assert!(rt; !uudecoded_exceeds(b"#0V%T\n", 3));
+/// assert!(rt; uudecoded_exceeds(b"_\n", 2));
+/// ```
+pub fn uudecoded_exceeds(lines: &[u8], limit: usize) -> bool
+    ensures { result ≡ nat_lt limit (length (data_bytes lines.now)) }
+{
+    let mut left = limit;
+    let mut at = 0;
+    'lines: while at < lines.len() {
+        let end = line_end(lines, at);
+        let line = &lines[at..end];
+        if !is_data(line) {
+            return false;
+        }
+        let count = value_at(line, 0) as usize;
+        if count > left {
+            return true;
+        }
+        left -= count;
+        let next = (end + 1).min(lines.len());
+        at = next;
+    }
+    false
 }
 
 /// Appends the bytes that a line encodes.
