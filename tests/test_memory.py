@@ -314,9 +314,11 @@ HOSTILE = {
                      + b"--c--\n--b--\n", 600_005),
     "short_lines": (UUENCODED + b"M\n" * 4_000_000 + b"`\nend\n", 2),
     "cut_lines": (UUENCODED + (b"_" + b'@(\"`' * 7 + b"@(\n") * 250_000 + b"`\nend\n", 2),
+    "equal_lines": (UUENCODED + (b"_" + b'@(\"`' * 15 + b"@\n") * 130_000 + b"`\nend\n", 2),
+    "full_lines": (UUENCODED + (b"_" + b'@(\"`' * 21 + b"\n") * 100_000 + b"`\nend\n", 2),
 }
-# how many times the mail a program takes for a body in uuencode whose lines lack letters: docs/RULES.md has it
-TIMES_CUT = int(re.search(r"whose lines lack letters takes up to (\d+) times", text_of("docs/RULES.md"))[1])
+# how many times the mail a program takes for a body in uuencode: docs/RULES.md has it
+TIMES_UUENCODED = int(re.search(r"#bodies-in-uuencode\)\s+takes up to (\d+) times the mail", text_of("docs/RULES.md"))[1])
 
 
 @pytest.mark.parametrize("name", ["json", "show", "extract"])
@@ -325,7 +327,7 @@ def test_memory_of_items(name, mail, tmp_path):
     """The memory is bounded by the mail and the number of its parts and headers; a mail over the limit takes less."""
     raw, items = HOSTILE[mail]
     arguments = [*command(name), *ARGUMENTS.get(name, [])]
-    times = TIMES_CUT if mail == "cut_lines" else 5
+    times = TIMES_UUENCODED if raw.startswith(UUENCODED) else 5
     status, used = peak([*arguments, "--max-items", str(items)], raw, tmp_path)
     assert status in (0, 3) and used <= START + times * len(raw) + BYTES_PER_ITEM * items, used / items
     status, used = peak([*arguments, "--max-items", "1000"], raw, tmp_path)

@@ -1,7 +1,6 @@
 -- The bytes of a body, even if it is damaged; the crate's own rule.
-use Rattle.std.specs.Prelude.{ℕ, ◌+◌, ◌-◌, ◌/◌, Bool, ◌==◌, nat_lt, List, length, filter, slice_range, codes, Option, Some, None, Ok, Err, if◌then◌else◌}
+use Rattle.std.specs.Prelude.{ℕ, ◌-◌, Bool, nat_lt, List, length, slice_range, codes, Option, Some, None, Ok, Err, if◌then◌else◌}
 use Rattle.std.specs.Option.{option_map_or}
-use Rattle.mail_codec.specs.Ascii.{line_feed}
 use Rattle.mail_codec.specs.Uuencode.{File, data_bytes, first_file}
 use Rattle.mailparse.specs.Body.{decoded}
 use Rattle.mailparse.specs.Mail.{Node}
@@ -39,21 +38,16 @@ abbrev pub damaged_uuencode : List ℕ → ℕ → Content
 damaged_uuencode bytes ignored =
     record { bytes = bytes; fault = Some uuencode_fault; ignored = ignored }
 
--- the number of lines, each with its LF
-abbrev pub feed_count : List ℕ → ℕ
-feed_count lines = length (filter (λ b. b == line_feed) lines)
-
--- lines so short that they may encode more than twice their own bytes: of fewer than 32 bytes on
--- average, but for two of them
-unfoldable pub has_short_lines : List ℕ → Bool
-has_short_lines lines = nat_lt (length lines / 32 + 2) (feed_count lines)
+-- lines so short that they encode more bytes than they have themselves
+abbrev pub has_short_lines : List ℕ → Bool
+has_short_lines lines = nat_lt (length lines) (length (data_bytes lines))
 
 -- the bytes that lines encode; if their file is damaged, this many bytes after them are ignored
 abbrev pub decoded_lines : List ℕ → Bool → ℕ → Content
 decoded_lines lines is_ended after =
     if is_ended then all_of (data_bytes lines) else damaged_uuencode (data_bytes lines) after
 
--- the bytes of a file in a body, or the body itself if the lines of the file are so short
+-- the bytes of a file in a body, or the body itself if the lines of the file are too short
 abbrev pub file_content : List ℕ → File → Content
 file_content raw file =
     let lines = slice_range raw file.lines.start file.lines.end in

@@ -9,14 +9,14 @@ ghost use Rattle.mailparse.specs.Mail.{root};
 ghost use Rattle.mailparse.specs.Outcome.{Answers, IsMemory};
 ghost use Rattle.mailparse.specs.Views.{tree_of};
 ghost use Rattle.mail_data.specs.lenient.Content.{file_content, lenient_content, message_content};
-ghost use Rattle.mail_data.specs.lenient.Content.{damaged_uuencode, feed_count, has_short_lines, uuencode_content, whole};
+ghost use Rattle.mail_data.specs.lenient.Content.{damaged_uuencode, uuencode_content, whole};
 ghost use Rattle.mail_data.specs.lenient.ContentViews.{content_view};
 ghost use Rattle.mail_data.specs.lenient.Encoding.{LenientKind, standard};
 ghost use Rattle.mail_data.specs.lenient.EncodingViews.{IsLenientBody};
 
 use super::base64::base64_front;
 use super::encoding::{LenientBody, lenient_body};
-use mail_codec::transfer::{Uuencoded, decode_uuencode, find_uuencode};
+use mail_codec::transfer::{Uuencoded, decode_uuencode, find_uuencode, uudecoded_exceeds};
 use mailparse::body::Body;
 use mailparse::{Base64Fault, MailParseError, ParsedMail};
 use std::alloc::{AllocError, Global};
@@ -95,7 +95,7 @@ impl From<ContentFault> for MailParseError {
 /// Of a body in uuencode they are those of the first uuencoded file in it, as `find_uuencode` and
 /// `decode_uuencode` of `mail_codec::transfer` read it. If the file is damaged, they are those of
 /// its data. If there is no file, they are those of the body itself, and so they are if the lines
-/// of the file, but for two of them, have fewer than 32 bytes on average.
+/// of the file are so short that they encode more bytes than they have.
 ///
 /// Borrows the body if it is not encoded or its bytes are the result, and otherwise allocates them.
 ///
@@ -185,7 +185,7 @@ fn file_content<'b>(
         content_view content ≡ file_content raw.now (file_view file.now)) }
 {
     let lines = &raw[file.lines.start..file.lines.end];
-    if has_short_lines(lines) {
+    if uudecoded_exceeds(lines, lines.len()) {
         return Ok(damaged_uuencode(CowSlice::Borrowed(raw), 0));
     }
     let decoded = decode_uuencode(alloc, lines)?;
@@ -198,22 +198,6 @@ fn file_content<'b>(
         });
     }
     Ok(damaged_uuencode(bytes, raw.len() - file.block.end))
-}
-
-/// Returns whether lines are so short that they may encode more than twice their own bytes. A letter
-/// that is missing at the end of a line counts, so a short line can encode 63 bytes.
-#[tactic(auto, unfolding(crate::specs::lenient::Content::has_short_lines))]
-fn has_short_lines(lines: &[u8]) -> bool
-    ensures { result ≡ has_short_lines lines.now }
-{
-    feed_count(lines) > lines.len() / 32 + 2
-}
-
-/// Returns the number of lines, each with its LF.
-fn feed_count(lines: &[u8]) -> usize
-    ensures { result ≡ feed_count lines.now }
-{
-    lines.iter().filter(|byte| **byte == b'\n').count()
 }
 
 /// Returns bytes that are not all of a body in uuencode.
