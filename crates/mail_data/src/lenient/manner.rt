@@ -52,6 +52,9 @@ pub struct Lenient<'k, K>(pub &'k K);
 impl<'k, K: KnownCharsets> ReadingManner for Lenient<'k, K> {
     ghost manner = { λ s. lenient (K.known s.0.now) };
 
+    // It is not inlined, so that the frame of the reader of a message, which calls itself for each
+    // level, stays small.
+    #[inline(never)]
     fn content_type(
         &self,
         alloc: Global,
@@ -74,9 +77,7 @@ impl<'k, K: KnownCharsets> ReadingManner for Lenient<'k, K> {
     }
 }
 
-/// Returns the type of a message with these headers. It is not inlined, so that the frame of the
-/// reader of a message, which calls itself for each level, stays small.
-#[inline(never)]
+/// Returns the type of a message with these headers.
 #[tactic(auto, unfolding(crate::specs::lenient::Manner::lenient_type_of))]
 fn type_of<K: KnownCharsets>(
     alloc: Global,
