@@ -33,7 +33,7 @@ use Rattle.mailparse.specs.Value.{lenient_value_in}
 use Rattle.mail_c.specs.Ranges.{file_name}
 use Rattle.mail_c.specs.Nameless.{is_a, is_m, is_nameless, is_nameless_after, is_nameless_part, is_nameless_value, lacks_name, may_follow}
 use Rattle.mail_data.specs.lenient.Repairs as repairs
-use Rattle.mail_data.specs.lenient.Repairs.{after_name, after_quoted, after_run, after_value, apostrophes, begins_parameter, extended_are_alone, for_extended, missing, missing_apostrophes, repaired, repaired_from, semicolon_unless}
+use Rattle.mail_data.specs.lenient.Repairs.{after_name, after_quoted, after_run, after_value, apostrophes, begins_parameter, extended_are_alone, for_extended, lacking, missing, repaired, repaired_from, semicolon_unless}
 
 -- ---- parts of such a text
 
@@ -97,7 +97,7 @@ apostrophes_fill (suc zero) = (apostrophe_fills, tt)
 apostrophes_fill (suc (suc n)) = (apostrophe_fills, (apostrophe_fills, tt))
 
 extended_fills : (t : Bool) (cs : List ℕ) → Fills (for_extended t cs)
-extended_fills t cs = either_fills t (apostrophes (missing_apostrophes 2 cs)) [] (apostrophes_fill (missing_apostrophes 2 cs)) tt
+extended_fills t cs = either_fills t (apostrophes (lacking cs)) [] (apostrophes_fill (lacking cs)) tt
 
 -- characters that are put in before another one
 filled_before : (xs : List ℕ) (last other c : ℕ) (rest : List ℕ) → Fills xs → ((b : ℕ) → may_follow last b ≡ true → may_follow other b ≡ true)

@@ -4,7 +4,9 @@
 use Rattle.std.specs.Prelude.{ℕ, zero, suc, ◌-◌, Bool, true, false, not, ◌&&◌, ◌||◌, ◌==◌, List, [], ◌∷◌, ◌++◌, is_some, chars, encode_utf8_all, codes, if◌then◌else◌}
 use Rattle.std.specs.Char.{is_ascii_alphabetic, is_ascii_alphanumeric, is_ascii_whitespace}
 use Rattle.mail_codec.specs.Ascii.{apostrophe, asterisk, backslash, equals_sign, quote, semicolon, slash}
+use Rattle.mail_codec.specs.Charset.{charset_of_label}
 use Rattle.mail_codec.specs.Places.{is_empty, text_place}
+use Rattle.mailparse.specs.ExtendedValues.{label_in}
 use Rattle.mail_data.specs.declared.lenient.repairs.Position.{Position}
 use Rattle.mail_data.specs.declared.lenient.repairs.Position.TheVariants.{BeforeWord, InWord, AfterWord, InName, AfterStar, BeforeText, InText, AfterBlank, InQuotes, AfterBackslash, AfterText, BeforeExtended, InExtended, InRun, RunBackslash}
 
@@ -126,13 +128,29 @@ apostrophes zero = []
 apostrophes (suc zero) = codes "'"
 apostrophes (suc (suc n)) = codes "''"
 
+-- the text before the only apostrophe of an extended value is a label: it is empty, or names one of
+-- the built-in charsets
+abbrev pub is_label : List ℕ → Bool
+is_label text = is_empty text || is_some (charset_of_label text)
+
+-- these characters begin with a label
+abbrev pub begins_with_label : List ℕ → Bool
+begins_with_label cs = is_label (label_in (encode_utf8_all cs))
+
+-- the apostrophes that an extended text with these characters lacks: if it has only one, and no label
+-- before it, that one belongs to the text, and both are missing
+abbrev pub lacking : List ℕ → ℕ
+lacking cs =
+    let count = missing_apostrophes 2 cs in
+    if count == 1 && not (begins_with_label cs) then 2 else count
+
 -- a semicolon, unless the character is one of those that may follow a value or a text
 abbrev pub semicolon_unless : Bool → List ℕ
 semicolon_unless follows = if follows then [] else codes ";"
 
 -- the apostrophes that an extended text lacks at its first character
 abbrev pub for_extended : Bool → List ℕ → List ℕ
-for_extended is_alone cs = if is_alone then apostrophes (missing_apostrophes 2 cs) else []
+for_extended is_alone cs = if is_alone then apostrophes (lacking cs) else []
 
 -- what is missing before the first of these characters, which has this position
 abbrev pub missing : Bool → Position → List ℕ → List ℕ

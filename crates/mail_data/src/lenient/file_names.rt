@@ -228,7 +228,7 @@ fn extended_text<K: KnownCharsets>(
 
 /// Returns the label of an extended value: the text before its first apostrophe, or the whole
 /// value.
-fn label_in(value: &str) -> &str
+pub(super) fn label_in(value: &str) -> &str
     ensures { result.now ≡ label_in value.now }
 {
     match value.split_once('\'') {

@@ -3,13 +3,16 @@ ghost use Rattle.std.specs.Prelude.{◌≡◌, ◌++◌, ◌∷◌, [], chars, e
 ghost use Rattle.std.specs.Cow.{cow_str_bytes};
 ghost use Rattle.mail_data.specs.lenient.Repairs.{after, after_end, after_name, after_quoted, after_run, after_star};
 ghost use Rattle.mail_data.specs.lenient.Repairs.{after_text, after_word, before_text, in_value};
-ghost use Rattle.mail_data.specs.lenient.Repairs.{apostrophes, begins_parameter, ends_name, extended_are_alone};
-ghost use Rattle.mail_data.specs.lenient.Repairs.{for_extended, is_name, missing, missing_apostrophes};
-ghost use Rattle.mail_data.specs.lenient.Repairs.{lacks_nothing, may_follow, missing_at_end, repaired};
+ghost use Rattle.mail_data.specs.lenient.Repairs.{apostrophes, begins_parameter, begins_with_label};
+ghost use Rattle.mail_data.specs.lenient.Repairs.{ends_name, extended_are_alone};
+ghost use Rattle.mail_data.specs.lenient.Repairs.{for_extended, is_label, is_name, missing, missing_apostrophes};
+ghost use Rattle.mail_data.specs.lenient.Repairs.{lacking, lacks_nothing, may_follow, missing_at_end, repaired};
 ghost use Rattle.mail_data.specs.lenient.Repairs.{semicolon_unless, settled};
 ghost use Rattle.mail_data.specs.declared.lenient.repairs.Position.TheVariants.{BeforeWord};
 
+use super::file_names::label_in;
 use mail_codec::bytescan::find;
+use mail_codec::charset::Charset;
 use std::alloc::{AllocError, Global};
 use std::borrow::CowStr;
 
@@ -210,10 +213,36 @@ fn for_extended(is_alone: bool, text: &str) -> &'static str
     ensures { result.now ≡ for_extended is_alone (chars text.now) }
 {
     if is_alone {
-        apostrophes(missing_apostrophes(text))
+        apostrophes(lacking(text))
     } else {
         ""
     }
+}
+
+/// Returns the number of apostrophes that an extended value lacks.
+fn lacking(text: &str) -> usize
+    ensures { result ≡ lacking (chars text.now) }
+{
+    let count = missing_apostrophes(text);
+    if count == 1 && !begins_with_label(text) {
+        return 2;
+    }
+    count
+}
+
+/// Returns whether an extended value with one apostrophe begins with a label.
+fn begins_with_label(text: &str) -> bool
+    ensures { result ≡ begins_with_label (chars text.now) }
+{
+    is_label(label_in(text))
+}
+
+/// Returns whether the text before the only apostrophe is a label: nothing, or the label of a
+/// built-in charset.
+fn is_label(text: &str) -> bool
+    ensures { result ≡ is_label text.now }
+{
+    text.is_empty() || Charset::for_label(text.as_bytes()).is_some()
 }
 
 /// Returns that many apostrophes, at most two.

@@ -6,7 +6,7 @@ use Rattle.std.specs.Char.{encode_utf8, is_ascii_alphabetic}
 use Rattle.std.specs.Str.{chars, encode_utf8_all, IsUtf8}
 use Rattle.mail_codec.specs.Ascii.{apostrophe, equals_sign, semicolon}
 use Rattle.mail_codec.specs.Places.{is_empty}
-use Rattle.mail_data.specs.lenient.Repairs.{after, apostrophes, begins_parameter, ends_name, extended_are_alone, for_extended, is_name, lacks_nothing, may_follow, missing, missing_apostrophes, missing_at_end, repaired, repaired_from, semicolon_unless, settled}
+use Rattle.mail_data.specs.lenient.Repairs.{after, apostrophes, begins_parameter, ends_name, extended_are_alone, for_extended, is_name, lacking, lacks_nothing, may_follow, missing, missing_apostrophes, missing_at_end, repaired, repaired_from, semicolon_unless, settled}
 use Rattle.mail_data.specs.declared.lenient.repairs.Position.{Position}
 use Rattle.mail_data.specs.declared.lenient.repairs.Position.TheVariants.{BeforeWord, InWord, AfterWord, InName, AfterStar, BeforeText, InText, AfterBlank, InQuotes, AfterBackslash, AfterText, BeforeExtended, InExtended, InRun, RunBackslash}
 
@@ -32,7 +32,7 @@ apostrophes-ascii (suc zero) = refl
 apostrophes-ascii (suc (suc n)) = refl
 
 extended-ascii : (is_alone : Bool) (cs : List ℕ) → encode_utf8_all (for_extended is_alone cs) ≡ for_extended is_alone cs
-extended-ascii true cs = apostrophes-ascii (missing_apostrophes 2 cs)
+extended-ascii true cs = apostrophes-ascii (lacking cs)
 extended-ascii false cs = refl
 
 if-ascii : (t : Bool) (xs : List ℕ) → encode_utf8_all xs ≡ xs → encode_utf8_all (cond t [] xs) ≡ cond t [] xs
