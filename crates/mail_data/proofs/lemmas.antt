@@ -6,6 +6,7 @@ pub mod FileNames
 pub mod WindowsNames
 pub mod Files
 pub mod FileTexts
+pub mod TextFiles
 pub mod Flowed
 pub mod InnerMails
 pub mod LineEnds

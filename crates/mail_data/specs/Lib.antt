@@ -16,6 +16,8 @@ pub mod MailboxFormats
 pub mod MailboxViews
 pub mod lenient
 pub mod Attachments
+pub mod TextFiles
+pub mod TextFileViews
 pub mod Texts
 pub mod TextViews
 pub mod Readable
