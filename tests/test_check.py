@@ -8,7 +8,7 @@ from support import FROM, TOP, command, run
 
 from suite import DATA, rows_in
 
-ROWS = [(row.inputs[0], row.wanted) for row in rows_in(f"{DATA}/findings.txt")]
+ROWS = [(row.inputs[0], row.wanted) for row in rows_in(f"{DATA}/findings.txt") if row.call == "findings"]
 CLASSES = ("structure", "bytes", "name", "note")
 
 

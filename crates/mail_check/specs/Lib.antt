@@ -13,5 +13,6 @@ pub mod Bodies
 pub mod HiddenBits
 pub mod Findings
 pub mod FindingViews
+pub mod Reading
 pub mod Clean
 pub mod private

@@ -1,8 +1,9 @@
 //! Findings: the places of a mail at which programs may read something else.
 //!
 //! `findings` lists them for a mail and its parts. Each has a name, which says what it is, a class,
-//! a range of the mail and the path of a part. A mail is read as `mailparse` reads it; what other
-//! programs read was measured and is on the page FINDINGS.md.
+//! a range of the mail and the path of a part. A mail is read as `mailparse` reads it, which
+//! `read_findings` does for the bytes of a mail; what other programs read was measured and is on the
+//! page FINDINGS.md.
 //!
 //! The examples run in a function with the runtime `rt` and its allocator `alloc`.
 #![tactic(auto)]
@@ -18,6 +19,7 @@ mod multipart;
 mod names;
 mod parameter_names;
 mod parameters;
+mod reading;
 mod scan;
 mod senders;
 mod word_bytes;
@@ -25,3 +27,4 @@ mod words;
 
 pub use listing::{Finding, findings};
 pub use names::{Class, Name};
+pub use reading::read_findings;

@@ -5,14 +5,13 @@ use crate::options::ids;
 use crate::show::{Titles, titles_of};
 use clap::ArgMatches;
 use mail_charsets::AllCharsets;
-use mail_check::{Class, Finding, findings};
+use mail_check::{Class, Finding, read_findings};
 use mail_data::mailbox::quoted::unquoted;
 use mail_data::mailbox::{Format, MailboxEntry, read_mailbox};
 use mail_inputs::{Consumer, Content, Name, read_inputs};
 use mail_json::{InputKind, Origin, is_mailbox, write_error, write_findings, write_unread};
 use mail_program::{Fault, Outcome, is_all_whitespace, read_input, refusal_of};
 use mail_view::{write_refusal, write_report, write_title};
-use mailparse::{KnownCharsets, MAX_LEVELS, MailParseError, ParsedMail, Strict, parse_mail_within};
 use std::alloc::{AllocError, Global};
 use std::io::{self, BufWriter, Read, Write};
 use std::process::ExitCode;
@@ -179,9 +178,9 @@ impl<W: Write> Check<W> {
 
     /// Reports what is found in a mail, or why it is refused.
     fn check_mail(&mut self, alloc: Global, mail: &Mail<'_>) -> Result<Outcome, Fault> {
-        match read_strictly(alloc, mail.raw, self.limit, &AllCharsets::standard()) {
-            Ok(parsed) => {
-                let found = chosen(alloc, findings(alloc, &parsed)?, self.classes)?;
+        match read_findings(alloc, mail.raw, self.limit, &AllCharsets::standard()) {
+            Ok(all) => {
+                let found = chosen(alloc, all, self.classes)?;
                 self.write_found(alloc, mail, found.as_slice())?;
                 Ok(if found.is_empty() {
                     Outcome::Clean
@@ -242,16 +241,6 @@ impl<W: Write> Check<W> {
         }
         Ok(())
     }
-}
-
-/// Returns a mail as the port reads it, since findings are those of that tree; or its refusal.
-fn read_strictly<'a, K: KnownCharsets>(
-    alloc: Global,
-    raw: &'a [u8],
-    limit: usize,
-    known: &K,
-) -> Result<ParsedMail<'a>, MailParseError> {
-    parse_mail_within(alloc, raw, MAX_LEVELS, limit, &Strict(known))
 }
 
 /// Returns the findings of these classes.
