@@ -4,9 +4,9 @@ import json
 
 import pytest
 
-from support import FROM, TOP, command, run
+from support import FROM, TOP, command, multipart, run, text_of
 
-from suite import DATA, rows_in
+from suite import DATA, decoded, rows_in
 
 ROWS = [(row.inputs[0], row.wanted) for row in rows_in(f"{DATA}/findings.txt") if row.call == "findings"]
 CLASSES = ("structure", "bytes", "name", "note")
@@ -36,6 +36,12 @@ def sections(text):
     return {part.split("\n")[0]: part.split("\nClass ")[1].split(".")[0] for part in parts}
 
 
+def shown_mails(text):
+    """The mails that the page FINDINGS.md shows, by the name that each of them has alone."""
+    parts = [part for part in text.split("\n### ")[1:] if "```text\n" in part]
+    return {part.split("\n")[0]: decoded(part.split("```text\n")[1].split("\n```")[0]) for part in parts}
+
+
 @pytest.mark.quick
 def test_page():
     """The page has a section for each name of the rows, and its class."""
@@ -53,6 +59,50 @@ def test_json(raw, wanted):
     assert found(line) == wanted and ended.returncode == (3 if wanted else 0)
     classes = sections((TOP / "docs" / "FINDINGS.md").read_text())
     assert all(it["class"] == classes[it["name"]] and it["sentence"].endswith(".") for it in line["findings"])
+
+
+@pytest.mark.parametrize("name", ["nul", "duplicate", "two-names", "delimiter-tail", "8bit-body"])
+def test_member(name):
+    """With `rocktray json --check` the line of a mail ends in its findings, and is otherwise the same."""
+    page = text_of("docs/FINDINGS.md")
+    raw = shown_mails(page)[name]
+    plain, ended = (run([*command("json"), "--mail", *options], raw) for options in ([], ["--check"]))
+    assert (ended.returncode, ended.stderr) == (0, b"")
+    assert "findings" not in json.loads(plain.stdout) and ended.stdout.startswith(plain.stdout[:-2])
+    line = json.loads(ended.stdout)
+    assert list(line)[-1] == "findings" and [(it["name"], it["class"]) for it in line["findings"]] == [(name, sections(page)[name])]
+    assert line["findings"] == json.loads(check(raw, "--json").stdout)["findings"]
+
+
+def test_members(hostile, tmp_path):
+    """Of all rows, of mails that the lenient reading reads in another way or never refuses, and of made mails the line has
+    what `rocktray check` writes."""
+    raws = [raw for raw, _ in ROWS] + [
+        b" A: b\n\n", b"A: b\n\rB", multipart(b"b", b"A: b\n\none\n", b" A: b\n\ntwo\n"), multipart(b"b", b"A: b\n\rB\n"),
+        multipart(b"b", multipart(b"bc", b"\n\0\n")), multipart(b"b (x)", b"\n\0\n"), multipart(b"b", b"A: b\n--c\n\n\0\n"),
+        b"Content-Type: multipart/mixed boundary=b\n\n--b\n\n\0\n--b--\n",
+    ]
+    paths = [tmp_path / f"{number}.eml" for number in range(len(raws))]
+    for path, raw in zip(paths, raws):
+        path.write_bytes(raw)
+    said = []
+    for words in (["json", "--check"], ["check", "--json"]):
+        ended = run([*command(words[0]), "--mail", words[1], *paths, *hostile[:3000]])
+        assert ended.returncode in (0, 3) and not ended.stderr
+        said.append([json.loads(line) for line in ended.stdout.splitlines()])
+    wanted = [{"findings": None, "findings_error": line["error"]} if "error" in line else {"findings": line["findings"]} for line in said[1]]
+    assert [{key: line[key] for key in line if key.startswith("findings")} for line in said[0]] == wanted
+    assert sum("findings_error" in line for line in wanted) >= 4 and len(wanted) == len(raws) + 3000
+
+
+def test_member_of_none():
+    """A mail without findings has an empty list, each mail of a mailbox its own, and one with an error none."""
+    mails = [b"A: b\n\none\n", b"A: b\n\na\0b\n", b"A: b\n\n>From \0\n", b"A: b\nC: d\nE: f\n\n"]
+    raw = b"".join(FROM + mail + b"\n" for mail in mails)
+    ended = run([*command("json"), "--check", "--mbox=rd", "--max-items", "3"], raw)
+    lines = [json.loads(line) for line in ended.stdout.splitlines()]
+    assert [("error" in line, found(line) if "findings" in line else None) for line in lines] == [
+        (False, []), (False, [b"nul", "7", "8", b"1"]), (False, [b"nul", "11", "12", b"1"]), (True, None)]
 
 
 @pytest.mark.parametrize("raw, wanted", ROWS)

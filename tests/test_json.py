@@ -28,6 +28,7 @@ ORIGIN = ["schema", "file", "number", "start", "end"]
 MEMBERS = ORIGIN + [
     "subject", "from", "to", "cc", "bcc", "reply_to", "sender", "raw", "date", "date_zone_unknown", "date_error",
     "message_id", "in_reply_to", "references", "bounced_id", "recipients", "parts", "forwarded",
+    "findings", "findings_error",
 ]
 PART_MEMBERS = [
     "path", "inside", "type", "charset", "params", "disposition", "file_name", "content_id", "attachment", "extracted",
@@ -39,7 +40,7 @@ TEXTS = {
     "gb18030": "你好 \u20ac \U00020000", "GBK": "发票", "gb2312": "你好", "big5": "發票", "EUC-KR": "안녕하세요",
     "ks_c_5601-1987": "한글", "euc-jp": "請求書", "Shift_JIS": "請求書 \uff83\uff7d\uff84", "iso-2022-jp": "請求書のテスト",
 }
-OPTIONAL = {"date_zone_unknown", "date_error", "error", "text_charset", "damaged"}
+OPTIONAL = {"date_zone_unknown", "date_error", "findings", "findings_error", "error", "text_charset", "damaged"}
 # what no text escapes: the replacement character, marks that turn the direction of writing, four bytes of UTF-8
 SHOWN = "a\ufffd\u200f\u202e\ufeff\U0001f600\U0010ffff/..z"
 MANY = "Too many parts and headers"
@@ -505,6 +506,16 @@ def test_options():
     plain = flowed.replace(b"; format=flowed", b"")
     for data in (plain, b"Content-Transfer-Encoding: base64\n" + plain):
         assert objects(["--flowed"], data, 0, "--flowed") == objects([], data, 0, "no --flowed"), f"--flowed {data!r}"
+
+
+def test_findings():
+    """With --check a line has findings, or why there are none, and is otherwise the same, also without bodies."""
+    for data, wanted in ((b"A: b\n\nHi\n", ([], None)), (b"A: b\n\na\0b\n", (["nul"], None)), (b" x", (None, SPACE))):
+        for options in (["--mail"], ["--mail", "--no-text"]):
+            line, plain = objects([*options, "--check"], data, 0, repr(data))[0], objects(options, data, 0, repr(data))[0]
+            found = line.pop("findings")
+            assert (found if not found else [it["name"] for it in found], line.pop("findings_error", None)) == wanted, repr(data)
+            assert line == plain, repr(data)
 
 
 # HTML in a charset, and what a reader of the HTML Standard shows of it: tags, comments and scripts are no text

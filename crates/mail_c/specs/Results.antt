@@ -60,7 +60,7 @@ text_of_html shows_links references bytes = do
 
 -- Under the charsets that are known.
 module _ (known : Charsets) where
-  -- bodies decoded, no hashes, texts as they are, and without the text of HTML
+  -- bodies decoded, no hashes, no findings, texts as they are, and without the text of HTML
   abbrev pub plain_options : Options
   plain_options = record {
     known = known;
@@ -69,6 +69,7 @@ module _ (known : Charsets) where
     hashes = false;
     joins_flowed = false;
     html = None;
+    lists_findings = false;
   }
 
   -- the line of JSON of a mail

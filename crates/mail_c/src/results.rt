@@ -47,6 +47,7 @@ pub(crate) fn json<K: KnownCharsets>(
         hashes: false,
         joins_flowed: false,
         html: None,
+        lists_findings: false,
     };
     let mut line = Vec::new(alloc);
     match write_mail(alloc, &mut line, &mail, &origin, options, known) {

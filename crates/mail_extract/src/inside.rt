@@ -32,6 +32,7 @@ const MAILS: LineOptions<'static> = LineOptions {
     hashes: false,
     joins_flowed: false,
     html: None,
+    lists_findings: false,
 };
 
 /// Saves the chosen files of a mail with this number in its mailbox and of the mails inside it, and

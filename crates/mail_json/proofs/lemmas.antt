@@ -19,3 +19,4 @@ pub mod Stream
 pub mod Range
 pub mod LinesAreJson
 pub mod WithoutText
+pub mod OwnBytes

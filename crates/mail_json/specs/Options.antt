@@ -5,8 +5,8 @@ use Rattle.mail_html.specs.declared.references.References.{References}
 use Rattle.mail_json.specs.declared.options.LineOptions as code
 
 -- the charsets that are known, the limit on the messages, parts and headers of each mail, whether bodies are decoded,
--- whether files have their hashes, whether each flowed paragraph of a text is one line, and the references under which
--- HTML has its text, or none
+-- whether files have their hashes, whether each flowed paragraph of a text is one line, the references under which HTML
+-- has its text, or none, and whether a mail has its findings
 pub record Options : Type 0 where
   pub known : Charsets
   pub limit : ℕ
@@ -14,6 +14,7 @@ pub record Options : Type 0 where
   pub hashes : Bool
   pub joins_flowed : Bool
   pub html : Option References
+  pub lists_findings : Bool
 
 -- the same of the program's options, under these charsets
 abbrev pub options_of : Charsets → code.LineOptions → Options
@@ -25,6 +26,7 @@ options_of known options =
       hashes = options.hashes;
       joins_flowed = options.joins_flowed;
       html = option_map (λ references. references.now) options.html;
+      lists_findings = options.lists_findings;
     }
 
 -- these options, under which bodies are decoded, or are not

@@ -1,5 +1,5 @@
 -- The JSON values of the lines, in the form that the kit's parser of JSON returns; the program's own form.
-use Rattle.std.specs.Prelude.{◌≡◌, ℕ, Bool, true, false, not, ◌&&◌, ◌==◌, nat_le, List, [], ◌∷◌, ◌++◌, length, map, Option, Some, None, option_map, Ok, Err, codes}
+use Rattle.std.specs.Prelude.{◌≡◌, ℕ, Bool, true, false, not, ◌&&◌, ◌==◌, nat_le, List, [], ◌∷◌, ◌++◌, length, map, Option, Some, None, option_map, Ok, Err, codes, if◌then◌else◌}
 use Rattle.std.specs.List.{flat_map, list_all, AllByRecursion}
 use Rattle.json.specs.Json.{Json, null, boolean, string, document}
 use Rattle.json.specs.Strict.{HasUniqueKeys}
@@ -24,6 +24,9 @@ use Rattle.mail_data.specs.lenient.Encoding.{lenient_body_kind}
 use Rattle.mail_data.specs.lenient.Refused.{kept_for}
 use Rattle.mail_data.specs.lenient.Texts.{text_read}
 use Rattle.mail_data.specs.lenient.Values.{header_text}
+use Rattle.mail_check.specs.Findings.{Finding}
+use Rattle.mail_check.specs.Names.{class_text, sentence_of, text_of}
+use Rattle.mail_check.specs.Reading.{mail_findings}
 use Rattle.mail_address.specs.Addresses.{Element, Single, single, group}
 use Rattle.mail_address.specs.Lenient.{lenient_addresses_of}
 use Rattle.mail_address.specs.Mailbox.{Parts}
@@ -74,6 +77,23 @@ origin_members origin = file_members origin.file ++ one (codes "number") (number
 -- the object of an error
 abbrev pub error_value : Origin → List ℕ → Json
 error_value origin text = object_of (origin_members origin ++ one (codes "error") (string text))
+
+-- the object of a finding
+abbrev pub finding_value : Finding → Json
+finding_value finding =
+    object_of (one (codes "name") (string (text_of finding.name)) ++ one (codes "class") (string (class_text finding.class))
+    ++ one (codes "path") (string finding.path) ++ bounds_members finding.range.start finding.range.end
+    ++ one (codes "sentence") (string (sentence_of finding.name)))
+
+-- the member of these findings
+abbrev pub findings_member : List Finding → List Member
+findings_member found = one (codes "findings") (list_of (map finding_value found))
+
+-- the members of what is found in a mail, or of why that is refused; there are none if it is not asked for
+abbrev pub found_members : Option (Reads (List Finding)) → List Member
+found_members None = []
+found_members (Some (Ok found)) = findings_member found
+found_members (Some (Err refusal)) = one (codes "findings") null ++ one (codes "findings_error") (string (refusal_text refusal))
 
 -- the object of an input that could not be read
 abbrev pub unread_value : Option (List ℕ) → List ℕ → Json
@@ -312,11 +332,16 @@ module _ (options : Options) where
       (parts : List Json) × (others : List Json) × AreValues (IsPartValue None (Some start)) (places mail (mail_placements mail)) parts
       × AreInsideValues start (mails_inside options.known options.limit mail) others × (values ≡ parts ++ others)
 
+  -- what is found in the bytes of a mail, if that is asked for
+  abbrev pub findings_if : List ℕ → Option (Reads (List Finding))
+  findings_if bytes = if options.lists_findings then Some (mail_findings options.known options.limit bytes) else None
+
   -- a value is the object of a mail with this origin
   abbrev pub IsMailValue : Origin → Tree → Json → Type 0
   IsMailValue origin mail value =
       (parts : List Json) × ArePartValues origin.start mail parts
-      × (value ≡ object_of (mail_members options.known options.decodes_bodies origin mail (mails_inside options.known options.limit mail) parts))
+      × (value ≡ object_of (mail_members options.known options.decodes_bodies origin mail (mails_inside options.known options.limit mail) parts
+      ++ found_members (findings_if (root mail).bytes)))
 
   -- a value is that of the line of a mail with this origin, or of its refusal
   abbrev pub IsLineValue : Origin → Reads Tree → Json → Type 0

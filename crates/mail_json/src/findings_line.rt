@@ -1,17 +1,21 @@
-//! The line of the findings of a mail.
+//! The line of the findings of a mail, and the same in the line of the mail.
 ghost use Rattle.std.specs.Prelude.{map};
 ghost use Rattle.mail_check.specs.FindingViews.{finding_view};
-ghost use Rattle.mail_json.specs.FindingsLine.{finding_value, findings_value};
+ghost use Rattle.mail_json.specs.FindingsLine.{findings_value};
+ghost use Rattle.mail_json.specs.Members.{AddsMembers};
+ghost use Rattle.mail_json.specs.Options.{options_of};
 ghost use Rattle.mail_json.specs.Origin.{origin_of};
 ghost use Rattle.mail_json.specs.Printed.{line_of};
+ghost use Rattle.mail_json.specs.Values.{finding_value, findings_if, findings_member, found_members};
 ghost use Rattle.mail_program.specs.Streams.{Writes};
 
 use crate::json_text::write_word;
 use crate::lists::{ListItem, write_list};
-use crate::members::{add_number, add_text, first_key, key};
+use crate::members::{add_null, add_number, add_text, first_key, key};
+use crate::options::LineOptions;
 use crate::origin::{Origin, write_origin};
-use mail_check::Finding;
-use mail_program::Fault;
+use mail_check::{Finding, read_findings};
+use mail_program::{Fault, refusal_of};
 use mailparse::KnownCharsets;
 use std::alloc::Global;
 use std::io::Write;
@@ -54,9 +58,44 @@ pub fn write_findings<W: Write>(
         (line_of (findings_value (origin_of origin.now) (map finding_view found.now))) }
 {
     write_origin(out, origin)?;
-    write_word(out, key!("findings"))?;
-    write_list(alloc, out, found, &())?;
+    add_found(alloc, out, found)?;
     write_word(out, "}\n")
+}
+
+/// Adds what is found in the bytes of a mail, or why that is refused, or nothing if it is not asked
+/// for.
+pub(crate) fn add_findings<W: Write, K: KnownCharsets>(
+    alloc: Global,
+    out: &mut W,
+    raw: &[u8],
+    options: LineOptions<'_>,
+    known: &K,
+) -> Result<(), Fault>
+    ensures { AddsMembers (W.contents out.old) (W.contents out.new) result
+        (found_members (findings_if (options_of (K.known known.now) options.entry) raw.now)) }
+{
+    if !options.lists_findings {
+        return Ok(());
+    }
+    match read_findings(alloc, raw, options.limit, known) {
+        Ok(found) => add_found(alloc, out, found.as_slice()),
+        Err(error) => {
+            let Some(text) = refusal_of(alloc, &error)? else {
+                return Err(Fault::Mail(error));
+            };
+            add_null(out, key!("findings"))?;
+            add_text(out, key!("findings_error"), text.as_str())
+        }
+    }
+}
+
+/// Adds the member with these findings.
+fn add_found<W: Write>(alloc: Global, out: &mut W, found: &[Finding]) -> Result<(), Fault>
+    ensures { AddsMembers (W.contents out.old) (W.contents out.new) result
+        (findings_member (map finding_view found.now)) }
+{
+    write_word(out, key!("findings"))?;
+    write_list(alloc, out, found, &())
 }
 
 impl ListItem for Finding {

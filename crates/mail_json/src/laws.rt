@@ -1,12 +1,12 @@
 //! Laws: each line is JSON, a line without texts is the whole line without them, and the lines of
 //! all parts of an input are those of the whole.
-ghost use Rattle.std.specs.Prelude.{◌++◌, ◌<◌, ◌^◌, ◌≡◌, ◌≤◌, Bool, List, Option, codes, drop};
+ghost use Rattle.std.specs.Prelude.{◌++◌, ◌<◌, ◌^◌, ◌≡◌, ◌≤◌, Bool, List, Ok, Option, codes, drop};
 ghost use Rattle.std.specs.Prelude.{encode_utf8_all, false, length, true, ℕ};
 ghost use Rattle.std.specs.List.{flat_map, list_all};
 ghost use Rattle.json.specs.Json.{Json};
 ghost use Rattle.mail_codec.specs.Places.{values_below};
 ghost use Rattle.mail_data.specs.declared.mailbox.formats.Format.{Format};
-ghost use Rattle.mailparse.specs.Mail.{Tree};
+ghost use Rattle.mailparse.specs.Mail.{Tree, root};
 ghost use Rattle.mailparse.specs.Refusal.{Reads};
 ghost use Rattle.mail_check.specs.Findings.{Finding};
 ghost use Rattle.mail_json.specs.FileLine.{FileLine, file_line_value};
@@ -14,6 +14,7 @@ ghost use Rattle.mail_json.specs.FindingsLine.{findings_value};
 ghost use Rattle.mail_json.specs.JsonText.{character_text, json_text};
 ghost use Rattle.mail_data.specs.MailboxOffsets.{IsThere};
 ghost use Rattle.mail_data.specs.MailboxParts.{Placed};
+ghost use Rattle.mail_data.specs.Reading.{mail_reading};
 ghost use Rattle.mail_json.specs.JsonLines.{AreMailboxLines, IsLineOf, format_of, origin_at};
 ghost use Rattle.mail_json.specs.Options.{Options, decoding};
 ghost use Rattle.mail_json.specs.Origin.{HasMailAt, Origin};
@@ -21,7 +22,8 @@ ghost use Rattle.mail_json.specs.Printed.{line_of};
 ghost use Rattle.mail_json.specs.Range.{ArePartLines, AreRangeLines, AreRangeLinesAt};
 ghost use Rattle.mail_json.specs.Range.{AreUnnumberedLines, has_parts, reading_start};
 ghost use Rattle.mail_json.specs.declared.options.InputKind.{InputKind};
-ghost use Rattle.mail_json.specs.Values.{AreJsonLines, IsJsonLine, IsLineValue, unread_value};
+ghost use Rattle.mail_json.specs.Values.{AreJsonLines, IsJsonLine, IsLineValue, findings_if};
+ghost use Rattle.mail_json.specs.Values.{unread_value};
 ghost use Rattle.mail_json.specs.WithoutText.{without_text};
 
 /// A string in UTF-8 is written character by character, between quotation marks.
@@ -65,6 +67,14 @@ pub fn text_is_left_out()
         IsLineValue (decoding false options) origin mail value →
         (whole : Json) × IsLineValue (decoding true options) origin mail whole
         × (value ≡ without_text whole) }
+{}
+
+/// The bytes of a mail that was read are those of the input, so the findings in its line are those
+/// of the input, which `rocktray check` lists.
+pub fn findings_are_those_of_the_input()
+    ensures { (options : Options) (bytes : List ℕ) (mail : Tree) →
+        mail_reading options.known options.limit bytes ≡ Ok mail →
+        findings_if options (root mail).bytes ≡ findings_if options bytes }
 {}
 
 /// The lines of equal parts of an input, one after another, are those of the whole without the

@@ -23,6 +23,7 @@ use crate::addresses::write_addresses;
 use crate::bounced::bounced_id;
 use crate::decoded::{Decoded, decoded_parts};
 use crate::fields::value_of;
+use crate::findings_line::add_findings;
 use crate::inside::{write_mails, write_parts};
 use crate::json_text::write_word;
 use crate::line_buffer::{LineBuffer, memory_fault};
@@ -86,6 +87,7 @@ pub fn write_mail<W: Write, K: KnownCharsets>(
     write_word(out, "]")?;
     write_word(out, key!("forwarded"))?;
     write_mails(alloc, out, inside.as_slice(), origin.start)?;
+    add_findings(alloc, out, mail.raw_bytes, options, known)?;
     write_word(out, "}")
 }
 

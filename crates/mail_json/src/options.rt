@@ -57,11 +57,13 @@ pub struct LineOptions<'r> {
     /// them, or `None` if it is left out.
     #[derive_where(skip(Debug))]
     pub html: Option<&'r References<'r>>,
+    /// Whether each mail has its findings.
+    pub lists_findings: bool,
 }
 
 impl<'r> LineOptions<'r> {
     /// Returns options that read mails with the limit `DEFAULT_LIMIT`, decode bodies, show no
-    /// hashes, and show texts as they are, without the text of HTML.
+    /// hashes and no findings, and show texts as they are, without the text of HTML.
     ///
     /// # Examples
     ///
@@ -76,6 +78,7 @@ impl<'r> LineOptions<'r> {
         ensures hashes { result.hashes ≡ false }
         ensures joins_flowed { result.joins_flowed ≡ false }
         ensures html { result.html ≡ None }
+        ensures lists_findings { result.lists_findings ≡ false }
     {
         LineOptions {
             limit: DEFAULT_LIMIT,
@@ -83,6 +86,7 @@ impl<'r> LineOptions<'r> {
             hashes: false,
             joins_flowed: false,
             html: None,
+            lists_findings: false,
         }
     }
 }

@@ -34,6 +34,8 @@ struct Shown {
     joins_flowed: bool,
     /// Whether HTML has its text.
     html_text: bool,
+    /// Whether each mail has its findings.
+    lists_findings: bool,
 }
 
 /// How the inputs are read.
@@ -121,6 +123,7 @@ impl Shown {
             hashes: self.hashes,
             joins_flowed: self.joins_flowed,
             html,
+            lists_findings: self.lists_findings,
         }
     }
 }
@@ -172,6 +175,7 @@ fn how_of(matches: &ArgMatches<'_>, terminals: Terminals) -> How {
         hashes: matches.get_flag(ids::HASH),
         joins_flowed: matches.get_flag(ids::FLOWED),
         html_text: matches.get_flag(ids::HTML_TEXT),
+        lists_findings: matches.get_flag(ids::CHECK),
     };
     How {
         kind: kind_of(matches),

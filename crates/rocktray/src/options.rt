@@ -22,6 +22,8 @@ pub const SHOW: &str = "show";
 pub mod ids {
     pub const BY_HASH: &str = "by-hash";
 
+    pub const CHECK: &str = "check";
+
     pub const CLASS: &str = "class";
 
     pub const FLOWED: &str = "flowed";
@@ -102,7 +104,9 @@ option says which it is. --mbox=rd is the mboxrd format, whose quoted lines lose
 Of each file, --part K/N reads the mails whose separator begins in the K-th of N equal parts of the
 file. Their `number` is null.
 
-A mail that is refused, and an input that cannot be read, has a line with the member `error`.
+A mail that is refused, and an input that cannot be read, has a line with the member `error`. With
+--check each other line has the member `findings`, what rocktray check finds, and the exit status
+does not change.
 
 "
 );
@@ -208,6 +212,11 @@ fn json<'a>(alloc: Global) -> Result<Command<'a>, AllocError> {
             "Show each paragraph in format=flowed as one line",
         ))?
         .arg(flag(alloc, ids::HTML_TEXT, "Show the text of HTML beside it"))?
+        .arg(flag(
+            alloc,
+            ids::CHECK,
+            "List what rocktray check finds in each mail",
+        ))?
         .arg(flag(
             alloc,
             ids::NO_TEXT,

@@ -34,7 +34,7 @@ use Rattle.mail_address.specs.Mailbox.{Parts}
 use Rattle.mail_json.specs.Fields.{value_of}
 use Rattle.mail_check.specs.Findings.{Finding}
 use Rattle.mail_json.specs.FileLine.{FileLine, file_line_value}
-use Rattle.mail_json.specs.FindingsLine.{finding_value, findings_value}
+use Rattle.mail_json.specs.FindingsLine.{findings_value}
 use Rattle.mail_data.specs.InnerMails.{InnerMail}
 use Rattle.mail_json.specs.Selection.{AreChosenOf, OnlyIf}
 use Rattle.mail_json.specs.JsonLines.{AreLines, AreMailboxLines, IsFront, IsLineOf, format_of, is_mailbox, origin_at}
@@ -49,7 +49,7 @@ use Rattle.mail_json.specs.Reports.{delivery_value}
 use Rattle.mail_html.specs.declared.references.References.{References}
 use Rattle.mail_json.specs.Part.{content_if, hash_of, html_shown, is_attachment, is_read, place_in, recipients_if, report_if, text_shown}
 use Rattle.mail_json.specs.Printed.{line_of, list_of, members_of, object_of, one, seconds_value, string_or_null, text_of}
-use Rattle.mail_json.specs.Values.{address_list, AreInsideValues, AreJsonLines, AreValues, IsJsonLine, IsLineValue, IsMailValue, IsPartValue, block_value, body_members, date_members, decoded_members, element_value, error_value, front_members, header_value, id_list, ids_members, inner_value, origin_members, pair_value, parameter_member, part_members, raw_values, recipients_value, report_value, single_or_unknown_value, single_value, size_members, text_members, unread_value, values_members, zone_members}
+use Rattle.mail_json.specs.Values.{address_list, AreInsideValues, AreJsonLines, AreValues, IsJsonLine, IsLineValue, IsMailValue, IsPartValue, block_value, body_members, date_members, decoded_members, element_value, error_value, finding_value, findings_if, found_members, front_members, header_value, id_list, ids_members, inner_value, origin_members, pair_value, parameter_member, part_members, raw_values, recipients_value, report_value, single_or_unknown_value, single_value, size_members, text_members, unread_value, values_members, zone_members}
 use Rattle.mail_json.proofs.lemmas.Values.{AreGood, IsGood, all_distinct, all_then, flag_good, json_line, list_good, mapped_good, members_then, named_good, null_good, number_good, number_or_null_good, object_good, optional_good, seconds_good, sorted_names, string_good}
 
 -- ---- the object of a part
@@ -181,22 +181,30 @@ module _ (known : Charsets) where
   address_list_good : (key : List ℕ) (node : Node) → IsGood 5 (address_list known key node)
   address_list_good key node = mapped_good 4 (element_value known) (element_good 1) (lenient_addresses_of key node.headers)
 
-  -- no name occurs twice, whether the zone of a date is known or not
-  zone_distinct : (origin : Origin) (node : Node) (bounced recipients parts inside : Json) (seconds : ℤ) (is_known : Bool)
+  -- no name occurs twice, whether the zone of a date is known or not, and whatever is found
+  zone_distinct : (origin : Origin) (node : Node) (bounced recipients parts inside : Json) (seconds : ℤ) (is_known : Bool) (found : Option (Reads (List Finding)))
       → all_distinct (keys (members_of (origin_members origin ++ values_members known node ++ one (codes "raw") (raw_values node)
       ++ (one (codes "date") (seconds_value seconds) ++ zone_members is_known) ++ ids_members node ++ one (codes "bounced_id") bounced
-      ++ one (codes "recipients") recipients ++ one (codes "parts") parts ++ one (codes "forwarded") inside))) ≡ true
-  zone_distinct origin node bounced recipients parts inside seconds true = refl
-  zone_distinct origin node bounced recipients parts inside seconds false = refl
+      ++ one (codes "recipients") recipients ++ one (codes "parts") parts ++ one (codes "forwarded") inside ++ found_members found))) ≡ true
+  zone_distinct origin node bounced recipients parts inside seconds true None = refl
+  zone_distinct origin node bounced recipients parts inside seconds true (Some (Ok found)) = refl
+  zone_distinct origin node bounced recipients parts inside seconds true (Some (Err refusal)) = refl
+  zone_distinct origin node bounced recipients parts inside seconds false None = refl
+  zone_distinct origin node bounced recipients parts inside seconds false (Some (Ok found)) = refl
+  zone_distinct origin node bounced recipients parts inside seconds false (Some (Err refusal)) = refl
 
   -- nor whether there is a date or not
-  mail_distinct : (origin : Origin) (node : Node) (bounced recipients parts inside : Json) (date : Option (Dated Zoned))
+  mail_distinct : (origin : Origin) (node : Node) (bounced recipients parts inside : Json) (date : Option (Dated Zoned)) (found : Option (Reads (List Finding)))
       → all_distinct (keys (members_of (origin_members origin ++ values_members known node ++ one (codes "raw") (raw_values node) ++ date_members date
       ++ ids_members node ++ one (codes "bounced_id") bounced
-      ++ one (codes "recipients") recipients ++ one (codes "parts") parts ++ one (codes "forwarded") inside))) ≡ true
-  mail_distinct origin node bounced recipients parts inside None = refl
-  mail_distinct origin node bounced recipients parts inside (Some (Ok date)) = zone_distinct origin node bounced recipients parts inside date.0 date.1
-  mail_distinct origin node bounced recipients parts inside (Some (Err fault)) = refl
+      ++ one (codes "recipients") recipients ++ one (codes "parts") parts ++ one (codes "forwarded") inside ++ found_members found))) ≡ true
+  mail_distinct origin node bounced recipients parts inside None None = refl
+  mail_distinct origin node bounced recipients parts inside None (Some (Ok found)) = refl
+  mail_distinct origin node bounced recipients parts inside None (Some (Err refusal)) = refl
+  mail_distinct origin node bounced recipients parts inside (Some (Ok date)) found = zone_distinct origin node bounced recipients parts inside date.0 date.1 found
+  mail_distinct origin node bounced recipients parts inside (Some (Err fault)) None = refl
+  mail_distinct origin node bounced recipients parts inside (Some (Err fault)) (Some (Ok found)) = refl
+  mail_distinct origin node bounced recipients parts inside (Some (Err fault)) (Some (Err refusal)) = refl
 
 raw_good : (d : ℕ) (node : Node) → IsGood (suc d) (raw_values node)
 raw_good d node =
@@ -222,6 +230,14 @@ delivery_good d delivery =
 recipients_good : (d : ℕ) (found : Option (List Delivery)) → IsGood (suc (suc d)) (recipients_value found)
 recipients_good d (Some found) = mapped_good (suc d) delivery_value (delivery_good d) found
 recipients_good d None = null_good (suc (suc d))
+
+finding_good : (d : ℕ) (finding : Finding) → IsGood (suc d) (finding_value finding)
+finding_good d finding = named_good refl (string_good d _, (string_good d _, (string_good d _, (number_good d _, (number_good d _, (string_good d _, tt))))))
+
+found_good : (d : ℕ) (found : Option (Reads (List Finding))) → AreGood (suc (suc d)) (found_members found)
+found_good d None = tt
+found_good d (Some (Ok found)) = (mapped_good (suc d) finding_value (finding_good d) found, tt)
+found_good d (Some (Err refusal)) = (null_good _, (string_good _ _, tt))
 
 mail_good : (options : Options) (origin : Origin) (mail : Tree) (value : Json) → IsMailValue options origin mail value → IsGood 6 value
 mail_good options origin mail value is =
@@ -251,8 +267,12 @@ mail_good options origin mail value is =
     let rest : AreGood 5 (own ++ one (codes "recipients") recipients ++ one (codes "parts") parts ++ one (codes "forwarded") inside) =
     members_then 5 (own ++ one (codes "recipients") recipients ++ one (codes "parts") parts) (one (codes "forwarded") inside) listed
     (mapped_good 4 (inner_value origin.start) (inner_good 3 origin.start) (mails_inside known options.limit mail), tt) in
+    let found_if = findings_if options node.bytes in
+    let noticed : AreGood 5 (own ++ one (codes "recipients") recipients ++ one (codes "parts") parts ++ one (codes "forwarded") inside ++ found_members found_if) =
+    members_then 5 (own ++ one (codes "recipients") recipients ++ one (codes "parts") parts ++ one (codes "forwarded") inside) (found_members found_if) rest
+    (found_good 3 found_if) in
     subst (IsGood 6) (sym is.2)
-    (named_good (mail_distinct known origin node bounced recipients parts inside _) (number_good 5 5, (optional_good 5 origin.file, (number_or_null_good 5 origin.number, (number_good 5 origin.start, (number_good 5 origin.end, (optional_good 5 _, (address_list_good known (codes "From") node, (address_list_good known (codes "To") node, (address_list_good known (codes "Cc") node, (address_list_good known (codes "Bcc") node, (address_list_good known (codes "Reply-To") node, (address_list_good known (codes "Sender") node, (raw_good 4 node, rest))))))))))))))
+    (named_good (mail_distinct known origin node bounced recipients parts inside _ found_if) (number_good 5 5, (optional_good 5 origin.file, (number_or_null_good 5 origin.number, (number_good 5 origin.start, (number_good 5 origin.end, (optional_good 5 _, (address_list_good known (codes "From") node, (address_list_good known (codes "To") node, (address_list_good known (codes "Cc") node, (address_list_good known (codes "Bcc") node, (address_list_good known (codes "Reply-To") node, (address_list_good known (codes "Sender") node, (raw_good 4 node, noticed))))))))))))))
 
 -- ---- lines
 
@@ -264,9 +284,6 @@ pub file_is_json : (line : FileLine) → (object : List ℕ) × IsJsonLine (file
 file_is_json line =
     let good : IsGood 1 (file_line_value line) = named_good refl (optional_good 0 line.file, (number_or_null_good 0 line.number, (optional_good 0 line.path, (optional_good 0 line.saved, (number_or_null_good 0 line.size, (optional_good 0 line.sha256, (optional_good 0 line.error, tt))))))) in
     (text_of (file_line_value line), json_line 1 (file_line_value line) (omega arith) good, refl)
-
-finding_good : (d : ℕ) (finding : Finding) → IsGood (suc d) (finding_value finding)
-finding_good d finding = named_good refl (string_good d _, (string_good d _, (string_good d _, (number_good d _, (number_good d _, (string_good d _, tt))))))
 
 pub findings_are_json : (origin : Origin) (findings : List Finding)
     → (object : List ℕ) × IsJsonLine (findings_value origin findings) object × (line_of (findings_value origin findings) ≡ object ++ codes "\n")

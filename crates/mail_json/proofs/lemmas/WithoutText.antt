@@ -3,7 +3,7 @@ use Rattle.std.proofs.Common.{◌≡◌, ℕ, ℤ, Bool, true, false, List, [], 
 use Rattle.std.specs.Prelude.{codes, option_map, ◌&&◌}
 use Rattle.json.specs.Json.{Json, null, object, array, Members, item, member}
 use Rattle.json.specs.Value.{items_of}
-use Rattle.mailparse.specs.Mail.{Tree, root}
+use Rattle.mailparse.specs.Mail.{Node, Tree, root}
 use Rattle.mailparse.specs.Refusal.{Reads, Refusal}
 use Rattle.mail_data.specs.Bounce.{original_message_id}
 use Rattle.mail_data.specs.Attachments.{is_extracted}
@@ -14,13 +14,14 @@ use Rattle.mail_data.specs.Reading.{mail_placements}
 use Rattle.mail_data.specs.lenient.Content.{message_content}
 use Rattle.mail_data.specs.lenient.Date.{Dated, Zoned, zoned_date_of}
 use Rattle.mail_data.specs.lenient.Texts.{text_read}
+use Rattle.mail_check.specs.Findings.{Finding}
 use Rattle.mail_json.specs.Fields.{value_of}
 use Rattle.mail_json.specs.Inside.{mails_inside, parts_inside}
 use Rattle.mail_json.specs.Options.{Options, decoding}
 use Rattle.mail_json.specs.Origin.{Origin}
 use Rattle.mail_json.specs.Part.{hash_of, html_shown, is_read, place_in, recipients_if, report_if, text_shown}
 use Rattle.mail_json.specs.Printed.{Member, list_of, members_of, object_of, one, string_or_null}
-use Rattle.mail_json.specs.Values.{AreInsideValues, AreValues, IsLineValue, IsMailValue, IsPartValue, date_members, front_members, header_value, ids_members, inner_value, mail_members, no_text_members, origin_members, part_members, raw_values, recipients_value, report_value, size_members, text_members, values_members}
+use Rattle.mail_json.specs.Values.{AreInsideValues, AreValues, IsLineValue, IsMailValue, IsPartValue, date_members, findings_if, found_members, front_members, header_value, ids_members, inner_value, mail_members, no_text_members, origin_members, part_members, raw_values, recipients_value, report_value, size_members, text_members, values_members}
 use Rattle.mail_json.specs.WithoutText.{items_without_text, object_without_text, part_without_text, parts_without_text, without_text}
 
 -- the members that need a decoded body, whether it is refused or not, and whatever the text is
@@ -93,25 +94,33 @@ module _ (options : Options) where
   items_whole [] = refl
   items_whole (j ∷ js) = ap (λ items. item (object_without_text j) items) (items_whole js)
 
-  -- the members of a line, whether there is a date or not
-  abbrev line_members : Origin → Tree → Option (Dated Zoned) → Json → Json → Json → Json → List Member
-  line_members origin mail date bounced recipients parts inside =
-      origin_members origin ++ values_members options.known (root mail) ++ one (codes "raw") (raw_values (root mail)) ++ date_members date
-      ++ ids_members (root mail) ++ one (codes "bounced_id") bounced ++ one (codes "recipients") recipients ++ one (codes "parts") parts
-      ++ one (codes "forwarded") inside
+  -- the members of a line, whether there is a date or not, and whatever is found
+  abbrev line_members : Origin → Node → Option (Dated Zoned) → Json → Json → Json → Json → Option (Reads (List Finding)) → List Member
+  line_members origin node date bounced recipients parts inside found =
+      origin_members origin ++ values_members options.known node ++ one (codes "raw") (raw_values node) ++ date_members date
+      ++ ids_members node ++ one (codes "bounced_id") bounced ++ one (codes "recipients") recipients ++ one (codes "parts") parts
+      ++ one (codes "forwarded") inside ++ found_members found
 
-  zoned_without : (origin : Origin) (mail : Tree) (seconds : ℤ) (is_known : Bool) (bounced recipients parts inside : Json)
-      → object_of (line_members origin mail (Some (Ok (seconds, is_known))) bounced null (parts_without_text parts) inside)
-      ≡ without_text (object_of (line_members origin mail (Some (Ok (seconds, is_known))) bounced recipients parts inside))
-  zoned_without origin mail seconds true bounced recipients parts inside = refl
-  zoned_without origin mail seconds false bounced recipients parts inside = refl
+  zoned_without : (origin : Origin) (node : Node) (seconds : ℤ) (is_known : Bool) (bounced recipients parts inside : Json) (found : Option (Reads (List Finding)))
+      → object_of (line_members origin node (Some (Ok (seconds, is_known))) bounced null (parts_without_text parts) inside found)
+      ≡ without_text (object_of (line_members origin node (Some (Ok (seconds, is_known))) bounced recipients parts inside found))
+  zoned_without origin node seconds true bounced recipients parts inside None = refl
+  zoned_without origin node seconds true bounced recipients parts inside (Some (Ok found)) = refl
+  zoned_without origin node seconds true bounced recipients parts inside (Some (Err refusal)) = refl
+  zoned_without origin node seconds false bounced recipients parts inside None = refl
+  zoned_without origin node seconds false bounced recipients parts inside (Some (Ok found)) = refl
+  zoned_without origin node seconds false bounced recipients parts inside (Some (Err refusal)) = refl
 
-  line_without : (origin : Origin) (mail : Tree) (date : Option (Dated Zoned)) (bounced recipients parts inside : Json)
-      → object_of (line_members origin mail date bounced null (parts_without_text parts) inside)
-      ≡ without_text (object_of (line_members origin mail date bounced recipients parts inside))
-  line_without origin mail None bounced recipients parts inside = refl
-  line_without origin mail (Some (Ok date)) bounced recipients parts inside = zoned_without origin mail date.0 date.1 bounced recipients parts inside
-  line_without origin mail (Some (Err fault)) bounced recipients parts inside = refl
+  line_without : (origin : Origin) (node : Node) (date : Option (Dated Zoned)) (bounced recipients parts inside : Json) (found : Option (Reads (List Finding)))
+      → object_of (line_members origin node date bounced null (parts_without_text parts) inside found)
+      ≡ without_text (object_of (line_members origin node date bounced recipients parts inside found))
+  line_without origin node None bounced recipients parts inside None = refl
+  line_without origin node None bounced recipients parts inside (Some (Ok found)) = refl
+  line_without origin node None bounced recipients parts inside (Some (Err refusal)) = refl
+  line_without origin node (Some (Ok date)) bounced recipients parts inside found = zoned_without origin node date.0 date.1 bounced recipients parts inside found
+  line_without origin node (Some (Err fault)) bounced recipients parts inside None = refl
+  line_without origin node (Some (Err fault)) bounced recipients parts inside (Some (Ok found)) = refl
+  line_without origin node (Some (Err fault)) bounced recipients parts inside (Some (Err refusal)) = refl
 
   mail_whole : (origin : Origin) (mail : Tree) (value : Json) → IsMailValue (decoding false options) origin mail value
       → (whole : Json) × IsMailValue (decoding true options) origin mail whole × (value ≡ without_text whole)
@@ -126,12 +135,13 @@ module _ (options : Options) where
       let date = option_map zoned_date_of (value_of known (codes "Date") (root mail)) in
       let bounced = string_or_null (original_message_id mail) in
       let recipients = recipients_value (recipients_if known true mail) in
-      let inside = list_of (map (inner_value origin.start) (mails_inside known options.limit mail)) in (
-        object_of (mail_members known true origin mail (mails_inside known options.limit mail) all),
+      let inside = list_of (map (inner_value origin.start) (mails_inside known options.limit mail)) in
+      let found_if = findings_if options (root mail).bytes in (
+        object_of (mail_members known true origin mail (mails_inside known options.limit mail) all ++ found_members found_if),
         (all, (parts.0, others.0, parts.1, others.1, refl), refl),
-        is.2 ∙ ap (λ (js : List Json). object_of (mail_members known false origin mail (mails_inside known options.limit mail) js)) same
-            ∙ ap (λ items. object_of (line_members origin mail date bounced null (array items) inside)) (items_whole all)
-            ∙ line_without origin mail date bounced recipients (list_of all) inside,
+        is.2 ∙ ap (λ (js : List Json). object_of (mail_members known false origin mail (mails_inside known options.limit mail) js ++ found_members found_if)) same
+            ∙ ap (λ items. object_of (line_members origin (root mail) date bounced null (array items) inside found_if)) (items_whole all)
+            ∙ line_without origin (root mail) date bounced recipients (list_of all) inside found_if,
       )
 
   pub line_whole : (origin : Origin) (mail : Reads Tree) (value : Json) → IsLineValue (decoding false options) origin mail value

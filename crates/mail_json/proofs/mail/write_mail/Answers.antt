@@ -1,5 +1,6 @@
 use Rattle.std.proofs.Common.{◌≡◌, ◌++◌, List, map, refl, sym, ap, ◌∙◌}
 use Rattle.json.specs.Json.{Json}
+use Rattle.mailparse.specs.Mail.{root}
 use Rattle.mailparse.specs.Placement.{Placement}
 use Rattle.mailparse.specs.Views.{tree_of}
 use Rattle.mail_data.specs.PartPlaces.{places}
@@ -11,7 +12,7 @@ use Rattle.mail_json.specs.Members.{Adds}
 use Rattle.mail_json.specs.Options.{options_of}
 use Rattle.mail_json.specs.Origin.{origin_of}
 use Rattle.mail_json.specs.Printed.{list_of, object_of, text_of}
-use Rattle.mail_json.specs.Values.{IsMailValue, head_members, inside_value, mail_members}
+use Rattle.mail_json.specs.Values.{IsMailValue, findings_if, found_members, head_members, inside_value, mail_members}
 use Rattle.mail_json.specs.declared.inside.Inside.{Inside}
 use Rattle.mail_json.specs.declared.json_text.Position.TheVariants.{First}
 use Rattle.mail_json.proofs.lemmas.Decoded.{whole_trees}
@@ -46,7 +47,7 @@ returns g c =
     let list = list_appended _ _ _ _ parts.0 c.in_ok-write_word-2.ensures parts.2 c.in_ok-write_word-3.ensures in
     let mails_are = value_as (λ (ms : List Listed). list_of (map (inside_value origin.start) ms)) _ _ _ _ mails c.in_ok-write_mails.ensures in
     let forwarded = value_as (λ (js : List Json). list_of js) _ _ _ _ (sym (map_twice (inside_value origin.start) without_bytes inside)) mails_are in
-    let all_members = head ⨾ valued _ _ _ _ _ refl c.in_ok-write_word.ensures list ⨾ valued _ _ _ _ _ refl c.in_ok-write_word-4.ensures forwarded in
-    let members = mail_members options.known decodes origin mail inside parts.0 in
+    let all_members = head ⨾ valued _ _ _ _ _ refl c.in_ok-write_word.ensures list ⨾ valued _ _ _ _ _ refl c.in_ok-write_word-4.ensures forwarded ⨾ c.in_ok-add_findings.ensures in
+    let members = mail_members options.known decodes origin mail inside parts.0 ++ found_members (findings_if options (root mail).bytes) in
     writes_one text_of (IsMailValue options origin mail) _ _ c.write_word-5.result (object_of members) (parts.0, parts.1, refl)
     (closed _ c.write_word-5.result (object_of members) all_members c.write_word-5.ensures refl)
