@@ -224,13 +224,18 @@ def single_of(text):
     return mailbox_of(text) or ["unknown", text.bytes()]
 
 
-def parts_of(text, pattern):
-    """The text before each separator, which is the first group of a pattern."""
+def matches_of(text, pattern):
+    """The matches of a pattern, one after another."""
     at = 0
     while at < len(text.word):
         found = pattern.match(text.word, at)
-        yield text.part(found.start(1), found.end(1))
+        yield found
         at = found.end()
+
+
+def parts_of(text, pattern):
+    """The text before each separator, which is the first group of a pattern."""
+    return (text.part(*it.span(1)) for it in matches_of(text, pattern))
 
 
 def group_of(text, found):
@@ -375,30 +380,37 @@ def several_of(text):
     return sum(found, []) if all(it[:1] == ["mailbox"] for it in found) else None
 
 
+def joined(text, matches):
+    """Where each element begins, and its match. Phrases before commas may begin the name of a mailbox with brackets."""
+    names = []
+    for found in matches:
+        single = None if found.re is GROUP else text.part(*found.span(1))
+        if single and set(found[1]) <= {"w"}:
+            continue
+        if single and NAME.fullmatch(found[1]) and found[0].endswith(","):
+            names.append(found)
+            continue
+        if names and single and "<" in found[1] and lenient_of(single)[:1] == ["mailbox"]:
+            yield names[0].start(1), found
+        else:
+            yield from ((it.start(1), it) for it in [*names, found])
+        names = []
+    yield from ((it.start(1), it) for it in names)
+
+
 def lenient_group(text, found):
     """The items of a group whose members are read leniently."""
-    members = [lenient_of(it) for it in parts_of(text.part(found.start(2), found.end(2)), MEMBER)]
-    members = [it for it in members if it]
+    inner = text.part(found.start(2), found.end(2))
+    members = [lenient_of(inner.part(at, it.end(1))) for at, it in joined(inner, matches_of(inner, MEMBER))]
     return ["group", name_of(text.part(found.start(1), found.end(1))), str(len(members)), *sum(members, [])]
 
 
 def lenient_items(raw):
-    """The items of a list, read leniently. Phrases before commas may begin the name of a mailbox with brackets."""
-    text, singles, items = Text.read(raw), [], []
-    for found in elements_of(text):
-        single = text.part(*found.span(1))
-        if found.re is SINGLE and set(found[1]) <= {"w"}:
-            continue
-        if found.re is SINGLE and NAME.fullmatch(found[1]) and found[0].endswith(","):
-            singles.append(found.span(1))
-            continue
-        if found.re is SINGLE:
-            is_named = "<" in found[1] and lenient_of(single)[:1] == ["mailbox"]
-            singles = [(singles[0][0], found.end(1))] if singles and is_named else [*singles, found.span(1)]
-        items += sum((lenient_single(text.part(*it)) for it in singles), [])
-        items += lenient_group(text, found) if found.re is GROUP else []
-        singles = []
-    return items + sum((lenient_single(text.part(*it)) for it in singles), [])
+    """The items of a list, read leniently."""
+    text, items = Text.read(raw), []
+    for at, found in joined(text, elements_of(text)):
+        items += lenient_group(text, found) if found.re is GROUP else lenient_single(text.part(at, found.end(1)))
+    return items
 
 
 def shown_names(items):

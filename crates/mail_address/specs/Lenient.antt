@@ -180,6 +180,68 @@ refined_as start text None = record { start = start; text = text; mailbox = leni
 abbrev pub refined_single : Single → Single
 refined_single s = refined_as s.start s.text s.mailbox
 
+-- a text contains a pair of angle brackets outside of quotes and comments
+abbrev pub has_brackets : List ℕ → Bool
+has_brackets text = is_enclosed (front_token (drop (run BeforeAngle text) text)).kind
+
+-- ---- Commas in names.
+
+-- an element is words of a name before a comma: a phrase, so no address
+abbrev pub is_name_part : List ℕ → Element → Bool
+is_name_part raw (single s) = is_none s.mailbox && (is_phrase s.text && begins (λ b. b == comma) (drop (length s.text) (drop s.start raw)))
+is_name_part raw (group g) = false
+
+-- an element is a mailbox with an address in angle brackets
+abbrev pub is_bracketed : Element → Bool
+is_bracketed (single s) = has_brackets s.text && is_some (option_or s.mailbox (lenient_mailbox s.text))
+is_bracketed (group g) = false
+
+-- the first element that is no words of a name is such a mailbox
+abbrev pub has_bracketed : List ℕ → List Element → Bool
+has_bracketed raw [] = false
+has_bracketed raw (e ∷ es) = if is_name_part raw e then has_bracketed raw es else is_bracketed e
+
+-- the offset after an element
+abbrev pub end_of : Element → ℕ
+end_of e = start_of e + length (text_of e)
+
+-- the offset after that mailbox
+abbrev pub bracketed_end : List ℕ → List Element → ℕ
+bracketed_end raw [] = 0
+bracketed_end raw (e ∷ es) = if is_name_part raw e then bracketed_end raw es else end_of e
+
+-- the bytes between two offsets as an element, which is no mailbox by the grammar
+abbrev pub between : List ℕ → ℕ → ℕ → Element
+between raw start end = single (record { start = start; text = take (end - start) (drop start raw); mailbox = None })
+
+-- the elements of a list with these bytes, where a mailbox with an address in angle brackets is one with the words of its name
+-- that are before it
+abbrev pub joined : List ℕ → List Element → List Element
+joined raw [] = []
+joined raw (e ∷ es) =
+    if is_name_part raw e && has_bracketed raw es then between raw (start_of e) (bracketed_end raw es) ∷ drop 1 (joined raw es)
+    else e ∷ joined raw es
+
+-- elements at the front of a list: the one that they are joined to, or themselves
+abbrev pub front_elements : Option Element → List Element → List Element
+front_elements (Some e) es = e ∷ []
+front_elements None es = es
+
+-- ---- Members of groups, and elements.
+
+-- the member that an element is, read leniently; a group is none
+abbrev pub lenient_member : Element → List Single
+lenient_member (single s) = refined_single s ∷ []
+lenient_member (group g) = []
+
+-- so those that elements are
+abbrev pub lenient_members : List Element → List Single
+lenient_members es = flat_map lenient_member es
+
+-- the members of a group in a list with these bytes, read leniently: a name may join them, as it does elements
+abbrev pub refined_members : List ℕ → List Single → List Single
+refined_members raw members = lenient_members (joined raw (map single members))
+
 -- bytes contain an `@` and no pair of angle brackets outside of quotes and comments
 abbrev pub has_bare_address : List ℕ → Bool
 has_bare_address bytes =
@@ -191,31 +253,28 @@ is_open_group bytes =
     begins (λ b. b == colon) (drop (name_len bytes) bytes)
     && (is_phrase (take (name_len bytes) bytes) && (is_all_white (after_name bytes) || has_bare_address (after_name bytes)))
 
--- that group
-unfoldable pub open_group : ℕ → List ℕ → Group
-open_group start bytes = record {
+-- that group in a list with the bytes `raw`
+unfoldable pub open_group : List ℕ → ℕ → List ℕ → Group
+open_group raw start bytes = record {
   start = start;
   text = bytes;
   display_name = take (name_len bytes) bytes;
-  members = map refined_single (members_at (start + suc (name_len bytes)) (after_name bytes));
+  members = refined_members raw (members_at (start + suc (name_len bytes)) (after_name bytes));
 }
 
--- the element at an offset with this text, of which the grammar makes this mailbox or none
-abbrev pub refined_element : ℕ → List ℕ → Option Parts → Element
-refined_element start text (Some m) = single (refined_as start text (Some m))
-refined_element start text None = if is_open_group text then group (open_group start text) else single (refined_as start text None)
+-- the element at an offset with this text, of which the grammar makes this mailbox or none, in a list with the bytes `raw`
+abbrev pub refined_element : List ℕ → ℕ → List ℕ → Option Parts → Element
+refined_element raw start text (Some m) = single (refined_as start text (Some m))
+refined_element raw start text None =
+    if is_open_group text then group (open_group raw start text) else single (refined_as start text None)
 
--- an element, read leniently
-abbrev pub refined : Element → Element
-refined (single s) = refined_element s.start s.text s.mailbox
-refined (group g) =
-    group (record { start = g.start; text = g.text; display_name = g.display_name; members = map refined_single g.members })
+-- an element of a list with these bytes, read leniently
+abbrev pub refined : List ℕ → Element → Element
+refined raw (single s) = refined_element raw s.start s.text s.mailbox
+refined raw (group g) =
+    group (record { start = g.start; text = g.text; display_name = g.display_name; members = refined_members raw g.members })
 
 -- ---- Several addresses in one element.
-
--- a text contains a pair of angle brackets outside of quotes and comments
-abbrev pub has_brackets : List ℕ → Bool
-has_brackets text = is_enclosed (front_token (drop (run BeforeAngle text) text)).kind
 
 -- the length of the bytes up to the end of the first pair of angle brackets
 unfoldable pub angle_end : List ℕ → ℕ
@@ -318,57 +377,19 @@ opened_as start text None =
 abbrev pub reopened : Element → List Element
 reopened e = divided opened_as e
 
--- ---- Commas in names.
-
--- an element is words of a name before a comma: a phrase, so no address
-abbrev pub is_name_part : List ℕ → Element → Bool
-is_name_part raw (single s) = is_none s.mailbox && (is_phrase s.text && begins (λ b. b == comma) (drop (length s.text) (drop s.start raw)))
-is_name_part raw (group g) = false
-
--- an element is a mailbox with an address in angle brackets
-abbrev pub is_bracketed : Element → Bool
-is_bracketed (single s) = has_brackets s.text && is_some (option_or s.mailbox (lenient_mailbox s.text))
-is_bracketed (group g) = false
-
--- the first element that is no words of a name is such a mailbox
-abbrev pub has_bracketed : List ℕ → List Element → Bool
-has_bracketed raw [] = false
-has_bracketed raw (e ∷ es) = if is_name_part raw e then has_bracketed raw es else is_bracketed e
-
--- the offset after an element
-abbrev pub end_of : Element → ℕ
-end_of e = start_of e + length (text_of e)
-
--- the offset after that mailbox
-abbrev pub bracketed_end : List ℕ → List Element → ℕ
-bracketed_end raw [] = 0
-bracketed_end raw (e ∷ es) = if is_name_part raw e then bracketed_end raw es else end_of e
-
--- the bytes between two offsets as an element, which is no mailbox by the grammar
-abbrev pub between : List ℕ → ℕ → ℕ → Element
-between raw start end = single (record { start = start; text = take (end - start) (drop start raw); mailbox = None })
-
--- the elements of a list with these bytes, where a mailbox with an address in angle brackets is one with the words of its name
--- that are before it
-abbrev pub joined : List ℕ → List Element → List Element
-joined raw [] = []
-joined raw (e ∷ es) =
-    if is_name_part raw e && has_bracketed raw es then between raw (start_of e) (bracketed_end raw es) ∷ drop 1 (joined raw es)
-    else e ∷ joined raw es
-
 -- ---- Lists.
 
--- the elements that an element by the grammar is, read leniently
-abbrev pub lenient_element : Element → List Element
-lenient_element e = flat_map parted (map refined (reopened e))
+-- the elements that an element by the grammar is, in a list with these bytes, read leniently
+abbrev pub lenient_element : List ℕ → Element → List Element
+lenient_element raw e = flat_map parted (map (refined raw) (reopened e))
 
 -- so those that elements are
-abbrev pub lenient_elements : List Element → List Element
-lenient_elements es = flat_map lenient_element es
+abbrev pub lenient_elements : List ℕ → List Element → List Element
+lenient_elements raw es = flat_map (lenient_element raw) es
 
 -- the elements of a list
 abbrev pub lenient_addresses : List ℕ → List Element
-lenient_addresses raw = lenient_elements (joined raw (addresses raw))
+lenient_addresses raw = lenient_elements raw (joined raw (addresses raw))
 
 -- the elements in the values of some headers, in order
 abbrev pub lenient_addresses_in : List Header → List Element

@@ -205,8 +205,8 @@ pub fn written_addresses_read_back()
 /// mail_address::laws::lenient_reading_agrees_with_the_grammar();
 /// ```
 pub fn lenient_reading_agrees_with_the_grammar()
-    ensures mailboxes { (start : ℕ) (text : List ℕ) (m : Parts) →
-        refined (single (record { start = start; text = text; mailbox = Some m }))
+    ensures mailboxes { (raw : List ℕ) (start : ℕ) (text : List ℕ) (m : Parts) →
+        refined raw (single (record { start = start; text = text; mailbox = Some m }))
         ≡ single (record { start = start; text = text; mailbox = Some (with_comment text m) }) }
     ensures local_parts { (text : List ℕ) (m : Parts) →
         (with_comment text m).local_part ≡ m.local_part }

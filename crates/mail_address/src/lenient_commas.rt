@@ -1,9 +1,9 @@
 //! Display names that contain a comma.
-ghost use Rattle.std.specs.Prelude.{◌≡◌, ◌≤◌, drop, length, IfOk};
+ghost use Rattle.std.specs.Prelude.{◌≡◌, ◌<◌, ◌≤◌, ◌++◌, drop, length, map, option_map, take, IfOk};
 ghost use Rattle.std.specs.List.{prefix_len};
 ghost use Rattle.mail_address.specs.AddressViews.{element_view};
-ghost use Rattle.mail_address.specs.Lenient.{between, end_of, is_bracketed};
-ghost use Rattle.mail_address.specs.Lenient.{is_name_part};
+ghost use Rattle.mail_address.specs.Lenient.{between, end_of, front_elements, is_bracketed};
+ghost use Rattle.mail_address.specs.Lenient.{is_name_part, joined};
 ghost use Rattle.mail_address.specs.Order.{start_of, text_of};
 
 use crate::lenient::lenient_mailbox;
@@ -34,7 +34,7 @@ fn is_name_part(raw: &[u8], element: &Address<'_>) -> bool
 }
 
 /// Returns how many elements at the front are words of a name before a comma.
-pub(crate) fn name_parts(raw: &[u8], elements: &[Address<'_>]) -> usize
+fn name_parts(raw: &[u8], elements: &[Address<'_>]) -> usize
     ensures value { result
         ≡ prefix_len (λ e. is_name_part raw.now (element_view e)) elements.now }
     ensures bounds { result ≤ length elements.now }
@@ -46,7 +46,7 @@ pub(crate) fn name_parts(raw: &[u8], elements: &[Address<'_>]) -> usize
 }
 
 /// Returns whether an element is a mailbox with an address in angle brackets.
-pub(crate) fn is_bracketed(element: &Address<'_>) -> bool
+fn is_bracketed(element: &Address<'_>) -> bool
     ensures { result ≡ is_bracketed (element_view element.now) }
 {
     match element {
@@ -94,7 +94,7 @@ fn end_of(element: &Address<'_>) -> Result<usize, AllocError>
 }
 
 /// Returns the bytes from the start of an element to the end of another one, as an element.
-pub(crate) fn between<'a>(
+fn between<'a>(
     raw: &'a [u8],
     first: &Address<'_>,
     last: &Address<'_>,
@@ -107,4 +107,27 @@ pub(crate) fn between<'a>(
     let rest = from_offset(raw, start);
     let text = &rest[..end.saturating_sub(start).min(rest.len())];
     Ok(Address::Unknown(Unknown { start, text }))
+}
+
+/// Returns the mailbox that the elements at the front are, if they are words of a name and a mailbox
+/// that has it, and how many they are. Otherwise returns how many stay as they are: such words, and
+/// the element after them.
+pub(crate) fn front<'a>(
+    raw: &'a [u8],
+    elements: &[Address<'a>],
+) -> Result<(Option<Address<'a>>, usize), AllocError>
+    requires { 0 < length elements.now }
+    ensures value { IfOk result (λ found. joined raw.now (map element_view elements.now)
+        ≡ front_elements (option_map element_view found.0)
+        (map element_view (take found.1 elements.now))
+        ++ joined raw.now (map element_view (drop found.1 elements.now))) }
+    ensures bounds { IfOk result (λ found. found.1 ≤ length elements.now) }
+    ensures takes_some { IfOk result (λ found. 0 < found.1) }
+{
+    let names = name_parts(raw, elements);
+    if 0 < names && names < elements.len() && is_bracketed(&elements[names]) {
+        let whole = between(raw, &elements[0], &elements[names])?;
+        return Ok((Some(whole), names + 1));
+    }
+    Ok((None, elements.len().min(names + 1)))
 }

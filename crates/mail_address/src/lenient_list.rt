@@ -12,7 +12,8 @@ ghost use Rattle.mail_address.specs.Lenient.{refined, refined_as, refined_elemen
 
 use crate::headers::only_mailbox;
 use crate::lenient::{lenient_mailbox, with_comment};
-use crate::lenient_commas::{between, is_bracketed, name_parts};
+use crate::lenient_commas::front;
+use crate::lenient_members::refined_members;
 use crate::lenient_opened::{has_open_comment, opened};
 use crate::lenient_several::{are_several, several};
 use crate::list::{
@@ -150,7 +151,7 @@ fn push_joined<'a>(
     elements: &[Address<'a>],
 ) -> Result<(), AllocError>
     ensures { OnOk result (map element_view list.new.items ≡ map element_view list.old.items
-        ++ lenient_elements (joined raw.now (map element_view elements.now))) }
+        ++ lenient_elements raw.now (joined raw.now (map element_view elements.now))) }
 {
     let mut rest = elements;
     'fronts: while !rest.is_empty() {
@@ -170,20 +171,18 @@ fn push_front<'a>(
 ) -> Result<usize, AllocError>
     requires { 0 < length elements.now }
     ensures pushed { IfOk result (λ len. map element_view list.new.items
-        ++ lenient_elements (joined raw.now (map element_view (drop len elements.now)))
+        ++ lenient_elements raw.now (joined raw.now (map element_view (drop len elements.now)))
         ≡ map element_view list.old.items
-        ++ lenient_elements (joined raw.now (map element_view elements.now))) }
+        ++ lenient_elements raw.now (joined raw.now (map element_view elements.now))) }
     ensures bounds { IfOk result (λ len. len ≤ length elements.now) }
     ensures takes_some { IfOk result (λ len. 0 < len) }
 {
-    let names = name_parts(raw, elements);
-    if 0 < names && names < elements.len() && is_bracketed(&elements[names]) {
-        let whole = between(raw, &elements[0], &elements[names])?;
-        push_element(alloc, list, &whole)?;
-        return Ok(names + 1);
+    let (whole, len) = front(raw, elements)?;
+    if let Some(element) = whole {
+        push_element(alloc, list, raw, &element)?;
+        return Ok(len);
     }
-    let len = elements.len().min(names + 1);
-    push_each(alloc, list, &elements[..len])?;
+    push_each(alloc, list, raw, &elements[..len])?;
     Ok(len)
 }
 
@@ -191,13 +190,14 @@ fn push_front<'a>(
 fn push_each<'a>(
     alloc: Global,
     list: &mut AddressList<'a>,
+    raw: &'a [u8],
     elements: &[Address<'a>],
 ) -> Result<(), AllocError>
     ensures { OnOk result (map element_view list.new.items ≡ map element_view list.old.items
-        ++ lenient_elements (map element_view elements.now)) }
+        ++ lenient_elements raw.now (map element_view elements.now)) }
 {
     for element in elements {
-        push_element(alloc, list, element)?;
+        push_element(alloc, list, raw, element)?;
     }
     Ok(())
 }
@@ -206,31 +206,33 @@ fn push_each<'a>(
 fn push_element<'a>(
     alloc: Global,
     list: &mut AddressList<'a>,
+    raw: &'a [u8],
     element: &Address<'a>,
 ) -> Result<(), AllocError>
     ensures { OnOk result (map element_view list.new.items
-        ≡ map element_view list.old.items ++ lenient_element (element_view element.now)) }
+        ≡ map element_view list.old.items ++ lenient_element raw.now (element_view element.now)) }
 {
     if let Address::Unknown(unknown) = element {
         if has_open_comment(unknown.text) {
             let found = opened(alloc, unknown)?;
-            return push_elements(alloc, list, found.as_slice());
+            return push_elements(alloc, list, raw, found.as_slice());
         }
     }
-    push_parted(alloc, list, refined_element(alloc, element)?)
+    push_parted(alloc, list, refined_element(alloc, raw, element)?)
 }
 
 /// Appends elements, read leniently.
 fn push_elements<'a>(
     alloc: Global,
     list: &mut AddressList<'a>,
+    raw: &'a [u8],
     elements: &[Address<'a>],
 ) -> Result<(), AllocError>
     ensures { OnOk result (map element_view list.new.items ≡ map element_view list.old.items
-        ++ flat_map parted (map refined (map element_view elements.now))) }
+        ++ flat_map parted (map (refined raw.now) (map element_view elements.now))) }
 {
     for element in elements {
-        push_parted(alloc, list, refined_element(alloc, element)?)?;
+        push_parted(alloc, list, refined_element(alloc, raw, element)?)?;
     }
     Ok(())
 }
@@ -271,23 +273,31 @@ fn push_unknown<'a>(
 }
 
 /// Returns an element, read leniently.
-fn refined_element<'a>(alloc: Global, element: &Address<'a>) -> Result<Address<'a>, AllocError>
-    ensures { IfOk result (λ new. element_view new ≡ refined (element_view element.now)) }
+fn refined_element<'a>(
+    alloc: Global,
+    raw: &'a [u8],
+    element: &Address<'a>,
+) -> Result<Address<'a>, AllocError>
+    ensures { IfOk result (λ new. element_view new ≡ refined raw.now (element_view element.now)) }
 {
     match element {
         Address::Mailbox(mailbox) => Ok(Address::Mailbox(refined_mailbox(mailbox))),
-        Address::Group(group) => Ok(Address::Group(refined_group(alloc, group)?)),
-        Address::Unknown(unknown) => refined_unknown(alloc, unknown),
+        Address::Group(group) => Ok(Address::Group(refined_group(alloc, raw, group)?)),
+        Address::Unknown(unknown) => refined_unknown(alloc, raw, unknown),
     }
 }
 
 /// Returns an element that is no address by the grammar, read leniently.
-fn refined_unknown<'a>(alloc: Global, unknown: &Unknown<'a>) -> Result<Address<'a>, AllocError>
+fn refined_unknown<'a>(
+    alloc: Global,
+    raw: &'a [u8],
+    unknown: &Unknown<'a>,
+) -> Result<Address<'a>, AllocError>
     ensures { IfOk result (λ new.
-        element_view new ≡ refined (single (unknown_view unknown.now))) }
+        element_view new ≡ refined raw.now (single (unknown_view unknown.now))) }
 {
     if is_open_group(unknown.text) {
-        return Ok(Address::Group(open_group(alloc, unknown)?));
+        return Ok(Address::Group(open_group(alloc, raw, unknown)?));
     }
     Ok(single_of(refined_member(&Member::Unknown(*unknown))))
 }
@@ -317,7 +327,7 @@ fn mailbox_with<'a>(start: usize, text: &'a [u8], found: Parts<'a>) -> Mailbox<'
 }
 
 /// Returns a mailbox by the grammar, named by its first comment if it has no other name.
-fn refined_mailbox<'a>(mailbox: &Mailbox<'a>) -> Mailbox<'a>
+pub(crate) fn refined_mailbox<'a>(mailbox: &Mailbox<'a>) -> Mailbox<'a>
     ensures { mailbox_view result ≡ refined_single (mailbox_view mailbox.now) }
 {
     let parts = Parts {
@@ -345,24 +355,16 @@ pub(crate) fn refined_member<'a>(member: &Member<'a>) -> Member<'a>
     }
 }
 
-/// Returns elements without members, read leniently.
-fn refined_members<'a>(alloc: Global, members: &[Member<'a>]) -> Result<Vec<Member<'a>>, AllocError>
-    ensures { IfOk result (λ list.
-        map member_view list.items ≡ map refined_single (map member_view members.now)) }
-{
-    let mut list = Vec::with_capacity(alloc, members.len())?;
-    for member in members {
-        list.push(refined_member(member))?;
-    }
-    Ok(list)
-}
-
 /// Returns a group, whose members are read leniently.
-fn refined_group<'a>(alloc: Global, strict: &Group<'a>) -> Result<Group<'a>, AllocError>
+fn refined_group<'a>(
+    alloc: Global,
+    raw: &'a [u8],
+    strict: &Group<'a>,
+) -> Result<Group<'a>, AllocError>
     ensures { IfOk result (λ new.
-        group (group_view new) ≡ refined (group (group_view strict.now))) }
+        group (group_view new) ≡ refined raw.now (group (group_view strict.now))) }
 {
-    let members = refined_members(alloc, strict.members.as_slice())?;
+    let members = refined_members(alloc, raw, strict.members.as_slice())?;
     Ok(Group {
         start: strict.start,
         text: strict.text,
@@ -393,9 +395,13 @@ fn is_open_group(bytes: &[u8]) -> bool
 
 /// Returns the group without its semicolon that an element is.
 #[tactic(auto, unfolding(crate::specs::Lenient::open_group))]
-fn open_group<'a>(alloc: Global, unknown: &Unknown<'a>) -> Result<Group<'a>, AllocError>
+fn open_group<'a>(
+    alloc: Global,
+    raw: &'a [u8],
+    unknown: &Unknown<'a>,
+) -> Result<Group<'a>, AllocError>
     ensures { IfOk result (λ new.
-        group_view new ≡ open_group unknown.now.start unknown.now.text.now) }
+        group_view new ≡ open_group raw.now unknown.now.start unknown.now.text.now) }
 {
     let text = unknown.text;
     // An element ends within its value, so the sum fits.
@@ -408,6 +414,6 @@ fn open_group<'a>(alloc: Global, unknown: &Unknown<'a>) -> Result<Group<'a>, All
         start: unknown.start,
         text,
         display_name: &text[..len],
-        members: refined_members(alloc, members.as_slice())?,
+        members: refined_members(alloc, raw, members.as_slice())?,
     })
 }

@@ -16,6 +16,7 @@ pub mod laws;
 mod lenient;
 mod lenient_commas;
 mod lenient_list;
+mod lenient_members;
 mod lenient_opened;
 mod lenient_several;
 mod list;

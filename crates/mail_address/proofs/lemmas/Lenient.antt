@@ -12,7 +12,7 @@ use Rattle.mail_address.specs.declared.tokens.Span.TheVariants.{BeforeAngle, Bef
 use Rattle.mail_address.specs.Accepted.{IsAccepted}
 use Rattle.mail_address.specs.Addresses.{addresses, after_name, EachElement, EachSingle, Element, Group, group, members_at, name_len, Single, single}
 use Rattle.mail_address.specs.Grammar.{address, IsByGrammar, IsDomain, IsMailbox, named_address}
-use Rattle.mail_address.specs.Lenient.{after_any_route, angle_mailbox, bare_mailbox, bare_name_len, closed_len, closed_mailbox, comment_name, has_brackets, has_no_opening, has_open_comment, is_lenient_local, is_named_in_comment, is_open_group, IsComplete, joined, lenient_addresses, lenient_addresses_in, lenient_addresses_of, lenient_element, lenient_elements, lenient_mailbox, lenient_name, lenient_parts, lenient_spec, open_group, opened, opened_as, opened_mailbox, parted, refined, refined_as, refined_element, refined_single, reopened, with_comment, without_quote, without_root}
+use Rattle.mail_address.specs.Lenient.{after_any_route, angle_mailbox, bare_mailbox, bare_name_len, closed_len, closed_mailbox, comment_name, has_brackets, has_no_opening, has_open_comment, is_lenient_local, is_named_in_comment, is_open_group, IsComplete, joined, lenient_addresses, lenient_addresses_in, lenient_addresses_of, lenient_element, lenient_elements, lenient_mailbox, lenient_members, lenient_name, lenient_parts, lenient_spec, open_group, opened, opened_as, opened_mailbox, parted, refined, refined_as, refined_element, refined_members, refined_single, reopened, with_comment, without_quote, without_root}
 use Rattle.mail_address.specs.Mailbox.{are_clean, is_domain, mailbox_of, Parts, within_ends}
 use Rattle.mail_address.specs.Order.{AreInOrder, start_of, text_of}
 use Rattle.mail_address.specs.Safe.{IsSafe}
@@ -22,7 +22,7 @@ use Rattle.mail_address.proofs.lemmas.Accepted.{address-accepted}
 use Rattle.mail_address.proofs.lemmas.Folding.{address-no_control, text-no_control}
 use Rattle.mail_address.proofs.lemmas.GrammarLists.{elements-append, elements-follow, elements-have, members-follow, singles-have}
 use Rattle.mail_address.proofs.lemmas.GrammarMade.{domain-made, mailbox-made}
-use Rattle.mail_address.proofs.lemmas.LenientCommas.{joined-hold}
+use Rattle.mail_address.proofs.lemmas.LenientCommas.{joined-hold, joined-same}
 use Rattle.mail_address.proofs.lemmas.LenientLists.{divided-hold, opened-are_in_order, opened-hold, parted-hold, parted-in_order}
 
 -- ---- where the grammar suffices
@@ -49,32 +49,42 @@ single-same s is =
     ∙ ap (λ p. record { start = s.start; text = s.text; mailbox = Some p }) (with_comment-same s.text is.0 is.1.1)
     ∙ ap (λ o. record { start = s.start; text = s.text; mailbox = o }) (sym is.1.0)
 
-singles-same : (ss : List Single) → EachSingle IsComplete ss → map refined_single ss ≡ ss
-singles-same [] are = refl
-singles-same (s ∷ ss) are = ap (λ (x : Single). x ∷ map refined_single ss) (single-same s are.0) ∙ ap (λ (xs : List Single). s ∷ xs) (singles-same ss are.1)
+-- members as elements
+members-each : (P : Single → Type 0) (ss : List Single) → EachSingle P ss → EachElement P (map single ss)
+members-each P [] are = tt
+members-each P (s ∷ ss) are = (are.0, members-each P ss are.1)
 
-element-same : (s : Single) → IsComplete s → lenient_element (single s) ≡ single s ∷ []
-element-same s is =
-    ap (λ o. flat_map parted (map refined (opened_as s.start s.text o))) is.1.0
+each-same : (ss : List Single) → EachSingle IsComplete ss → lenient_members (map single ss) ≡ ss
+each-same [] are = refl
+each-same (s ∷ ss) are = ap (λ (x : Single). x ∷ lenient_members (map single ss)) (single-same s are.0) ∙ ap (λ (xs : List Single). s ∷ xs) (each-same ss are.1)
+
+members-same : (raw : List ℕ) (ss : List Single) → EachSingle IsComplete ss → refined_members raw ss ≡ ss
+members-same raw ss are = ap lenient_members (joined-same raw (map single ss) (members-each IsComplete ss are)) ∙ each-same ss are
+
+element-same : (raw : List ℕ) (s : Single) → IsComplete s → lenient_element raw (single s) ≡ single s ∷ []
+element-same raw s is =
+    ap (λ o. flat_map parted (map (refined raw) (opened_as s.start s.text o))) is.1.0
     ∙ ap (λ p. single (record { start = s.start; text = s.text; mailbox = Some p }) ∷ []) (with_comment-same s.text is.0 is.1.1)
     ∙ ap (λ o. single (record { start = s.start; text = s.text; mailbox = o }) ∷ []) (sym is.1.0)
 
-group-same : (g : Group) → EachSingle IsComplete g.members → lenient_element (group g) ≡ group g ∷ []
-group-same g are =
-    ap (λ ms. group (record { start = g.start; text = g.text; display_name = g.display_name; members = ms }) ∷ []) (singles-same g.members are)
+group-same : (raw : List ℕ) (g : Group) → EachSingle IsComplete g.members → lenient_element raw (group g) ≡ group g ∷ []
+group-same raw g are =
+    ap (λ ms. group (record { start = g.start; text = g.text; display_name = g.display_name; members = ms }) ∷ []) (members-same raw g.members are)
 
-pub lenient-same : (es : List Element) → EachElement IsComplete es → lenient_elements es ≡ es
-lenient-same [] are = refl
-lenient-same (single s ∷ es) are = ap (λ (xs : List Element). xs ++ lenient_elements es) (element-same s are.0) ∙ ap (λ (xs : List Element). single s ∷ xs) (lenient-same es are.1)
-lenient-same (group g ∷ es) are = ap (λ (xs : List Element). xs ++ lenient_elements es) (group-same g are.0) ∙ ap (λ (xs : List Element). group g ∷ xs) (lenient-same es are.1)
+pub lenient-same : (raw : List ℕ) (es : List Element) → EachElement IsComplete es → lenient_elements raw es ≡ es
+lenient-same raw [] are = refl
+lenient-same raw (single s ∷ es) are =
+    ap (λ (xs : List Element). xs ++ lenient_elements raw es) (element-same raw s are.0) ∙ ap (λ (xs : List Element). single s ∷ xs) (lenient-same raw es are.1)
+lenient-same raw (group g ∷ es) are =
+    ap (λ (xs : List Element). xs ++ lenient_elements raw es) (group-same raw g are.0) ∙ ap (λ (xs : List Element). group g ∷ xs) (lenient-same raw es are.1)
 
 -- the elements are those of open comments first, then read leniently, and then divided
-by_steps : (es : List Element) → flat_map parted (map refined (flat_map reopened es)) ≡ lenient_elements es
-by_steps [] = refl
-by_steps (e ∷ es) =
-    ap (flat_map parted) (map-append refined (reopened e) (flat_map reopened es))
-    ∙ flat_map-append parted (map refined (reopened e)) (map refined (flat_map reopened es))
-    ∙ ap (λ (xs : List Element). lenient_element e ++ xs) (by_steps es)
+by_steps : (raw : List ℕ) (es : List Element) → flat_map parted (map (refined raw) (flat_map reopened es)) ≡ lenient_elements raw es
+by_steps raw [] = refl
+by_steps raw (e ∷ es) =
+    ap (flat_map parted) (map-append (refined raw) (reopened e) (flat_map reopened es))
+    ∙ flat_map-append parted (map (refined raw) (reopened e)) (map (refined raw) (flat_map reopened es))
+    ∙ ap (λ (xs : List Element). lenient_element raw e ++ xs) (by_steps raw es)
 
 -- ---- what every address that is read has
 
@@ -163,9 +173,14 @@ refined_as-sound : (start : ℕ) (text : List ℕ) (o : Option Parts) → AllSou
 refined_as-sound start text None are = lenient-sound text
 refined_as-sound start text (Some m) are = comment-sound text m are
 
-singles-sound : (ss : List Single) → EachSingle IsSingleSound ss → EachSingle IsSingleSound (map refined_single ss)
-singles-sound [] are = tt
-singles-sound (s ∷ ss) are = (refined_as-sound s.start s.text s.mailbox are.0, singles-sound ss are.1)
+each-sound : (es : List Element) → EachElement IsSingleSound es → EachSingle IsSingleSound (lenient_members es)
+each-sound [] are = tt
+each-sound (single s ∷ es) are = (refined_as-sound s.start s.text s.mailbox are.0, each-sound es are.1)
+each-sound (group g ∷ es) are = each-sound es are.1
+
+members-sound : (raw : List ℕ) (ss : List Single) → EachSingle IsSingleSound ss → EachSingle IsSingleSound (refined_members raw ss)
+members-sound raw ss are =
+    each-sound (joined raw (map single ss)) (joined-hold IsSingleSound (λ start text. tt) raw (map single ss) (members-each IsSingleSound ss are))
 
 given-sound : (s : Single) → IsByGrammar s → IsSingleSound s
 given-sound s is = all-sound s.mailbox (λ m e. mailbox-sound ((is m).0 e))
@@ -179,23 +194,23 @@ element-then : (P : Single → Type 0) (e : Element) (es : List Element) → Has
 element-then P (single s) es is are = (is, are)
 element-then P (group g) es is are = (is, are)
 
-open_group-sound : (start : ℕ) (text : List ℕ) → EachSingle IsSingleSound (open_group start text).members
+open_group-sound : (raw : List ℕ) (start : ℕ) (text : List ℕ) → EachSingle IsSingleSound (open_group raw start text).members
 unfolding open_group
-open_group-sound start text =
-    singles-sound (members_at (start + suc (name_len text)) (after_name text))
+open_group-sound raw start text =
+    members-sound raw (members_at (start + suc (name_len text)) (after_name text))
     (singles-have IsSingleSound given-sound _ (members-follow (start + suc (name_len text)) (after_name text)))
 
-element-sound : (start : ℕ) (text : List ℕ) (o : Option Parts) → AllSound o → HasElement IsSingleSound (refined_element start text o)
-element-sound start text (Some m) are = comment-sound text m are
-element-sound start text None are =
-    cond_both (is_open_group text) (group (open_group start text)) (single (refined_as start text None)) (HasElement IsSingleSound)
-    (λ e. open_group-sound start text) (λ e. lenient-sound text)
+element-sound : (raw : List ℕ) (start : ℕ) (text : List ℕ) (o : Option Parts) → AllSound o → HasElement IsSingleSound (refined_element raw start text o)
+element-sound raw start text (Some m) are = comment-sound text m are
+element-sound raw start text None are =
+    cond_both (is_open_group text) (group (open_group raw start text)) (single (refined_as start text None)) (HasElement IsSingleSound)
+    (λ e. open_group-sound raw start text) (λ e. lenient-sound text)
 
-elements-sound : (es : List Element) → EachElement IsSingleSound es → EachElement IsSingleSound (map refined es)
-elements-sound [] are = tt
-elements-sound (single s ∷ es) are =
-    element-then IsSingleSound (refined (single s)) (map refined es) (element-sound s.start s.text s.mailbox are.0) (elements-sound es are.1)
-elements-sound (group g ∷ es) are = (singles-sound g.members are.0, elements-sound es are.1)
+elements-sound : (raw : List ℕ) (es : List Element) → EachElement IsSingleSound es → EachElement IsSingleSound (map (refined raw) es)
+elements-sound raw [] are = tt
+elements-sound raw (single s ∷ es) are =
+    element-then IsSingleSound (refined raw (single s)) (map (refined raw) es) (element-sound raw s.start s.text s.mailbox are.0) (elements-sound raw es are.1)
+elements-sound raw (group g ∷ es) are = (members-sound raw g.members are.0, elements-sound raw es are.1)
 
 opened_as-sound : (start : ℕ) (text : List ℕ) (o : Option Parts) → IsSingleSound (record { start = start; text = text; mailbox = o })
     → EachElement IsSingleSound (opened_as start text o)
@@ -204,16 +219,16 @@ opened_as-sound start text None is =
     cond_both (has_open_comment text) (opened start text) (single (record { start = start; text = text; mailbox = None }) ∷ []) (EachElement IsSingleSound)
     (λ e. elements-have IsSingleSound given-sound (opened start text) (opened-hold start text)) (λ e. (tt, tt))
 
-divided-sound : (es : List Element) → EachElement IsSingleSound es → EachElement IsSingleSound (lenient_elements es)
-divided-sound es are =
+divided-sound : (raw : List ℕ) (es : List Element) → EachElement IsSingleSound es → EachElement IsSingleSound (lenient_elements raw es)
+divided-sound raw es are =
     let opened = flat_map reopened es in
-    subst (EachElement IsSingleSound) (by_steps es)
-    (parted-hold IsSingleSound (λ start text. lenient-sound text) (map refined opened)
-    (elements-sound opened (divided-hold IsSingleSound IsSingleSound opened_as opened_as-sound (λ g is. is) es are)))
+    subst (EachElement IsSingleSound) (by_steps raw es)
+    (parted-hold IsSingleSound (λ start text. lenient-sound text) (map (refined raw) opened)
+    (elements-sound raw opened (divided-hold IsSingleSound IsSingleSound opened_as opened_as-sound (λ g is. is) es are)))
 
 value-sound : (raw : List ℕ) → EachElement IsSingleSound (lenient_addresses raw)
 value-sound raw =
-    divided-sound (joined raw (addresses raw))
+    divided-sound raw (joined raw (addresses raw))
     (joined-hold IsSingleSound (λ start text. tt) raw (addresses raw) (elements-have IsSingleSound given-sound (addresses raw) (elements-follow raw)))
 
 values-sound : (headers : List Header) → EachElement IsSingleSound (lenient_addresses_in headers)
@@ -269,30 +284,30 @@ record IsAt (start : ℕ) (text : List ℕ) (e : Element) : Type 0 where
   starts : start_of e ≡ start
   has : text_of e ≡ text
 
-refined_element-at : (start : ℕ) (text : List ℕ) (o : Option Parts) → IsAt start text (refined_element start text o)
+refined_element-at : (raw : List ℕ) (start : ℕ) (text : List ℕ) (o : Option Parts) → IsAt start text (refined_element raw start text o)
 unfolding open_group
-refined_element-at start text (Some m) = record { starts = refl; has = refl }
-refined_element-at start text None =
-    cond_both (is_open_group text) (group (open_group start text)) (single (refined_as start text None)) (IsAt start text)
+refined_element-at raw start text (Some m) = record { starts = refl; has = refl }
+refined_element-at raw start text None =
+    cond_both (is_open_group text) (group (open_group raw start text)) (single (refined_as start text None)) (IsAt start text)
     (λ e. record { starts = refl; has = refl }) (λ e. record { starts = refl; has = refl })
 
-refined-at : (e : Element) → IsAt (start_of e) (text_of e) (refined e)
-refined-at (single s) = refined_element-at s.start s.text s.mailbox
-refined-at (group g) = record { starts = refl; has = refl }
+refined-at : (raw : List ℕ) (e : Element) → IsAt (start_of e) (text_of e) (refined raw e)
+refined-at raw (single s) = refined_element-at raw s.start s.text s.mailbox
+refined-at raw (group g) = record { starts = refl; has = refl }
 
-in_order-refined : (place : ℕ) (bytes : List ℕ) (es : List Element) → AreInOrder place bytes es → AreInOrder place bytes (map refined es)
-in_order-refined place bytes [] are = tt
-in_order-refined place bytes (e ∷ es) are =
-    let at = refined-at e in
-    let after = subst (λ (n : ℕ). AreInOrder n bytes (map refined es)) (ap (λ n. n + length (text_of e)) (sym at.starts) ∙ ap (λ (t : List ℕ). start_of (refined e) + length t) (sym at.has))
-    (in_order-refined (start_of e + length (text_of e)) bytes es are.2) in (
+in_order-refined : (place : ℕ) (raw : List ℕ) (es : List Element) → AreInOrder place raw es → AreInOrder place raw (map (refined raw) es)
+in_order-refined place raw [] are = tt
+in_order-refined place raw (e ∷ es) are =
+    let at = refined-at raw e in
+    let after = subst (λ (n : ℕ). AreInOrder n raw (map (refined raw) es)) (ap (λ n. n + length (text_of e)) (sym at.starts) ∙ ap (λ (t : List ℕ). start_of (refined raw e) + length t) (sym at.has))
+    (in_order-refined (start_of e + length (text_of e)) raw es are.2) in (
       subst (λ (n : ℕ). place ≤ n) (sym at.starts) are.0,
-      ap (λ (t : List ℕ). take (length t) (drop (start_of (refined e)) bytes)) at.has ∙ ap (λ n. take (length (text_of e)) (drop n bytes)) at.starts ∙ are.1 ∙ sym at.has,
+      ap (λ (t : List ℕ). take (length t) (drop (start_of (refined raw e)) raw)) at.has ∙ ap (λ n. take (length (text_of e)) (drop n raw)) at.starts ∙ are.1 ∙ sym at.has,
       after,
     )
 
-pub lenient-in_order : (place : ℕ) (bytes : List ℕ) (es : List Element) → AreInOrder place bytes es → AreInOrder place bytes (lenient_elements es)
-lenient-in_order place bytes es are =
-    subst (λ (xs : List Element). AreInOrder place bytes xs) (by_steps es)
-    (parted-in_order place bytes (map refined (flat_map reopened es))
-    (in_order-refined place bytes (flat_map reopened es) (opened-are_in_order place bytes es are)))
+pub lenient-in_order : (place : ℕ) (raw : List ℕ) (es : List Element) → AreInOrder place raw es → AreInOrder place raw (lenient_elements raw es)
+lenient-in_order place raw es are =
+    subst (λ (xs : List Element). AreInOrder place raw xs) (by_steps raw es)
+    (parted-in_order place raw (map (refined raw) (flat_map reopened es))
+    (in_order-refined place raw (flat_map reopened es) (opened-are_in_order place raw es are)))

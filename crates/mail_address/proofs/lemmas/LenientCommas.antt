@@ -1,6 +1,6 @@
 -- Display names that contain a comma: what the elements of a list keep when some of them are joined.
 use Rattle.std.proofs.Common.{◌≡◌, ℕ, zero, suc, ◌+◌, ◌-◌, ◌<◌, ◌≤◌, true, false, ◌&&◌, ◌==◌, true≢false, ⊎_elim, None, List, [], ◌∷◌, ◌++◌, length, map, take, drop, get_or, refl, sym, ap, subst, ◌∙◌, arith, append_assoc, if◌then◌else◌}
-use Rattle.std.specs.Prelude.{min, is_none}
+use Rattle.std.specs.Prelude.{flat_map, min, is_none}
 use Rattle.std.specs.List.{prefix_len}
 use Rattle.std.proofs.lemmas.Bool.{and_from, and_parts, cases_Bool, cond_both, cond-false, cond-true}
 use Rattle.std.proofs.lemmas.Grind.{flat_map-append}
@@ -8,7 +8,7 @@ use Rattle.std.proofs.lemmas.List.{at_drop_more, drop-map, length-map, length-ta
 use Rattle.mail_codec.specs.Ascii.{comma}
 use Rattle.mail_codec.specs.Places.{begins}
 use Rattle.mail_address.specs.Addresses.{EachElement, Element, group, Single, single}
-use Rattle.mail_address.specs.Lenient.{between, bracketed_end, end_of, has_bracketed, is_bracketed, is_name_part, IsComplete, joined, lenient_element, lenient_elements}
+use Rattle.mail_address.specs.Lenient.{between, bracketed_end, end_of, has_bracketed, is_bracketed, is_name_part, IsComplete, joined}
 use Rattle.mail_address.specs.Mailbox.{is_phrase}
 use Rattle.mail_address.specs.Order.{AreInOrder, start_of}
 use Rattle.mail_address.proofs.lemmas.LenientLists.{in_order-later, taken-from}
@@ -119,7 +119,7 @@ none-last raw (e ∷ es) low =
     (λ fails. let more = names-none raw e es fails in absurd (omega (arith, low, more)))
     (cases_Bool (is_name_part raw e))
 
--- ---- elements that are pushed
+-- ---- the front of a list of elements, and what is pushed of it
 
 taken-map : {A : Type 0} (view : A → Element) (k : ℕ) (xs : List A) → take k (map view xs) ≡ map view (take k xs)
 taken-map view zero xs = refl
@@ -130,54 +130,42 @@ counted : {A : Type 0} (view : A → Element) (raw : List ℕ) (xs : List A) →
 counted view raw [] = refl
 counted view raw (x ∷ xs) = ap (λ n. if is_name_part raw (view x) then 1 + n else 0) (counted view raw xs)
 
-module _ {A : Type 0} (view : A → Element) (raw : List ℕ) (old new : List Element) (xs : List A) (n : ℕ)
+module _ {A : Type 0} (view : A → Element) (raw : List ℕ) (xs : List A) (n : ℕ)
     (given : n ≡ prefix_len (λ x. is_name_part raw (view x)) xs) where
   count : n ≡ names raw (map view xs)
   count = given ∙ counted view raw xs
 
-  abbrev Pushed : ℕ → Type 0
-  Pushed k = new ++ lenient_elements (joined raw (map view (drop k xs))) ≡ old ++ lenient_elements (joined raw (map view xs))
+  -- the first k elements stay as they are
+  abbrev Stay : ℕ → Type 0
+  Stay k = joined raw (map view xs) ≡ map view (take k xs) ++ joined raw (map view (drop k xs))
 
-  front-pushed : (k : ℕ) → joined raw (map view xs) ≡ take (front_len raw (map view xs)) (map view xs) ++ joined raw (drop (front_len raw (map view xs)) (map view xs))
-      → k ≡ min (length xs) (n + 1) → new ≡ old ++ lenient_elements (map view (take k xs)) → Pushed k
-  front-pushed k front is_k pushed =
+  front-stays : (k : ℕ) → joined raw (map view xs) ≡ take (front_len raw (map view xs)) (map view xs) ++ joined raw (drop (front_len raw (map view xs)) (map view xs))
+      → k ≡ min (length xs) (n + 1) → Stay k
+  front-stays k front is_k =
       let long = length-map xs view in
       let len : front_len raw (map view xs) ≡ k = omega (arith, long, count, is_k) in
-      let rest : List Element = lenient_elements (joined raw (map view (drop k xs))) in
-      let split : joined raw (map view xs) ≡ map view (take k xs) ++ joined raw (map view (drop k xs)) =
       front ∙ ap (λ m. take m (map view xs) ++ joined raw (drop m (map view xs))) len
       ∙ ap (λ (es : List Element). es ++ joined raw (drop k (map view xs))) (taken-map view k xs)
-      ∙ ap (λ (es : List Element). map view (take k xs) ++ joined raw es) (drop-map view k xs) in
-      ap (λ (es : List Element). es ++ rest) pushed
-      ∙ append_assoc old (lenient_elements (map view (take k xs))) rest
-      ∙ ap (λ (es : List Element). old ++ es) (sym (flat_map-append lenient_element (map view (take k xs)) (joined raw (map view (drop k xs)))))
-      ∙ ap (λ (es : List Element). old ++ lenient_elements es) (sym split)
+      ∙ ap (λ (es : List Element). map view (take k xs) ++ joined raw es) (drop-map view k xs)
 
-  pub pushed-none : (k : ℕ) → n ≤ 0 → k ≡ min (length xs) (n + 1) → new ≡ old ++ lenient_elements (map view (take k xs)) → Pushed k
-  pushed-none k none is_k pushed = front-pushed k (none-front raw (map view xs) (omega (arith, none, count))) is_k pushed
+  pub front-none : (k : ℕ) → n ≤ 0 → k ≡ min (length xs) (n + 1) → Stay k
+  front-none k none is_k = front-stays k (none-front raw (map view xs) (omega (arith, none, count))) is_k
 
-  pub pushed-all : (k : ℕ) → length xs ≤ n → k ≡ min (length xs) (n + 1) → new ≡ old ++ lenient_elements (map view (take k xs)) → Pushed k
-  pushed-all k low is_k pushed =
+  pub front-all : (k : ℕ) → length xs ≤ n → k ≡ min (length xs) (n + 1) → Stay k
+  front-all k low is_k =
       let long = length-map xs view in
-      front-pushed k (plain-front raw (map view xs) (none-last raw (map view xs) (omega (arith, low, long, count)))) is_k pushed
+      front-stays k (plain-front raw (map view xs) (none-last raw (map view xs) (omega (arith, low, long, count)))) is_k
 
   at_last : (d : A) → n < length xs → drop (names raw (map view xs)) (map view xs) ≡ view (get_or xs n d) ∷ map view (drop (n + 1) xs)
   at_last d low = ap (λ m. drop m (map view xs)) (sym count) ∙ drop-map view n xs ∙ at_drop_more (map view) xs n d low
 
-  pub pushed-other : (d : A) (k : ℕ) → n < length xs → is_bracketed (view (get_or xs n d)) ≡ false
-      → k ≡ min (length xs) (n + 1) → new ≡ old ++ lenient_elements (map view (take k xs)) → Pushed k
-  pushed-other d k low fails is_k pushed =
-      front-pushed k (plain-front raw (map view xs) ((has-last raw (map view xs) (view (get_or xs n d)) (map view (drop (n + 1) xs)) (at_last d low)).0 ∙ fails)) is_k pushed
+  pub front-other : (d : A) (k : ℕ) → n < length xs → is_bracketed (view (get_or xs n d)) ≡ false → k ≡ min (length xs) (n + 1) → Stay k
+  front-other d k low fails is_k =
+      front-stays k (plain-front raw (map view xs) ((has-last raw (map view xs) (view (get_or xs n d)) (map view (drop (n + 1) xs)) (at_last d low)).0 ∙ fails)) is_k
 
-  pub pushed-named : (d : A) → 0 < n → n < length xs → is_bracketed (view (get_or xs n d)) ≡ true
-      → new ≡ old ++ lenient_element (between raw (start_of (view (get_or xs 0 d))) (end_of (view (get_or xs n d)))) → Pushed (n + 1)
-  pushed-named d some low h pushed =
-      let whole : Element = between raw (start_of (view (get_or xs 0 d))) (end_of (view (get_or xs n d))) in
-      let after : List Element = joined raw (map view (drop (n + 1) xs)) in
-      let front : joined raw (map view xs) ≡ whole ∷ after = go xs count low h in
-      ap (λ (es : List Element). es ++ lenient_elements after) pushed
-      ∙ append_assoc old (lenient_element whole) (lenient_elements after)
-      ∙ ap (λ (es : List Element). old ++ lenient_elements es) (sym front)
+  pub front-named : (d : A) → 0 < n → n < length xs → is_bracketed (view (get_or xs n d)) ≡ true
+      → joined raw (map view xs) ≡ between raw (start_of (view (get_or xs 0 d))) (end_of (view (get_or xs n d))) ∷ joined raw (map view (drop (n + 1) xs))
+  front-named d some low h = go xs count low h
     where
       go : (ys : List A) → n ≡ prefix_len (is_name_part raw) (map view ys) → n < length ys → is_bracketed (view (get_or ys n d)) ≡ true
           → joined raw (map view ys) ≡ between raw (start_of (view (get_or ys 0 d))) (end_of (view (get_or ys n d))) ∷ joined raw (map view (drop (n + 1) ys))
@@ -194,6 +182,21 @@ module _ {A : Type 0} (view : A → Element) (raw : List ℕ) (old new : List El
           ∙ ap (λ k. between raw (start_of (view y)) (end_of (view (get_or (y ∷ ys) n d))) ∷ joined raw (map view (drop k (y ∷ ys)))) (sym next))
           (λ fails. let none = names-none raw (view y) (map view ys) fails in absurd (omega (arith, none, count, some)))
           (cases_Bool (is_name_part raw (view y)))
+
+-- what is pushed of a front, and what follows it
+module _ {B : Type 0} (read : Element → List B) (old new : List B) (rest all : List Element) where
+  pub pushed-one : (e : Element) → all ≡ e ∷ rest → new ≡ old ++ read e → new ++ flat_map read rest ≡ old ++ flat_map read all
+  pushed-one e whole pushed =
+      ap (λ (bs : List B). bs ++ flat_map read rest) pushed
+      ∙ append_assoc old (read e) (flat_map read rest)
+      ∙ ap (λ (es : List Element). old ++ flat_map read es) (sym whole)
+
+  pub pushed-front : (front : List Element) → all ≡ front ++ rest → new ≡ old ++ flat_map read front → new ++ flat_map read rest ≡ old ++ flat_map read all
+  pushed-front front whole pushed =
+      ap (λ (bs : List B). bs ++ flat_map read rest) pushed
+      ∙ append_assoc old (flat_map read front) (flat_map read rest)
+      ∙ ap (λ (bs : List B). old ++ bs) (sym (flat_map-append read front rest))
+      ∙ ap (λ (es : List Element). old ++ flat_map read es) (sym whole)
 
 -- ---- where the grammar suffices
 

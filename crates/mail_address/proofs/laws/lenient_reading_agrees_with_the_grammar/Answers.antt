@@ -7,8 +7,8 @@ use Rattle.mail_address.proofs.laws.lenient_reading_agrees_with_the_grammar.Goal
 
 pub returns : goal.returns
 returns c = record {
-  mailboxes = λ start text m. refl;
+  mailboxes = λ raw start text m. refl;
   local_parts = comment-local;
   domains = comment-domain;
-  same = λ raw are. ap lenient_elements (joined-same raw (addresses raw) are) ∙ lenient-same (addresses raw) are;
+  same = λ raw are. ap (lenient_elements raw) (joined-same raw (addresses raw) are) ∙ lenient-same raw (addresses raw) are;
 }

@@ -6,4 +6,4 @@ use Rattle.mail_address.proofs.lenient_list.push_each.Given as goal
 
 abbrev pub invariant-loop-element : goal.invariant-loop-element
 invariant-loop-element l =
-    map element_view l.list.items ≡ map element_view l.initial.list.items ++ lenient_elements (map element_view (take l.element-index l.elements))
+    map element_view l.list.items ≡ map element_view l.initial.list.items ++ lenient_elements l.raw (map element_view (take l.element-index l.elements))

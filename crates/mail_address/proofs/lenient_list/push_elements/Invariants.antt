@@ -7,4 +7,4 @@ use Rattle.mail_address.proofs.lenient_list.push_elements.Given as goal
 
 abbrev pub invariant-loop-element : goal.invariant-loop-element
 invariant-loop-element l =
-    map element_view l.list.items ≡ map element_view l.initial.list.items ++ flat_map parted (map refined (map element_view (take l.element-index l.elements)))
+    map element_view l.list.items ≡ map element_view l.initial.list.items ++ flat_map parted (map (refined l.raw) (map element_view (take l.element-index l.elements)))

@@ -6,8 +6,8 @@ use Rattle.mail_address.proofs.lenient_list.push_joined.Given as goal
 
 abbrev pub invariant-fronts : goal.invariant-fronts
 invariant-fronts l = record {
-  pushed : map element_view l.list.items ++ lenient_elements (joined l.raw (map element_view l.rest))
-      ≡ map element_view l.initial.list.items ++ lenient_elements (joined l.raw (map element_view l.elements));
+  pushed : map element_view l.list.items ++ lenient_elements l.raw (joined l.raw (map element_view l.rest))
+      ≡ map element_view l.initial.list.items ++ lenient_elements l.raw (joined l.raw (map element_view l.elements));
   bounds : length l.rest ≤ length l.elements;
 }
 
