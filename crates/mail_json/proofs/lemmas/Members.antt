@@ -51,6 +51,12 @@ pub ◌⨾◌ : {position : Position} {a b c : Option (List ℕ)} {m : Member} {
     → Adds position a c ((m ∷ ms) ++ ns)
 p ⨾ q = after _ _ _ _ _ _ _ p q
 
+-- the same, if those after them were written
+pub then_added : {T : Type 0} {a b : Option (List ℕ)} {m : Member} {ms : List Member} (position : Position) (c : Option (List ℕ)) (r : Result T Fault) (ns : List Member)
+    → Adds position a b (m ∷ ms) → AddsAt Later b c r ns → AddsAt position a c r ((m ∷ ms) ++ ns)
+then_added position c (Ok done) ns p q = p ⨾ q
+then_added position c (Err fault) ns p q = q
+
 -- no members
 pub none_added : (a : Option (List ℕ)) → Adds Later a a []
 unfolding members_after
