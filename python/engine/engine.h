@@ -38,6 +38,57 @@ struct input {
     size_t length;
 };
 
+/* The values of a mail that are decoded with its records once those of earlier mails were asked for. */
+enum value { SUBJECT, DATE, FROM, TO, CC, BCC, SENDER, REPLY_TO, VALUES };
+
+/* a name of a header, in lower case */
+struct name {
+    const char *at;
+    size_t length;
+};
+extern const struct name value_names[VALUES];
+
+/* a date that was read; the code is that of its refusal, or ROCKTRAY_ABSENT if there is none */
+struct date {
+    uint32_t code;
+    bool is_zone_known;
+    int64_t seconds, offset;
+};
+
+/* the values of a mail that were decoded with its records: those whose bits are in `known` */
+struct ahead {
+    uint32_t known;
+    bool has_subject;
+    size_t subject_start, subject_end; /* in the strings, as the ranges of addresses are */
+    struct date date;
+    size_t first[VALUES], last[VALUES]; /* the addresses of each value */
+    const struct rocktray_address *addresses;
+    const char *strings;
+};
+
+/* a mail that is read: its bytes, and its records in one block that is allocated */
+struct records {
+    const uint8_t *at;
+    size_t length, limit;
+    uint32_t wanted; /* a bit for each value that is decoded with them */
+    size_t part_count, header_count;
+    struct rocktray_part *parts;
+    struct rocktray_header_record *headers;
+    struct ahead *ahead; /* NULL if nothing was decoded */
+};
+
+/* Reads the mail. Returns the code; after any but ROCKTRAY_DONE nothing is allocated. */
+uint32_t read_records(struct records *records);
+
+/* Counts the offsets of records from `start` bytes earlier. */
+void move(const struct records *records, uint64_t start);
+
+/* Reads the date in a raw value. Returns the code; ROCKTRAY_TOO_SHORT if the value is long. */
+uint32_t read_date(const uint8_t *raw, size_t length, struct date *date);
+
+/* Whether a header of a mail has this name, without the case of ASCII letters. */
+bool is_named(const uint8_t *mail, const struct rocktray_header_record *header, const uint8_t *name, size_t length);
+
 /* a call of the library with its arguments */
 struct request {
     uint32_t (*call)(struct request *request, void *buffer, size_t capacity, size_t *needed);
@@ -103,17 +154,49 @@ int append(PyObject *list, PyObject *item);
 /* Makes a pair, which takes over both objects, also if one is NULL: a tuple, or an instance of this type of tuples. */
 PyObject *pair_of(PyTypeObject *type, PyObject *first, PyObject *second);
 
+/* A maker: a text. */
+PyObject *decoded(const char *buffer, Py_ssize_t length);
+
 /* A maker: the seconds since 1970 in the text of a date, and the offset of its zone, or None if that is unknown. */
 PyObject *date_of(const char *text, Py_ssize_t length);
 
 /* Takes a type, which is `base` or one made of it. Returns 0, or -1 for an error. */
 int take_type(PyTypeObject **type, PyObject *object, PyTypeObject *base);
 
-/* The state of the module: its types. */
+/* The state of the module: its types, and what it has of other modules. */
 struct types {
-    PyObject *reading, *header, *node;
+    PyObject *reading, *header, *node, *mail, *mails, *use;
+    PyObject *address, *datetime, *zone_of, *zones;
 };
-extern PyType_Spec reading_spec, header_spec, node_spec;
+extern PyType_Spec reading_spec, header_spec, node_spec, mail_spec, mails_spec, use_spec;
+
+/* The text of a code. */
+PyObject *reason_of(uint32_t code);
+
+/* Raises the refusal with this code, of the mail at a place unless that is NULL. Returns NULL. */
+PyObject *refuse(uint32_t code, PyObject *place);
+
+/* Makes a reading of these records, which it takes over. */
+PyObject *reading_of(const struct types *types, PyObject *data, const struct records *records);
+
+/* The types of the module with a reading. */
+const struct types *types_of(PyObject *reading);
+
+/* What was decoded of a mail with its records, or NULL. */
+const struct ahead *ahead_of(PyObject *reading);
+
+/* The first value with a name in the headers of a mail, or None, and a list of its addresses. */
+PyObject *first_value(PyObject *reading, const struct name *name);
+PyObject *all_addresses(PyObject *reading, const struct name *name, PyTypeObject *type);
+
+/* An address as an instance of this type of tuples; text that is no address is a name. */
+PyObject *address_of(PyTypeObject *type, const char *strings, const struct rocktray_address *address);
+
+/* Reads the first date of a mail. Returns 0, or -1 for an error. */
+int first_date(PyObject *reading, struct date *date);
+
+/* Reads a mail into records, without Python's lock if it is long. Returns the code. */
+uint32_t read_input(const struct input *input, struct records *records);
 
 /* What is decoded of a part of a reading: its type, the charset and the parameters; the name of its disposition, or
  * None; its file name, or None; its text, or None if it is no text. */
@@ -128,8 +211,10 @@ PyObject *nodes_of(PyObject *reading, PyObject *data, const struct rocktray_part
 
 /* read(data[, start, end], limit): reads a mail. */
 PyObject *read_mail(PyObject *module, PyObject *const *arguments, Py_ssize_t count);
-/* read_mails(data, places, limit): copies and reads the mails at these places. Of each its bytes, with what was read of it
- * or the code of its refusal. */
+/* parse(type, data, limit): reads a mail into a new one of this type. */
+PyObject *parse_mail(PyObject *module, PyObject *const *arguments, Py_ssize_t count);
+/* read_mails(type, data, places, offset, limit, use): copies the mails at these places into new ones of this type, and
+ * reads those values that were used of earlier mails. */
 PyObject *read_mails(PyObject *module, PyObject *const *arguments, Py_ssize_t count);
 /* recipients(data): of each recipient that a mail reports its five texts, of which a missing one is None. */
 PyObject *read_recipients(PyObject *module, PyObject *data);

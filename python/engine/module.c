@@ -94,13 +94,17 @@ uint32_t run(struct request *request, void *buffer, size_t capacity, size_t *nee
 /* What a call without a result returns: None if the code is ROCKTRAY_ABSENT, otherwise NULL, with an exception. */
 PyObject *no_result(uint32_t code)
 {
-    PyObject *module, *error;
     if (code == ROCKTRAY_ABSENT)
         Py_RETURN_NONE;
     if (code == ROCKTRAY_NO_MEMORY)
         return PyErr_NoMemory();
-    module = PyImport_ImportModule("rocktray._library");
-    error = module ? PyObject_CallMethod(module, "refusal", "I", (unsigned)code) : NULL;
+    return refuse(code, NULL);
+}
+
+PyObject *refuse(uint32_t code, PyObject *place)
+{
+    PyObject *module = PyImport_ImportModule("rocktray._library");
+    PyObject *error = module ? PyObject_CallMethod(module, "refusal", "IO", (unsigned)code, place ? place : Py_None) : NULL;
     if (error)
         PyErr_SetObject((PyObject *)Py_TYPE(error), error);
     Py_XDECREF(error);
@@ -160,7 +164,7 @@ PyObject *result_of(struct request *request, size_t guess, maker make)
     return (guess <= SHORT ? short_result_of : long_result_of)(request, guess, make);
 }
 
-static PyObject *decoded(const char *buffer, Py_ssize_t length)
+PyObject *decoded(const char *buffer, Py_ssize_t length)
 {
     return PyUnicode_DecodeUTF8(buffer, length, NULL);
 }
@@ -287,6 +291,12 @@ static PyObject *reason(PyObject *module, PyObject *code)
     struct request it = { .call = call_reason };
     (void)module;
     return take_size(&it.number, code) < 0 ? NULL : text_of(&it, 0);
+}
+
+PyObject *reason_of(uint32_t code)
+{
+    struct request it = { .call = call_reason, .number = code };
+    return text_of(&it, 0);
 }
 
 static PyObject *json(PyObject *module, PyObject *data)
@@ -462,6 +472,60 @@ static PyObject *unquoted(PyObject *module, PyObject *data)
     return take(&it.input, data) < 0 ? NULL : bytes_and_back(&it, it.input.length);
 }
 
+/* The type of the module with this name, or NULL. */
+static PyObject *add_type(PyObject *module, const char *name, PyType_Spec *spec)
+{
+    PyObject *type = PyType_FromModuleAndSpec(module, spec, NULL);
+    if (type && PyModule_AddObjectRef(module, name, type) < 0)
+        Py_CLEAR(type);
+    return type;
+}
+
+/* An object of another module, or NULL. */
+static PyObject *object_of(const char *module, const char *name)
+{
+    PyObject *from = PyImport_ImportModule(module), *object = from ? PyObject_GetAttrString(from, name) : NULL;
+    Py_XDECREF(from);
+    return object;
+}
+
+static int fill_module(PyObject *module)
+{
+    struct types *types = PyModule_GetState(module);
+    return (types->reading = add_type(module, "Reading", &reading_spec)) &&
+                   (types->header = add_type(module, "Header", &header_spec)) &&
+                   (types->node = add_type(module, "Node", &node_spec)) &&
+                   (types->mail = add_type(module, "Mail", &mail_spec)) &&
+                   (types->mails = add_type(module, "Mails", &mails_spec)) &&
+                   (types->use = add_type(module, "Use", &use_spec)) && (types->zones = PyDict_New()) &&
+                   (types->datetime = object_of("datetime", "datetime"))
+               ? 0
+               : -1;
+}
+
+/* values(address, zone_of): the type of addresses, and the function that returns the zone with an offset. */
+static PyObject *values(PyObject *module, PyObject *const *arguments, Py_ssize_t count)
+{
+    struct types *types = PyModule_GetState(module);
+    PyTypeObject *type;
+    if (!is_count(count, 2) || take_type(&type, arguments[0], &PyTuple_Type) < 0)
+        return NULL;
+    Py_XDECREF(types->address);
+    Py_XDECREF(types->zone_of);
+    types->address = Py_NewRef(arguments[0]);
+    types->zone_of = Py_NewRef(arguments[1]);
+    Py_RETURN_NONE;
+}
+
+static void free_module(void *module)
+{
+    struct types *types = PyModule_GetState(module);
+    PyObject **const objects = (PyObject **)types;
+    size_t k;
+    for (k = 0; types && k < sizeof *types / sizeof *objects; k++)
+        Py_CLEAR(objects[k]);
+}
+
 static PyMethodDef functions[] = {
     { "version", version, METH_NOARGS, NULL },
     { "reason", reason, METH_O, NULL },
@@ -478,33 +542,11 @@ static PyMethodDef functions[] = {
     { "unquoted", unquoted, METH_O, NULL },
     { "safe_name", safe_name, METH_O, NULL },
     { "read", FAST(read_mail), METH_FASTCALL, NULL },
+    { "parse", FAST(parse_mail), METH_FASTCALL, NULL },
     { "read_mails", FAST(read_mails), METH_FASTCALL, NULL },
+    { "values", FAST(values), METH_FASTCALL, NULL },
     { NULL, NULL, 0, NULL },
 };
-
-static int fill_module(PyObject *module)
-{
-    struct types *types = PyModule_GetState(module);
-    types->reading = PyType_FromSpec(&reading_spec);
-    types->header = PyType_FromSpec(&header_spec);
-    types->node = PyType_FromSpec(&node_spec);
-    return types->reading && types->header && types->node &&
-                   PyModule_AddObjectRef(module, "Reading", types->reading) == 0 &&
-                   PyModule_AddObjectRef(module, "Header", types->header) == 0 &&
-                   PyModule_AddObjectRef(module, "Node", types->node) == 0
-               ? 0
-               : -1;
-}
-
-static void free_module(void *module)
-{
-    struct types *types = PyModule_GetState(module);
-    if (types) {
-        Py_CLEAR(types->reading);
-        Py_CLEAR(types->header);
-        Py_CLEAR(types->node);
-    }
-}
 
 static PyModuleDef_Slot module_slots[] = {
     { Py_mod_exec, fill_module },

@@ -6,14 +6,7 @@
 #include <string.h>
 #include <structmember.h>
 
-/* the numbers of records for which there is space at first: these, and more for a long mail */
-#define FEW_PARTS 32
-#define FEW_HEADERS 200
-#define MOST_PARTS 2000
-#define MOST_HEADERS 10000
-/* the least numbers of bytes that a part and a header usually have */
-#define BYTES_OF_PART 500
-#define BYTES_OF_HEADER 100
+/* the number of records for which there is space on the stack */
 #define FEW 64
 /* the number of members of a record of a part, each of 64 bits */
 #define MEMBERS (Py_ssize_t)(sizeof(struct rocktray_part) / sizeof(uint64_t))
@@ -21,99 +14,17 @@
 /* a mail that was read; it never changes */
 struct reading {
     PyObject_HEAD
-    PyObject *data, *header_type, *node_type;
+    PyObject *data;
+    const struct types *types; /* the module is kept by the type, which the reading keeps */
     size_t part_count, header_count;
-    struct rocktray_part *parts; /* in one block with the headers */
+    struct rocktray_part *parts; /* in one block with the headers and the values */
     struct rocktray_header_record *headers;
+    const struct ahead *ahead;
 };
 
 /* Reading. */
 
-/* bytes that are read without Python's lock, and the records of the mail in them, in one block that is allocated */
-struct records {
-    const uint8_t *at;
-    size_t length, limit, part_count, header_count;
-    struct rocktray_part *parts;
-    struct rocktray_header_record *headers;
-};
-
-static size_t between(size_t least, size_t number, size_t most)
-{
-    return number < least ? least : number > most ? most : number;
-}
-
-/* Reads a mail into a block with space for these numbers of records. Returns the code. */
-static uint32_t read_into(struct records *records, size_t part_capacity, size_t header_capacity)
-{
-    records->headers = (struct rocktray_header_record *)(records->parts + part_capacity);
-    return rocktray_parts(records->at, records->length, records->limit, records->parts, part_capacity, &records->part_count,
-                          records->headers, header_capacity, &records->header_count);
-}
-
-static size_t size_of(size_t part_count, size_t header_count)
-{
-    return part_count * sizeof(struct rocktray_part) + header_count * sizeof(struct rocktray_header_record);
-}
-
-/* Makes the block as short as its records are. */
-static void shorten(struct records *records)
-{
-    size_t header_size = records->header_count * sizeof *records->headers;
-    struct rocktray_part *parts;
-    memmove(records->parts + records->part_count, records->headers, header_size);
-    parts = realloc(records->parts, size_of(records->part_count, records->header_count));
-    records->parts = parts ? parts : records->parts;
-    records->headers = (struct rocktray_header_record *)(records->parts + records->part_count);
-}
-
-/* Reads the mail. Returns the code; after any but ROCKTRAY_DONE nothing is allocated. */
-static uint32_t read_records(struct records *records)
-{
-    size_t part_capacity = between(FEW_PARTS, records->length / BYTES_OF_PART, MOST_PARTS);
-    size_t header_capacity = between(FEW_HEADERS, records->length / BYTES_OF_HEADER, MOST_HEADERS);
-    uint32_t code = ROCKTRAY_NO_MEMORY;
-    int tries;
-    for (tries = 0; tries < 2; tries++) {
-        if (!(records->parts = malloc(size_of(part_capacity, header_capacity))))
-            return ROCKTRAY_NO_MEMORY;
-        code = read_into(records, part_capacity, header_capacity);
-        if (code == ROCKTRAY_DONE) {
-            shorten(records);
-            return code;
-        }
-        free(records->parts);
-        if (code != ROCKTRAY_TOO_SHORT)
-            return code;
-        part_capacity = records->part_count;
-        header_capacity = records->header_count;
-    }
-    /* bytes that change meanwhile may have more records the second time */
-    return ROCKTRAY_NO_MEMORY;
-}
-
-/* Counts the offsets of records from `start` bytes earlier. */
-static void move(const struct records *records, uint64_t start)
-{
-    size_t k;
-    for (k = 0; start && k < records->part_count; k++) {
-        struct rocktray_part *part = &records->parts[k];
-        part->start += start;
-        part->end += start;
-        part->body_start += start;
-        part->body_end += start;
-    }
-    for (k = 0; start && k < records->header_count; k++) {
-        struct rocktray_header_record *header = &records->headers[k];
-        header->start += start;
-        header->key_end += start;
-        header->value_start += start;
-        header->value_end += start;
-        header->end += start;
-    }
-}
-
-/* Makes a reading, which takes over these records. */
-static PyObject *reading_of(const struct types *types, PyObject *data, const struct records *records)
+PyObject *reading_of(const struct types *types, PyObject *data, const struct records *records)
 {
     struct reading *reading = (struct reading *)PyType_GenericAlloc((PyTypeObject *)types->reading, 0);
     if (!reading) {
@@ -121,13 +32,37 @@ static PyObject *reading_of(const struct types *types, PyObject *data, const str
         return NULL;
     }
     reading->data = Py_NewRef(data);
-    reading->header_type = Py_NewRef(types->header);
-    reading->node_type = Py_NewRef(types->node);
+    reading->types = types;
     reading->part_count = records->part_count;
     reading->header_count = records->header_count;
     reading->parts = records->parts;
     reading->headers = records->headers;
+    reading->ahead = records->ahead;
     return (PyObject *)reading;
+}
+
+const struct types *types_of(PyObject *reading)
+{
+    return ((struct reading *)reading)->types;
+}
+
+const struct ahead *ahead_of(PyObject *reading)
+{
+    return ((struct reading *)reading)->ahead;
+}
+
+uint32_t read_input(const struct input *input, struct records *records)
+{
+    uint32_t code;
+    records->at = input->at;
+    records->length = input->length;
+    records->wanted = 0;
+    if (!is_read_freely(input))
+        return read_records(records);
+    Py_BEGIN_ALLOW_THREADS
+    code = read_records(records);
+    Py_END_ALLOW_THREADS
+    return code;
 }
 
 /* Takes an object, and of its bytes those from `start` up to `end` if these two precede the limit, which is the last
@@ -151,15 +86,7 @@ PyObject *read_mail(PyObject *module, PyObject *const *arguments, Py_ssize_t cou
     uint32_t code;
     if ((count != 2 && !is_count(count, 4)) || take_range(&input, &records.limit, arguments, count) < 0)
         return NULL;
-    records.at = input.at;
-    records.length = input.length;
-    if (is_read_freely(&input)) {
-        Py_BEGIN_ALLOW_THREADS
-        code = read_records(&records);
-        Py_END_ALLOW_THREADS
-    } else {
-        code = read_records(&records);
-    }
+    code = read_input(&input, &records);
     if (code == ROCKTRAY_DONE)
         move(&records, (uint64_t)(input.at - (const uint8_t *)input.view.buf));
     give_back(&input);
@@ -168,117 +95,11 @@ PyObject *read_mail(PyObject *module, PyObject *const *arguments, Py_ssize_t cou
     return reading_of(PyModule_GetState(module), arguments[0], &records);
 }
 
-/* Mails that are read together. */
-
-/* mails of a mailbox: where each begins, its own bytes, and what is read of it */
-struct batch {
-    Py_ssize_t count;
-    struct mail {
-        const uint8_t *from;
-        PyObject *raw;
-        struct records records;
-        uint32_t code;
-    } *mails;
-};
-
-/* Allocates the bytes of the mails at these places. Returns 0, or -1 for an error. */
-static int allocate(struct batch *batch, const struct input *input, PyObject *places, size_t limit)
-{
-    Py_ssize_t k;
-    for (k = 0; k < batch->count; k++) {
-        PyObject *place = PyList_GetItem(places, k);
-        struct mail *mail = &batch->mails[k];
-        size_t start, end;
-        if (!place || !PyTuple_Check(place) || PyTuple_Size(place) < 2 || take_size(&start, PyTuple_GetItem(place, 0)) < 0 ||
-            take_size(&end, PyTuple_GetItem(place, 1)) < 0 || start > end || end > input->length ||
-            !(mail->raw = PyBytes_FromStringAndSize(NULL, (Py_ssize_t)(end - start))))
-            return -1;
-        mail->from = input->at + start;
-        mail->records.at = (const uint8_t *)PyBytes_AsString(mail->raw);
-        mail->records.length = end - start;
-        mail->records.limit = limit;
-    }
-    return 0;
-}
-
-/* Copies and reads the mails, without Python's lock. */
-static void read_batch(struct batch *batch)
-{
-    Py_ssize_t k;
-    for (k = 0; k < batch->count; k++) {
-        struct mail *mail = &batch->mails[k];
-        memcpy((uint8_t *)mail->records.at, mail->from, mail->records.length);
-        mail->code = read_records(&mail->records);
-    }
-}
-
-/* Each mail with what was read of it, or with the code. */
-static PyObject *list_of(const struct batch *batch, const struct types *types)
-{
-    PyObject *list = PyList_New(batch->count);
-    Py_ssize_t k;
-    for (k = 0; list && k < batch->count; k++) {
-        struct mail *mail = &batch->mails[k];
-        PyObject *read = mail->code == ROCKTRAY_DONE ? reading_of(types, mail->raw, &mail->records)
-                                                     : PyLong_FromUnsignedLong(mail->code);
-        PyObject *pair = read ? PyTuple_Pack(2, mail->raw, read) : NULL;
-        mail->code = ROCKTRAY_ABSENT; /* its records are taken over */
-        Py_XDECREF(read);
-        if (pair)
-            PyList_SetItem(list, k, pair);
-        else
-            Py_CLEAR(list);
-    }
-    return list;
-}
-
-static void free_batch(struct batch *batch)
-{
-    Py_ssize_t k;
-    for (k = 0; k < batch->count; k++) {
-        Py_XDECREF(batch->mails[k].raw);
-        if (batch->mails[k].code == ROCKTRAY_DONE)
-            free(batch->mails[k].records.parts);
-    }
-    free(batch->mails);
-}
-
-PyObject *read_mails(PyObject *module, PyObject *const *arguments, Py_ssize_t count)
-{
-    struct batch batch;
-    struct input input;
-    size_t limit;
-    PyObject *list = NULL;
-    Py_ssize_t k;
-    if (!is_count(count, 3) || (batch.count = PyList_Size(arguments[1])) < 0 || take_size(&limit, arguments[2]) < 0 ||
-        take(&input, arguments[0]) < 0)
-        return NULL;
-    batch.mails = calloc((size_t)batch.count + 1, sizeof *batch.mails);
-    for (k = 0; batch.mails && k < batch.count; k++)
-        batch.mails[k].code = ROCKTRAY_ABSENT; /* nothing is read of it */
-    if (!batch.mails) {
-        batch.count = 0;
-        PyErr_NoMemory();
-    } else if (allocate(&batch, &input, arguments[1], limit) == 0) {
-        Py_BEGIN_ALLOW_THREADS
-        read_batch(&batch);
-        Py_END_ALLOW_THREADS
-        list = list_of(&batch, PyModule_GetState(module));
-    } else if (!PyErr_Occurred()) {
-        PyErr_SetString(PyExc_ValueError, "a place is a pair of offsets in the data");
-    }
-    free_batch(&batch);
-    give_back(&input);
-    return list;
-}
-
 static void reading_free(PyObject *self)
 {
     struct reading *reading = (struct reading *)self;
     PyTypeObject *type = Py_TYPE(self);
     Py_XDECREF(reading->data);
-    Py_XDECREF(reading->header_type);
-    Py_XDECREF(reading->node_type);
     free(reading->parts);
     ((freefunc)PyType_GetSlot(type, Py_tp_free))(self);
     Py_DECREF(type);
@@ -323,24 +144,6 @@ static const uint8_t *bytes_at(const struct input *input, uint64_t start)
     return (const uint8_t *)input->view.buf + start;
 }
 
-static uint8_t lower(uint8_t byte)
-{
-    return byte >= 'A' && byte <= 'Z' ? byte + ('a' - 'A') : byte;
-}
-
-/* Whether a header has this name, without the case of ASCII letters. */
-static bool is_named(const struct input *input, const struct rocktray_header_record *header, const uint8_t *name,
-                     size_t length)
-{
-    const uint8_t *key = bytes_at(input, header->start);
-    size_t k = 0;
-    if (header->key_end - header->start != length)
-        return false;
-    while (k < length && lower(key[k]) == lower(name[k]))
-        k++;
-    return k == length;
-}
-
 /* The first header of a part with this name, from `header` on, or from the part's first if that is NULL. NULL if none
  * has it. */
 static const struct rocktray_header_record *next_named(PyObject *self, const struct input *input,
@@ -351,7 +154,7 @@ static const struct rocktray_header_record *next_named(PyObject *self, const str
     const struct rocktray_header_record *first = ((struct reading *)self)->headers + part->first_header;
     const struct rocktray_header_record *end = first + part->header_count;
     for (header = header ? header : first; header < end; header++)
-        if (is_named(input, header, name, length))
+        if (is_named(input->view.buf, header, name, length))
             return header;
     return NULL;
 }
@@ -408,6 +211,21 @@ static PyObject *value_of(struct request *it, const struct rocktray_header_recor
     it->call = call_value;
     point(&it->input, header->value_start, header->value_end);
     return text_of(it, 0);
+}
+
+PyObject *first_value(PyObject *self, const struct name *name)
+{
+    struct request it = { .call = call_value };
+    const struct rocktray_header_record *header;
+    if (take_mail(&it.input, self) < 0)
+        return NULL;
+    header = next_named(self, &it.input, ((struct reading *)self)->parts, NULL, (const uint8_t *)name->at, name->length);
+    if (!header) {
+        give_back(&it.input);
+        Py_RETURN_NONE;
+    }
+    point(&it.input, header->value_start, header->value_end);
+    return text_and_back(&it, 0);
 }
 
 /* values(part, name): the values of the headers with this name. */
@@ -559,7 +377,7 @@ static PyObject *reading_headers(PyObject *self, PyObject *const *arguments, Py_
     PyObject *list, *header;
     size_t k;
     if (!is_count(count, 2) || !(part = part_at(self, arguments[0])) ||
-        take_type(&type, arguments[1], (PyTypeObject *)((struct reading *)self)->header_type) < 0 ||
+        take_type(&type, arguments[1], (PyTypeObject *)((struct reading *)self)->types->header) < 0 ||
         take_mail(&it.input, self) < 0)
         return NULL;
     list = PyList_New((Py_ssize_t)part->header_count);
@@ -734,10 +552,9 @@ static PyObject *reading_file_name(PyObject *self, PyObject *index)
     return part ? file_name_of_part(self, part) : NULL;
 }
 
-/* The display name and the address of an element, as an instance of this type; text that is no address is a name. */
-static PyObject *address_of(PyTypeObject *type, const struct found *found, const struct rocktray_address *address)
+PyObject *address_of(PyTypeObject *type, const char *strings, const struct rocktray_address *address)
 {
-    const char *at = found->buffer + address->address_start, *name = found->buffer + address->name_start;
+    const char *at = strings + address->address_start, *name = strings + address->name_start;
     Py_ssize_t length = (Py_ssize_t)(address->address_end - address->address_start);
     if (address->kind == ROCKTRAY_UNKNOWN)
         return pair_of(type, PyUnicode_DecodeLatin1(at, length, NULL), PyUnicode_FromStringAndSize("", 0));
@@ -763,10 +580,31 @@ static int append_addresses(PyObject *list, PyTypeObject *type, struct request *
     for (k = 0; result == 0 && k < found.record_count; k++) {
         const struct rocktray_address *address = (const struct rocktray_address *)found.records + k;
         if (address->kind != ROCKTRAY_GROUP)
-            result = append(list, address_of(type, &found, address));
+            result = append(list, address_of(type, found.buffer, address));
     }
     forget(&found);
     return result;
+}
+
+/* The addresses in the headers of a part with a name, which is that of the request. */
+static PyObject *list_addresses(PyObject *self, const struct rocktray_part *part, struct request *it, PyTypeObject *type)
+{
+    const struct rocktray_header_record *header = NULL;
+    PyObject *list;
+    if (take_mail(&it->input, self) < 0)
+        return NULL;
+    list = PyList_New(0);
+    while (list && (header = next_named(self, &it->input, part, header ? header + 1 : NULL, it->other, it->other_length)))
+        if (append_addresses(list, type, it, header) < 0)
+            Py_CLEAR(list);
+    give_back(&it->input);
+    return list;
+}
+
+PyObject *all_addresses(PyObject *self, const struct name *name, PyTypeObject *type)
+{
+    struct request it = { .other = (const uint8_t *)name->at, .other_length = name->length };
+    return list_addresses(self, ((struct reading *)self)->parts, &it, type);
 }
 
 /* addresses(part, name[, type]): the mailboxes in the headers with this name, those in groups too, as tuples or as
@@ -774,20 +612,13 @@ static int append_addresses(PyObject *list, PyTypeObject *type, struct request *
 static PyObject *reading_addresses(PyObject *self, PyObject *const *arguments, Py_ssize_t count)
 {
     struct request it = { .number = 0 };
-    const struct rocktray_header_record *header = NULL;
     const struct rocktray_part *part;
     PyTypeObject *type = NULL;
-    PyObject *list;
     if ((count != 3 && !is_count(count, 2)) || !(part = part_at(self, arguments[0])) ||
         take_name(&it.other, &it.other_length, arguments[1]) < 0 ||
-        (count == 3 && take_type(&type, arguments[2], &PyTuple_Type) < 0) || take_mail(&it.input, self) < 0)
+        (count == 3 && take_type(&type, arguments[2], &PyTuple_Type) < 0))
         return NULL;
-    list = PyList_New(0);
-    while (list && (header = next_named(self, &it.input, part, header ? header + 1 : NULL, it.other, it.other_length)))
-        if (append_addresses(list, type, &it, header) < 0)
-            Py_CLEAR(list);
-    give_back(&it.input);
-    return list;
+    return list_addresses(self, part, &it, type);
 }
 
 /* Dates and message ids. */
@@ -807,6 +638,37 @@ static PyObject *reading_date(PyObject *self, PyObject *index)
     }
     point(&it.input, header->value_start, header->value_end);
     return result_and_back(&it, 0, date_of);
+}
+
+/* What is read of a date whose value is too long for the stack. Returns 0, or -1 for an error. */
+static int long_date(struct request *it, struct date *date)
+{
+    PyObject *text = text_of(it, 0);
+    Py_ssize_t length = 0;
+    const char *at = text ? PyUnicode_AsUTF8AndSize(text, &length) : NULL;
+    if (at)
+        date->code = rocktray_date_and_offset(at, (size_t)length, &date->seconds, &date->offset, &date->is_zone_known);
+    Py_XDECREF(text);
+    return at ? 0 : -1;
+}
+
+int first_date(PyObject *self, struct date *date)
+{
+    struct request it = { .call = call_value };
+    const struct rocktray_header_record *header;
+    int result = 0;
+    if (take_mail(&it.input, self) < 0)
+        return -1;
+    date->code = ROCKTRAY_ABSENT;
+    header = first_named(self, &it.input, ((struct reading *)self)->parts, "date");
+    if (header) {
+        point(&it.input, header->value_start, header->value_end);
+        date->code = read_date(it.input.at, it.input.length, date);
+    }
+    if (date->code == ROCKTRAY_TOO_SHORT)
+        result = long_date(&it, date);
+    give_back(&it.input);
+    return result;
 }
 
 CALL(ids, INPUT, it->choice)
@@ -1095,7 +957,7 @@ static PyObject *reading_nodes(PyObject *self, PyObject *const *arguments, Py_ss
     struct reading *reading = (struct reading *)self;
     PyTypeObject *type;
     size_t first;
-    if (!is_count(count, 3) || take_type(&type, arguments[0], (PyTypeObject *)reading->node_type) < 0 ||
+    if (!is_count(count, 3) || take_type(&type, arguments[0], (PyTypeObject *)reading->types->node) < 0 ||
         take_size(&first, arguments[2]) < 0)
         return NULL;
     return nodes_of(self, reading->data, reading->parts, reading->part_count, type, arguments[1], (Py_ssize_t)first);

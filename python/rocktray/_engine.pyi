@@ -1,9 +1,13 @@
 """The extension: the calls of the C library. python/engine/module.c says how inputs are read."""
 
-from typing import Dict, List, Optional, Tuple, Type, TypeVar, Union, overload
+from datetime import datetime, timezone
+from typing import Any, Callable, Dict, List, Optional, Tuple, Type, TypeVar, overload
 
 from ._library import Bytes
+from ._mail import Mail as _OwnMail
+from ._node import Node as _OwnNode
 from ._part import Header as _PartHeader
+from ._values import Address
 
 def version() -> int: ...
 def reason(code: int, /) -> str: ...
@@ -33,10 +37,105 @@ def read(mail: Bytes, limit: int, /) -> Reading:
 def read(data: Bytes, start: int, end: int, limit: int, /) -> Reading:
     """Reads the mail from `start` up to `end`, where all offsets are those in the data."""
 
-def read_mails(data: bytes, places: List[Tuple[int, int, int]], limit: int, /) -> List[Tuple[bytes, Union[Reading, int]]]:
-    """Copies and reads the mails at these places, which `mails` returned, in one call, without Python's lock. Of each its
-    bytes, with what was read of it or the code of its refusal.
+def parse(type: Type[_Mail], mail: Bytes, limit: int, /) -> _Mail:
+    """The same as a mail of this type."""
+
+def read_mails(
+    type: Type[_Mail], data: bytes, places: List[Tuple[int, int, int]], offset: int, limit: int, use: Use, /
+) -> List[_Mail]:
+    """The mails at these places, which `mails` returned, of the data at an offset of a mailbox. They are copied, and read
+    if earlier ones were used, in one call, without Python's lock. So are those of their values that were used.
     """
+
+def values(address: Type[Address], zone_of: Callable[[int], timezone], /) -> None:
+    """Tells the extension the type of addresses, and what returns the zone with an offset."""
+
+class Use:
+    """What is used of the mails of a mailbox."""
+
+class Mails:
+    """The base of a mailbox: an iterator over mails that were read ahead."""
+
+    _ahead: List[_OwnMail]
+    """The mails, of which the last is the next. If there are none, `_read_ahead()` is called, and returns whether there
+    are some now.
+    """
+
+    def __iter__(self: _Mails) -> _Mails: ...
+    def __next__(self) -> _OwnMail: ...
+
+class Mail:
+    """The base of a mail: its bytes, what was read of them, and values that are decoded when they are first asked for, or
+    ahead.
+    """
+
+    place: Optional[Tuple[int, int]]
+    """The offsets at which it begins and ends in its mailbox, or `None` outside of one."""
+    _data: Bytes
+    _raw: Optional[bytes]
+    _limit: int
+    _own: Optional[List[_OwnNode]]
+    _all: Optional[List[_OwnNode]]
+
+    @property
+    def _reading(self) -> Reading:
+        """The records of the mail. Raises `Refused` if it is refused."""
+
+    @property
+    def _read(self) -> Optional[Reading]:
+        """The same if the mail was read and is not refused."""
+
+    @property
+    def _known(self) -> Dict[Any, Any]: ...
+    @property
+    def error(self) -> Optional[str]:
+        """Why the mail is refused, or `None`. Everything else about a refused mail raises `Refused`, but for its bytes
+        and `header`, which reads the headers alone.
+        """
+
+    @property
+    def subject(self) -> Optional[str]:
+        """The value of the first Subject, or `None`."""
+
+    @property
+    def from_(self) -> List[Address]:
+        """The mailboxes in From, each a pair of a name and an address."""
+
+    @property
+    def to(self) -> List[Address]:
+        """The mailboxes in To."""
+
+    @property
+    def cc(self) -> List[Address]:
+        """The mailboxes in Cc."""
+
+    @property
+    def bcc(self) -> List[Address]:
+        """The mailboxes in Bcc."""
+
+    @property
+    def sender(self) -> List[Address]:
+        """The mailbox in Sender: who sent the mail, if that is not its only author."""
+
+    @property
+    def reply_to(self) -> List[Address]:
+        """The mailboxes in Reply-To."""
+
+    @property
+    def date(self) -> Optional[datetime]:
+        """The time in the first Date, in the zone of the sender, or in UTC if that is unknown; `None` if it is missing or
+        cannot be read: `date_error` says why."""
+
+    @property
+    def date_error(self) -> Optional[str]:
+        """What is missing or wrong in the first Date; otherwise `None`."""
+
+    @property
+    def is_date_zone_known(self) -> bool:
+        """Whether the date gives its zone. Otherwise it is read as UTC."""
+
+_Mail = TypeVar("_Mail", bound=Mail)
+_Mails = TypeVar("_Mails", bound=Mails)
 
 Part = Tuple[int, int, int, int, int, int, int, int, int, int, int]
 

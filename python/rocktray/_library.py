@@ -47,9 +47,9 @@ class TooMany(Refused):
     """The mail has more parts and headers than the limit."""
 
 
-def refusal(code: int) -> Refused:
+def refusal(code: int, place: Optional[Tuple[int, int]] = None) -> Refused:
     """The exception for a code. The extension raises it."""
-    return (TooMany if code == TOO_MANY else Refused)(_engine.reason(code), code)
+    return (TooMany if code == TOO_MANY else Refused)(_engine.reason(code), code, place)
 
 
 def version() -> str:

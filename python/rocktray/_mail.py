@@ -5,22 +5,22 @@ from __future__ import annotations
 import email.message
 import email.policy
 import json
-from datetime import datetime
 from typing import TYPE_CHECKING, Any, Callable, Dict, Iterator, List, Optional, Tuple, TypeVar, Union
 from typing import cast, overload
 
 from . import _engine, _library
-from ._engine import Reading
 from ._library import MOST_ITEMS, UNLIMITED, Refused
 from ._node import IS_ATTACHMENT, IS_EXTRACTED, IS_MAIL, IS_TEXT, Node, add_inside
 from ._part import Header, Part
-from ._values import Address, Recipient, time_of
+from ._values import Address, Recipient, zone_of
 
 if TYPE_CHECKING:
     from ._library import Bytes
 
 Default = TypeVar("Default")
 Value = TypeVar("Value")
+
+_engine.values(Address, zone_of)
 
 
 def _checked(raw: Any) -> "Bytes":
@@ -37,16 +37,7 @@ def _checked(raw: Any) -> "Bytes":
     raise TypeError(f"a mail is bytes, not {kind}: {advice}")
 
 
-class Use:
-    """Whether mails of a mailbox are read, and not only returned: then the next ones are read together."""
-
-    __slots__ = ("is_read",)
-
-    def __init__(self) -> None:
-        self.is_read = False
-
-
-class Mail:
+class Mail(_engine.Mail):
     """A mail. Its bytes are read when it is first used; `parse` reads them at once. What it has is decoded when it is
     asked for, and most of it remembered.
 
@@ -56,39 +47,23 @@ class Mail:
     >>> mail = parse(b"Subject: Hi\\nDate: Fri, 21 Nov 1997 09:55:06 -0600\\n\\nHello\\n")
     >>> mail.subject, mail.date.isoformat(), mail.text
     ('Hi', '1997-11-21T09:55:06-06:00', 'Hello\\n')
+    >>> parse(b"From: =?utf-8?q?Doe=2C_Jos=C3=A9?= <j@example.org>\\n\\n").from_
+    [Address(name='Doe, José', address='j@example.org')]
+
+    Everything about a refused mail raises `Refused`, but for its `error`, its bytes and `header`, which reads the headers
+    alone.
+
+    >>> [mail.error or mail.subject for mail in (Mail(b"Subject: Hi\\n\\n"), Mail(b"A: b\\n\\n", limit=1))]
+    ['Hi', 'Too many parts and headers']
     """
 
-    __slots__ = ("place", "_data", "_raw", "_limit", "_read", "_own", "_all", "_known", "_use")
-
-    place: Optional[Tuple[int, int]]
-    """The offsets at which it begins and ends in its mailbox, or `None` outside of one."""
-    _read: Union[None, Reading, Refused]
-    _use: Optional[Use]
-    _own: Optional[List[Node]]
-    _all: Optional[List[Node]]
+    __slots__ = ()
 
     def __init__(self, raw: "Bytes", place: Optional[Tuple[int, int]] = None, limit: Optional[int] = MOST_ITEMS) -> None:
         self._raw = raw if isinstance(raw, bytes) else None
         self._data = _checked(raw) if self._raw is None else raw
         self.place = place
         self._limit = UNLIMITED if limit is None else limit
-        self._read = self._use = self._own = self._all = None
-        self._known: Dict[Any, Any] = {}
-
-    @classmethod
-    def _of_mailbox(
-        cls, raw: bytes, place: Tuple[int, int], limit: int, use: Use, read: Union[None, Reading, Refused]
-    ) -> "Mail":
-        """A mail of a mailbox, and what was read of it."""
-        mail = cls.__new__(cls)
-        mail.place = place
-        mail._data = mail._raw = raw
-        mail._limit = limit
-        mail._read = read
-        mail._use = use
-        mail._own = mail._all = None
-        mail._known = {}
-        return mail
 
     @property
     def raw(self) -> bytes:
@@ -98,22 +73,6 @@ class Mail:
             with memoryview(self._data) as view:
                 raw = self._raw = view.tobytes()
         return raw
-
-    @property
-    def _reading(self) -> Reading:
-        """The records of the mail. Raises `Refused` if it is refused."""
-        read = self._read
-        if read is None:
-            if self._use is not None:
-                self._use.is_read = True
-            try:
-                read = _engine.read(self._data, self._limit)
-            except Refused as error:
-                read = error
-            self._read = read
-        if isinstance(read, Refused):
-            raise type(read)(read.text, read.number, self.place)
-        return read
 
     def _remember(self, key: Any, find: Callable[[], Value]) -> Value:
         """What is known by this key, which is found once."""
@@ -129,42 +88,9 @@ class Mail:
             "dispositions", lambda: {part["path"]: part["disposition"] for part in self.json["parts"]}
         )
 
-    def _value(self, name: bytes) -> Optional[str]:
-        """The value of the first header with this name."""
-        known = self._known
-        if name not in known:
-            read = self._read
-            known[name] = (read if type(read) is Reading else self._reading).value(0, name, 0)
-        return known[name]  # type: ignore[no-any-return]
-
-    def _addresses(self, name: str) -> List[Address]:
-        """The mailboxes in the headers with this name."""
-        known = self._known
-        if name not in known:
-            read = self._read
-            known[name] = (read if type(read) is Reading else self._reading).addresses(0, name.encode(), Address)
-        return known[name].copy()  # type: ignore[no-any-return]
-
     def _ids(self, name: bytes, needs_at: bool) -> List[str]:
         """The ids in the first header with this name."""
-        read = self._read
-        return (read if type(read) is Reading else self._reading).ids(0, name, needs_at)
-
-    @property
-    def error(self) -> Optional[str]:
-        """Why the mail is refused, or `None`. Everything else about a refused mail raises `Refused`, but for its bytes
-        and `header`, which reads the headers alone.
-
-        >>> [mail.error or mail.subject for mail in (Mail(b"Subject: Hi\\n\\n"), Mail(b"A: b\\n\\n", limit=1))]
-        ['Hi', 'Too many parts and headers']
-        """
-        if isinstance(self._read, Reading):
-            return None
-        try:
-            self._reading
-        except Refused as error:
-            return error.text
-        return None
+        return self._reading.ids(0, name, needs_at)
 
     @property
     def json(self) -> Dict[str, Any]:
@@ -173,80 +99,6 @@ class Mail:
         """
         self._reading
         return cast("Dict[str, Any]", json.loads(_engine.json(self._data)))
-
-    @property
-    def subject(self) -> Optional[str]:
-        """The value of the first Subject, or `None`."""
-        return self._value(b"subject")
-
-    @property
-    def from_(self) -> List[Address]:
-        """The mailboxes in From, each a pair of a name and an address.
-
-        >>> parse(b"From: =?utf-8?q?Doe=2C_Jos=C3=A9?= <j@example.org>\\n\\n").from_
-        [Address(name='Doe, José', address='j@example.org')]
-        """
-        return self._addresses("from")
-
-    @property
-    def to(self) -> List[Address]:
-        """The mailboxes in To."""
-        return self._addresses("to")
-
-    @property
-    def cc(self) -> List[Address]:
-        """The mailboxes in Cc."""
-        return self._addresses("cc")
-
-    @property
-    def bcc(self) -> List[Address]:
-        """The mailboxes in Bcc."""
-        return self._addresses("bcc")
-
-    @property
-    def sender(self) -> List[Address]:
-        """The mailbox in Sender: who sent the mail, if that is not its only author."""
-        return self._addresses("sender")
-
-    @property
-    def reply_to(self) -> List[Address]:
-        """The mailboxes in Reply-To."""
-        return self._addresses("reply-to")
-
-    def _read_date(self) -> Tuple[Optional[datetime], Optional[str], bool]:
-        """The time in the first Date, what is wrong in it, and whether its zone is known or it is none."""
-        reading, is_zone_known = self._reading, True
-        try:
-            found = reading.date(0)
-            if found is None:
-                return None, None, True
-            is_zone_known = found[1] is not None
-            return time_of(*found), None, is_zone_known
-        except Refused as error:
-            return None, error.text, is_zone_known
-
-    def _date(self) -> Tuple[Optional[datetime], Optional[str], bool]:
-        """The same, read once."""
-        known = self._known
-        if "time" not in known:
-            known["time"] = self._read_date()
-        return known["time"]  # type: ignore[no-any-return]
-
-    @property
-    def date(self) -> Optional[datetime]:
-        """The time in the first Date, in the zone of the sender, or in UTC if that is unknown; `None` if it is missing or
-        cannot be read: `date_error` says why."""
-        return self._date()[0]
-
-    @property
-    def date_error(self) -> Optional[str]:
-        """What is missing or wrong in the first Date; otherwise `None`."""
-        return self._date()[1]
-
-    @property
-    def is_date_zone_known(self) -> bool:
-        """Whether the date gives its zone. Otherwise it is read as UTC."""
-        return self._date()[2]
 
     @property
     def message_id(self) -> Optional[str]:
@@ -297,13 +149,14 @@ class Mail:
         """
         if number < 0:
             return None
-        if not isinstance(self._read, Reading):
+        read = self._read
+        if read is None:
             try:
                 return _library.header(self._data, name, number)
             except Refused:  # the headers cannot be read: there is none
                 return None
         key = _library.name_of(name)
-        return None if key is None else self._read.value(0, key, number)
+        return None if key is None else read.value(0, key, number)
 
     def __getitem__(self, name: str) -> Optional[str]:
         """The value of the first header with this name, or `None`, as in `email`."""
@@ -464,6 +317,5 @@ def parse(raw: "Bytes", limit: Optional[int] = MOST_ITEMS) -> Mail:
         ...
     rocktray.TooMany: Too many parts and headers
     """
-    mail = Mail(raw, None, limit)
-    mail._read = _engine.read(mail._data, mail._limit)
-    return mail
+    data = raw if isinstance(raw, bytes) else _checked(raw)
+    return _engine.parse(Mail, data, UNLIMITED if limit is None else limit)

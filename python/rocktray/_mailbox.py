@@ -11,12 +11,11 @@ from bisect import bisect_right
 from collections import deque
 from itertools import islice
 from types import TracebackType
-from typing import Any, Deque, Iterator, List, NamedTuple, Optional, Protocol, Sequence, Tuple, Type, Union
+from typing import Any, Deque, Iterator, List, NamedTuple, Optional, Protocol, Tuple, Type, Union
 
 from . import _engine, _library
-from ._engine import Reading
-from ._library import MOST_ITEMS, UNLIMITED, Refused
-from ._mail import Mail, Use
+from ._library import MOST_ITEMS, UNLIMITED
+from ._mail import Mail
 
 FORMATS = ("mbox", "mboxrd", "mboxcl")
 # the least number of bytes that are read at once
@@ -120,7 +119,7 @@ class _Window(NamedTuple):
 _Found = Tuple[bytes, int, List[Tuple[int, int, int]]]
 
 
-class Mailbox:
+class Mailbox(_engine.Mails):
     """The mails of a mailbox, as `open_mailbox` returns it: an iterator, and a context manager that closes the file.
 
     As with a file, a second loop goes on where the first ended, and `rewind` begins again. `len` counts the mails that a
@@ -135,15 +134,15 @@ class Mailbox:
             raise ValueError(f"{format!r} is none of {', '.join(FORMATS)}")
         self._format = format
         self._limit = UNLIMITED if limit is None else limit
-        self._use = Use()
+        self._use = _engine.Use()
         self._is_counted = format == "mboxcl"
         self._is_quoted = format == "mboxrd"
         # reentrant, for the handler of a signal that closes the mailbox
         self._lock = threading.RLock()
         # mails that were found, of which those together are read at once
         self._found: Deque[_Found] = deque()
-        # mails that were read ahead
-        self._ahead: Deque[Mail] = deque()
+        # mails that were read ahead, of which the last is the next
+        self._ahead: List[Mail] = []
         # the path of a regular file
         self._path: Any = None
         self._file: Any = None
@@ -223,29 +222,23 @@ class Mailbox:
                 window = self._read_on()
         return True
 
-    def __iter__(self) -> Iterator[Mail]:
-        return self
-
-    def __next__(self) -> Mail:
-        while True:
-            try:
-                return self._ahead.popleft()
-            except IndexError:
-                pass
-            with self._lock:
-                if not self._find():
-                    raise StopIteration
-                some = self._found.popleft()
-                reader = self._reader
-            try:
-                mails = self._mails_of(some)
-            except BaseException:
-                self._put_back(some, reader)
-                raise
-            with self._lock:
-                self._open_window()
-                if self._reader is reader:
-                    self._ahead.extend(mails)
+    def _read_ahead(self) -> bool:
+        """Reads some mails ahead. Returns whether there are any. Raises `ValueError` if the mailbox is closed."""
+        with self._lock:
+            if not self._find():
+                return False
+            some = self._found.popleft()
+            reader = self._reader
+        try:
+            mails = self._mails_of(some)
+        except BaseException:
+            self._put_back(some, reader)
+            raise
+        with self._lock:
+            self._open_window()
+            if self._reader is reader:
+                self._ahead[:0] = mails
+        return True
 
     def _put_back(self, some: "_Found", reader: Union[_File, _Stream]) -> None:
         """Puts mails back that were taken from this reader."""
@@ -254,20 +247,18 @@ class Mailbox:
                 self._found.appendleft(some)
 
     def _mails_of(self, some: "_Found") -> List[Mail]:
-        """These mails. If mails are read, they are read together, so that Python's lock is free for long."""
-        (data, offset, places), use, limit = some, self._use, self._limit
-        reads: Sequence[Tuple[bytes, Union[None, Reading, int]]]
-        if use.is_read:
-            reads = _engine.read_mails(data, places, limit)
-        else:
-            reads = [(data[start:end], None) for start, end, _ in places]
-        mails = []
-        for (raw, read), (start, end, _) in zip(reads, places):
-            if self._is_quoted and b">From " in raw:
-                raw, read = _engine.unquoted(raw), None
-            known = _refused(read) if isinstance(read, int) else read
-            mails.append(Mail._of_mailbox(raw, (offset + start, offset + end), limit, use, known))
+        """These mails, from the last to the first. If mails are read, they are read together, so that Python's lock is free
+        for long."""
+        data, offset, places = some
+        mails = _engine.read_mails(Mail, data, places, offset, self._limit, self._use)
+        if self._is_quoted:
+            mails = [self._unquoted(mail) if b">From " in mail.raw else mail for mail in mails]
+        mails.reverse()
         return mails
+
+    def _unquoted(self, mail: Mail) -> Mail:
+        """The mail without the quotes of its lines `From `."""
+        return Mail(_engine.unquoted(mail.raw), mail.place, self._limit)
 
     def __len__(self) -> int:
         """The number of mails that a loop would return now: at first all. It is found by reading the file, once. Raises
@@ -344,11 +335,6 @@ class Mailbox:
         self, kind: Optional[Type[BaseException]], error: Optional[BaseException], trace: Optional[TracebackType]
     ) -> None:
         self.close()
-
-
-def _refused(code: int) -> Optional[Refused]:
-    """The refusal with this code. `None` if there was no memory: the mail is read again when it is used."""
-    return None if code == _library.NO_MEMORY else _library.refusal(code)
 
 
 def _check_front(name: str, data: bytes) -> None:

@@ -2,7 +2,6 @@
 
 from __future__ import annotations
 
-import functools
 import re
 from datetime import datetime, timedelta, timezone
 from typing import List, NamedTuple, Optional
@@ -50,10 +49,9 @@ class Recipient(NamedTuple):
     diagnostic_code: Optional[str]
 
 
-@functools.lru_cache(maxsize=1024)
-def _epoch_in(offset: int) -> datetime:
-    """The local time of 1970 in the zone with this offset, or in UTC if that is a day or more."""
-    return _EPOCH.astimezone(timezone(timedelta(seconds=offset))) if offset and abs(offset) < 86400 else _EPOCH
+def zone_of(offset: int) -> timezone:
+    """The zone with this offset, or UTC if that is a day or more."""
+    return timezone(timedelta(seconds=offset)) if offset and abs(offset) < 86400 else timezone.utc
 
 
 def time_of(seconds: int, offset: Optional[int]) -> datetime:
@@ -61,7 +59,7 @@ def time_of(seconds: int, offset: Optional[int]) -> datetime:
     if it is after the last year of Python's `datetime`."""
     try:
         if _FIRST <= seconds <= _LAST:
-            return _epoch_in(offset or 0) + timedelta(0, seconds)
+            return (_EPOCH + timedelta(0, seconds)).astimezone(zone_of(offset or 0))
     except OverflowError:
         pass
     raise Refused("the date is after the year 9999", _library.DATE_YEAR)

@@ -256,8 +256,12 @@ def work():
         found += [engine.json(data), engine.recipients(data), engine.bounced_id(data), engine.unquoted(data)]
         found += [engine.header(data, b"from", 0), engine.raw_header(data, b"from", 0), engine.header(data, b"x-none", 0)]
     found += [engine.ids("<a@b>", True), engine.date("1 Jan 2000 00:00"), engine.reason(17), engine.version(), engine.safe_name("a/b")]
-    found += [(raw, len(read)) for raw, read in engine.read_mails(raw + large, [(0, len(raw)), (len(raw), len(raw + large))], 10**6)]
-    found += engine.read_mails(raw, [(0, len(raw)), (5, 5), (0, 0)], 1)[:1]
+    use = engine.Use()
+    for _ in range(2):  # the second time the values are decoded ahead
+        for mail in engine.read_mails(rocktray.Mail, raw + large, [(0, len(raw)), (len(raw), len(raw + large))], 7, 10**6, use):
+            found += [mail.raw, mail.place, mail.subject, mail.from_, mail.to, mail.date, mail.date_error, mail.error]
+    found += [mail.error for mail in engine.read_mails(rocktray.Mail, raw, [(0, len(raw)), (5, 5), (0, 0)], 0, 1, use)]
+    found += [rocktray.parse(data).date, rocktray.parse(data).cc]
     return found + engine.mails(b"From a Fri Jul  8 12:08:34 2011\\nSubject: 1\\n\\n" * 3, 0, 999, False, 10)
 wanted, refused = work(), 0
 for start in range(1, 5000):
