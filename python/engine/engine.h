@@ -165,10 +165,10 @@ int take_type(PyTypeObject **type, PyObject *object, PyTypeObject *base);
 
 /* The state of the module: its types, and what it has of other modules. */
 struct types {
-    PyObject *reading, *header, *node, *mail, *mails, *use;
+    PyObject *reading, *header, *node, *mail, *mails, *use, *batch;
     PyObject *address, *datetime, *zone_of, *zones;
 };
-extern PyType_Spec reading_spec, header_spec, node_spec, mail_spec, mails_spec, use_spec;
+extern PyType_Spec reading_spec, header_spec, node_spec, mail_spec, mails_spec, use_spec, batch_spec;
 
 /* The text of a code. */
 PyObject *reason_of(uint32_t code);
@@ -213,8 +213,12 @@ PyObject *nodes_of(PyObject *reading, PyObject *data, const struct rocktray_part
 PyObject *read_mail(PyObject *module, PyObject *const *arguments, Py_ssize_t count);
 /* parse(type, data, limit): reads a mail into a new one of this type. */
 PyObject *parse_mail(PyObject *module, PyObject *const *arguments, Py_ssize_t count);
-/* read_mails(type, data, places, offset, limit, use): copies the mails at these places into new ones of this type, and
- * reads those values that were used of earlier mails. */
+/* last_separator(data, start, last): where the last separator after an empty line begins, after `start` and at `last` or
+ * before, or 0. */
+PyObject *last_separator(PyObject *module, PyObject *const *arguments, Py_ssize_t count);
+/* read_mails(type, data, at, last, offset, limit, use, is_counted, most, bytes): finds the mails from `at` up to the
+ * separator at `last`, but at most `most` and some bytes, and reads the values that were used of earlier mails. Returns
+ * new ones of this type, from the last to the first, their batch, and where the next one begins. */
 PyObject *read_mails(PyObject *module, PyObject *const *arguments, Py_ssize_t count);
 /* recipients(data): of each recipient that a mail reports its five texts, of which a missing one is None. */
 PyObject *read_recipients(PyObject *module, PyObject *data);

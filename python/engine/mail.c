@@ -1,4 +1,5 @@
 /* rocktray._engine.Mail: the base of rocktray.Mail, and what reads the mails of a mailbox ahead. */
+#define _GNU_SOURCE /* memrchr */
 #include "engine.h"
 
 #include <stddef.h>
@@ -10,6 +11,8 @@
 #define FIRST_SECOND (-62135596800)
 #define LAST_SECOND 253402300799
 #define DAY 86400
+/* the most mails that are read together */
+#define MOST_MAILS 10000
 /* the most zones that are kept */
 #define MOST_ZONES 1000
 
@@ -23,24 +26,51 @@ struct use {
 /* a mail; NULL is what is not known yet, or None */
 struct mail {
     PyObject_HEAD
-    PyObject *data, *raw, *limit, *place, *own, *all, *known, *use, *reading;
-    PyObject *values[VALUES], *date_error;
-    Py_ssize_t start, end; /* its place, if that is NULL and `end` is not 0 */
-    uint32_t code;         /* of its refusal, or 0 */
+    PyObject *data, *raw, *limit, *place, *own, *all, *known, *use, *reading, *date_error;
+    PyObject *values[VALUES];
+    const struct types *types;
+    /* of a mail of a mailbox: its batch as long as its bytes are there, its number in it, and where it begins and ends in
+     * the mailbox, unless its place was set */
+    struct batch *batch;
+    size_t number, start, end;
+    /* its records until it has a reading, which takes over their block, and what was decoded with them */
+    struct records records;
+    const struct ahead *ahead;
+    uint32_t code; /* of its refusal, or 0 */
     bool is_zone_known;
 };
+
+/* mails of a mailbox that were found and read together; each refers to the batch as long as it has no bytes of its own */
+struct batch {
+    PyObject_HEAD
+    PyObject *data;
+    size_t offset, count; /* the offset of the data in the mailbox */
+    struct mail **mails;  /* NULL for one that does not refer to it */
+};
+
+/* Ends that a mail refers to its batch. */
+static void leave(struct mail *mail)
+{
+    struct batch *batch = mail->batch;
+    mail->batch = NULL;
+    if (batch)
+        batch->mails[mail->number] = NULL;
+    Py_XDECREF((PyObject *)batch);
+}
 
 static void mail_free(PyObject *self)
 {
     struct mail *mail = (struct mail *)self;
     PyTypeObject *type = Py_TYPE(self);
-    PyObject *const objects[] = { mail->data, mail->raw, mail->limit, mail->place,   mail->own,
-                                  mail->all,  mail->known, mail->use, mail->reading, mail->date_error };
+    PyObject *const objects[] = { mail->data, mail->raw,   mail->limit, mail->place,   mail->own,
+                                  mail->all,  mail->known, mail->use,   mail->reading, mail->date_error };
     size_t k;
+    leave(mail);
     for (k = 0; k < sizeof objects / sizeof *objects; k++)
         Py_XDECREF(objects[k]);
     for (k = 0; k < VALUES; k++)
         Py_XDECREF(mail->values[k]);
+    free(mail->records.parts);
     ((freefunc)PyType_GetSlot(type, Py_tp_free))(self);
     Py_DECREF(type);
 }
@@ -52,34 +82,103 @@ static void note(const struct mail *mail, uint32_t value)
         ((struct use *)mail->use)->wanted |= value;
 }
 
-/* Reading. */
-
 static PyObject *mail_place(PyObject *self, void *unused)
 {
     struct mail *mail = (struct mail *)self;
     (void)unused;
-    if (!mail->place && mail->end)
-        mail->place = Py_BuildValue("nn", mail->start, mail->end);
-    if (!mail->place && mail->end)
+    if (!mail->place && mail->end && !(mail->place = Py_BuildValue("nn", (Py_ssize_t)mail->start, (Py_ssize_t)mail->end)))
         return NULL;
     return Py_NewRef(mail->place ? mail->place : Py_None);
 }
 
-static int mail_set_place(PyObject *self, PyObject *place, void *unused)
+/* Sets an object of a mail, or removes it. */
+static int set(PyObject **object, PyObject *value)
 {
-    struct mail *mail = (struct mail *)self;
-    PyObject *old = mail->place;
-    (void)unused;
-    mail->place = Py_XNewRef(place);
-    mail->end = 0;
+    PyObject *old = *object;
+    *object = Py_XNewRef(value);
     Py_XDECREF(old);
     return 0;
 }
+
+static int mail_set_place(PyObject *self, PyObject *place, void *unused)
+{
+    (void)unused;
+    ((struct mail *)self)->end = 0;
+    return set(&((struct mail *)self)->place, place);
+}
+
+/* Bytes. */
+
+/* Gives a mail of a batch bytes of its own. Returns 0, or -1 for an error. */
+static int own(struct mail *mail)
+{
+    struct batch *batch = mail->batch;
+    const char *at = batch ? PyBytes_AsString(batch->data) + (mail->start - batch->offset) : NULL;
+    PyObject *raw;
+    if (!batch)
+        return 0;
+    if (!(raw = PyBytes_FromStringAndSize(at, (Py_ssize_t)mail->records.length)))
+        return -1;
+    if (mail->records.parts) {
+        mail->reading = reading_of(mail->types, raw, &mail->records);
+        mail->records.parts = NULL;
+        if (!mail->reading) {
+            mail->ahead = NULL;
+            Py_DECREF(raw);
+            return -1;
+        }
+    }
+    mail->data = raw;
+    mail->raw = Py_NewRef(raw);
+    leave(mail);
+    return 0;
+}
+
+static PyObject *mail_data(PyObject *self, void *unused)
+{
+    struct mail *mail = (struct mail *)self;
+    (void)unused;
+    if (own(mail) < 0)
+        return NULL;
+    if (!mail->data)
+        PyErr_SetString(PyExc_AttributeError, "the mail has no bytes");
+    return Py_XNewRef(mail->data);
+}
+
+static int mail_set_data(PyObject *self, PyObject *data, void *unused)
+{
+    struct mail *mail = (struct mail *)self;
+    (void)unused;
+    if (mail->data || mail->batch || !data) {
+        PyErr_SetString(PyExc_AttributeError, "the bytes of a mail are set once");
+        return -1;
+    }
+    return set(&mail->data, data);
+}
+
+static PyObject *mail_raw(PyObject *self, void *unused)
+{
+    struct mail *mail = (struct mail *)self;
+    PyObject *data = mail_data(self, unused), *raw;
+    if (data && !mail->raw) {
+        raw = PyBytes_Check(data) ? Py_NewRef(data) : PyBytes_FromObject(data);
+        if (mail->raw)
+            Py_XDECREF(raw);
+        else
+            mail->raw = raw;
+    }
+    Py_XDECREF(data);
+    return Py_XNewRef(data ? mail->raw : NULL);
+}
+
+/* Reading. */
 
 /* The types of the module: its own type of mails, of which that of a mail is made, has the module. */
 static const struct types *types_of_mail(PyObject *self)
 {
     PyTypeObject *type = Py_TYPE(self);
+    if (((struct mail *)self)->types)
+        return ((struct mail *)self)->types;
     while (PyType_GetSlot(type, Py_tp_dealloc) != (void *)mail_free)
         type = PyType_GetSlot(type, Py_tp_base);
     return PyType_GetModuleState(type);
@@ -125,7 +224,7 @@ static PyObject *reading_in(PyObject *self, bool raises)
     if (mail->reading)
         return mail->reading;
     note(mail, READ);
-    if (!mail->code && read_now(mail) < 0)
+    if (own(mail) < 0 || (!mail->reading && !mail->code && read_now(mail) < 0))
         return NULL;
     if (mail->reading || !raises)
         return mail->reading;
@@ -146,12 +245,18 @@ static PyObject *mail_read(PyObject *self, void *unused)
 {
     struct mail *mail = (struct mail *)self;
     (void)unused;
+    if (own(mail) < 0)
+        return NULL;
     return Py_NewRef(mail->reading ? mail->reading : Py_None);
 }
 
 static PyObject *mail_error(PyObject *self, void *unused)
 {
     (void)unused;
+    if (((struct mail *)self)->records.parts) {
+        note((struct mail *)self, READ);
+        Py_RETURN_NONE;
+    }
     if (reading_in(self, false))
         Py_RETURN_NONE;
     return PyErr_Occurred() ? NULL : reason_of(((struct mail *)self)->code);
@@ -168,22 +273,22 @@ static PyObject *mail_known(PyObject *self, void *unused)
 
 /* Values. */
 
-/* a value of a mail: what it is, and what finds it */
+/* a value of a mail: what it is, and what finds it, given what was decoded ahead, if it was */
 struct finder {
     enum value value;
-    PyObject *(*find)(struct mail *mail, PyObject *reading, enum value value);
+    PyObject *(*find)(struct mail *mail, const struct ahead *ahead, enum value value);
 };
 
 /* A value of a mail, which is found once. A borrowed reference, or NULL for an error. */
 static PyObject *value_in(PyObject *self, const struct finder *finder)
 {
     struct mail *mail = (struct mail *)self;
-    PyObject *reading, *found;
+    const struct ahead *ahead = mail->ahead && mail->ahead->known & 1u << finder->value ? mail->ahead : NULL;
+    PyObject *found;
     if (mail->values[finder->value])
         return mail->values[finder->value];
-    note(mail, 1u << finder->value);
-    reading = reading_in(self, true);
-    found = reading ? finder->find(mail, reading, finder->value) : NULL;
+    note(mail, READ | 1u << finder->value);
+    found = ahead || reading_in(self, true) ? finder->find(mail, ahead, finder->value) : NULL;
     /* another thread may have found it meanwhile */
     if (mail->values[finder->value])
         Py_XDECREF(found);
@@ -192,19 +297,10 @@ static PyObject *value_in(PyObject *self, const struct finder *finder)
     return mail->values[finder->value];
 }
 
-/* What was decoded ahead of a mail, if this value was. */
-static const struct ahead *ahead_with(PyObject *reading, enum value value)
+static PyObject *find_text(struct mail *mail, const struct ahead *ahead, enum value value)
 {
-    const struct ahead *ahead = ahead_of(reading);
-    return ahead && ahead->known & 1u << value ? ahead : NULL;
-}
-
-static PyObject *find_text(struct mail *mail, PyObject *reading, enum value value)
-{
-    const struct ahead *ahead = ahead_with(reading, value);
-    (void)mail;
     if (!ahead)
-        return first_value(reading, &value_names[value]);
+        return first_value(mail->reading, &value_names[value]);
     if (!ahead->has_subject)
         Py_RETURN_NONE;
     return decoded(ahead->strings + ahead->subject_start, (Py_ssize_t)(ahead->subject_end - ahead->subject_start));
@@ -222,12 +318,10 @@ static PyObject *addresses_ahead(const struct ahead *ahead, enum value value, Py
     return list;
 }
 
-static PyObject *find_addresses(struct mail *mail, PyObject *reading, enum value value)
+static PyObject *find_addresses(struct mail *mail, const struct ahead *ahead, enum value value)
 {
-    const struct ahead *ahead = ahead_with(reading, value);
-    PyTypeObject *type = (PyTypeObject *)types_of(reading)->address;
-    (void)mail;
-    return ahead ? addresses_ahead(ahead, value, type) : all_addresses(reading, &value_names[value], type);
+    PyTypeObject *type = (PyTypeObject *)types_of_mail((PyObject *)mail)->address;
+    return ahead ? addresses_ahead(ahead, value, type) : all_addresses(mail->reading, &value_names[value], type);
 }
 
 static PyObject *mail_value(PyObject *self, void *finder)
@@ -271,26 +365,25 @@ static void set_day(int64_t days, long numbers[3])
     numbers[2] = (long)(of_year - (153 * month + 2) / 5 + 1);
 }
 
-/* The datetime of these seconds in a zone, which the clocks of it show. */
+/* The datetime of these seconds in a zone, which the clocks of it show. It is made of the bytes of its pickle: the year,
+ * the month, the day, the time of day, and the microseconds. */
 static PyObject *time_in(const struct types *types, int64_t seconds, PyObject *zone)
 {
     int64_t days = (seconds - FIRST_SECOND) / DAY + FIRST_SECOND / DAY, rest = seconds - days * DAY;
-    long numbers[7] = { 0, 0, 0, (long)(rest / 3600), (long)(rest / 60 % 60), (long)(rest % 60), 0 };
-    PyObject *arguments = PyTuple_New(8), *time = NULL;
-    Py_ssize_t k;
-    set_day(days, numbers);
-    for (k = 0; arguments && k < 7; k++) {
-        PyObject *number = PyLong_FromLong(numbers[k]);
-        if (number)
-            PyTuple_SetItem(arguments, k, number);
-        else
-            Py_CLEAR(arguments);
-    }
-    if (arguments) {
-        PyTuple_SetItem(arguments, 7, Py_NewRef(zone));
-        time = PyObject_Call(types->datetime, arguments, NULL);
-    }
-    Py_XDECREF(arguments);
+    long day[3];
+    char bytes[10] = { 0 };
+    PyObject *state, *time;
+    set_day(days, day);
+    bytes[0] = (char)(day[0] >> 8);
+    bytes[1] = (char)(day[0] & 0xff);
+    bytes[2] = (char)day[1];
+    bytes[3] = (char)day[2];
+    bytes[4] = (char)(rest / 3600);
+    bytes[5] = (char)(rest / 60 % 60);
+    bytes[6] = (char)(rest % 60);
+    state = PyBytes_FromStringAndSize(bytes, sizeof bytes);
+    time = state ? PyObject_CallFunctionObjArgs(types->datetime, state, zone, NULL) : NULL;
+    Py_XDECREF(state);
     return time;
 }
 
@@ -309,19 +402,19 @@ static PyObject *time_of(const struct types *types, const struct date *date)
     return time;
 }
 
-static PyObject *find_date(struct mail *mail, PyObject *reading, enum value value)
+static PyObject *find_date(struct mail *mail, const struct ahead *ahead, enum value value)
 {
-    const struct ahead *ahead = ahead_with(reading, value);
     struct date date;
     PyObject *time, *error = NULL;
+    (void)value;
     if (ahead)
         date = ahead->date;
-    else if (first_date(reading, &date) < 0)
+    else if (first_date(mail->reading, &date) < 0)
         return NULL;
     mail->is_zone_known = date.code != ROCKTRAY_DONE || date.is_zone_known;
     if (date.code == ROCKTRAY_NO_MEMORY)
         return PyErr_NoMemory();
-    time = date.code == ROCKTRAY_DONE ? time_of(types_of(reading), &date) : Py_NewRef(Py_None);
+    time = date.code == ROCKTRAY_DONE ? time_of(types_of_mail((PyObject *)mail), &date) : Py_NewRef(Py_None);
     if (time == Py_None && date.code != ROCKTRAY_ABSENT) {
         error = date.code == ROCKTRAY_DONE ? PyUnicode_FromString("the date is after the year 9999") : reason_of(date.code);
         if (!error)
@@ -359,13 +452,17 @@ static PyObject *mail_is_zone_known(PyObject *self, void *unused)
 #define OBJECT(name, member) { name, T_OBJECT, offsetof(struct mail, member), 0, NULL }
 
 static PyMemberDef mail_members[] = {
-    OBJECT("_data", data), OBJECT("_raw", raw), OBJECT("_limit", limit),
-    OBJECT("_own", own),   OBJECT("_all", all), { NULL, 0, 0, 0, NULL },
+    OBJECT("_limit", limit),
+    OBJECT("_own", own),
+    OBJECT("_all", all),
+    { NULL, 0, 0, 0, NULL },
 };
 
 static PyGetSetDef mail_getters[] = {
     { "place", mail_place, mail_set_place,
       "The offsets at which it begins and ends in its mailbox, or `None` outside of one.", NULL },
+    { "raw", mail_raw, NULL, "The bytes of the mail.", NULL },
+    { "_data", mail_data, mail_set_data, NULL, NULL },
     { "_reading", mail_reading, NULL, NULL, NULL },
     { "_read", mail_read, NULL, NULL, NULL },
     { "_known", mail_known, NULL, NULL, NULL },
@@ -406,18 +503,6 @@ PyType_Spec mail_spec = {
 
 /* Making mails. */
 
-/* A mail of this type with these bytes, whose limit is a number. */
-static struct mail *mail_of(PyTypeObject *type, PyObject *data, PyObject *limit)
-{
-    struct mail *mail = (struct mail *)PyType_GenericAlloc(type, 0);
-    if (mail) {
-        mail->data = Py_NewRef(data);
-        mail->raw = PyBytes_Check(data) ? Py_NewRef(data) : NULL;
-        mail->limit = Py_NewRef(limit);
-    }
-    return mail;
-}
-
 PyObject *parse_mail(PyObject *module, PyObject *const *arguments, Py_ssize_t count)
 {
     const struct types *types = PyModule_GetState(module);
@@ -433,147 +518,251 @@ PyObject *parse_mail(PyObject *module, PyObject *const *arguments, Py_ssize_t co
     give_back(&input);
     if (code != ROCKTRAY_DONE)
         return no_result(code);
-    mail = mail_of(type, arguments[1], arguments[2]);
-    if (!mail)
+    mail = (struct mail *)PyType_GenericAlloc(type, 0);
+    if (!mail) {
         free(records.parts);
-    else if (!(mail->reading = reading_of(types, arguments[1], &records)))
+        return NULL;
+    }
+    mail->types = types;
+    mail->data = Py_NewRef(arguments[1]);
+    mail->limit = Py_NewRef(arguments[2]);
+    if (!(mail->reading = reading_of(types, arguments[1], &records)))
         Py_CLEAR(mail);
     return (PyObject *)mail;
 }
 
-/* mails of a mailbox: where each begins, its own bytes, and what is read of it */
-struct batch {
-    PyTypeObject *type;
-    PyObject *limit, *use;
-    size_t offset; /* of the data in the mailbox */
-    Py_ssize_t count;
-    struct item {
-        const uint8_t *from;
-        size_t start;
-        PyObject *raw;
-        struct records records;
-        uint32_t code; /* ROCKTRAY_ABSENT if nothing is to be read, or its records are taken over */
-    } *items;
+/* Mails of a mailbox. */
+
+static void batch_free(PyObject *self)
+{
+    struct batch *batch = (struct batch *)self;
+    PyTypeObject *type = Py_TYPE(self);
+    Py_XDECREF(batch->data);
+    free(batch->mails);
+    ((freefunc)PyType_GetSlot(type, Py_tp_free))(self);
+    Py_DECREF(type);
+}
+
+/* detach(): gives each mail of the batch that is still there bytes of its own, so that the others can be freed. */
+static PyObject *batch_detach(PyObject *self, PyObject *unused)
+{
+    struct batch *batch = (struct batch *)self;
+    size_t k;
+    (void)unused;
+    for (k = 0; k < batch->count; k++)
+        if (batch->mails[k] && own(batch->mails[k]) < 0)
+            PyErr_Clear(); /* without memory it stays as it is */
+    Py_RETURN_NONE;
+}
+
+static PyMethodDef batch_methods[] = {
+    { "detach", batch_detach, METH_NOARGS, NULL },
+    { NULL, NULL, 0, NULL },
 };
 
-/* Allocates the bytes of the mails at these places. Returns 0, or -1 for an error. */
-static int allocate(struct batch *batch, const struct input *input, PyObject *places)
+static PyType_Slot batch_slots[] = {
+    { Py_tp_dealloc, batch_free },
+    { Py_tp_methods, batch_methods },
+    { 0, NULL },
+};
+
+PyType_Spec batch_spec = {
+    .name = "rocktray._engine.Batch",
+    .basicsize = sizeof(struct batch),
+    .flags = Py_TPFLAGS_DEFAULT | Py_TPFLAGS_DISALLOW_INSTANTIATION,
+    .slots = batch_slots,
+};
+
+/* Whether an empty line ends at `end` in the bytes, and the library takes the line after it for a separator. */
+static bool separates(const struct input *input, size_t end)
 {
-    uint32_t wanted = ((struct use *)batch->use)->wanted;
-    size_t limit, start, end;
-    Py_ssize_t k;
-    if (take_size(&limit, batch->limit) < 0)
-        return -1;
-    for (k = 0; k < batch->count; k++) {
-        PyObject *place = PyList_GetItem(places, k);
-        struct item *item = &batch->items[k];
-        if (!place || !PyTuple_Check(place) || PyTuple_Size(place) < 2 || take_size(&start, PyTuple_GetItem(place, 0)) < 0 ||
-            take_size(&end, PyTuple_GetItem(place, 1)) < 0 || start > end || end > input->length ||
-            !(item->raw = PyBytes_FromStringAndSize(NULL, (Py_ssize_t)(end - start))))
-            return -1;
-        item->from = input->at + start;
-        item->start = start;
-        item->records.at = (const uint8_t *)PyBytes_AsString(item->raw);
-        item->records.length = end - start;
-        item->records.limit = limit;
-        item->records.wanted = wanted & ~READ;
-        item->code = wanted ? ROCKTRAY_DONE : ROCKTRAY_ABSENT;
-        item->records.parts = NULL;
-    }
+    const uint8_t *at = input->at, *line;
+    size_t start = end > 0 && at[end - 1] == '\r' ? end - 1 : end, found, length, next;
+    if (input->length - end < 6 || memcmp(at + end, "\nFrom ", 6) != 0 || start < 1 || at[start - 1] != '\n')
+        return false;
+    line = memchr(at + end + 1, '\n', input->length - end - 1);
+    length = line ? (size_t)(line + 1 - (at + start)) : input->length - start;
+    return rocktray_next_mail(at + start, length, false, &found, &length, &next) == ROCKTRAY_DONE;
+}
+
+/* The last separator after an empty line that begins after `start` and at `last` or before, or 0. */
+static size_t separator_before(const struct input *input, size_t start, size_t last)
+{
+    const uint8_t *first = input->at + start, *end = input->at + last;
+    while (end > first && (end = memrchr(first, '\n', (size_t)(end - first))))
+        if (end[1] == 'F' && separates(input, (size_t)(end - input->at)))
+            return (size_t)(end - input->at) + 1;
     return 0;
 }
 
-/* Copies the mails, and reads those that are to be read, without Python's lock. */
-static void read_batch(struct batch *batch)
+PyObject *last_separator(PyObject *module, PyObject *const *arguments, Py_ssize_t count)
 {
-    Py_ssize_t k;
-    for (k = 0; k < batch->count; k++) {
-        struct item *item = &batch->items[k];
-        memcpy((uint8_t *)item->records.at, item->from, item->records.length);
-        if (item->code == ROCKTRAY_DONE)
-            item->code = read_records(&item->records);
+    struct input input;
+    size_t start, last, found;
+    (void)module;
+    if (!is_count(count, 3) || take_size(&start, arguments[1]) < 0 || take_size(&last, arguments[2]) < 0)
+        return NULL;
+    if (!PyBytes_Check(arguments[0])) {
+        PyErr_SetString(PyExc_TypeError, "bytes are needed");
+        return NULL;
+    }
+    if (take(&input, arguments[0]) < 0)
+        return NULL;
+    last = last < input.length ? last : input.length; /* bytes end with a NUL */
+    found = start > last ? 0 : separator_before(&input, start, last);
+    give_back(&input);
+    return PyLong_FromSize_t(found);
+}
+
+/* a search for mails, which are read as they are found */
+struct search {
+    struct input input;
+    size_t at, last, offset; /* the offset of the data in the mailbox */
+    size_t limit;            /* of each mail */
+    size_t most, bytes;      /* at most so many mails, and so many bytes but for one mail that has more */
+    bool is_counted;
+    uint32_t wanted;
+    size_t count;
+    struct item {
+        size_t start;
+        struct records records;
+        uint32_t code; /* ROCKTRAY_ABSENT if nothing is to be read */
+    } *items;
+};
+
+/* Finds the next mail, up to the separator at `last`. Returns whether there is one. */
+static bool find_mail(struct search *search, struct item *item)
+{
+    size_t start, end, next;
+    uint32_t code = ROCKTRAY_ABSENT;
+    if (search->at < search->last)
+        code = rocktray_next_mail(search->input.at + search->at, search->input.length - search->at, search->is_counted,
+                                  &start, &end, &next);
+    if (code != ROCKTRAY_DONE || search->at + next > search->last) {
+        search->at = search->last;
+        return false;
+    }
+    item->start = search->at + start;
+    item->records.at = search->input.at + item->start;
+    item->records.length = end - start;
+    search->at += next;
+    return true;
+}
+
+/* Finds and reads mails, without Python's lock. */
+static void read_found(struct search *search)
+{
+    size_t first = search->at;
+    while (search->count < search->most && (search->count == 0 || search->at - first < search->bytes)) {
+        struct item *item = &search->items[search->count];
+        if (!find_mail(search, item))
+            return;
+        item->records.limit = search->limit;
+        item->records.wanted = search->wanted & ~READ;
+        item->records.parts = NULL;
+        item->code = search->wanted ? read_records(&item->records) : ROCKTRAY_ABSENT;
+        search->count++;
     }
 }
 
-/* A mail of a batch, which takes over its records. */
-static PyObject *mail_in(const struct batch *batch, const struct types *types, struct item *item)
+/* A mail of a batch, which takes over the records of the item. */
+static PyObject *mail_of(struct batch *batch, PyTypeObject *type, const struct types *types, struct item *item,
+                         PyObject *const *arguments)
 {
-    struct mail *mail = mail_of(batch->type, item->raw, batch->limit);
-    uint32_t code = item->code;
+    struct mail *mail = (struct mail *)PyType_GenericAlloc(type, 0);
     if (!mail)
         return NULL;
-    mail->start = (Py_ssize_t)(batch->offset + item->start);
-    mail->end = mail->start + (Py_ssize_t)item->records.length;
-    mail->use = Py_NewRef(batch->use);
+    mail->types = types;
+    mail->limit = Py_NewRef(arguments[5]);
+    mail->use = Py_NewRef(arguments[6]);
+    mail->start = batch->offset + item->start;
+    mail->end = mail->start + item->records.length;
+    mail->records = item->records;
+    mail->batch = (struct batch *)Py_NewRef((PyObject *)batch);
+    mail->number = batch->count;
+    batch->mails[batch->count++] = mail;
+    if (item->code == ROCKTRAY_DONE)
+        mail->ahead = item->records.ahead;
+    else
+        mail->records.parts = NULL;
+    if (item->code != ROCKTRAY_ABSENT && item->code != ROCKTRAY_NO_MEMORY)
+        mail->code = item->code; /* without memory the mail is read again when it is used */
     item->code = ROCKTRAY_ABSENT;
-    if (code == ROCKTRAY_DONE && !(mail->reading = reading_of(types, item->raw, &item->records)))
-        Py_CLEAR(mail);
-    else if (code != ROCKTRAY_DONE && code != ROCKTRAY_ABSENT && code != ROCKTRAY_NO_MEMORY)
-        mail->code = code; /* without memory the mail is read again when it is used */
     return (PyObject *)mail;
 }
 
-static PyObject *list_of(const struct batch *batch, const struct types *types)
+/* The mails that were found, from the last to the first, and their batch, NULL for an error. */
+static PyObject *mails_of(struct search *search, PyTypeObject *type, const struct types *types,
+                          PyObject *const *arguments, struct batch **made)
 {
-    PyObject *list = PyList_New(batch->count);
-    Py_ssize_t k;
-    for (k = 0; list && k < batch->count; k++) {
-        PyObject *mail = mail_in(batch, types, &batch->items[k]);
+    struct batch *batch = (struct batch *)PyType_GenericAlloc((PyTypeObject *)types->batch, 0);
+    PyObject *list = batch ? PyList_New((Py_ssize_t)search->count) : NULL;
+    size_t k;
+    if (batch) {
+        batch->data = Py_NewRef(arguments[1]);
+        batch->offset = search->offset;
+        batch->mails = malloc((search->count + 1) * sizeof *batch->mails);
+    }
+    if (list && !batch->mails) {
+        PyErr_NoMemory();
+        Py_CLEAR(list);
+    }
+    for (k = 0; list && k < search->count; k++) {
+        PyObject *mail = mail_of(batch, type, types, &search->items[k], arguments);
         if (mail)
-            PyList_SetItem(list, k, mail);
+            PyList_SetItem(list, (Py_ssize_t)(search->count - 1 - k), mail);
         else
             Py_CLEAR(list);
     }
+    *made = batch;
     return list;
 }
 
-static void free_batch(struct batch *batch)
+/* Takes the arguments of read_mails. Returns 0, or -1 for an error. */
+static int take_search(struct search *search, PyTypeObject **type, const struct types *types, PyObject *const *arguments)
 {
-    Py_ssize_t k;
-    for (k = 0; k < batch->count; k++) {
-        Py_XDECREF(batch->items[k].raw);
-        if (batch->items[k].code == ROCKTRAY_DONE)
-            free(batch->items[k].records.parts);
-    }
-    free(batch->items);
-}
-
-/* Takes the type, the offset and the use, which are arguments. Returns 0, or -1 for an error. */
-static int begin_batch(struct batch *batch, const struct types *types, PyObject *const *arguments)
-{
-    if (take_type(&batch->type, arguments[0], (PyTypeObject *)types->mail) < 0 ||
-        (batch->count = PyList_Size(arguments[2])) < 0 || take_size(&batch->offset, arguments[3]) < 0)
+    if (take_type(type, arguments[0], (PyTypeObject *)types->mail) < 0 || take_size(&search->at, arguments[2]) < 0 ||
+        take_size(&search->last, arguments[3]) < 0 || take_size(&search->offset, arguments[4]) < 0 ||
+        take_size(&search->limit, arguments[5]) < 0 ||
+        take_size(&search->most, arguments[8]) < 0 || take_size(&search->bytes, arguments[9]) < 0)
         return -1;
-    batch->limit = arguments[4];
-    batch->use = arguments[5];
-    if (Py_TYPE(batch->use) == (PyTypeObject *)types->use)
-        return 0;
-    PyErr_SetString(PyExc_TypeError, "a Use is needed");
-    return -1;
+    search->is_counted = arguments[7] == Py_True;
+    if (!PyBytes_Check(arguments[1]) || Py_TYPE(arguments[6]) != (PyTypeObject *)types->use) {
+        PyErr_SetString(PyExc_TypeError, "bytes and a Use are needed");
+        return -1;
+    }
+    search->wanted = ((struct use *)arguments[6])->wanted;
+    return take(&search->input, arguments[1]);
 }
 
 PyObject *read_mails(PyObject *module, PyObject *const *arguments, Py_ssize_t count)
 {
     const struct types *types = PyModule_GetState(module);
-    struct batch batch;
-    struct input input;
+    struct search search = { .count = 0 };
+    struct batch *batch = NULL;
+    PyTypeObject *type;
     PyObject *list = NULL;
-    if (!is_count(count, 6) || begin_batch(&batch, types, arguments) < 0 || take(&input, arguments[1]) < 0)
+    size_t k;
+    if (!is_count(count, 10) || take_search(&search, &type, types, arguments) < 0)
         return NULL;
-    batch.items = calloc((size_t)batch.count + 1, sizeof *batch.items);
-    if (!batch.items) {
-        batch.count = 0;
+    if (search.last > search.input.length)
+        search.last = search.input.length;
+    search.items = malloc((search.most < MOST_MAILS ? search.most : MOST_MAILS) * sizeof *search.items + 1);
+    if (!search.items || search.most > MOST_MAILS) {
         PyErr_NoMemory();
-    } else if (allocate(&batch, &input, arguments[2]) == 0) {
+    } else {
         Py_BEGIN_ALLOW_THREADS
-        read_batch(&batch);
+        read_found(&search);
         Py_END_ALLOW_THREADS
-        list = list_of(&batch, types);
-    } else if (!PyErr_Occurred()) {
-        PyErr_SetString(PyExc_ValueError, "a place is a pair of offsets in the data");
+        list = mails_of(&search, type, types, arguments, &batch);
     }
-    free_batch(&batch);
-    give_back(&input);
+    for (k = 0; k < search.count; k++)
+        if (search.items[k].code == ROCKTRAY_DONE)
+            free(search.items[k].records.parts);
+    free(search.items);
+    give_back(&search.input);
+    list = list ? Py_BuildValue("NOn", list, (PyObject *)batch, (Py_ssize_t)search.at) : NULL;
+    Py_XDECREF((PyObject *)batch);
     return list;
 }
 

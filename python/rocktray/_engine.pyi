@@ -40,11 +40,25 @@ def read(data: Bytes, start: int, end: int, limit: int, /) -> Reading:
 def parse(type: Type[_Mail], mail: Bytes, limit: int, /) -> _Mail:
     """The same as a mail of this type."""
 
+def last_separator(data: bytes, start: int, last: int, /) -> int:
+    """Where the last separator after an empty line begins, after `start` and at `last` or before, or 0."""
+
 def read_mails(
-    type: Type[_Mail], data: bytes, places: List[Tuple[int, int, int]], offset: int, limit: int, use: Use, /
-) -> List[_Mail]:
-    """The mails at these places, which `mails` returned, of the data at an offset of a mailbox. They are copied, and read
-    if earlier ones were used, in one call, without Python's lock. So are those of their values that were used.
+    type: Type[_Mail],
+    data: bytes,
+    at: int,
+    last: int,
+    offset: int,
+    limit: int,
+    use: Use,
+    is_counted: bool,
+    most: int,
+    bytes: int,
+    /,
+) -> Tuple[List[_Mail], Batch, int]:
+    """The mails of the data at an offset of a mailbox, from `at` up to the separator at `last`, but at most `most`, and
+    some bytes, from the last to the first; their batch; and where the next one begins. They are found in one call, without
+    Python's lock, and read if earlier ones were used, with those of their values that were used. Nothing is copied.
     """
 
 def values(address: Type[Address], zone_of: Callable[[int], timezone], /) -> None:
@@ -52,6 +66,12 @@ def values(address: Type[Address], zone_of: Callable[[int], timezone], /) -> Non
 
 class Use:
     """What is used of the mails of a mailbox."""
+
+class Batch:
+    """Mails that were read together, which share their bytes."""
+
+    def detach(self) -> None:
+        """Gives each of the mails that are still there bytes of its own."""
 
 class Mails:
     """The base of a mailbox: an iterator over mails that were read ahead."""
@@ -72,10 +92,13 @@ class Mail:
     place: Optional[Tuple[int, int]]
     """The offsets at which it begins and ends in its mailbox, or `None` outside of one."""
     _data: Bytes
-    _raw: Optional[bytes]
     _limit: int
     _own: Optional[List[_OwnNode]]
     _all: Optional[List[_OwnNode]]
+
+    @property
+    def raw(self) -> bytes:
+        """The bytes of the mail."""
 
     @property
     def _reading(self) -> Reading:

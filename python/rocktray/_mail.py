@@ -60,19 +60,9 @@ class Mail(_engine.Mail):
     __slots__ = ()
 
     def __init__(self, raw: "Bytes", place: Optional[Tuple[int, int]] = None, limit: Optional[int] = MOST_ITEMS) -> None:
-        self._raw = raw if isinstance(raw, bytes) else None
-        self._data = _checked(raw) if self._raw is None else raw
+        self._data = raw if isinstance(raw, bytes) else _checked(raw)
         self.place = place
         self._limit = UNLIMITED if limit is None else limit
-
-    @property
-    def raw(self) -> bytes:
-        """The bytes of the mail."""
-        raw = self._raw
-        if raw is None:
-            with memoryview(self._data) as view:
-                raw = self._raw = view.tobytes()
-        return raw
 
     def _remember(self, key: Any, find: Callable[[], Value]) -> Value:
         """What is known by this key, which is found once."""

@@ -25,6 +25,8 @@ MOST = _library.MOST
 # the greatest number of mails that are read at once, and of their bytes, unless one mail has more
 AHEAD = 256
 AHEAD_BYTES = 1 << 19
+# how many batches of mails may share the bytes that were read with mails that are still in use
+SHARED = 8
 # what may be between a header block and a body and between mails, whose separator counts up to 1,000 bytes, and one byte
 SEPARATOR = 4 + 2 + 1000 + 1
 # how compressed files begin, and what opens them as a file of bytes
@@ -114,9 +116,9 @@ class _Window(NamedTuple):
     """
 
 
-# mails that were found: the bytes with them, the offset of these, and where in them each begins and ends, and where the
-# next separator begins
-_Found = Tuple[bytes, int, List[Tuple[int, int, int]]]
+# whole mails that were read and not yet found: the bytes with them, the offset of these, where the first mail begins, and
+# where the last one ends
+_Found = Tuple[bytes, int, int, int]
 
 
 class Mailbox(_engine.Mails):
@@ -139,8 +141,11 @@ class Mailbox(_engine.Mails):
         self._is_quoted = format == "mboxrd"
         # reentrant, for the handler of a signal that closes the mailbox
         self._lock = threading.RLock()
-        # mails that were found, of which those together are read at once
         self._found: Deque[_Found] = deque()
+        # those that threads read
+        self._taken: List[_Found] = []
+        # batches whose mails share bytes
+        self._batches: Deque[_engine.Batch] = deque()
         # mails that were read ahead, of which the last is the next
         self._ahead: List[Mail] = []
         # the path of a regular file
@@ -160,7 +165,9 @@ class Mailbox(_engine.Mails):
         """Begins to read. Raises `ValueError` if the input is no mailbox."""
         self._reader = reader
         self._found.clear()
+        self._taken = []
         self._ahead.clear()
+        self._detach(0)
         # the number of mails that were found, and of all if it is known
         self._seen = 0
         self._total: Optional[int] = None
@@ -201,60 +208,72 @@ class Mailbox(_engine.Mails):
         return window
 
     def _find(self) -> bool:
-        """Finds some mails, unless another thread has found some. Returns whether there are any. Raises `ValueError` if
-        the mailbox is closed.
+        """Reads some whole mails, unless there are some. Returns whether there are any. Raises `ValueError` if the mailbox
+        is closed.
         """
         window = self._open_window()
         while not self._found:
-            places = _settled(window, self._is_counted)
-            if places:
-                found = list(_together(window, places, 1 if self._seen == 0 else AHEAD))
-                window = window._replace(at=places[-1][2])
+            end = _end_of_whole(window, self._is_counted)
+            if end > window.at:
+                self._found.append((window.data, window.start, window.at, end))
+                window = window._replace(at=end)
                 self._open_window()
                 self._window = window
-                self._seen += len(places)
-                self._found.extend(found)
             elif window.last == len(window.data):
-                self._total = self._seen
+                self._total = self._seen + _count_found(self._taken, self._is_counted)
                 self._release(_Window(window.start + window.at, b"", 0, 0))
+                self._detach(0)
                 return False
             else:
                 window = self._read_on()
         return True
 
     def _read_ahead(self) -> bool:
-        """Reads some mails ahead. Returns whether there are any. Raises `ValueError` if the mailbox is closed."""
+        """Reads some mails ahead. Returns whether there may be more. Raises `ValueError` if the mailbox is closed."""
         with self._lock:
             if not self._find():
                 return False
-            some = self._found.popleft()
+            some, most = self._found.popleft(), AHEAD if self._seen else 1
             reader = self._reader
+            self._taken.append(some)
         try:
-            mails = self._mails_of(some)
+            mails, batch, after = self._mails_of(some, most)
         except BaseException:
-            self._put_back(some, reader)
+            self._give_back(some, some[2], reader)
             raise
         with self._lock:
+            self._give_back(some, after, reader)
             self._open_window()
             if self._reader is reader:
+                self._seen += len(mails)
                 self._ahead[:0] = mails
+                self._batches.append(batch)
+                self._detach(SHARED)
         return True
 
-    def _put_back(self, some: "_Found", reader: Union[_File, _Stream]) -> None:
-        """Puts mails back that were taken from this reader."""
+    def _give_back(self, some: "_Found", at: int, reader: Union[_File, _Stream]) -> None:
+        """Gives back those mails from an offset on that were taken from this reader."""
         with self._lock:
-            if self._reader is reader and self._window is not None:
-                self._found.appendleft(some)
+            self._taken = [one for one in self._taken if one is not some]
+            if self._reader is reader and self._window is not None and at < some[3]:
+                self._found.appendleft((some[0], some[1], at, some[3]))
 
-    def _mails_of(self, some: "_Found") -> List[Mail]:
-        """These mails, from the last to the first. If mails are read, they are read together, so that Python's lock is free
-        for long."""
-        data, offset, places = some
-        mails = _engine.read_mails(Mail, data, places, offset, self._limit, self._use)
+    def _detach(self, count: int) -> None:
+        """Lets no more than the last batches share the bytes that were read."""
+        while len(self._batches) > count:
+            self._batches.popleft().detach()
+
+    def _mails_of(self, some: "_Found", most: int) -> Tuple[List[Mail], _engine.Batch, int]:
+        """At most so many of these mails, from the last to the first, their batch, and where the next one begins. They are
+        found and read together, so that Python's lock is free for long.
+        """
+        data, offset, at, end = some
+        mails, batch, after = _engine.read_mails(
+            Mail, data, at, end, offset, self._limit, self._use, self._is_counted, most, AHEAD_BYTES
+        )
         if self._is_quoted:
             mails = [self._unquoted(mail) if b">From " in mail.raw else mail for mail in mails]
-        mails.reverse()
-        return mails
+        return mails, batch, after
 
     def _unquoted(self, mail: Mail) -> Mail:
         """The mail without the quotes of its lines `From `."""
@@ -267,6 +286,7 @@ class Mailbox(_engine.Mails):
         file, size = None, 0
         with self._lock:
             window, reader, seen = self._open_window(), self._reader, self._seen
+            found = [*self._taken, *self._found]
             if self._total is None:
                 if not isinstance(reader, _File):
                     raise TypeError("the mails of a pipe or a file object cannot be counted before they are read")
@@ -274,12 +294,11 @@ class Mailbox(_engine.Mails):
         total = None
         if file is not None:
             with file:
-                total = seen + _count(window, _File(file, size), self._is_counted)
+                total = seen + _count_found(found, self._is_counted) + _count(window, _File(file, size), self._is_counted)
         with self._lock:
             if total is not None and self._reader is reader:
                 self._total = total
-            found = sum(len(places) for _, _, places in self._found)
-            return max(0, (self._total or 0) - self._seen + found + len(self._ahead))
+            return max(0, (self._total or 0) - self._seen) + len(self._ahead)
 
     def __bool__(self) -> bool:
         return True
@@ -319,10 +338,13 @@ class Mailbox(_engine.Mails):
             self._release(None)
             self._found.clear()
             self._ahead.clear()
+            self._detach(0)
 
     def __del__(self) -> None:
         if getattr(self, "_file", None) is not None:
             self._file.close()
+        for batch in getattr(self, "_batches", ()):
+            batch.detach()
 
     def __repr__(self) -> str:
         name = repr(self._name) if isinstance(self._name, (str, bytes)) else "of a file object"
@@ -352,6 +374,11 @@ def _next_window(window: _Window, reader: Union[_File, _Stream]) -> _Window:
     return _Window(start, data, 0, len(data) if is_last else data.rfind(b"\n", 0, -1))
 
 
+def _count_found(found: List[_Found], is_counted: bool) -> int:
+    """The number of these mails."""
+    return sum(1 for data, _, at, end in found for _ in _library.mails_of(data, at, end, is_counted))
+
+
 def _count(window: _Window, reader: _File, is_counted: bool) -> int:
     """The number of the next mails of a file: all, or if another program shortened it, those that were read."""
     count = 0
@@ -375,13 +402,13 @@ def _settled(window: _Window, is_counted: bool) -> List[Tuple[int, int, int]]:
     return found
 
 
-def _together(window: _Window, places: List[Tuple[int, int, int]], first: int) -> Iterator[_Found]:
-    """The mails that are read together: at most `first` at first."""
-    at, most = 0, first
-    while at < len(places):
-        after = bisect_right(places, (places[at][0] + AHEAD_BYTES,), at + 1, min(at + most, len(places)))
-        yield window.data, window.start, places[at:after]
-        at, most = after, AHEAD
+def _end_of_whole(window: _Window, is_counted: bool) -> int:
+    """Where the last of some next mails ends that no further bytes change, or their start if there are none."""
+    data, at, last = window.data, window.at, window.last
+    if is_counted:
+        places = _settled(window, is_counted)
+        return places[-1][2] if places else at
+    return last if last == len(data) else _engine.last_separator(data, at, last) or at
 
 
 def _is_count_known(data: bytes, start: int, after: int) -> bool:

@@ -160,10 +160,26 @@ def test_mails_read_ahead(format, tmp_path):
     assert [next(mails).place for _ in range(202)][2:] == first
 
 
+def test_values_read_ahead(samples, hostile, tmp_path):
+    """Values that are decoded ahead are those that are decoded when they are asked for."""
+    raws = [raw.replace(b"\nFrom ", b"\n>From ") for raw in [*samples.values(), *hostile[:1000]] if not raw.startswith(b"From ")]
+    (tmp_path / "box").write_bytes(b"".join(LINE + raw + b"\n\n" for raw in raws))
+
+    def values(mail):
+        if mail.error:
+            return mail.error
+        found = [mail.date, mail.date_error, mail.is_date_zone_known, mail.subject, mail.from_, mail.to, mail.cc]
+        return [*found, mail.bcc, mail.sender, mail.reply_to, mail.message_id]
+
+    ahead = [values(mail) for mail in rocktray.open_mailbox(tmp_path / "box")]
+    assert ahead == [values(rocktray.Mail(mail.raw)) for mail in rocktray.open_mailbox(tmp_path / "box")]
+    assert len(ahead) > 900
+
+
 def test_reading_ahead_without_memory(box, monkeypatch):
     """After an error the mails are still there."""
     mails = rocktray.open_mailbox(box)
-    found, fails = [next(mails).subject], iter([True, False, False, True])
+    found, fails = [next(mails).subject], iter([True, False, True])
     read_mails = _mailbox._engine.read_mails
 
     def failing(*arguments):
@@ -178,6 +194,40 @@ def test_reading_ahead_without_memory(box, monkeypatch):
                 found.append(mail.subject)
     found += [mail.subject for mail in mails]
     assert found == [str(number) for number in range(2000)]
+
+
+def test_mails_that_are_kept(box):
+    """Mails share the bytes that were read, and have bytes of their own once others were read or the mailbox is gone."""
+    mails, kept = rocktray.open_mailbox(box), []
+    for number, mail in enumerate(mails):
+        assert mail.subject == str(number)
+        if number % 300 == 7:
+            kept.append((number, mail))
+    assert len(kept) == 7
+    for number, mail in kept:
+        assert mail.raw.startswith(b"Subject: %d\n" % number) and mail.headers[0].value == mail.subject
+        assert box.read_bytes()[slice(*mail.place)] == mail.raw
+    first = next(rocktray.open_mailbox(box))
+    assert first.raw.startswith(b"Subject: 0\n") and first.raw == box.read_bytes()[slice(*first.place)]
+
+
+def test_memory_of_mails_that_are_kept(tmp_path):
+    """A few mails of a mailbox that are kept take no memory for the others."""
+    (tmp_path / "box").write_bytes(numbered(40_000))
+    succeeds(
+        """
+import gc, re, rocktray, sys
+def resident():
+    return int(open("/proc/self/statm").read().split()[1]) * 4096
+kept = [mail for mail in rocktray.open_mailbox(sys.argv[1]) if mail.subject and int(mail.subject) < 600]
+before = resident()
+kept = [mail for mail in rocktray.open_mailbox(sys.argv[1]) if int(mail.subject) % 300 == 0]
+gc.collect()
+assert len(kept) == 134 and all(mail.raw for mail in kept)
+assert resident() - before < 12 << 20, resident() - before
+""",
+        tmp_path / "box",
+    )
 
 
 def test_threads_read_ahead(box):
@@ -260,10 +310,10 @@ PIECES = (
 
 
 @pytest.mark.parametrize("format", _mailbox.FORMATS)
-@pytest.mark.parametrize("block", [1, 7, 100, 1500])
-def test_blocks(format, block, tmp_path, monkeypatch):
-    """Mailboxes read in small blocks have the mails that they have in one."""
-    chance = random.Random(f"{format} {block}")
+@pytest.mark.parametrize("block, ahead", [(1, 1), (7, 1 << 19), (100, 50), (1500, 1 << 19), (1500, 200)])
+def test_blocks(format, block, ahead, tmp_path, monkeypatch):
+    """Mailboxes read in small blocks, a few bytes ahead, have the mails that they have in one."""
+    chance = random.Random(f"{format} {block} {ahead}")
     found = 0
     for _ in range(300):
         data = LINE + b"".join(chance.choices(PIECES, k=chance.randrange(60)))
@@ -272,6 +322,7 @@ def test_blocks(format, block, tmp_path, monkeypatch):
         whole = list(rocktray.open_mailbox(tmp_path / "box", format))
         with monkeypatch.context() as patch:
             patch.setattr(_mailbox, "BLOCK", block)
+            patch.setattr(_mailbox, "AHEAD_BYTES", ahead)
             for opened in (tmp_path / "box", io.BytesIO(data)):
                 mails = list(rocktray.open_mailbox(opened, format))
                 assert mails == whole and [mail.place for mail in mails] == [mail.place for mail in whole]
