@@ -2,8 +2,8 @@
 
 The works: to parse a mail; five members with the names of the files; the names and values of all headers, for which
 email has BytesHeaderParser; everything, which is all headers decoded, and of each part its type, name, bytes and text;
-and subject, sender and date of each mail of a mailbox, for which email has mailbox.mbox. Threads read a mailbox that they
-share, or everything of mails that are shared out among 1, 2 and 4 of them. The module is the one that Python finds: install the wheel, or unpack
+and subject, sender and date of each mail of a mailbox, for which email has mailbox.mbox. Threads read a mailbox of 100 MB that
+they share, or everything of mails that are shared out among 1, 2 and 4 of them. The module is the one that Python finds: install the wheel, or unpack
 it into a directory and name that in PYTHONPATH.
 """
 import email
@@ -19,11 +19,17 @@ import time
 from email.header import decode_header, make_header
 from email.parser import BytesHeaderParser
 
+try:
+    import rocktray
+except ImportError:  # --help needs no module
+    rocktray = None
 import made_mails
 
 TOP = os.path.dirname(os.path.dirname(os.path.abspath(__file__)))
 THREADS = (1, 2, 4)
 LARGE = 1 << 16
+# the bytes of a mailbox that threads share
+SHARED = 100_000_000
 
 
 def decoded(value):
@@ -43,8 +49,6 @@ class Rocktray:
 
     @staticmethod
     def parse(raw):
-        import rocktray  # here, so that --help needs no module
-
         return rocktray.parse(raw)
 
     @staticmethod
@@ -72,8 +76,6 @@ class Rocktray:
 
     @classmethod
     def mailbox(cls, path):
-        import rocktray
-
         return [cls.envelope(mail) for mail in rocktray.open_mailbox(path) if not mail.error]
 
 
@@ -157,13 +159,13 @@ WORKS = ("parse", "members", "headers", "everything")
 def readable(mails):
     """The mails that each reader reads: email raises errors of many kinds."""
     kept = []
+    if rocktray is None:
+        raise ImportError("the module rocktray is missing: install the wheel")
     for raw in mails:
         try:
             for reader in READERS.values():
                 for work in WORKS:
                     getattr(reader, work)(raw)
-        except ImportError:
-            raise
         except Exception:  # noqa: BLE001
             continue
         kept.append(raw)
@@ -198,18 +200,18 @@ def with_threads(count, mails):
 
 def mailbox_with_threads(count, path):
     """Reads a mailbox that threads share."""
-    import rocktray
-
     mails = rocktray.open_mailbox(path)
     run_threads([(lambda: [Rocktray.envelope(mail) for mail in mails if not mail.error],)] * count)
 
 
-def measured(mails, path):
-    """The works with their mails, and what times each: a call for each reader, or for each number of threads."""
+def measured(mails, path, shared, path_of_shared):
+    """The works with their mails, and what times each: a call for each reader, or for each number of threads. Threads share
+    a mailbox of more mails.
+    """
     for work in WORKS:
         yield work, mails, {name: (read_all, getattr(reader, work), mails) for name, reader in READERS.items()}
     yield "mailbox", mails, {name: (reader.mailbox, path) for name, reader in READERS.items()}
-    yield "threads, a mailbox", mails, {f"{count} threads": (mailbox_with_threads, count, path) for count in THREADS}
+    yield "threads, a mailbox", shared, {f"{count} threads": (mailbox_with_threads, count, path_of_shared) for count in THREADS}
     large = [raw for raw in mails if len(raw) >= LARGE] * 4
     for work, some in (("threads", mails * 4), (f"threads, mails of {LARGE >> 10} kB and more", large)):
         if some:
@@ -271,9 +273,11 @@ def table(names, real, turns):
         print(f"\n| {name}: {len(kept)} of {len(mails)} mails, of {sum(map(len, kept)) // len(kept)} bytes | us a mail | times as long |")
         print("|---|---|---|")
         figures = {}
-        with tempfile.NamedTemporaryFile() as file:
+        shared = kept * max(1, SHARED // sum(map(len, kept)))
+        with tempfile.NamedTemporaryFile() as file, tempfile.NamedTemporaryFile() as long:
             write_mailbox(kept, file)
-            for work, some, calls in measured(kept, file.name):
+            write_mailbox(shared, long)
+            for work, some, calls in measured(kept, file.name, shared, long.name):
                 least = {key: 1e6 * it / len(some) for key, it in least_times(calls, turns).items()}
                 first = next(iter(least.values()))
                 ratios = "; ".join(f"{key} {it / first:.2f}" for key, it in list(least.items())[1:])

@@ -125,8 +125,8 @@ bool is_count(Py_ssize_t count, Py_ssize_t wanted);
 int take_size(size_t *size, PyObject *object);
 int take_name(const uint8_t **name, size_t *length, PyObject *object);
 
-/* Whether these bytes are read without Python's lock: there are many, and no thread can change them. */
-bool is_read_freely(const struct input *input);
+/* Whether the parts of this mail are found without Python's lock: it is long, and no thread can change it. */
+bool is_mail_read_freely(const struct input *input);
 
 /* Makes a call, with Python's lock or without it, and returns its code. */
 uint32_t run(struct request *request, void *buffer, size_t capacity, size_t *needed);
@@ -216,7 +216,7 @@ PyObject *parse_mail(PyObject *module, PyObject *const *arguments, Py_ssize_t co
 /* last_separator(data, start, last): where the last separator after an empty line begins, after `start` and at `last` or
  * before, or 0. */
 PyObject *last_separator(PyObject *module, PyObject *const *arguments, Py_ssize_t count);
-/* read_mails(type, data, at, last, offset, limit, use, is_counted, most, bytes): finds the mails from `at` up to the
+/* read_mails(type, (data, offset, at, last), limit, use, is_counted, most, bytes): finds the mails from `at` up to the
  * separator at `last`, but at most `most` and some bytes, and reads the values that were used of earlier mails. Returns
  * new ones of this type, from the last to the first, their batch, and where the next one begins. */
 PyObject *read_mails(PyObject *module, PyObject *const *arguments, Py_ssize_t count);

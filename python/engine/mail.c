@@ -616,10 +616,13 @@ PyObject *last_separator(PyObject *module, PyObject *const *arguments, Py_ssize_
 
 /* a search for mails, which are read as they are found */
 struct search {
+    const struct types *types;
+    PyTypeObject *type;
+    PyObject *limit, *use; /* of each mail */
     struct input input;
     size_t at, last, offset; /* the offset of the data in the mailbox */
-    size_t limit;            /* of each mail */
     size_t most, bytes;      /* at most so many mails, and so many bytes but for one mail that has more */
+    size_t most_items;       /* the limit as a number */
     bool is_counted;
     uint32_t wanted;
     size_t count;
@@ -657,7 +660,7 @@ static void read_found(struct search *search)
         struct item *item = &search->items[search->count];
         if (!find_mail(search, item))
             return;
-        item->records.limit = search->limit;
+        item->records.limit = search->most_items;
         item->records.wanted = search->wanted & ~READ;
         item->records.parts = NULL;
         item->code = search->wanted ? read_records(&item->records) : ROCKTRAY_ABSENT;
@@ -666,15 +669,14 @@ static void read_found(struct search *search)
 }
 
 /* A mail of a batch, which takes over the records of the item. */
-static PyObject *mail_of(struct batch *batch, PyTypeObject *type, const struct types *types, struct item *item,
-                         PyObject *const *arguments)
+static PyObject *mail_of(struct batch *batch, const struct search *search, struct item *item)
 {
-    struct mail *mail = (struct mail *)PyType_GenericAlloc(type, 0);
+    struct mail *mail = (struct mail *)PyType_GenericAlloc(search->type, 0);
     if (!mail)
         return NULL;
-    mail->types = types;
-    mail->limit = Py_NewRef(arguments[5]);
-    mail->use = Py_NewRef(arguments[6]);
+    mail->types = search->types;
+    mail->limit = Py_NewRef(search->limit);
+    mail->use = Py_NewRef(search->use);
     mail->start = batch->offset + item->start;
     mail->end = mail->start + item->records.length;
     mail->records = item->records;
@@ -691,79 +693,99 @@ static PyObject *mail_of(struct batch *batch, PyTypeObject *type, const struct t
     return (PyObject *)mail;
 }
 
-/* The mails that were found, from the last to the first, and their batch, NULL for an error. */
-static PyObject *mails_of(struct search *search, PyTypeObject *type, const struct types *types,
-                          PyObject *const *arguments, struct batch **made)
+/* A batch for the mails that were found. */
+static struct batch *batch_of(const struct search *search)
 {
-    struct batch *batch = (struct batch *)PyType_GenericAlloc((PyTypeObject *)types->batch, 0);
+    struct batch *batch = (struct batch *)PyType_GenericAlloc((PyTypeObject *)search->types->batch, 0);
+    if (!batch)
+        return NULL;
+    batch->data = Py_NewRef(search->input.object);
+    batch->offset = search->offset;
+    batch->mails = malloc((search->count + 1) * sizeof *batch->mails);
+    if (!batch->mails) {
+        Py_CLEAR(batch);
+        PyErr_NoMemory();
+    }
+    return batch;
+}
+
+/* The mails that were found, from the last to the first, their batch, and where the next one begins. */
+static PyObject *mails_of(const struct search *search)
+{
+    struct batch *batch = batch_of(search);
     PyObject *list = batch ? PyList_New((Py_ssize_t)search->count) : NULL;
     size_t k;
-    if (batch) {
-        batch->data = Py_NewRef(arguments[1]);
-        batch->offset = search->offset;
-        batch->mails = malloc((search->count + 1) * sizeof *batch->mails);
-    }
-    if (list && !batch->mails) {
-        PyErr_NoMemory();
-        Py_CLEAR(list);
-    }
     for (k = 0; list && k < search->count; k++) {
-        PyObject *mail = mail_of(batch, type, types, &search->items[k], arguments);
+        PyObject *mail = mail_of(batch, search, &search->items[k]);
         if (mail)
             PyList_SetItem(list, (Py_ssize_t)(search->count - 1 - k), mail);
         else
             Py_CLEAR(list);
     }
-    *made = batch;
+    list = list ? Py_BuildValue("NOn", list, (PyObject *)batch, (Py_ssize_t)search->at) : NULL;
+    Py_XDECREF((PyObject *)batch);
     return list;
 }
 
-/* Takes the arguments of read_mails. Returns 0, or -1 for an error. */
-static int take_search(struct search *search, PyTypeObject **type, const struct types *types, PyObject *const *arguments)
+/* Takes the bytes, their offset in the mailbox, and where the first mail begins and the last one ends, from a tuple.
+ * Returns 0, or -1 for an error. */
+static int take_found(struct search *search, PyObject *found)
 {
-    if (take_type(type, arguments[0], (PyTypeObject *)types->mail) < 0 || take_size(&search->at, arguments[2]) < 0 ||
-        take_size(&search->last, arguments[3]) < 0 || take_size(&search->offset, arguments[4]) < 0 ||
-        take_size(&search->limit, arguments[5]) < 0 ||
-        take_size(&search->most, arguments[8]) < 0 || take_size(&search->bytes, arguments[9]) < 0)
-        return -1;
-    search->is_counted = arguments[7] == Py_True;
-    if (!PyBytes_Check(arguments[1]) || Py_TYPE(arguments[6]) != (PyTypeObject *)types->use) {
-        PyErr_SetString(PyExc_TypeError, "bytes and a Use are needed");
+    PyObject *data;
+    Py_ssize_t offset, at, last;
+    if (!PyTuple_Check(found)) {
+        PyErr_SetString(PyExc_TypeError, "a tuple is needed");
         return -1;
     }
-    search->wanted = ((struct use *)arguments[6])->wanted;
-    return take(&search->input, arguments[1]);
+    if (!PyArg_ParseTuple(found, "Snnn", &data, &offset, &at, &last) || take(&search->input, data) < 0)
+        return -1;
+    search->offset = (size_t)offset;
+    search->at = (size_t)at;
+    search->last = (size_t)last < search->input.length ? (size_t)last : search->input.length;
+    return 0;
+}
+
+/* Takes the arguments of read_mails. Returns 0, or -1 for an error. */
+static int take_search(struct search *search, PyObject *const *arguments)
+{
+    if (take_type(&search->type, arguments[0], (PyTypeObject *)search->types->mail) < 0 ||
+        take_size(&search->most_items, arguments[2]) < 0 || take_size(&search->most, arguments[5]) < 0 ||
+        take_size(&search->bytes, arguments[6]) < 0)
+        return -1;
+    search->limit = arguments[2];
+    search->use = arguments[3];
+    search->is_counted = arguments[4] == Py_True;
+    search->most = search->most < MOST_MAILS ? search->most : MOST_MAILS;
+    if (Py_TYPE(search->use) != (PyTypeObject *)search->types->use) {
+        PyErr_SetString(PyExc_TypeError, "a Use is needed");
+        return -1;
+    }
+    search->wanted = ((struct use *)search->use)->wanted;
+    return take_found(search, arguments[1]);
 }
 
 PyObject *read_mails(PyObject *module, PyObject *const *arguments, Py_ssize_t count)
 {
-    const struct types *types = PyModule_GetState(module);
-    struct search search = { .count = 0 };
-    struct batch *batch = NULL;
-    PyTypeObject *type;
-    PyObject *list = NULL;
+    struct search search = { .types = PyModule_GetState(module) };
+    PyObject *made = NULL;
     size_t k;
-    if (!is_count(count, 10) || take_search(&search, &type, types, arguments) < 0)
+    if (!is_count(count, 7) || take_search(&search, arguments) < 0)
         return NULL;
-    if (search.last > search.input.length)
-        search.last = search.input.length;
-    search.items = malloc((search.most < MOST_MAILS ? search.most : MOST_MAILS) * sizeof *search.items + 1);
-    if (!search.items || search.most > MOST_MAILS) {
+    search.items = malloc(search.most * sizeof *search.items + 1);
+    if (!search.items) {
         PyErr_NoMemory();
     } else {
         Py_BEGIN_ALLOW_THREADS
         read_found(&search);
         Py_END_ALLOW_THREADS
-        list = mails_of(&search, type, types, arguments, &batch);
+        made = mails_of(&search);
     }
     for (k = 0; k < search.count; k++)
         if (search.items[k].code == ROCKTRAY_DONE)
             free(search.items[k].records.parts);
     free(search.items);
     give_back(&search.input);
-    list = list ? Py_BuildValue("NOn", list, (PyObject *)batch, (Py_ssize_t)search.at) : NULL;
-    Py_XDECREF((PyObject *)batch);
-    return list;
+    return made;
 }
 
 static PyType_Slot use_slots[] = {

@@ -3,7 +3,7 @@
  * An input is any object with a contiguous buffer, and nothing of it is copied. An input that is refused raises what
  * rocktray._library.refusal returns for the code, and what is absent is None.
  *
- * Python's lock is free during a call that reads at least FREE bytes which no thread can change: a shorter call ends
+ * Python's lock is free during a call that reads many bytes which no thread can change: a shorter call ends
  * before another thread has taken the lock. The library keeps no state and a Reading never changes, so nothing here
  * needs a lock of its own.
  */
@@ -11,8 +11,10 @@
 
 #include <stdlib.h>
 
-/* the least number of bytes that are read without Python's lock */
-#define FREE 16384
+/* The least numbers of bytes that are decoded, and of a mail whose parts are found, without Python's lock. To hand it to
+ * another thread and to wait for it again takes tens of microseconds, as these do. */
+#define FREE 32768
+#define FREE_MAIL 262144
 
 /* Inputs. */
 
@@ -74,7 +76,13 @@ static bool is_constant(const struct input *input)
 
 /* Answers. */
 
-bool is_read_freely(const struct input *input)
+bool is_mail_read_freely(const struct input *input)
+{
+    return input->length >= FREE_MAIL && is_constant(input);
+}
+
+/* Whether these bytes are decoded without Python's lock. */
+static bool is_decoded_freely(const struct input *input)
 {
     return input->length >= FREE && is_constant(input);
 }
@@ -83,7 +91,7 @@ bool is_read_freely(const struct input *input)
 uint32_t run(struct request *request, void *buffer, size_t capacity, size_t *needed)
 {
     uint32_t code;
-    if (!is_read_freely(&request->input))
+    if (!is_decoded_freely(&request->input))
         return request->call(request, buffer, capacity, needed);
     Py_BEGIN_ALLOW_THREADS
     code = request->call(request, buffer, capacity, needed);

@@ -7,7 +7,7 @@
 /* a part; NULL is what is not known yet, and otherwise None */
 struct node {
     PyObject_HEAD
-    PyObject *data, *reading, *path, *inside, *parent, *children, *headers, *size;
+    PyObject *data, *reading, *path, *inside, *parent, *children, *headers, *size, *body;
     PyObject *type, *file_name, *disposition, *text;
     struct rocktray_part record;
     Py_ssize_t number, index;
@@ -18,8 +18,9 @@ static void node_free(PyObject *self)
 {
     struct node *node = (struct node *)self;
     PyTypeObject *type = Py_TYPE(self);
-    PyObject *const objects[] = { node->data,    node->reading, node->path, node->inside,    node->parent,      node->children,
-                                  node->headers, node->size,    node->type, node->file_name, node->disposition, node->text };
+    PyObject *const objects[] = { node->data,     node->reading, node->path, node->inside, node->parent,
+                                  node->children, node->headers, node->size, node->body,   node->type,
+                                  node->file_name, node->disposition, node->text };
     size_t k;
     for (k = 0; k < sizeof objects / sizeof *objects; k++)
         Py_XDECREF(objects[k]);
@@ -39,6 +40,7 @@ static PyMemberDef members[] = {
     OBJECT(children, 0),
     OBJECT(headers, 0),
     { "_size", T_OBJECT, offsetof(struct node, size), 0, NULL },
+    { "_body", T_OBJECT, offsetof(struct node, body), 0, NULL },
     { "number", T_PYSSIZET, offsetof(struct node, number), READONLY, NULL },
     { "index", T_PYSSIZET, offsetof(struct node, index), READONLY, NULL },
     { "is_encoded", T_BOOL, offsetof(struct node, is_encoded), 0, NULL },

@@ -57,7 +57,7 @@ uint32_t read_input(const struct input *input, struct records *records)
     records->at = input->at;
     records->length = input->length;
     records->wanted = 0;
-    if (!is_read_freely(input))
+    if (!is_mail_read_freely(input))
         return read_records(records);
     Py_BEGIN_ALLOW_THREADS
     code = read_records(records);

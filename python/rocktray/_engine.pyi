@@ -44,21 +44,12 @@ def last_separator(data: bytes, start: int, last: int, /) -> int:
     """Where the last separator after an empty line begins, after `start` and at `last` or before, or 0."""
 
 def read_mails(
-    type: Type[_Mail],
-    data: bytes,
-    at: int,
-    last: int,
-    offset: int,
-    limit: int,
-    use: Use,
-    is_counted: bool,
-    most: int,
-    bytes: int,
-    /,
+    type: Type[_Mail], found: Tuple[bytes, int, int, int], limit: int, use: Use, is_counted: bool, most: int, bytes: int, /
 ) -> Tuple[List[_Mail], Batch, int]:
-    """The mails of the data at an offset of a mailbox, from `at` up to the separator at `last`, but at most `most`, and
-    some bytes, from the last to the first; their batch; and where the next one begins. They are found in one call, without
-    Python's lock, and read if earlier ones were used, with those of their values that were used. Nothing is copied.
+    """Some mails of the data at an offset of a mailbox, from one offset in it up to the separator at another: at most
+    `most`, and some bytes, from the last to the first; their batch; and where the next one begins. They are found in one
+    call, without Python's lock, and read if earlier ones were used, with those of their values that were used. Nothing is
+    copied.
     """
 
 def values(address: Type[Address], zone_of: Callable[[int], timezone], /) -> None:
@@ -200,6 +191,8 @@ class Node:
     flags: int
     _size: Optional[Tuple[int, bool]]
     """The number of bytes that can be read of the decoded body, and whether it is damaged, if they are known."""
+    _body: Optional[bytes]
+    """These bytes, if they were decoded for their number alone."""
 
     @property
     def type(self) -> Tuple[str, str, Dict[str, str]]:

@@ -267,9 +267,8 @@ class Mailbox(_engine.Mails):
         """At most so many of these mails, from the last to the first, their batch, and where the next one begins. They are
         found and read together, so that Python's lock is free for long.
         """
-        data, offset, at, end = some
         mails, batch, after = _engine.read_mails(
-            Mail, data, at, end, offset, self._limit, self._use, self._is_counted, most, AHEAD_BYTES
+            Mail, some, self._limit, self._use, self._is_counted, most, AHEAD_BYTES
         )
         if self._is_quoted:
             mails = [self._unquoted(mail) if b">From " in mail.raw else mail for mail in mails]

@@ -15,6 +15,8 @@ IDENTITIES = (0, 1, 2)
 ENCODINGS = ("7bit", "8bit", "binary", "quoted-printable", "base64", "x-uuencode")
 UUENCODE = 5
 IS_LEAF, IS_ATTACHMENT, IS_EXTRACTED, IS_TEXT, IS_MAIL = 1, 2, 4, 8, 16
+# the most bytes of an encoded body that is decoded for its size, and kept until it is asked for
+KEPT = 1 << 20
 # how many mails may be inside one another, and the most numbers in the path of a part whose mail is read
 LEVELS = 100
 
@@ -31,13 +33,23 @@ class Node(_engine.Node):
         """The number of bytes that can be read of the decoded body, and whether it is damaged."""
         found = self._size
         if found is None:
-            is_plain = self.encoding in IDENTITIES
-            found = self._size = (self.body_end - self.body_start, False) if is_plain else self.reading.body_size(self.number)
+            length = self.body_end - self.body_start
+            if self.encoding in IDENTITIES:
+                found = self._size = length, False
+            elif length <= KEPT:
+                self._body, is_damaged = self.body()
+                found = len(self._body), is_damaged
+            else:
+                found = self._size = self.reading.body_size(self.number)
         return found
 
     def body(self) -> Tuple[bytes, bool]:
         """What can be read of the decoded body, and whether it is damaged."""
-        found, is_damaged = self.reading.body(self.number, self._size[0] if self._size else 0)
+        kept, size = self._body, self._size
+        if kept is not None and size is not None:
+            self._body = None
+            return kept, size[1]
+        found, is_damaged = self.reading.body(self.number, size[0] if size else 0)
         self._size = len(found), is_damaged
         return found, is_damaged
 

@@ -258,10 +258,10 @@ def work():
     found += [engine.ids("<a@b>", True), engine.date("1 Jan 2000 00:00"), engine.reason(17), engine.version(), engine.safe_name("a/b")]
     use, box = engine.Use(), b"".join(b"From a Fri Jul  8 12:08:34 2011\\n" + mail + b"\\n" for mail in (raw, large, b"A: b\\n\\n"))
     for _ in range(2):  # the second time the values are decoded ahead
-        mails, batch, end = engine.read_mails(rocktray.Mail, box, 0, len(box), 7, 10**6, use, False, 9, 10**6)
+        mails, batch, end = engine.read_mails(rocktray.Mail, (box, 7, 0, len(box)), 10**6, use, False, 9, 10**6)
         for mail in mails:
             found += [mail.place, mail.subject, mail.from_, mail.to, mail.date, mail.date_error, mail.error, mail.raw, end]
-    mails, batch, end = engine.read_mails(rocktray.Mail, box, 0, len(box), 0, 1, use, False, 2, 10**6)
+    mails, batch, end = engine.read_mails(rocktray.Mail, (box, 0, 0, len(box)), 1, use, False, 2, 10**6)
     batch.detach()
     found += [(mail.error, mail.raw) for mail in mails]
     found += [rocktray.parse(data).date, rocktray.parse(data).cc]
