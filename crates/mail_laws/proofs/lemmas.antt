@@ -5,6 +5,8 @@ pub mod Runs
 pub mod Boundaries
 pub mod WordTokens
 pub mod Date
+pub mod StrictDates
+pub mod StrictDatesLenient
 pub mod Ids
 pub mod Percent
 pub mod IdGrammar

@@ -27,6 +27,7 @@ pub mod Ids
 pub mod CharsetSources
 pub mod Escapes
 pub mod IdGrammar
+pub mod StrictDates
 pub use Rattle.mailparse.specs.Delimiters
 pub use Rattle.mailparse.specs.Manner
 pub use Rattle.mailparse.specs.Mail

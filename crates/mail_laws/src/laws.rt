@@ -9,7 +9,7 @@ mod parameters;
 mod values;
 mod writing;
 
-pub use dates::{days_follow_each_other, leap_days_are_counted};
+pub use dates::{days_follow_each_other, leap_days_are_counted, strict_dates_agree};
 pub use headers::{block_covers, header_consumes, keys_and_values_are_disjoint, least_is_least};
 pub use ids::{message_ids_have_a_form, message_ids_read_back};
 pub use inside::{inner_mails_are_at_their_offsets, parts_are_at_their_offsets};
