@@ -87,8 +87,15 @@ pub fn write_mail<W: Write, K: KnownCharsets>(
     write_word(out, "]")?;
     write_word(out, key!("forwarded"))?;
     write_mails(alloc, out, inside.as_slice(), origin.start)?;
-    add_findings(alloc, out, mail.raw_bytes, options, known)?;
+    add_findings(alloc, out, bytes_of(mail), options, known)?;
     write_word(out, "}")
+}
+
+/// Returns the bytes of a mail.
+fn bytes_of<'m>(mail: &'m ParsedMail<'_>) -> &'m [u8]
+    ensures { result.now ≡ (root (tree_of mail.now)).bytes }
+{
+    mail.raw_bytes
 }
 
 /// Returns the members of a mail before those of its parts.

@@ -1,4 +1,4 @@
-use Rattle.std.proofs.Common.{◌≡◌, ◌++◌, List, map, refl, sym, ap, ◌∙◌}
+use Rattle.std.proofs.Common.{◌≡◌, ◌++◌, ℕ, List, map, refl, sym, ap, ◌∙◌}
 use Rattle.json.specs.Json.{Json}
 use Rattle.mailparse.specs.Mail.{root}
 use Rattle.mailparse.specs.Placement.{Placement}
@@ -17,7 +17,7 @@ use Rattle.mail_json.specs.declared.inside.Inside.{Inside}
 use Rattle.mail_json.specs.declared.json_text.Position.TheVariants.{First}
 use Rattle.mail_json.proofs.lemmas.Decoded.{whole_trees}
 use Rattle.mail_json.proofs.lemmas.JsonText.{map_twice}
-use Rattle.mail_json.proofs.lemmas.Members.{◌⨾◌, closed, valued}
+use Rattle.mail_json.proofs.lemmas.Members.{◌⨾◌, closed, renamed, valued}
 use Rattle.mail_json.proofs.lemmas.Objects.{list_appended, value_as}
 use Rattle.mail_json.proofs.lemmas.Written.{appends_as, writes_one}
 use Rattle.mail_json.proofs.mail.write_mail.Goals as goal
@@ -47,7 +47,8 @@ returns g c =
     let list = list_appended _ _ _ _ parts.0 c.in_ok-write_word-2.ensures parts.2 c.in_ok-write_word-3.ensures in
     let mails_are = value_as (λ (ms : List Listed). list_of (map (inside_value origin.start) ms)) _ _ _ _ mails c.in_ok-write_mails.ensures in
     let forwarded = value_as (λ (js : List Json). list_of js) _ _ _ _ (sym (map_twice (inside_value origin.start) without_bytes inside)) mails_are in
-    let all_members = head ⨾ valued _ _ _ _ _ refl c.in_ok-write_word.ensures list ⨾ valued _ _ _ _ _ refl c.in_ok-write_word-4.ensures forwarded ⨾ c.in_ok-add_findings.ensures in
+    let noticed = renamed c.in_ok-add_findings.ensures (ap (λ (bytes : List ℕ). found_members (findings_if options bytes)) c.bytes_of.ensures) in
+    let all_members = head ⨾ valued _ _ _ _ _ refl c.in_ok-write_word.ensures list ⨾ valued _ _ _ _ _ refl c.in_ok-write_word-4.ensures forwarded ⨾ noticed in
     let members = mail_members options.known decodes origin mail inside parts.0 ++ found_members (findings_if options (root mail).bytes) in
     writes_one text_of (IsMailValue options origin mail) _ _ c.write_word-5.result (object_of members) (parts.0, parts.1, refl)
     (closed _ c.write_word-5.result (object_of members) all_members c.write_word-5.ensures refl)
