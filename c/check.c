@@ -1097,27 +1097,29 @@ static int check_threads(char **names)
 /* the bytes before a stack that cannot be used */
 #define GUARD (1 << 16)
 
-/* A mail with 100 levels of parts, the last of which has an encoded name and text in a charset of several bytes. */
-static struct bytes deepest_mail(void)
+/* Appends a mail with 100 levels of parts, the last of which has many encoded parameters, and forwards a mail in a charset
+ * of several bytes. */
+static void append_deepest(char *text)
 {
-    static char text[20000];
-    struct bytes mail = { (uint8_t *)text, 0 };
     for (int i = 0; i < 100; i++)
         sprintf(text + strlen(text), "Subject: =?gb18030?b?xOO6ww==?=\nFrom: \"a\" <a@b>\nDate: 1 Jan 2012 20:57 +02\n"
                                      "Content-Type: multipart/report; boundary=b%03d\n\n--b%03d\n", i, i);
-    strcat(text, "Content-Type: message/rfc822\nContent-Disposition: attachment; filename*=utf-8''%E2%82%AC\n\n"
+    strcat(text, "Content-Type: message/rfc822");
+    for (int i = 0; i < 3000; i++)
+        sprintf(text + strlen(text), "; p%d*=utf-7''+AOk-", i * 7919 % 3001);
+    strcat(text, "\nContent-Disposition: attachment; filename*=utf-8''%E2%82%AC\n\n"
                  "Message-ID: <1@a>\nContent-Type: text/plain; charset=gb18030\n\n\xc4\xe3");
-    mail.length = strlen(text);
-    return mail;
 }
 
-/* A mail that forwards a mail, and so on for 120 mails. */
-static struct bytes forwarded_mail(void)
+/* The deepest mail, forwarded by this many mails, each in the one before. */
+static struct bytes forwarded_mail(int mails)
 {
-    static char text[5000];
-    struct bytes mail = { (uint8_t *)text, 0 };
-    for (int i = 0; i < 120; i++)
+    const size_t size = 100000;
+    struct bytes mail = { calloc(size, 1), 0 };
+    char *text = (char *)mail.at;
+    for (int i = 0; i < mails; i++)
         strcat(text, "Content-Type: message/rfc822\n\n");
+    append_deepest(text);
     mail.length = strlen(text);
     return mail;
 }
@@ -1196,8 +1198,8 @@ static int write_stack(size_t size, char **names)
     files = malloc((count_of_files + 2) * sizeof *files);
     for (size_t i = 0; i < count_of_files; i++)
         files[i] = read_file(names[i]);
-    files[count_of_files++] = deepest_mail();
-    files[count_of_files++] = forwarded_mail();
+    files[count_of_files++] = forwarded_mail(0);
+    files[count_of_files++] = forwarded_mail(99);
     printf("ranges %zu, mails %zu, lines %zu\n", stack_of(run_ranges, size), stack_of(run_mails, size),
            stack_of(run_lines, size));
     return 0;
