@@ -404,7 +404,7 @@ static PyObject *time_of(const struct types *types, const struct date *date)
 
 static PyObject *find_date(struct mail *mail, const struct ahead *ahead, enum value value)
 {
-    struct date date;
+    struct date date = { .code = ROCKTRAY_ABSENT };
     PyObject *time, *error = NULL;
     (void)value;
     if (ahead)

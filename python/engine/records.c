@@ -127,7 +127,7 @@ static bool decode_addresses(const struct records *records, enum value value, st
 static void decode(const struct records *records, struct decoded *to)
 {
     int value;
-    to->ahead.known = 0;
+    to->ahead = (struct ahead){ .known = 0 };
     to->address_count = to->length = 0;
     for (value = 0; value < VALUES; value++) {
         bool is_known = false;
