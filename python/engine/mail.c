@@ -621,7 +621,7 @@ struct search {
     PyObject *limit, *use; /* of each mail */
     struct input input;
     size_t at, last, offset; /* the offset of the data in the mailbox */
-    size_t most, bytes;      /* at most so many mails, and so many bytes but for one mail that has more */
+    size_t most, bytes;      /* the most mails, and the most bytes unless one mail has more */
     size_t most_items;       /* the limit as a number */
     bool is_counted;
     uint32_t wanted;

@@ -123,7 +123,7 @@ static bool decode_addresses(const struct records *records, enum value value, st
     return true;
 }
 
-/* Decodes the values that are wanted, as far as there is space for them. */
+/* Decodes the values that are wanted, while there is space for them. */
 static void decode(const struct records *records, struct decoded *to)
 {
     int value;

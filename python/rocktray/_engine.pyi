@@ -53,7 +53,7 @@ def read_mails(
     """
 
 def values(address: Type[Address], zone_of: Callable[[int], timezone], /) -> None:
-    """Tells the extension the type of addresses, and what returns the zone with an offset."""
+    """Gives the extension the type of addresses, and the function that returns the zone with an offset."""
 
 class Use:
     """What is used of the mails of a mailbox."""

@@ -264,7 +264,7 @@ class Mailbox(_engine.Mails):
             self._batches.popleft().detach()
 
     def _mails_of(self, some: "_Found", most: int) -> Tuple[List[Mail], _engine.Batch, int]:
-        """At most so many of these mails, from the last to the first, their batch, and where the next one begins. They are
+        """At most `most` of these mails, from the last to the first, their batch, and where the next one begins. They are
         found and read together, so that Python's lock is free for long.
         """
         mails, batch, after = _engine.read_mails(
