@@ -184,7 +184,7 @@ static const struct types *types_of_mail(PyObject *self)
     return PyType_GetModuleState(type);
 }
 
-/* Reads a mail, which was not read. Returns 0, or -1 for an error, which is none that it is refused. */
+/* Reads a mail that was not read before. Returns 0, or -1 for an error; a refusal is no error. */
 static int read_now(struct mail *mail)
 {
     const struct types *types = types_of_mail((PyObject *)mail);
