@@ -141,6 +141,6 @@ pub data IsMailbox : List ℕ → Parts → Type 0 where
 
 -- ---- Lists.
 
--- an element without members is the mailbox that its text is by the grammar, and no mailbox if its text is none
+-- an element without members is the mailbox that its text is by the grammar, and no mailbox if its text is not one
 abbrev pub IsByGrammar : Single → Type 0
 IsByGrammar s = (m : Parts) → (s.mailbox ≡ Some m → IsMailbox s.text m) × (IsMailbox s.text m → s.mailbox ≡ Some m)

@@ -229,7 +229,7 @@ front_elements None es = es
 
 -- ---- Members of groups, and elements.
 
--- the member that an element is, read leniently; a group is none
+-- the member that an element is, read leniently; a group has none of its own
 abbrev pub lenient_member : Element → List Single
 lenient_member (single s) = refined_single s ∷ []
 lenient_member (group g) = []

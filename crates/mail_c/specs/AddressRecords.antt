@@ -53,7 +53,7 @@ addresses_found (Err e) = Err no_memory
 
 -- Under the charsets that are known.
 module _ (known : Charsets) where
-  -- the entry of a mailbox, or of text that is none
+  -- the entry of a mailbox, or of text that is not one
   abbrev pub found_entry : ℕ → Option Parts → List ℕ → Entry
   found_entry index (Some parts) text = record { kind = 0; group = index; name = shown_display_name known parts.display_name; address = canonical parts }
   found_entry index None text = record { kind = 2; group = index; name = []; address = text }

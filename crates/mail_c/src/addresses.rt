@@ -18,7 +18,7 @@ use std::alloc::Global;
 #[repr(C)]
 #[derive(Clone, Copy)]
 pub struct AddressRecord {
-    /// What it is: 0 for a mailbox, 1 for a group and 2 for text that is none.
+    /// What it is: 0 for a mailbox, 1 for a group and 2 for text that is neither.
     pub kind: u64,
     /// The index of its group, or `NONE`.
     pub group: u64,

@@ -60,7 +60,7 @@ pub(crate) fn report<K: KnownCharsets>(
     }
 }
 
-/// Returns the records of the report that a part is, or `None` if it is none.
+/// Returns the records of the report that a part is, or `None` if it is not one.
 fn part_records<K: KnownCharsets>(
     alloc: Global,
     part: &ParsedMail<'_>,

@@ -17,7 +17,7 @@ pub record TextFile : Type 0 where
   pub is_ended : Bool
 
 -- a block counts as a file: its lines are not too short, and a line `end` follows them or they encode
--- a byte or more, so that a sentence that begins like a file is none
+-- a byte or more, because a sentence may begin like a file
 abbrev pub is_file : TextFile → Bool
 is_file file =
     not (has_short_lines file.lines) && (file.is_ended || nat_lt 0 (length (data_bytes file.lines)))

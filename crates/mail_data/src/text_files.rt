@@ -97,8 +97,9 @@ impl<'t> TextFile<'t> {
 /// Returns the uuencoded files in a text, in order: those that `find_uuencode` of
 /// `mail_codec::transfer` finds one after another, each in what follows the block before it.
 ///
-/// A block is no file if its lines encode more bytes than they have, as where letters are missing, or
-/// if they encode nothing and no line `end` follows, as where a sentence begins so. Allocates the list, in a time proportional to the text.
+/// A block is not a file if its lines encode more bytes than they have, because letters are missing,
+/// or if they encode nothing and no line `end` follows: a sentence may begin like a file. Allocates the
+/// list, in a time proportional to the text.
 ///
 /// # Errors
 ///

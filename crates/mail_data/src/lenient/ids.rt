@@ -99,7 +99,7 @@ fn push_bare_id(alloc: Global, ids: &mut Vec<String>, text: &str) -> Result<(), 
     Ok(())
 }
 
-/// Returns the id that a whole text without `<` is, or `None` if it is none.
+/// Returns the id that a whole text without `<` is, or `None` if it is not one.
 #[tactic(auto, unfolding(crate::specs::lenient::Ids::bare_id))]
 fn bare_id(text: &str) -> Option<&str>
     ensures { MatchOption result (bare_id text.now ≡ []) (λ id. bare_id text.now ≡ id.now ∷ []) }
