@@ -609,7 +609,9 @@ PyObject *last_separator(PyObject *module, PyObject *const *arguments, Py_ssize_
     if (take(&input, arguments[0]) < 0)
         return NULL;
     last = last < input.length ? last : input.length; /* bytes end with a NUL */
+    Py_BEGIN_ALLOW_THREADS
     found = start > last ? 0 : separator_before(&input, start, last);
+    Py_END_ALLOW_THREADS
     give_back(&input);
     return PyLong_FromSize_t(found);
 }
