@@ -40,3 +40,4 @@ pub mod ContinuationsTaken
 pub mod ContinuationsBases
 pub mod ContinuationsResolved
 pub mod StarFree
+pub mod Parts

@@ -14,3 +14,4 @@ pub mod Continuations
 pub mod Filled
 pub mod Plain
 pub mod Limit
+pub mod Parts

@@ -1,17 +1,18 @@
 //! Reads a message: its header block, its type, its body and its parts.
-ghost use Rattle.std.specs.Prelude.{◌≡◌, Bool, false, ◌<◌, ◌≤◌, ◌+◌, ◌^◌, [], ◌∷◌, ◌++◌, length, drop, map, slice_range, take, IfErr, IfOk, IsErr, IsOkAnd, Ok, OnOk};
-ghost use Rattle.std.specs.List.{flat_map};
+ghost use Rattle.std.specs.Prelude.{◌≡◌, Bool, false, ◌<◌, ◌≤◌, ◌+◌, ◌^◌, ℕ, List, [], ◌∷◌, ◌++◌, length, drop, slice_range, take, Option, IfErr, IfOk, IfSome, IsErr, Ok};
 ghost use Rattle.mail_codec.specs.Charset.{four_charsets};
 ghost use Rattle.mailparse.specs.Block.{header_count, header_part, read_block, read_headers};
 ghost use Rattle.mailparse.specs.Bound.{IsBounded, items_within};
 ghost use Rattle.mailparse.specs.Limit.{items_met, limited, read_mail_within};
 ghost use Rattle.mailparse.specs.private.Limit.{less};
-ghost use Rattle.mailparse.specs.Mail.{forest, kept_if_refused, or_kept, read_levels, read_mail, read_mail_as, read_mail_in, tree, Tree, whole_lines_for};
+ghost use Rattle.mailparse.specs.Mail.{kept_if_refused, no_parts, or_kept, read_levels, read_mail, read_mail_as, read_mail_in, tree, Tree, whole_lines_for};
 ghost use Rattle.mailparse.specs.Outcome.{Answers, AnswersOrMemory, IsRefusal, IsRefusalOrMemory};
 ghost use Rattle.mailparse.specs.Placement.{placements, placements_as};
 ghost use Rattle.mailparse.specs.Refusal.{Reads};
 ghost use Rattle.mailparse.specs.Views.{content_type, in_digest, placements_of, tree_of};
+ghost use Rattle.mailparse.specs.declared.mail.message.ParsedMail.{ParsedMail};
 ghost use Rattle.mailparse.specs.private.Delimiters.{IsLineDelimiter};
+ghost use Rattle.mailparse.specs.private.Parts.{HasParts, IsBegun, IsPushed, IsRead, IsSplit, reading_left};
 
 mod delimiters;
 mod limit;
@@ -230,8 +231,7 @@ pub fn parse_mail_as<'a, M: ReadingManner>(
         IsErr (read_block (M.manner manner.now).ends_at_dashes raw.now) →
         Answers tree_of result (read_mail_as (M.manner manner.now) levels raw.now) }
 {
-    let default = DefaultType::Text;
-    parse_mail_recursive(alloc, &mut None, raw, 0, default, levels + 1, manner)
+    parse_whole(alloc, &mut None, raw, levels + 1, manner)
 }
 
 /// Reads a message as `parse_mail_as` does, but refuses one with more than `most` items, which are
@@ -281,141 +281,277 @@ pub fn parse_mail_within<'a, M: ReadingManner>(
         IsErr (read_block (M.manner manner.now).ends_at_dashes raw.now) →
         Answers tree_of result (read_mail_within (M.manner manner.now) levels most raw.now) }
 {
-    let default = DefaultType::Text;
     let mut left = Some(most);
-    parse_mail_recursive(alloc, &mut left, raw, 0, default, levels + 1, manner)
+    parse_whole(alloc, &mut left, raw, levels + 1, manner)
 }
 
-/// Reads a message that starts at `offset` of the mail and has at most `levels` levels, counting
-/// its own. Takes its items off those that are left.
-fn parse_mail_recursive<'a, M: ReadingManner>(
-    alloc: Global,
-    left: &mut Option<usize>,
+/// A message or a part that is to be read: its bytes, its offset in the mail, and the type that it
+/// has without a `Content-Type`.
+#[derive(Clone, Copy)]
+struct Source<'a> {
     raw: &'a [u8],
     offset: usize,
     default: DefaultType,
+}
+
+/// How a message is split into its parts: by which line delimiter, whether only by whole lines,
+/// what type they have by default, and where the first of them starts.
+#[derive(Drop)]
+struct Split {
+    line_delimiter: Vec<u8>,
+    whole: bool,
+    inner: DefaultType,
+    first: Option<usize>,
+}
+
+/// Reads a whole mail that has at most `levels` levels, counting its own. Takes its items off those
+/// that are left.
+fn parse_whole<'a, M: ReadingManner>(
+    alloc: Global,
+    left: &mut Option<usize>,
+    raw: &'a [u8],
     levels: u8,
     manner: &M,
 ) -> Result<ParsedMail<'a>, MailParseError>
-    requires within { offset + length raw.now < 2 ^ 64 }
     ensures read { AnswersOrMemory tree_of result
-        (limited left.old (items_met (M.manner manner.now) levels (in_digest default) raw.now)
-        (read_levels (M.manner manner.now) levels (in_digest default) raw.now)) }
-    ensures left { IfOk result (λ mail. left.new
-        ≡ less left.old (items_met (M.manner manner.now) levels (in_digest default) raw.now)) }
+        (limited left.old (items_met (M.manner manner.now) levels false raw.now)
+        (read_levels (M.manner manner.now) levels false raw.now)) }
     ensures places { IfOk result (λ mail. placements_of mail
-        ≡ placements_as (M.manner manner.now).whole_lines offset (tree_of mail)) }
+        ≡ placements_as (M.manner manner.now).whole_lines 0 (tree_of mail)) }
     ensures no_alloc { (M.manner manner.now).keeps_refused ≡ false → 0 < levels →
         header_count (header_part (M.manner manner.now).ends_at_dashes raw.now) ≡ 0 →
         IsErr (read_block (M.manner manner.now).ends_at_dashes raw.now) →
         Answers tree_of result
-        (limited left.old (items_met (M.manner manner.now) levels (in_digest default) raw.now)
-        (read_levels (M.manner manner.now) levels (in_digest default) raw.now)) }
+        (limited left.old (items_met (M.manner manner.now) levels false raw.now)
+        (read_levels (M.manner manner.now) levels false raw.now)) }
+{
+    let source = Source {
+        raw,
+        offset: 0,
+        default: DefaultType::Text,
+    };
+    let (mut mail, split) = read_message(alloc, left, &source, levels, manner)?;
+    let Some(split) = split else {
+        return Ok(mail);
+    };
+    let parts = read_parts(alloc, left, &source, &split, levels, manner)?;
+    set_parts(&mut mail, parts);
+    Ok(mail)
+}
+
+/// Reads the parts of a message that has at most `levels` levels, counting its own, and is split
+/// this way. Takes their items off those that are left.
+///
+/// A message is large: it is kept in a list, and out of the frame of this function, which recurses.
+fn read_parts<'a, M: ReadingManner>(
+    alloc: Global,
+    left: &mut Option<usize>,
+    source: &Source<'a>,
+    split: &Split,
+    levels: u8,
+    manner: &M,
+) -> Result<Vec<ParsedMail<'a>>, MailParseError>
+    requires within { source.now.offset + length source.now.raw.now < 2 ^ 64 }
+    requires levels { 0 < levels }
+    requires line_delimiter { IsLineDelimiter split.now.line_delimiter.items }
+    requires lines { split.now.whole ≡ whole_lines_for (M.manner manner.now).whole_lines
+        (drop 1 split.now.line_delimiter.items) }
+    requires first { IfSome split.now.first (λ start. start ≤ length source.now.raw.now) }
+    ensures read { (limit : Option ℕ) (mail : ParsedMail) →
+        IsSplit (M.manner manner.now) limit left.old levels (in_digest source.now.default)
+        source.now.raw.now source.now.offset split.now mail →
+        IfOk result (λ parts. (whole : ParsedMail) → HasParts mail parts.items whole →
+        IsRead (M.manner manner.now) limit left.new levels (in_digest source.now.default)
+        source.now.raw.now source.now.offset whole) }
+    ensures refused { (limit : Option ℕ) (mail : ParsedMail) →
+        IsSplit (M.manner manner.now) limit left.old levels (in_digest source.now.default)
+        source.now.raw.now source.now.offset split.now mail →
+        IfErr result (λ e. IsRefusalOrMemory e
+        (reading_left (M.manner manner.now) limit levels (in_digest source.now.default)
+        source.now.raw.now)) }
+{
+    let mut parts = Vec::new(alloc);
+    let mut next = split.first;
+    while let Some(start) = next {
+        let delimiter = split.line_delimiter.as_slice();
+        let (end, after) = cut_part(source.raw, start, delimiter, split.whole);
+        let part = Source {
+            raw: &source.raw[start..end],
+            offset: source.offset + start,
+            default: split.inner,
+        };
+        let inner = match push_message(alloc, left, &mut parts, &part, levels - 1, manner) {
+            Ok(inner) => inner,
+            Err(refusal) => {
+                discard(parts);
+                return Err(refusal);
+            }
+        };
+        if let Some(inner) = inner {
+            match read_parts(alloc, left, &part, &inner, levels - 1, manner) {
+                Ok(below) => set_last_parts(&mut parts, below),
+                Err(refusal) => {
+                    discard(parts);
+                    return Err(refusal);
+                }
+            }
+        }
+        next = after;
+    }
+    Ok(parts)
+}
+
+/// Drops some parts. What that needs is kept out of the frame of the function that recurses.
+#[inline(never)]
+fn discard<'a>(_parts: Vec<ParsedMail<'a>>) {}
+
+/// Gives the last message of a list its parts.
+#[inline(never)]
+fn set_last_parts<'a>(found: &mut Vec<ParsedMail<'a>>, parts: Vec<ParsedMail<'a>>)
+    ensures { (front : List ParsedMail) (mail : ParsedMail) → found.old.items ≡ front ++ mail ∷ [] →
+        IsPushed front found.new.items (HasParts mail parts.entry.items) }
+{
+    if let Some(mail) = found.last_mut() {
+        set_parts(mail, parts);
+    }
+}
+
+/// Gives a message its parts.
+fn set_parts<'a>(mail: &mut ParsedMail<'a>, parts: Vec<ParsedMail<'a>>)
+    ensures { HasParts mail.old parts.entry.items mail.new }
+{
+    mail.subparts = parts;
+}
+
+/// Appends a message without its parts, and returns how it is split into them, if it may have any.
+#[inline(never)]
+fn push_message<'a, M: ReadingManner>(
+    alloc: Global,
+    left: &mut Option<usize>,
+    found: &mut Vec<ParsedMail<'a>>,
+    source: &Source<'a>,
+    levels: u8,
+    manner: &M,
+) -> Result<Option<Split>, MailParseError>
+    requires within { source.now.offset + length source.now.raw.now < 2 ^ 64 }
+    ensures pushed { IfOk result (λ split. IsPushed found.old.items found.new.items
+        (IsBegun (M.manner manner.now) left.old left.new levels (in_digest source.now.default)
+        source.now.raw.now source.now.offset split)) }
+    ensures refused { IfErr result (λ e. IsRefusalOrMemory e
+        (reading_left (M.manner manner.now) left.old levels (in_digest source.now.default)
+        source.now.raw.now)) }
+    ensures no_alloc { (M.manner manner.now).keeps_refused ≡ false → 0 < levels →
+        header_count (header_part (M.manner manner.now).ends_at_dashes source.now.raw.now) ≡ 0 →
+        IsErr (read_block (M.manner manner.now).ends_at_dashes source.now.raw.now) →
+        IfErr result (λ e. IsRefusal e
+        (reading_left (M.manner manner.now) left.old levels (in_digest source.now.default)
+        source.now.raw.now)) }
+{
+    let (mail, split) = read_message(alloc, left, source, levels, manner)?;
+    found.push(mail)?;
+    Ok(split)
+}
+
+/// Reads a message without its parts, and returns how it is split into them, if it may have any.
+fn read_message<'a, M: ReadingManner>(
+    alloc: Global,
+    left: &mut Option<usize>,
+    source: &Source<'a>,
+    levels: u8,
+    manner: &M,
+) -> Result<(ParsedMail<'a>, Option<Split>), MailParseError>
+    requires within { source.now.offset + length source.now.raw.now < 2 ^ 64 }
+    ensures read { IfOk result (λ begun. IsBegun (M.manner manner.now) left.old left.new levels
+        (in_digest source.now.default) source.now.raw.now source.now.offset begun.1 begun.0) }
+    ensures refused { IfErr result (λ e. IsRefusalOrMemory e
+        (reading_left (M.manner manner.now) left.old levels (in_digest source.now.default)
+        source.now.raw.now)) }
+    ensures no_alloc { (M.manner manner.now).keeps_refused ≡ false → 0 < levels →
+        header_count (header_part (M.manner manner.now).ends_at_dashes source.now.raw.now) ≡ 0 →
+        IsErr (read_block (M.manner manner.now).ends_at_dashes source.now.raw.now) →
+        IfErr result (λ e. IsRefusal e
+        (reading_left (M.manner manner.now) left.old levels (in_digest source.now.default)
+        source.now.raw.now)) }
 {
     *left = less(*left, 1)?;
     if levels == 0 {
         let refusal = MailParseError::Generic("Recursion limit reached");
-        return refused_or_kept(alloc, raw, offset, refusal, manner);
+        let whole = refused_or_kept(alloc, source, refusal, manner)?;
+        return Ok((whole, None));
     }
-    let head = header_part(raw, manner);
+    let head = header_part(source.raw, manner);
     check_headers(*left, head)?;
     let (headers, body_offset) = match parse_headers(alloc, head) {
         Ok(block) => block,
-        Err(refusal) => return refused_or_kept(alloc, raw, offset, refusal, manner),
+        Err(refusal) => {
+            let whole = refused_or_kept(alloc, source, refusal, manner)?;
+            return Ok((whole, None));
+        }
     };
     *left = less(*left, headers.len())?;
-    let ctype = manner.content_type(alloc, &headers, default)?;
+    let ctype = manner.content_type(alloc, &headers, source.default)?;
     let Some(line_delimiter) = line_delimiter_of(alloc, &ctype)? else {
-        let parts = Vec::new(alloc);
-        return Ok(message_of(raw, offset, headers, ctype, body_offset, raw.len(), parts));
+        let end = source.raw.len();
+        let whole = message_of(alloc, source, headers, ctype, body_offset, end);
+        return Ok((whole, None));
     };
     let inner = parts_default(&ctype);
     let whole = has_whole_lines(&line_delimiter, manner);
-    let (end, first) = cut_preamble(raw, body_offset, line_delimiter.as_slice(), whole);
-    let mut subparts = Vec::new(alloc);
-    let mut next = first;
-    while let Some(start) = next {
-        let (part_end, after) = cut_part(raw, start, line_delimiter.as_slice(), whole);
-        let part = &raw[start..part_end];
-        let begin = offset + start;
-        push_part(
-            &mut subparts,
-            parse_mail_recursive(alloc, left, part, begin, inner, levels - 1, manner),
-        )?;
-        next = after;
-    }
-    Ok(message_of(raw, offset, headers, ctype, body_offset, end, subparts))
+    let (end, first) = cut_preamble(source.raw, body_offset, line_delimiter.as_slice(), whole);
+    let mail = message_of(alloc, source, headers, ctype, body_offset, end);
+    let split = Split {
+        line_delimiter,
+        whole,
+        inner,
+        first,
+    };
+    Ok((mail, Some(split)))
 }
 
-/// Appends a part, or returns its refusal. A part is large, so it is taken out of its result here and
-/// not in the frame of the function that recurses.
-#[inline(never)]
-fn push_part<'a>(
-    subparts: &mut Vec<ParsedMail<'a>>,
-    read: Result<ParsedMail<'a>, MailParseError>,
-) -> Result<(), MailParseError>
-    ensures pushed { OnOk result (IsOkAnd read.entry (λ part.
-        subparts.new.items ≡ subparts.old.items ++ part ∷ [])) }
-    ensures refused { (given : Reads Tree) → AnswersOrMemory tree_of read.entry given →
-        IfErr result (λ e. IsRefusalOrMemory e given) }
-{
-    subparts.push(read?)?;
-    Ok(())
-}
-
-/// Returns the refusal of the message that starts at `offset` of the mail; if the manner keeps
-/// refused messages, the message as plain text instead, without headers. It is kept out of the
-/// frame of the function that recurses.
+/// Returns the refusal of a message; if the manner keeps refused messages, the message as plain
+/// text instead, without headers.
 #[inline(never)]
 fn refused_or_kept<'a, M: ReadingManner>(
     alloc: Global,
-    raw: &'a [u8],
-    offset: usize,
+    source: &Source<'a>,
     refusal: MailParseError,
     manner: &M,
 ) -> Result<ParsedMail<'a>, MailParseError>
-    requires within { offset + length raw.now < 2 ^ 64 }
+    requires within { source.now.offset + length source.now.raw.now < 2 ^ 64 }
     ensures read { (reading : Reads Tree) → IsRefusalOrMemory refusal reading →
-        AnswersOrMemory tree_of result (or_kept (M.manner manner.now) raw.now reading) }
-    ensures places { (whole : Bool) →
-        IfOk result (λ mail. placements_of mail ≡ placements_as whole offset (tree_of mail)) }
+        AnswersOrMemory tree_of result
+        (or_kept (M.manner manner.now) source.now.raw.now reading) }
+    ensures places { (whole : Bool) → IfOk result (λ mail.
+        placements_of mail ≡ placements_as whole source.now.offset (tree_of mail)) }
     ensures no_alloc { (M.manner manner.now).keeps_refused ≡ false → (reading : Reads Tree) →
         IsRefusal refusal reading →
-        Answers tree_of result (or_kept (M.manner manner.now) raw.now reading) }
+        Answers tree_of result (or_kept (M.manner manner.now) source.now.raw.now reading) }
 {
     if !manner.keeps_refused() {
         return Err(refusal);
     }
-    kept(alloc, raw, offset, refusal)
+    kept(alloc, source, refusal)
 }
 
 /// Returns a refused message as plain text without headers, unless memory ran out.
 #[inline(never)]
 fn kept<'a>(
     alloc: Global,
-    raw: &'a [u8],
-    offset: usize,
+    source: &Source<'a>,
     refusal: MailParseError,
 ) -> Result<ParsedMail<'a>, MailParseError>
-    requires within { offset + length raw.now < 2 ^ 64 }
+    requires within { source.now.offset + length source.now.raw.now < 2 ^ 64 }
     ensures read { (reading : Reads Tree) → IsRefusalOrMemory refusal reading →
-        AnswersOrMemory tree_of result (kept_if_refused raw.now reading) }
-    ensures places { (whole : Bool) →
-        IfOk result (λ mail. placements_of mail ≡ placements_as whole offset (tree_of mail)) }
+        AnswersOrMemory tree_of result (kept_if_refused source.now.raw.now reading) }
+    ensures places { (whole : Bool) → IfOk result (λ mail.
+        placements_of mail ≡ placements_as whole source.now.offset (tree_of mail)) }
 {
     if let MailParseError::Memory(e) = refusal {
         return Err(MailParseError::Memory(e));
     }
     let ctype = DefaultType::Text.content_type(alloc)?;
-    Ok(message_of(
-        raw,
-        offset,
-        Vec::new(alloc),
-        ctype,
-        0,
-        raw.len(),
-        Vec::new(alloc),
-    ))
+    let end = source.raw.len();
+    Ok(message_of(alloc, source, Vec::new(alloc), ctype, 0, end))
 }
 
 /// Returns the bytes that the headers of a message are read from: all, or those before a line that
@@ -442,42 +578,44 @@ fn has_whole_lines<M: ReadingManner>(line_delimiter: &Vec<u8>, manner: &M) -> bo
     find_byte(&line_delimiter[1..], b'\n').is_none()
 }
 
-/// Returns the message that starts at `offset` of the mail and has these headers, type and parts.
-/// Its body is the range from `body_offset` to `end`, and its header block comes before it.
+/// Returns the message that has these headers and this type, without parts. Its body is the range
+/// from `body_offset` to `end`, and its header block comes before it.
 #[inline(always)]
 fn message_of<'a>(
-    raw: &'a [u8],
-    offset: usize,
+    alloc: Global,
+    source: &Source<'a>,
     headers: Vec<MailHeader<'a>>,
     ctype: ParsedContentType,
     body_offset: usize,
     end: usize,
-    subparts: Vec<ParsedMail<'a>>,
 ) -> ParsedMail<'a>
-    requires within { offset + length raw.now < 2 ^ 64 }
+    requires within { source.now.offset + length source.now.raw.now < 2 ^ 64 }
     requires body { body_offset ≤ end }
-    requires end { end ≤ length raw.now }
+    requires end { end ≤ length source.now.raw.now }
     ensures read { tree_of result ≡ tree (record {
-      bytes = raw.now;
-      block = take body_offset raw.now;
+      bytes = source.now.raw.now;
+      block = take body_offset source.now.raw.now;
       headers = headers.entry.items;
       ctype = content_type ctype;
-      body = slice_range raw.now body_offset end;
-    }) (forest (map tree_of subparts.entry.items)) }
+      body = slice_range source.now.raw.now body_offset end;
+    }) no_parts }
     ensures places { placements_of result ≡ record {
-      whole = record { start = offset; end = offset + length raw.now };
-      body = record { start = offset + body_offset; end = offset + end };
-    } ∷ flat_map (λ places. places) (map placements_of subparts.entry.items) }
+      whole = record {
+        start = source.now.offset;
+        end = source.now.offset + length source.now.raw.now;
+      };
+      body = record { start = source.now.offset + body_offset; end = source.now.offset + end };
+    } ∷ [] }
 {
     ParsedMail {
-        raw_bytes: raw,
-        header_bytes: &raw[..body_offset],
+        raw_bytes: source.raw,
+        header_bytes: &source.raw[..body_offset],
         headers,
         ctype,
-        body_bytes: &raw[body_offset..end],
-        subparts,
-        range: offset..offset + raw.len(),
-        body_range: offset + body_offset..offset + end,
+        body_bytes: &source.raw[body_offset..end],
+        subparts: Vec::new(alloc),
+        range: source.offset..source.offset + source.raw.len(),
+        body_range: source.offset + body_offset..source.offset + end,
     }
 }
 

@@ -1,10 +1,9 @@
 -- Lemmas on comparing a key with a name.
-use Rattle.std.proofs.Common.{◌≡◌, ◌↔◌, ℕ, suc, ◌+◌, ◌/◌, ◌<◌, ◌≤◌, Bool, true, false, cond, ltb, ◌&&◌, eqb, List, [], ◌∷◌, ◌++◌, length, map, drop, get_or, Some, refl, sym, ap, subst, ◌∙◌, ⊎_elim, arith}
-use Rattle.std.specs.Char.{eq_ignore_ascii_case, is_ascii, to_ascii_lowercase}
+use Rattle.std.proofs.Common.{◌≡◌, ◌↔◌, ℕ, suc, ◌+◌, ◌/◌, ◌<◌, ◌≤◌, Bool, true, false, cond, ltb, ◌&&◌, eqb, List, [], ◌∷◌, ◌++◌, length, map, drop, get_or, refl, sym, ap, subst, ◌∙◌, ⊎_elim, arith}
+use Rattle.std.specs.Char.{eq_ignore_ascii_case, to_ascii_lowercase}
 use Rattle.std.specs.Str.{IsAscii, IsUtf8, bytes_eq, chars, encode_utf8_all, str_eq_ignore_ascii_case}
-use Rattle.std.specs.Prelude.{slice_get}
-use Rattle.std.proofs.lemmas.Bool.{cond-true, cond-false, lt-ltb, ltb-true, le-ltb, cases_lt, and_parts, and_from, false_from_ne_true, false≢true}
-use Rattle.std.proofs.lemmas.Str.{chars-IsAscii, chars-encodes, chars_past_char, encodes-chars, encode_ascii, scalars-chars}
+use Rattle.std.proofs.lemmas.Bool.{cond-true, cond-false, lt-ltb, le-ltb, cases_lt, and_parts, and_from, false_from_ne_true, false≢true}
+use Rattle.std.proofs.lemmas.Str.{chars-IsAscii, chars-encodes, encodes-chars, encode_ascii, scalars-chars}
 use lib.Utf8.{encode, next, scalar, scalars}
 use Rattle.mail_codec.specs.Latin1.{latin1_text}
 use Rattle.std.proofs.lemmas.List.{drop_more, map-append}
