@@ -2,7 +2,7 @@
 
 Only those are here that matter to the tree, the bytes, the names, the subject and the sender, which other_readers.py
 compares: not `charset` and the notes. The parts are those of Python's email, on which all readers agree if the mail has
-no other finding. A name that rocktray check has is removed here, and of word-bytes what it has.
+no other finding. A name that rocktray check has is removed here; of word-bytes it has all but what Python lacks alone.
 """
 
 import base64

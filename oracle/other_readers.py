@@ -7,8 +7,8 @@ parts with their types, the SHA-256 of each decoded leaf, the file names, the su
 mailbox of From. Left out is what is a matter of taste: CR LF and LF in bodies, line ends at the end of a body, and runs
 of blanks in names and subjects. A reader that fails or ends on a mail differs from all others.
 
-The last line says how many mails have no finding but notes, and on how many of these readers differ. The exit status is
-0 however many differ. rocktray must be built (tools/program.sh rocktray).
+The last line says how many mails have no finding but notes and texts, and on how many of these readers differ. The exit
+status is 0 however many differ. rocktray must be built (tools/program.sh rocktray).
 """
 import argparse
 import base64
@@ -193,9 +193,9 @@ def lines_of(program, arguments, directory):
 
 
 def checked(program, directory):
-    """The names of the findings of each mail of a directory, but for the notes. A mail that is refused has one."""
+    """The names of the findings of each mail of a directory, but for notes and texts. A mail that is refused has one."""
     refused = [{"name": "refused", "class": "structure"}]
-    return {line["file"]: {one["name"] for one in line.get("findings", refused) if one["class"] != "note"}
+    return {line["file"]: {one["name"] for one in line.get("findings", refused) if one["class"] not in ("note", "text")}
             for line in lines_of(program, ["check", "--json"], directory)}
 
 

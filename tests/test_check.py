@@ -9,7 +9,7 @@ from support import FROM, TOP, command, multipart, run, text_of
 from suite import DATA, decoded, rows_in
 
 ROWS = [(row.inputs[0], row.wanted) for row in rows_in(f"{DATA}/findings.txt") if row.call == "findings"]
-CLASSES = ("structure", "bytes", "name", "note")
+CLASSES = ("structure", "bytes", "name", "text", "note")
 
 
 def check(data, *arguments):
@@ -97,12 +97,13 @@ def test_members(hostile, tmp_path):
 
 def test_member_of_none():
     """A mail without findings has an empty list, each mail of a mailbox its own, and one with an error none."""
-    mails = [b"A: b\n\none\n", b"A: b\n\na\0b\n", b"A: b\n\n>From \0\n", b"A: b\nC: d\nE: f\n\n"]
+    mails = [b"A: b\n\none\n", b"A: b\0\n\nHi\n", b"A: b\n\n>From \0\n", b"A: b\nC: d\nE: f\n\n"]
     raw = b"".join(FROM + mail + b"\n" for mail in mails)
     ended = run([*command("json"), "--check", "--mbox=rd", "--max-items", "3"], raw)
     lines = [json.loads(line) for line in ended.stdout.splitlines()]
     assert [("error" in line, found(line) if "findings" in line else None) for line in lines] == [
-        (False, []), (False, [b"nul", "7", "8", b"1"]), (False, [b"nul", "11", "12", b"1"]), (True, None)]
+        (False, []), (False, [b"nul", "4", "5", b"1"]),
+        (False, [b"nul", "11", "12", b"1", b"charset", "6", "13", b"1"]), (True, None)]
 
 
 @pytest.mark.parametrize("raw, wanted", ROWS)
@@ -124,15 +125,16 @@ def test_classes():
     """Only the findings of the classes that are named count."""
     raw = b"A: b\nSubject: a\nSubject: caf\xc3\xa9\n\nHi\0\xc3\n"
     by_class = {name: [it["name"] for it in json.loads(check(raw, "--json", "--class", name).stdout)["findings"]] for name in CLASSES}
-    assert by_class == {"structure": ["nul", "duplicate"], "bytes": [], "name": ["header-8bit"], "note": ["8bit-body"]}
-    for words, status in (((), 3), (("bytes",), 0), (("bytes", "note"), 3)):
+    assert by_class == {
+        "structure": ["nul", "duplicate"], "bytes": [], "name": ["header-8bit"], "text": ["charset"], "note": ["8bit-body"]}
+    for words, status in (((), 3), (("bytes",), 0), (("bytes", "text"), 3)):
         ended = check(raw, "--quiet", *(word for name in words for word in ("--class", name)))
         assert (ended.stdout, ended.returncode) == (b"", status), words
 
 
 def test_mailbox():
     """Each mail of a mailbox has its number and its offsets, and text before the first separator is refused."""
-    mails = [b"A: b\n\none\n", b"A: b\n\na\0b\n", b" no\n\nx\n", b"A: b\n\n>From \0\n"]
+    mails = [b"A: b\n\none\n", b"A: b\0\n\nHi\n", b" no\n\nx\n", b"A: b\n\n>From \0\n"]
     raw = b"lost\n\n" + b"".join(FROM + mail + b"\n" for mail in mails)
     lines = [json.loads(line) for line in check(raw, "--json", "--mbox").stdout.splitlines()]
     assert [line["number"] for line in lines] == [None, 1, 2, 3, 4]
@@ -144,6 +146,17 @@ def test_mailbox():
     assert text.count("Refused:  ") == 2 and "Bytes:    \\x00\n" in text
     lines = [json.loads(line) for line in check(raw, "--json", "--mbox=rd").stdout.splitlines()]
     assert lines[4]["findings"][0]["start"] == len(b"A: b\n\nFrom ")
+
+
+def test_charsets():
+    """The text that Python writes in a charset has no finding, and the same without its last byte has one."""
+    texts = {"gbk": "\u4f60\u597d", "gb18030": "\u4f60\u00e9", "gb2312": "\u4f60\u597d", "big5": "\u4e2d\u6587", "euc-kr": "\ud55c\uae00",
+             "ks_c_5601-1987": "\ud55c", "euc-jp": "\u3042\u4e9c", "shift_jis": "\u3042\u4e9c", "utf-8": "\u00e9\u20ac"}
+    for label, text in texts.items():
+        head = f"Content-Type: text/plain; charset={label}\nContent-Transfer-Encoding: 8bit\n\n".encode()
+        whole = text.encode(label)
+        for body, names in ((whole, []), (whole[:-1], [b"charset"])):
+            assert found(json.loads(check(head + body, "--json", "--mail").stdout))[::4] == names, label
 
 
 def test_files(tmp_path):

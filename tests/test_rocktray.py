@@ -72,7 +72,7 @@ def refused(arguments, *wanted, data=b""):
     (["json", "--max-items", "0", "a"], ("invalid value '0' for '--max-items <N>'",)),
     (["show", "--max-items=-1", "a"], ("invalid value '-1' for '--max-items <N>'",)),
     (["extract", "--max-items", "many", "a"], ("invalid value 'many' for '--max-items <N>'",)),
-    (["check", "--class", "text", "a"], ("invalid value 'text' for '--class <CLASS>'", "structure, bytes, name, note")),
+    (["check", "--class", "none", "a"], ("invalid value 'none' for '--class <CLASS>'", "structure, bytes, name, text, note")),
     (["check", "--quiet", "--json", "a"], ("'--quiet' cannot be used with '--json'",)),
     (["json", ""], ("INPUT",)),
     (["json", "--x\x1b[2J\x9b\nforged"], ("unexpected argument",)),

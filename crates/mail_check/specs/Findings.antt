@@ -2,6 +2,7 @@
 use Rattle.std.specs.List.{list_any}
 use Rattle.std.specs.Prelude.{ℕ, suc, ◌+◌, ◌-◌, ◌^◌, Bool, true, false, ◌&&◌, ◌||◌, not, ◌==◌, min, List, [], ◌∷◌, ◌++◌, flat_map, length, drop, Option, Some, None, is_none, codes, if◌then◌else◌}
 use Rattle.mail_codec.specs.Ascii.{colon}
+use Rattle.mail_codec.specs.Charset.{Charsets}
 use Rattle.mail_codec.specs.Places.{byte_place}
 use Rattle.mailparse.specs.Body.{BodyKind, in_base64, in_quoted_printable, in_7bit, in_8bit, in_binary}
 use Rattle.mailparse.specs.ContentType.{ContentType}
@@ -24,6 +25,7 @@ use Rattle.mail_check.specs.Multiparts.{dash_of, is_bad_boundary, is_close, is_i
 use Rattle.mail_check.specs.LineTests.{begins_file, first_line, is_long_line}
 use Rattle.mail_check.specs.Names.{class_of}
 use Rattle.mail_check.specs.Senders.{is_bad_sender}
+use Rattle.mail_check.specs.Texts.{has_bad_text}
 use Rattle.mail_check.specs.WordBytes.{has_bad_octets}
 use Rattle.mail_check.specs.Words.{has_join, is_bad_name, is_bad_piece, is_worded, pieces}
 use Rattle.mail_check.specs.Parameters.{has_extended, has_other_name, has_quoted_pair, has_quoted_special, has_repeat, has_word, is_bad_value, none_seen, parameter_names, strict_value}
@@ -145,31 +147,32 @@ type_findings spot ctype line =
     ++ listed_if spot name.BadBoundary
     (is_named (codes "Content-Type") line && is_bad_boundary ctype)))
 
--- a subject or a sender with these pieces
-abbrev pub word_findings : Spot → HeaderLine → List (List ℕ) → List Finding
-word_findings spot line found =
+-- a subject or a sender with these pieces, under the charsets that are known
+abbrev pub word_findings : Charsets → Spot → HeaderLine → List (List ℕ) → List Finding
+word_findings known spot line found =
     listed_if spot name.WordSyntax (list_any is_bad_piece found)
     ++ (listed_if spot name.WordJoin (has_join [] found)
-    ++ (listed_if spot name.WordBytes (list_any has_bad_octets found)
+    ++ (listed_if spot name.WordBytes (list_any (has_bad_octets known) found)
     ++ listed_if spot name.NameAddress (is_bad_name line found)))
 
 -- a header as a subject or a sender
-abbrev pub worded_findings : Spot → HeaderLine → List Finding
-worded_findings spot line = if is_worded line then word_findings spot line (pieces line.value) else []
+abbrev pub worded_findings : Charsets → Spot → HeaderLine → List Finding
+worded_findings known spot line =
+    if is_worded line then word_findings known spot line (pieces line.value) else []
 
 -- a header as a sender of the whole mail, before which no message comes
 abbrev pub sender_findings : ℕ → Spot → HeaderLine → List Finding
 sender_findings number spot line = listed_if spot name.FromSyntax (number == 0 && is_bad_sender line)
 
 -- the findings of one header of a message, given how many come before it
-abbrev pub header_findings : ℕ → Place → HeaderLine → List Finding
-header_findings number place line =
+abbrev pub header_findings : Charsets → ℕ → Place → HeaderLine → List Finding
+header_findings known number place line =
     let node = root place.part in
     let spot = spot_in place line.start (length line.bytes) in
     line_findings spot (length node.block) line
     ++ (parameter_findings spot line
     ++ (type_findings spot node.ctype line
-    ++ (sender_findings number spot line ++ worded_findings spot line)))
+    ++ (sender_findings number spot line ++ worded_findings known spot line)))
 
 -- the second header with a name, if there is one
 abbrev pub repeated : Place → Option HeaderLine → List Finding
@@ -188,10 +191,10 @@ has_none [] = true
 has_none (line ∷ lines) = false
 
 -- those of all headers, and then of each name that occurs twice
-abbrev pub block_findings : ℕ → Place → List HeaderLine → List Finding
-block_findings number place lines =
+abbrev pub block_findings : Charsets → ℕ → Place → List HeaderLine → List Finding
+block_findings known number place lines =
     listed_if (spot_in place 0 0) name.NoHeaders (has_none lines)
-    ++ (flat_map (header_findings number place) lines ++ repeated_findings place lines single_names)
+    ++ (flat_map (header_findings known number place) lines ++ repeated_findings place lines single_names)
 
 -- ---- file names
 
@@ -259,20 +262,25 @@ encoded_findings place in_binary body = []
 abbrev pub file_line : ContentType → List ℕ → Option ℕ
 file_line ctype body = if begins_type (codes "text/") ctype then first_line begins_file body else None
 
+-- the findings of the text of a message with this body, under the charsets that are known
+abbrev pub text_findings : Charsets → Place → Node → List ℕ → List Finding
+text_findings known place node body =
+    listed (spot_of_body place 1) name.Uuencode (file_line node.ctype body)
+    ++ listed_if (spot_of_body place (length body)) name.Charset (has_bad_text known node)
+
 -- the findings of the body of a message
-abbrev pub body_findings : Place → Node → List Finding
-body_findings place node =
-    encoded_findings place (body_kind node) node.body
-    ++ listed (spot_of_body place 1) name.Uuencode (file_line node.ctype node.body)
+abbrev pub body_findings : Charsets → Place → Node → List Finding
+body_findings known place node =
+    encoded_findings place (body_kind node) node.body ++ text_findings known place node node.body
 
 -- a message has no parts and is no multipart
 abbrev pub is_single : Tree → Bool
 is_single t = is_leaf t && not (begins_type (codes "multipart") (root t).ctype)
 
 -- the findings of its body
-abbrev pub leaf_findings : Place → List Finding
-leaf_findings place =
-    if is_single place.part then body_findings place (root place.part) else []
+abbrev pub leaf_findings : Charsets → Place → List Finding
+leaf_findings known place =
+    if is_single place.part then body_findings known place (root place.part) else []
 
 -- ---- all
 
@@ -281,22 +289,23 @@ abbrev pub is_far : ℕ → Place → Bool
 is_far number place = number == 100 || dot_count place.path == 9
 
 -- the findings of a message, given how many come before it: those of the whole mail if it is the first
-abbrev pub message_findings : ℕ → Place → List Finding
-message_findings number place =
+abbrev pub message_findings : Charsets → ℕ → Place → List Finding
+message_findings known number place =
     let node = root place.part in
     (if number == 0 then first_findings (spot_in place 0 1) node.bytes else [])
     ++ (listed_if (spot_in place 0 (length node.bytes)) name.Many (is_far number place)
-    ++ (block_findings number place (header_lines node)
+    ++ (block_findings known number place (header_lines node)
     ++ (file_findings (spot_in place 0 (length node.block)) (shown_as node) node
     ++ (multipart_findings place (dash_of node.ctype)
-    ++ leaf_findings place))))
+    ++ leaf_findings known place))))
 
 -- those of some messages, given how many come before them
-abbrev pub findings_from : ℕ → List Place → List Finding
-findings_from number [] = []
-findings_from number (place ∷ found) =
-    message_findings number place ++ findings_from (suc number) found
+abbrev pub findings_from : Charsets → ℕ → List Place → List Finding
+findings_from known number [] = []
+findings_from known number (place ∷ found) =
+    message_findings known number place ++ findings_from known (suc number) found
 
--- the findings of a mail and its parts, each before its own parts, given their placements
-unfoldable pub findings : Tree → List Placement → List Finding
-findings mail placements = findings_from 0 (places mail placements)
+-- the findings of a mail and its parts, each before its own parts, given their placements, under the charsets that are
+-- known
+unfoldable pub findings : Charsets → Tree → List Placement → List Finding
+findings known mail placements = findings_from known 0 (places mail placements)

@@ -7,9 +7,11 @@ pub mod Multiparts
 pub mod Parameters
 pub mod Senders
 pub mod FileNames
+pub mod Charsets
 pub mod Words
 pub mod WordBytes
 pub mod Bodies
+pub mod Texts
 pub mod HiddenBits
 pub mod Findings
 pub mod FindingViews

@@ -49,12 +49,14 @@ text_of name.QpSyntax = codes "qp-syntax"
 text_of name.QpBlank = codes "qp-blank"
 text_of name.EightBitBody = codes "8bit-body"
 text_of name.Uuencode = codes "uuencode"
+text_of name.Charset = codes "charset"
 
 -- the text of a class
 abbrev pub class_text : Class → List ℕ
 class_text class.Structure = codes "structure"
 class_text class.Bytes = codes "bytes"
 class_text class.Name = codes "name"
+class_text class.Text = codes "text"
 class_text class.Note = codes "note"
 
 -- the class of a name
@@ -101,6 +103,7 @@ class_of name.QpSyntax = class.Bytes
 class_of name.QpBlank = class.Bytes
 class_of name.EightBitBody = class.Note
 class_of name.Uuencode = class.Note
+class_of name.Charset = class.Text
 
 -- the sentence of a name
 abbrev pub sentence_of : Name → List ℕ
@@ -146,3 +149,4 @@ sentence_of name.QpSyntax = codes "An equals sign begins no escape in upper case
 sentence_of name.QpBlank = codes "Blanks end a line of quoted-printable, a soft line break ends the body, or a line end is escaped: readers keep or drop it."
 sentence_of name.EightBitBody = codes "A body in 7bit or quoted-printable has bytes that are not ASCII."
 sentence_of name.Uuencode = codes "A line of the text begins a file in uuencode or yEnc: some programs take the file out of the text."
+sentence_of name.Charset = codes "The text has an unknown charset, bytes that its charset lacks, a NUL or a byte order mark: readers show different texts."

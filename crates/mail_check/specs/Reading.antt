@@ -7,12 +7,12 @@ use Rattle.mailparse.specs.Placement.{placements}
 use Rattle.mailparse.specs.Refusal.{Reads}
 use Rattle.mail_check.specs.Findings.{Finding, findings}
 
--- the findings of a mail that was read, or its refusal
-abbrev pub found_in : Reads Tree → Reads (List Finding)
-found_in (Ok mail) = Ok (findings mail (placements 0 mail))
-found_in (Err refusal) = Err refusal
+-- the findings of a mail that was read, under the charsets that are known, or its refusal
+abbrev pub found_in : Charsets → Reads Tree → Reads (List Finding)
+found_in known (Ok mail) = Ok (findings known mail (placements 0 mail))
+found_in known (Err refusal) = Err refusal
 
 -- those of the mail in the bytes, read in the manner of the port under these charsets, and refused if it has more than
 -- `limit` messages, parts and headers
 unfoldable pub mail_findings : Charsets → ℕ → List ℕ → Reads (List Finding)
-mail_findings known limit bytes = found_in (read_mail_within (strict known) 100 limit bytes)
+mail_findings known limit bytes = found_in known (read_mail_within (strict known) 100 limit bytes)

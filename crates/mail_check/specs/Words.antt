@@ -1,6 +1,6 @@
 -- Encoded words in subjects and senders as all programs read them (RFC 2047, section 2), and what some read
 -- differently; this crate's own words.
-use Rattle.std.specs.Prelude.{ℕ, ◌+◌, ◌-◌, Bool, true, false, ◌&&◌, ◌||◌, not, ◌==◌, nat_eq, nat_lt, List, [], ◌∷◌, length, take, drop, Option, Some, None, is_some, codes, if◌then◌else◌}
+use Rattle.std.specs.Prelude.{ℕ, ◌+◌, ◌-◌, Bool, true, false, ◌&&◌, ◌||◌, not, ◌==◌, nat_eq, nat_lt, List, [], ◌∷◌, ◌++◌, length, take, drop, Option, Some, None, is_some, codes, if◌then◌else◌}
 use Rattle.std.specs.Char.{is_ascii_alphanumeric}
 use Rattle.std.specs.List.{ends_with, list_any, slice_split}
 use Rattle.std.specs.Result.{result_ok}
@@ -9,6 +9,7 @@ use Rattle.mail_codec.specs.Ascii.{carriage_return, equals_sign, is_blank, less_
 use Rattle.mail_codec.specs.Base64.{base64}
 use Rattle.mail_codec.specs.Places.{begins, byte_place, first_place, is_empty, text_place}
 use Rattle.mail_codec.specs.QuotedPrintable.{quoted_printable}
+use Rattle.mail_data.specs.lenient.Values.{spaced}
 use Rattle.mail_check.specs.Bodies.{is_letter}
 use Rattle.mail_check.specs.Bytes.{is_escape_digit}
 use Rattle.mail_check.specs.Lines.{HeaderLine, is_named, is_visible}
@@ -146,11 +147,12 @@ abbrev pub octets_or_none : Option (List ℕ) → List ℕ
 octets_or_none None = []
 octets_or_none (Some octets) = octets
 
--- the bytes of a word; each underscore is left, whatever the encoding
+-- the bytes of a word; in the encoding Q each underscore is a space (RFC 2047, section 4.2), and a soft line break after
+-- the text keeps those at its end
 abbrev pub octets_of : List ℕ → List ℕ
 octets_of word =
     if is_in_base64 word then octets_or_none (result_ok (base64 (word_text word)))
-    else quoted_printable (word_text word)
+    else quoted_printable (spaced (word_text word) ++ codes "=")
 
 -- a piece is a word with such a character
 abbrev pub hides_address : List ℕ → Bool

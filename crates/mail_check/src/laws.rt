@@ -2,6 +2,7 @@
 //!
 //! Each function does nothing; its contract is the law.
 ghost use Rattle.std.specs.Prelude.{◌≡◌, ◌↔◌, [], ℕ, List, All};
+ghost use Rattle.mail_codec.specs.Charset.{Charsets};
 ghost use Rattle.mailparse.specs.Mail.{Tree, root};
 ghost use Rattle.mailparse.specs.Placement.{placements};
 ghost use Rattle.mail_data.specs.PartPlaces.{Place};
@@ -19,11 +20,12 @@ pub fn plain_bytes_have_no_findings()
 /// So the bytes of a mail without findings are plain in this sense.
 #[tactic(auto, using(crate::proofs::lemmas::Clean::clean_is_plain))]
 pub fn clean_mails_have_plain_bytes()
-    ensures { (t : Tree) → findings t (placements 0 t) ≡ [] → HasPlainBytes (root t).bytes }
+    ensures { (known : Charsets) (t : Tree) →
+        findings known t (placements 0 t) ≡ [] → HasPlainBytes (root t).bytes }
 {}
 
 /// Each finding of a message has the path of that message.
 pub fn findings_have_the_paths_of_their_parts()
-    ensures { (place : Place) (number : ℕ) →
-        All (λ finding. finding.path ≡ place.path) (message_findings number place) }
+    ensures { (known : Charsets) (place : Place) (number : ℕ) →
+        All (λ finding. finding.path ≡ place.path) (message_findings known number place) }
 {}

@@ -9,6 +9,7 @@
 #![tactic(auto)]
 
 mod bodies;
+mod charsets;
 mod file_names;
 mod hidden_bits;
 pub mod laws;
@@ -22,6 +23,7 @@ mod parameters;
 mod reading;
 mod scan;
 mod senders;
+mod texts;
 mod word_bytes;
 mod words;
 

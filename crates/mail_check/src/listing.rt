@@ -19,7 +19,7 @@ ghost use Rattle.mail_check.specs.Findings.{parameter_findings, part_findings};
 ghost use Rattle.mail_check.specs.Findings.{has_none, is_single, quoted_findings, repeated};
 ghost use Rattle.mail_check.specs.Findings.{name_findings, repeated_findings, spot_in};
 ghost use Rattle.mail_check.specs.Findings.{spot_of_body, strict_findings};
-ghost use Rattle.mail_check.specs.Findings.{type_findings, value_findings};
+ghost use Rattle.mail_check.specs.Findings.{text_findings, type_findings, value_findings};
 ghost use Rattle.mail_check.specs.Findings.{word_findings, worded_findings};
 ghost use Rattle.mail_check.specs.LineViews.{line_view};
 ghost use Rattle.mail_codec.specs.Ascii.{colon};
@@ -48,9 +48,11 @@ use crate::parameters::{
 };
 use crate::scan::{Pattern, control_byte, earlier, first_match, from_offset, high_byte, later};
 use crate::senders::is_bad_sender;
+use crate::texts::has_bad_text;
 use crate::word_bytes::has_bad_word;
 use crate::words::{has_bad_piece, has_join, is_bad_name, is_worded, pieces};
 use mail_codec::bytescan::find_byte;
+use mail_codec::charset::KnownCharsets;
 use mail_data::files::is_leaf;
 use mail_data::places::{Place, places};
 use mailparse::body::Body;
@@ -85,14 +87,15 @@ struct Spot<'p> {
 }
 
 /// Returns the findings of a mail: where programs may read something else than `parse_mail` does
-/// (RFC 5322, sections 2 and 3; RFC 2045, section 6; RFC 2046, section 5.1).
+/// (RFC 5322, sections 2 and 3; RFC 2045, section 6; RFC 2046, section 5.1). Encoded words and
+/// texts are read in the charsets `known` (RFC 2047, section 2; RFC 2046, section 4.1.2).
 ///
 /// They are listed for the mail and each of its parts, in the order in which these appear, each
-/// before its own parts. First come line ends and NUL bytes of the whole mail, then for each
-/// message its headers, its delimiters and its body. What may occur at many places of a mail, a
-/// header or a body is reported once, where it first occurs. Mails inside the mail are not read.
+/// before its own parts. First come line ends, NUL bytes and long lines of the whole mail, then for
+/// each message its headers, its delimiters and its body. What may occur at many places of a mail,
+/// a header or a body is reported once, where it first occurs. Mails inside the mail are not read.
 /// The time is linear in the bytes, times the levels. Allocates the findings, their paths, and for
-/// each message a list of its headers and its boundary.
+/// each message a list of its headers, its boundary and its text.
 ///
 /// # Errors
 ///
@@ -105,44 +108,50 @@ struct Spot<'p> {
 /// use mailparse::parse_mail;
 ///
 /// let mail = parse_mail(alloc, b"Subject: a\nSubject: b\n\nHi\n")?;
-/// let found = findings(alloc, &mail)?;
+/// let found = findings(alloc, &mail, &())?;
 /// assert_eq!(rt; found.len(), 1);
 /// assert!(rt; found[0].name == Name::Duplicate);
 /// assert_eq!(rt; found[0].range, 11..22);
 /// ```
 #[tactic(auto, unfolding(crate::specs::Findings::findings))]
-pub fn findings(alloc: Global, mail: &ParsedMail<'_>) -> Result<Vec<Finding>, MailParseError>
+pub fn findings<K: KnownCharsets>(
+    alloc: Global,
+    mail: &ParsedMail<'_>,
+    known: &K,
+) -> Result<Vec<Finding>, MailParseError>
     ensures { AnswersOrMemory (λ found. map finding_view found.items) result
-        (Ok (findings (tree_of mail.now) (placements_of mail.now))) }
+        (Ok (findings (K.known known.now) (tree_of mail.now) (placements_of mail.now))) }
 {
     let places = places(alloc, mail)?;
     let mut found = Vec::new(alloc);
     let mut number = 0;
     for place in &places {
-        push_message(alloc, &mut found, place, number)?;
+        push_message(alloc, &mut found, place, number, known)?;
         number += 1;
     }
     Ok(found)
 }
 
 /// Appends the findings of a message, given how many come before it.
-fn push_message(
+fn push_message<K: KnownCharsets>(
     alloc: Global,
     found: &mut Vec<Finding>,
     place: &Place<'_, '_>,
     number: usize,
+    known: &K,
 ) -> Result<(), MailParseError>
     ensures written { OnOk result (map finding_view found.new.items
-        ≡ map finding_view found.old.items ++ message_findings number (place_view place.now)) }
+        ≡ map finding_view found.old.items
+        ++ message_findings (K.known known.now) number (place_view place.now)) }
     ensures only_memory { IfErr result IsMemory }
 {
     push_first(alloc, found, place, number)?;
     let spot = spot_in(place, 0, place.part.raw_bytes.len());
     push_if(alloc, found, &spot, Name::Many, is_far(number, place))?;
-    push_block(alloc, found, place, number)?;
+    push_block(alloc, found, place, number, known)?;
     push_files(alloc, found, place)?;
     push_multipart(alloc, found, place)?;
-    push_leaf(alloc, found, place)
+    push_leaf(alloc, found, place, known)
 }
 
 /// Appends the findings of the bytes of the whole mail, if no message comes before this one.
@@ -215,36 +224,39 @@ fn dot_count(path: &str) -> usize
 }
 
 /// Appends the findings of the headers of a message, given how many come before it.
-fn push_block(
+fn push_block<K: KnownCharsets>(
     alloc: Global,
     found: &mut Vec<Finding>,
     place: &Place<'_, '_>,
     number: usize,
+    known: &K,
 ) -> Result<(), AllocError>
     ensures { OnOk result (map finding_view found.new.items
         ≡ map finding_view found.old.items
-        ++ block_findings number (place_view place.now)
+        ++ block_findings (K.known known.now) number (place_view place.now)
         (header_lines (root (tree_of place.now.part.now)))) }
 {
     let lines = header_lines(alloc, place.part)?;
-    push_headers(alloc, found, place, number, lines.as_slice())
+    push_headers(alloc, found, place, number, lines.as_slice(), known)
 }
 
 /// Appends the findings of these headers of a message, given how many come before it.
-fn push_headers(
+fn push_headers<K: KnownCharsets>(
     alloc: Global,
     found: &mut Vec<Finding>,
     place: &Place<'_, '_>,
     number: usize,
     lines: &[HeaderLine<'_>],
+    known: &K,
 ) -> Result<(), AllocError>
     ensures { OnOk result (map finding_view found.new.items
         ≡ map finding_view found.old.items
-        ++ block_findings number (place_view place.now) (map line_view lines.now)) }
+        ++ block_findings (K.known known.now) number (place_view place.now)
+        (map line_view lines.now)) }
 {
     let spot = spot_in(place, 0, 0);
     push_if(alloc, found, &spot, Name::NoHeaders, has_none(lines))?;
-    push_lines(alloc, found, place, number, lines)?;
+    push_lines(alloc, found, place, number, lines, known)?;
     push_repeated(alloc, found, place, lines)
 }
 
@@ -257,34 +269,37 @@ fn has_none(lines: &[HeaderLine<'_>]) -> bool
 }
 
 /// Appends the findings of each header of a message, given how many come before it.
-fn push_lines(
+fn push_lines<K: KnownCharsets>(
     alloc: Global,
     found: &mut Vec<Finding>,
     place: &Place<'_, '_>,
     number: usize,
     lines: &[HeaderLine<'_>],
+    known: &K,
 ) -> Result<(), AllocError>
     ensures { OnOk result (map finding_view found.new.items
         ≡ map finding_view found.old.items
-        ++ flat_map (header_findings number (place_view place.now)) (map line_view lines.now)) }
+        ++ flat_map (header_findings (K.known known.now) number (place_view place.now))
+        (map line_view lines.now)) }
 {
     for line in lines {
-        push_header(alloc, found, place, number, line)?;
+        push_header(alloc, found, place, number, line, known)?;
     }
     Ok(())
 }
 
 /// Appends the findings of one header of a message, given how many come before it.
-fn push_header(
+fn push_header<K: KnownCharsets>(
     alloc: Global,
     found: &mut Vec<Finding>,
     place: &Place<'_, '_>,
     number: usize,
     line: &HeaderLine<'_>,
+    known: &K,
 ) -> Result<(), AllocError>
     ensures { OnOk result (map finding_view found.new.items
         ≡ map finding_view found.old.items
-        ++ header_findings number (place_view place.now) (line_view line.now)) }
+        ++ header_findings (K.known known.now) number (place_view place.now) (line_view line.now)) }
 {
     let spot = spot_in(place, line.start, line.bytes.len());
     let size = place.part.get_headers().get_raw_bytes().len();
@@ -293,43 +308,45 @@ fn push_header(
     push_type(alloc, found, &spot, place.part, line)?;
     let is_bad = number == 0 && is_bad_sender(line);
     push_if(alloc, found, &spot, Name::FromSyntax, is_bad)?;
-    push_worded(alloc, found, &spot, line)
+    push_worded(alloc, found, &spot, line, known)
 }
 
 /// Appends the findings of a header as a subject or a sender.
-fn push_worded(
+fn push_worded<K: KnownCharsets>(
     alloc: Global,
     found: &mut Vec<Finding>,
     spot: &Spot<'_>,
     line: &HeaderLine<'_>,
+    known: &K,
 ) -> Result<(), AllocError>
     ensures { OnOk result (map finding_view found.new.items
         ≡ map finding_view found.old.items
-        ++ worded_findings (spot_view spot.now) (line_view line.now)) }
+        ++ worded_findings (K.known known.now) (spot_view spot.now) (line_view line.now)) }
 {
     if !is_worded(line) {
         return Ok(());
     }
     let pieces = pieces(alloc, line.value)?;
-    push_words(alloc, found, spot, line, pieces.as_slice())
+    push_words(alloc, found, spot, line, pieces.as_slice(), known)
 }
 
 /// Appends the findings of a subject or a sender with these pieces.
-fn push_words(
+fn push_words<K: KnownCharsets>(
     alloc: Global,
     found: &mut Vec<Finding>,
     spot: &Spot<'_>,
     line: &HeaderLine<'_>,
     pieces: &[&[u8]],
+    known: &K,
 ) -> Result<(), AllocError>
     ensures { OnOk result (map finding_view found.new.items
         ≡ map finding_view found.old.items
-        ++ word_findings (spot_view spot.now) (line_view line.now)
+        ++ word_findings (K.known known.now) (spot_view spot.now) (line_view line.now)
         (map (λ piece. piece.now) pieces.now)) }
 {
     push_if(alloc, found, spot, Name::WordSyntax, has_bad_piece(pieces))?;
     push_if(alloc, found, spot, Name::WordJoin, has_join(pieces))?;
-    let has_bad = has_bad_word(alloc, pieces)?;
+    let has_bad = has_bad_word(alloc, pieces, known)?;
     push_if(alloc, found, spot, Name::WordBytes, has_bad)?;
     let is_bad = is_bad_name(alloc, line, pieces)?;
     push_if(alloc, found, spot, Name::NameAddress, is_bad)
@@ -693,17 +710,19 @@ fn push_delimiters(
 }
 
 /// Appends the findings of the body of a message without parts that is no multipart.
-fn push_leaf(
+fn push_leaf<K: KnownCharsets>(
     alloc: Global,
     found: &mut Vec<Finding>,
     place: &Place<'_, '_>,
+    known: &K,
 ) -> Result<(), MailParseError>
     ensures written { OnOk result (map finding_view found.new.items
-        ≡ map finding_view found.old.items ++ leaf_findings (place_view place.now)) }
+        ≡ map finding_view found.old.items
+        ++ leaf_findings (K.known known.now) (place_view place.now)) }
     ensures only_memory { IfErr result IsMemory }
 {
     if is_single(place.part) {
-        push_body(alloc, found, place)?;
+        push_body(alloc, found, place, known)?;
     }
     Ok(())
 }
@@ -716,19 +735,20 @@ fn is_single(part: &ParsedMail<'_>) -> bool
 }
 
 /// Appends the findings of the body of a message.
-fn push_body(
+fn push_body<K: KnownCharsets>(
     alloc: Global,
     found: &mut Vec<Finding>,
     place: &Place<'_, '_>,
+    known: &K,
 ) -> Result<(), MailParseError>
     ensures written { let node = root (tree_of place.now.part.now) in
         OnOk result (map finding_view found.new.items ≡ map finding_view found.old.items
-        ++ body_findings (place_view place.now) node) }
+        ++ body_findings (K.known known.now) (place_view place.now) node) }
     ensures only_memory { IfErr result IsMemory }
 {
     let body = place.part.get_body_encoded(alloc)?;
     push_encoded(alloc, found, place, &body)?;
-    push_text(alloc, found, place, body.get_raw())?;
+    push_text(alloc, found, place, body.get_raw(), known)?;
     Ok(())
 }
 
@@ -784,8 +804,28 @@ fn push_base64(
     )
 }
 
+/// Appends the findings of the text of a message with this body: a file in it, and its charset.
+fn push_text<K: KnownCharsets>(
+    alloc: Global,
+    found: &mut Vec<Finding>,
+    place: &Place<'_, '_>,
+    body: &[u8],
+    known: &K,
+) -> Result<(), MailParseError>
+    ensures written { let node = root (tree_of place.now.part.now) in
+        OnOk result (map finding_view found.new.items ≡ map finding_view found.old.items
+        ++ text_findings (K.known known.now) (place_view place.now) node body.now) }
+    ensures only_memory { IfErr result IsMemory }
+{
+    push_file(alloc, found, place, body)?;
+    let is_bad = has_bad_text(alloc, place.part, known)?;
+    let spot = spot_of_body(place, body.len());
+    push_if(alloc, found, &spot, Name::Charset, is_bad)?;
+    Ok(())
+}
+
 /// Appends the finding of a file in the text of a message with this body.
-fn push_text(
+fn push_file(
     alloc: Global,
     found: &mut Vec<Finding>,
     place: &Place<'_, '_>,

@@ -11,6 +11,8 @@ pub enum Class {
     Bytes,
     /// The name of a file, the sender or the subject.
     Name,
+    /// The characters of a text.
+    Text,
     /// A risk, though no two of the readers that were compared differ if nothing else is found.
     Note,
 }
@@ -34,6 +36,7 @@ impl Class {
             Class::Structure => "structure",
             Class::Bytes => "bytes",
             Class::Name => "name",
+            Class::Text => "text",
             Class::Note => "note",
         }
     }
@@ -126,6 +129,8 @@ pub enum Name {
     EightBitBody,
     /// `uuencode`
     Uuencode,
+    /// `charset`
+    Charset,
 }
 
 impl Name {
@@ -186,6 +191,7 @@ impl Name {
             Name::QpBlank => "qp-blank",
             Name::EightBitBody => "8bit-body",
             Name::Uuencode => "uuencode",
+            Name::Charset => "charset",
         }
     }
 
@@ -239,6 +245,7 @@ impl Name {
             | Name::WordBytes => Class::Name,
             Name::EncodingSyntax | Name::Base64Syntax | Name::QpSyntax | Name::QpBlank =>
                 Class::Bytes,
+            Name::Charset => Class::Text,
             Name::LongLine
             | Name::UnsafeName
             | Name::Base64Bits
@@ -382,6 +389,9 @@ impl Name {
             }
             Name::Uuencode => {
                 "A line of the text begins a file in uuencode or yEnc: some programs take the file out of the text."
+            }
+            Name::Charset => {
+                "The text has an unknown charset, bytes that its charset lacks, a NUL or a byte order mark: readers show different texts."
             }
         }
     }

@@ -24,7 +24,7 @@ use std::alloc::Global;
 /// ```rust
 /// use mail_check::{Name, read_findings};
 ///
-/// let found = read_findings(alloc, b"A: b\n\na\0b\n", 2, &())?;
+/// let found = read_findings(alloc, b"A: b\0\n\nHi\n", 2, &())?;
 /// assert_eq!(rt; found.len(), 1);
 /// assert!(rt; found[0].name == Name::Nul);
 /// assert!(rt; read_findings(alloc, b" A: b\n\nHi\n", 2, &()).is_err());
@@ -40,5 +40,5 @@ pub fn read_findings<K: KnownCharsets>(
         (mail_findings (K.known known.now) limit raw.now) }
 {
     let mail = parse_mail_within(alloc, raw, MAX_LEVELS, limit, &Strict(known))?;
-    findings(alloc, &mail)
+    findings(alloc, &mail, known)
 }

@@ -1,6 +1,8 @@
 //! Encoded words in subjects and senders that other programs may read differently.
-ghost use Rattle.std.specs.Prelude.{◌≡◌, ◌≤◌, [], IfOk, length, map, take};
+ghost use Rattle.std.specs.Prelude.{◌≡◌, ◌≤◌, ◌++◌, [], IfOk, codes, length, map, take};
 ghost use Rattle.std.specs.List.{list_any};
+ghost use Rattle.mail_codec.specs.QuotedPrintable.{quoted_printable};
+ghost use Rattle.mail_data.specs.lenient.Values.{spaced};
 ghost use Rattle.mail_check.specs.Bytes.{first_byte};
 ghost use Rattle.mail_check.specs.LineViews.{line_view};
 ghost use Rattle.mail_check.specs.Words.{after_charset, after_label, after_word_byte};
@@ -398,10 +400,32 @@ pub(crate) fn octets_of(alloc: Global, word: &[u8]) -> Result<Vec<u8>, AllocErro
 {
     let text = word_text(word);
     if !is_in_base64(word) {
-        return decode_quoted_printable(alloc, text);
+        return q_octets(alloc, text);
     }
     match decode_base64(alloc, text)? {
         Ok(octets) => Ok(octets),
         Err(_) => Ok(Vec::new(alloc)),
     }
+}
+
+/// Returns the bytes of a text in the encoding Q. A soft line break after it keeps the spaces at
+/// its end.
+fn q_octets(alloc: Global, text: &[u8]) -> Result<Vec<u8>, AllocError>
+    ensures { IfOk result (λ octets. octets.items
+        ≡ quoted_printable (spaced text.now ++ codes "=")) }
+{
+    let mut encoded = spaced(alloc, text)?;
+    encoded.push(b'=')?;
+    decode_quoted_printable(alloc, encoded.as_slice())
+}
+
+/// Returns a text with a space in place of each underscore.
+fn spaced(alloc: Global, text: &[u8]) -> Result<Vec<u8>, AllocError>
+    ensures { IfOk result (λ octets. octets.items ≡ spaced text.now) }
+{
+    let mut found = Vec::new(alloc);
+    for byte in text {
+        found.push(if *byte == b'_' { b' ' } else { *byte })?;
+    }
+    Ok(found)
 }

@@ -35,7 +35,7 @@ use std::io::Write;
 /// use mailparse::parse_mail;
 ///
 /// let raw = b"A: b\n\na\0b\n";
-/// let found = findings(alloc, &parse_mail(alloc, raw)?)?;
+/// let found = findings(alloc, &parse_mail(alloc, raw)?, &())?;
 /// let origin = Origin {
 ///     file: None,
 ///     number: None,

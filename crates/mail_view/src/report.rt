@@ -41,13 +41,13 @@ const SHOWN_SIZE: usize = 64;
 /// use mail_view::write_report;
 /// use mailparse::parse_mail;
 ///
-/// let raw = b"A: b\n\na\0b\n";
-/// let found = findings(alloc, &parse_mail(alloc, raw)?)?;
+/// let raw = b"A: b\0\n\nHi\n";
+/// let found = findings(alloc, &parse_mail(alloc, raw)?, &())?;
 /// let mut out = Vec::new(alloc);
 /// write_report(alloc, &mut out, raw, found.as_slice())?;
-/// let text = "Found:    nul (structure), part 1, bytes 7 to 8\n  \
+/// let text = "Found:    nul (structure), part 1, bytes 4 to 5\n  \
 ///     The mail contains a NUL byte: readers in C may end the line or the mail there.\n\
-///     Before:   A: b\\n\\na\nBytes:    \\x00\nAfter:    b\\n\n\n";
+///     Before:   A: b\nBytes:    \\x00\nAfter:    \\n\\nHi\\n\n\n";
 /// assert_eq!(rt; str::from_utf8(out.as_slice())?, text);
 /// ```
 pub fn write_report<W: Write>(

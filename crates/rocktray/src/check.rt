@@ -34,6 +34,7 @@ struct Classes {
     structure: bool,
     bytes: bool,
     name: bool,
+    text: bool,
     note: bool,
 }
 
@@ -44,6 +45,7 @@ impl Classes {
             Class::Structure => self.structure,
             Class::Bytes => self.bytes,
             Class::Name => self.name,
+            Class::Text => self.text,
             Class::Note => self.note,
         }
     }
@@ -299,6 +301,7 @@ fn classes_of(matches: &ArgMatches<'_>) -> Classes {
         structure: is_named(names, Class::Structure),
         bytes: is_named(names, Class::Bytes),
         name: is_named(names, Class::Name),
+        text: is_named(names, Class::Text),
         note: is_named(names, Class::Note),
     }
 }

@@ -71,7 +71,7 @@ pub mod ids {
 pub const FORMATS: [&str; 3] = ["o", "rd", "cl"];
 
 /// The classes of findings.
-const CLASSES: [&str; 4] = ["structure", "bytes", "name", "note"];
+const CLASSES: [&str; 5] = ["structure", "bytes", "name", "text", "note"];
 
 /// The end of a help: a text, and then the exit statuses of all subcommands.
 macro_rules! with_statuses {

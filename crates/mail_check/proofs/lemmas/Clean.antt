@@ -2,6 +2,7 @@
 use Rattle.std.proofs.Common.{◌≡◌, ℕ, Bool, List, [], ◌∷◌, ◌++◌, length, sym, refl, Option, Some, None, inl, inr, arith}
 use Rattle.std.specs.Prelude.{◌↔◌, ◌⊎◌}
 use Rattle.std.proofs.lemmas.Bool.{cases_lt, lt-ltb}
+use Rattle.mail_codec.specs.Charset.{Charsets}
 use Rattle.mail_codec.specs.Places.{least}
 use Rattle.mail_codec.proofs.lemmas.Places.{least-before}
 use Rattle.mailparse.specs.Mail.{Tree, tree, root}
@@ -84,6 +85,6 @@ pub plain_bytes_are_clean : (spot : Spot) (bytes : List ℕ) → (byte_findings 
 plain_bytes_are_clean spot bytes = (clean_bytes spot bytes, plain_bytes spot bytes)
 
 -- those of a mail begin with those of its bytes
-pub clean_is_plain : (t : Tree) → findings t (placements 0 t) ≡ [] → HasPlainBytes (root t).bytes
+pub clean_is_plain : (known : Charsets) (t : Tree) → findings known t (placements 0 t) ≡ [] → HasPlainBytes (root t).bytes
 unfolding findings
-clean_is_plain (tree node parts) h = clean_bytes _ node.bytes (left_empty _ _ (left_empty _ _ (left_empty _ _ h)))
+clean_is_plain known (tree node parts) h = clean_bytes _ node.bytes (left_empty _ _ (left_empty _ _ (left_empty _ _ h)))

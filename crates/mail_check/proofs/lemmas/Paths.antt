@@ -4,6 +4,7 @@ use Rattle.std.specs.Prelude.{flat_map, is_none, not, ◌&&◌, ◌==◌, codes,
 use Rattle.std.specs.List.{All, list_any}
 use Rattle.std.proofs.lemmas.List.Elements.{All-append}
 use Rattle.mail_codec.specs.Ascii.{colon}
+use Rattle.mail_codec.specs.Charset.{Charsets}
 use Rattle.mail_codec.specs.Places.{byte_place}
 use Rattle.mailparse.specs.Body.{BodyKind, in_base64, in_quoted_printable, in_7bit, in_8bit, in_binary}
 use Rattle.mailparse.specs.ContentType.{ContentType}
@@ -23,6 +24,7 @@ use Rattle.mail_check.specs.Lines.{HeaderLine, ends_block, has_blank_fold, has_c
 use Rattle.mail_check.specs.Lines.{is_other_message, second_named, single_names}
 use Rattle.mail_check.specs.Multiparts.{dash_of, is_bad_boundary, is_close, is_inside, is_tailed, late_delimiter}
 use Rattle.mail_check.specs.Senders.{is_bad_sender}
+use Rattle.mail_check.specs.Texts.{has_bad_text}
 use Rattle.mail_check.specs.Parameters.{has_extended, has_other_name, has_quoted_pair, has_quoted_special, has_repeat, has_word, is_bad_value, none_seen, parameter_names, strict_value}
 use Rattle.mail_check.specs.WordBytes.{has_bad_octets}
 use Rattle.mail_check.specs.Words.{has_join, is_bad_name, is_bad_piece, is_worded, pieces}
@@ -110,42 +112,42 @@ on_delimiters spot dash text =
 on_sender : (number : ℕ) (spot : Spot) (line : HeaderLine) → On spot.path (sender_findings number spot line)
 on_sender number spot line = on_listed_if spot name.FromSyntax (number == 0 && is_bad_sender line)
 
-on_words : (spot : Spot) (line : HeaderLine) (found : List (List ℕ)) → On spot.path (word_findings spot line found)
-on_words spot line found =
+on_words : (known : Charsets) (spot : Spot) (line : HeaderLine) (found : List (List ℕ)) → On spot.path (word_findings known spot line found)
+on_words known spot line found =
     both spot.path _ _ (on_listed_if spot name.WordSyntax (list_any is_bad_piece found))
     (both spot.path _ _ (on_listed_if spot name.WordJoin (has_join [] found))
-    (both spot.path _ _ (on_listed_if spot name.WordBytes (list_any has_bad_octets found)) (on_listed_if spot name.NameAddress (is_bad_name line found))))
+    (both spot.path _ _ (on_listed_if spot name.WordBytes (list_any (has_bad_octets known) found)) (on_listed_if spot name.NameAddress (is_bad_name line found))))
 
 -- what may be found has a path
 on_either : (path : List ℕ) (is : Bool) (xs : List Finding) → On path xs → On path (if is then xs else [])
 on_either path true xs h = h
 on_either path false xs h = none path
 
-on_worded : (spot : Spot) (line : HeaderLine) → On spot.path (worded_findings spot line)
-on_worded spot line = on_either spot.path (is_worded line) _ (on_words spot line (pieces line.value))
+on_worded : (known : Charsets) (spot : Spot) (line : HeaderLine) → On spot.path (worded_findings known spot line)
+on_worded known spot line = on_either spot.path (is_worded line) _ (on_words known spot line (pieces line.value))
 
 on_files : (spot : Spot) (shown : Disposition) (node : Node) → On spot.path (file_findings spot shown node)
 on_files spot shown node =
     both spot.path _ _ (on_listed_if spot name.NoType (has_untyped_name shown node))
     (both spot.path _ _ (on_listed_if spot name.TwoNames (has_two_names shown node.ctype)) (on_listed_if spot name.UnsafeName (has_unsafe_name shown node.ctype)))
 
-module _ (place : Place) where
-  on_header : (number : ℕ) (line : HeaderLine) → On place.path (header_findings number place line)
+module _ (known : Charsets) (place : Place) where
+  on_header : (number : ℕ) (line : HeaderLine) → On place.path (header_findings known number place line)
   on_header number line =
       let spot = spot_in place line.start (length line.bytes) in
       both place.path _ _ (on_line spot (length (root place.part).block) line)
       (both place.path _ _ (on_parameters spot line)
       (both place.path _ _ (on_type spot (root place.part).ctype line)
-      (both place.path _ _ (on_sender number spot line) (on_worded spot line))))
+      (both place.path _ _ (on_sender number spot line) (on_worded known spot line))))
 
   on_repeated : (line : Option HeaderLine) → On place.path (repeated place line)
   on_repeated None = none place.path
   on_repeated (Some line) = one place.path (finding_at (spot_in place line.start (length line.bytes)) name.Duplicate 0) refl
 
-  on_block : (number : ℕ) (lines : List HeaderLine) → On place.path (block_findings number place lines)
+  on_block : (number : ℕ) (lines : List HeaderLine) → On place.path (block_findings known number place lines)
   on_block number lines =
       both place.path _ _ (on_listed_if (spot_in place 0 0) name.NoHeaders (has_none lines))
-      (both place.path _ _ (each place.path (header_findings number place) (on_header number) lines)
+      (both place.path _ _ (each place.path (header_findings known number place) (on_header number) lines)
       (each place.path (λ (n : List ℕ). repeated place (second_named n lines)) (λ n. on_repeated (second_named n lines)) single_names))
 
   on_parts : (size : ℕ) (dash text : List ℕ) → On place.path (part_findings place size dash text)
@@ -170,11 +172,13 @@ module _ (place : Place) where
   on_encoded in_8bit body = none place.path
   on_encoded in_binary body = none place.path
 
-  on_body : (node : Node) → On place.path (body_findings place node)
+  on_body : (node : Node) → On place.path (body_findings known place node)
   on_body node =
-      both place.path _ _ (on_encoded (body_kind node) node.body) (on_listed (spot_of_body place 1) name.Uuencode (file_line node.ctype node.body))
+      both place.path _ _ (on_encoded (body_kind node) node.body)
+      (both place.path _ _ (on_listed (spot_of_body place 1) name.Uuencode (file_line node.ctype node.body))
+      (on_listed_if (spot_of_body place (length node.body)) name.Charset (has_bad_text known node)))
 
-  pub paths_are_of_parts : (number : ℕ) → On place.path (message_findings number place)
+  pub paths_are_of_parts : (number : ℕ) → On place.path (message_findings known number place)
   paths_are_of_parts number =
       let node = root place.part in
       both place.path _ _ (on_either place.path (number == 0) _ (on_first (spot_in place 0 1) node.bytes))

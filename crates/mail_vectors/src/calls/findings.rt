@@ -1,11 +1,12 @@
 //! The findings of a mail.
 //!
 //! ```text
-//! findings MAIL => NAME START END PATH for each finding
+//! findings MAIL => NAME START END PATH for each finding, under all charsets
 //! read_findings LIMIT MAIL => the same, unless the mail has more messages and headers
 //! ```
 
 use crate::notation::{Answer, Decision, Outcome, Row};
+use mail_charsets::AllCharsets;
 use mail_check::{Finding, findings, read_findings};
 use mailparse::parse_mail;
 
@@ -14,7 +15,12 @@ pub fn make(answer: &mut Answer, row: &Row) -> Decision {
     match row.call.as_str() {
         "findings" => list_findings(answer, row)?,
         "read_findings" => {
-            let found = read_findings(row.alloc, row.bytes(1), row.number(0), &())?;
+            let found = read_findings(
+                row.alloc,
+                row.bytes(1),
+                row.number(0),
+                &AllCharsets::standard(),
+            )?;
             put_findings(answer, found.as_slice());
         }
         _ => return Ok(false),
@@ -22,10 +28,13 @@ pub fn make(answer: &mut Answer, row: &Row) -> Decision {
     Ok(true)
 }
 
-/// `findings MAIL => NAME START END PATH` for each finding.
+/// `findings MAIL => NAME START END PATH` for each finding, under all charsets.
 fn list_findings(answer: &mut Answer, row: &Row) -> Outcome {
     let mail = parse_mail(row.alloc, row.bytes(0))?;
-    put_findings(answer, findings(row.alloc, &mail)?.as_slice());
+    put_findings(
+        answer,
+        findings(row.alloc, &mail, &AllCharsets::standard())?.as_slice(),
+    );
     Ok(())
 }
 

@@ -7,7 +7,9 @@ use Rattle.mail_check.specs.Findings.{findings, findings_from}
 use Rattle.mail_check.proofs.listing.findings.Given as goal
 
 abbrev pub invariant-loop-place : goal.invariant-loop-place
-invariant-loop-place l = record {
-  count : l.number ≡ l.place-index;
-  all : map finding_view l.found.items ++ findings_from l.number (map place_view (drop l.place-index l.place-items)) ≡ findings (tree_of l.mail) (placements_of l.mail);
-}
+invariant-loop-place g l =
+    let known = g.K.KnownCharsets.known l.known in
+    record {
+      count : l.number ≡ l.place-index;
+      all : map finding_view l.found.items ++ findings_from known l.number (map place_view (drop l.place-index l.place-items)) ≡ findings known (tree_of l.mail) (placements_of l.mail);
+    }

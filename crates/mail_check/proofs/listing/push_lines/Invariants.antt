@@ -8,6 +8,6 @@ use Rattle.mail_check.specs.LineViews.{line_view}
 use Rattle.mail_check.proofs.listing.push_lines.Given as goal
 
 abbrev pub invariant-loop-line : goal.invariant-loop-line
-invariant-loop-line l =
-    map finding_view l.found.items ++ flat_map (header_findings l.number (place_view l.place)) (map line_view (drop l.line-index l.lines))
-    ≡ map finding_view l.fn.found.items ++ flat_map (header_findings l.number (place_view l.place)) (map line_view l.lines)
+invariant-loop-line g l =
+    map finding_view l.found.items ++ flat_map (header_findings (g.K.KnownCharsets.known l.known) l.number (place_view l.place)) (map line_view (drop l.line-index l.lines))
+    ≡ map finding_view l.fn.found.items ++ flat_map (header_findings (g.K.KnownCharsets.known l.known) l.number (place_view l.place)) (map line_view l.lines)

@@ -5,4 +5,6 @@ use Rattle.mail_check.specs.WordBytes.{has_bad_octets}
 use Rattle.mail_check.proofs.word_bytes.has_bad_word.Given as goal
 
 abbrev pub invariant-loop-piece : goal.invariant-loop-piece
-invariant-loop-piece l = list_any has_bad_octets (map (λ piece. piece.now) (drop l.piece-index l.found)) ≡ list_any has_bad_octets (map (λ piece. piece.now) l.found)
+invariant-loop-piece g l =
+    let is_bad = has_bad_octets (g.K.KnownCharsets.known l.known) in
+    list_any is_bad (map (λ piece. piece.now) (drop l.piece-index l.found)) ≡ list_any is_bad (map (λ piece. piece.now) l.found)

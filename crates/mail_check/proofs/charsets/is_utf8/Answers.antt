@@ -1,6 +1,6 @@
 use Rattle.std.proofs.Common.{◌∙◌}
 use Rattle.mail_data.proofs.lemmas.lenient.Texts.{utf8-decided}
-use Rattle.mail_check.proofs.word_bytes.is_utf8.Goals as goal
+use Rattle.mail_check.proofs.charsets.is_utf8.Goals as goal
 
 pub returns : goal.returns
 returns c = c.is_ok.ensures.value ∙ utf8-decided _ c.args.octets.now _ c.from_utf8.ensures.cases
