@@ -5,3 +5,13 @@ pub mod Parameters
 pub mod Words
 pub mod Clean
 pub mod Paths
+pub mod StrictLineEnds
+pub mod StrictOthers
+pub mod StrictNamed
+pub mod StrictBytes
+pub mod StrictHeaders
+pub mod StrictComments
+pub mod StrictBlocks
+pub mod StrictUnique
+pub mod StrictReading
+pub mod StrictMessages

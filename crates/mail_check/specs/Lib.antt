@@ -17,4 +17,5 @@ pub mod Findings
 pub mod FindingViews
 pub mod Reading
 pub mod Clean
+pub mod strict
 pub mod private

@@ -41,12 +41,12 @@ pub found_nowhere : (test : ℕ → Bool) (bytes : List ℕ) → Nowhere test by
 found_nowhere test bytes nowhere = sym (offset-none test bytes nowhere)
 
 -- two offsets of which there are not both
-not_both : (p q : Option ℕ) → later p q ≡ None → (p ≡ None) ⊎ (q ≡ None)
+pub not_both : (p q : Option ℕ) → later p q ≡ None → (p ≡ None) ⊎ (q ≡ None)
 not_both None q h = inl refl
 not_both (Some p) None h = inr refl
 not_both (Some p) (Some q) h = absurd (cc)
 
-not_later : (p q : Option ℕ) → (p ≡ None) ⊎ (q ≡ None) → later p q ≡ None
+pub not_later : (p q : Option ℕ) → (p ≡ None) ⊎ (q ≡ None) → later p q ≡ None
 not_later None q h = refl
 not_later (Some p) None h = refl
 not_later (Some p) (Some q) (inl e) = absurd (cc)

@@ -1,0 +1,53 @@
+-- Lists of findings without some names, and the names that the grammar of strict mails covers so far.
+use Rattle.std.specs.Prelude.{◌≡◌, Bool, true, false, List}
+use Rattle.std.specs.List.{AllByRecursion}
+use Rattle.mail_check.specs.Findings.{Finding}
+use Rattle.mail_check.specs.declared.names.Name.{Name}
+use Rattle.mail_check.specs.declared.names.Name.TheVariants as name
+
+-- no finding has such a name
+abbrev pub Lacks : (Name → Bool) → List Finding → Type 0
+Lacks is_named found = AllByRecursion (λ finding. is_named finding.name ≡ false) found
+
+-- one of these names
+abbrev pub is_nul_name : Name → Bool
+is_nul_name name.Nul = true
+is_nul_name _ = false
+
+abbrev pub is_lone_cr_name : Name → Bool
+is_lone_cr_name name.LoneCr = true
+is_lone_cr_name _ = false
+
+abbrev pub is_mixed_name : Name → Bool
+is_mixed_name name.MixedLineEnds = true
+is_mixed_name _ = false
+
+-- a name of what the bytes of the mail are as lines
+abbrev pub is_line_name : Name → Bool
+is_line_name name.Nul = true
+is_line_name name.LoneCr = true
+is_line_name name.MixedLineEnds = true
+is_line_name _ = false
+
+-- a name of how a header block is written
+abbrev pub is_block_name : Name → Bool
+is_block_name name.NoHeaders = true
+is_block_name name.NoBlankLine = true
+is_block_name name.BadKey = true
+is_block_name name.BlankFold = true
+is_block_name name.CommentFold = true
+is_block_name name.Header8bit = true
+is_block_name _ = false
+
+-- a name that is covered so far
+abbrev pub is_covered : Name → Bool
+is_covered name.Nul = true
+is_covered name.LoneCr = true
+is_covered name.MixedLineEnds = true
+is_covered name.NoHeaders = true
+is_covered name.NoBlankLine = true
+is_covered name.BadKey = true
+is_covered name.BlankFold = true
+is_covered name.CommentFold = true
+is_covered name.Header8bit = true
+is_covered _ = false

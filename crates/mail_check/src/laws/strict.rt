@@ -1,0 +1,58 @@
+//! Mails without some findings are exactly those of a grammar of bytes, whatever charsets are
+//! known.
+ghost use Rattle.std.specs.Prelude.{◌≡◌, ◌↔◌, ◌++◌, ℕ, IsOkAnd, List, Ok, length};
+ghost use Rattle.mail_codec.specs.Charset.{Charsets};
+ghost use Rattle.mailparse.specs.Block.{read_headers};
+ghost use Rattle.mailparse.specs.Mail.{Tree, read_mail_in, root};
+ghost use Rattle.mailparse.specs.Placement.{placements};
+ghost use Rattle.mail_check.specs.Findings.{findings};
+ghost use Rattle.mail_check.specs.strict.Headers.{IsBlock};
+ghost use Rattle.mail_check.specs.strict.LineEnds.{HasNoLoneReturn, HasNoNul};
+ghost use Rattle.mail_check.specs.strict.LineEnds.{HasOneLineEnd, IsText};
+ghost use Rattle.mail_check.specs.strict.Mail.{HasStrictBlocks, IsStrictSoFar};
+ghost use Rattle.mail_check.specs.strict.Named.{Lacks, is_block_name, is_covered, is_line_name};
+ghost use Rattle.mail_check.specs.strict.Named.{is_lone_cr_name, is_mixed_name, is_nul_name};
+
+/// A mail has no finding `nul` exactly if no byte of it is NUL; no `lone-cr` exactly if a LF
+/// follows each CR; and no `mixed-line-ends` exactly if not both line ends are there. It has none
+/// of the three exactly if it is lines that all end in LF, or lines that all end in CR LF.
+#[tactic(auto, using(crate::proofs::lemmas::StrictBytes::line_names))]
+pub fn lines_are_strict()
+    ensures nul { (known : Charsets) (t : Tree) →
+        Lacks is_nul_name (findings known t (placements 0 t)) ↔ HasNoNul (root t).bytes }
+    ensures lone_cr { (known : Charsets) (t : Tree) →
+        Lacks is_lone_cr_name (findings known t (placements 0 t)) ↔ HasNoLoneReturn (root t).bytes }
+    ensures mixed { (known : Charsets) (t : Tree) →
+        Lacks is_mixed_name (findings known t (placements 0 t)) ↔ HasOneLineEnd (root t).bytes }
+    ensures all { (known : Charsets) (t : Tree) →
+        Lacks is_line_name (findings known t (placements 0 t)) ↔ IsText (root t).bytes }
+{}
+
+/// A mail that the port reads has no finding `no-headers`, `no-blank-line`, `bad-key`,
+/// `blank-fold`, `comment-fold` and `header-8bit` exactly if the header block of each of its
+/// messages is one of the grammar: a header or more, each a name, a colon and lines of ASCII, and
+/// then an empty line.
+#[tactic(auto, using(crate::proofs::lemmas::StrictMessages::blocks_strict))]
+pub fn blocks_are_strict()
+    ensures { (known : Charsets) (greatest : ℕ) (bytes : List ℕ) (t : Tree) →
+        read_mail_in known greatest bytes ≡ Ok t →
+        Lacks is_block_name (findings known t (placements 0 t)) ↔ HasStrictBlocks t }
+{}
+
+/// No message that begins with a header block of the grammar is refused for its headers, and its
+/// header block is that one. So no message begins with two.
+#[tactic(auto, using(crate::proofs::lemmas::StrictUnique::block_readings))]
+pub fn strict_blocks_are_read()
+    ensures read { (block body : List ℕ) → IsBlock block →
+        IsOkAnd (read_headers (block ++ body)) (λ found. found.index ≡ length block) }
+    ensures only { (block body other rest : List ℕ) → IsBlock block → IsBlock other →
+        block ++ body ≡ other ++ rest → block ≡ other }
+{}
+
+/// A mail that the port reads has no finding with any of these nine names exactly if its bytes and
+/// its header blocks are those of the grammar.
+pub fn strict_so_far()
+    ensures { (known : Charsets) (greatest : ℕ) (bytes : List ℕ) (t : Tree) →
+        read_mail_in known greatest bytes ≡ Ok t →
+        Lacks is_covered (findings known t (placements 0 t)) ↔ IsStrictSoFar bytes t }
+{}
