@@ -34,7 +34,7 @@
  *
  * Stack. A call that reads a whole mail or part needs up to 128 KB of stack, if its parts are 100 levels deep.
  * rocktray_json also reads the mails that a mail forwards, each within the call that reads the one before, and needs up to
- * 250 KB for 100 mails that are forwarded like this. All other calls need up to 16 KB. If a type has ten times as many
+ * 160 KB for 100 mails that are forwarded like this. All other calls need up to 16 KB. If a type has ten times as many
  * parameters as 3,000, a call needs 2 KB more.
  *
  * ABI. Later versions with the same major number keep the calls, the codes, and the layout of the records. They may add

@@ -35,9 +35,9 @@ use Rattle.mail_address.specs.Tokens.{delete}
 use Rattle.mail_json.specs.Addresses.{canonical, unless_empty}
 use Rattle.mail_json.specs.Body.{encoding_text}
 use Rattle.mail_json.specs.Fields.{content_id, date_fault_text, kind_text, value_of}
-use Rattle.mail_data.specs.InnerMails.{InnerMail}
+use Rattle.mail_data.specs.InnerMails.{InnerMail, places_under}
 use Rattle.mail_data.specs.Reading.{mail_placements}
-use Rattle.mail_json.specs.Inside.{Listed, mails_inside, parts_inside, without_bytes}
+use Rattle.mail_json.specs.Inside.{Listed, mails_among, mails_inside, parts_inside, without_bytes}
 use Rattle.mail_json.specs.Origin.{Origin}
 use Rattle.mail_json.specs.Part.{Lists, content_if, hash_of, html_shown, is_attachment, is_read, path_shown, place_in, recipients_if, report_if, text_shown}
 use Rattle.mail_json.specs.Options.{Options}
@@ -325,6 +325,14 @@ module _ (options : Options) where
   AreInsideValues start (inner ∷ mails) values =
       (first : List Json) × (others : List Json) × AreValues (IsPartValue (Some inner.path) (place_in inner.start start)) (parts_inside options.known options.limit inner) first
       × AreInsideValues start mails others × (values ≡ first ++ others)
+
+  -- values are the objects of the parts of a mail that is inside the part with this path and begins at this offset of the
+  -- whole mail, if it is not encoded, and then of those of the mails inside it, at most `most` mails deep
+  abbrev pub AreReadValues : ℕ → ℕ → Option ℕ → List ℕ → Tree → List Json → Type 0
+  AreReadValues start most at path mail values =
+      let found = places_under path mail (mail_placements mail) in
+      (first : List Json) × (others : List Json) × AreValues (IsPartValue (Some path) (place_in at start)) found first
+      × AreInsideValues start (mails_among options.known options.limit most at found) others × (values ≡ first ++ others)
 
   -- values are the objects of the parts of a mail that begins at this offset, and then of those of the mails inside
   abbrev pub ArePartValues : ℕ → Tree → List Json → Type 0

@@ -17,6 +17,6 @@ WritesOne {A = A} old new (Ok done) text Is = (x : A) × Is x × Appends old new
 WritesOne {A = A} old new (Err fault) text Is = IsEnd fault
 
 -- the same if it succeeded
-abbrev pub WroteOne : {T A : Type 0} → Option (List ℕ) → Option (List ℕ) → Result T Fault → (A → List ℕ) → (A → Type 0) → Type 0
+abbrev pub WroteOne : {T E A : Type 0} → Option (List ℕ) → Option (List ℕ) → Result T E → (A → List ℕ) → (A → Type 0) → Type 0
 WroteOne {A = A} old new (Ok done) text Is = (x : A) × Is x × Appends old new (text x)
 WroteOne {A = A} old new (Err fault) text Is = Unit {0}

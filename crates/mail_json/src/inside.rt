@@ -1,22 +1,26 @@
 //! The mails inside a mail, and the objects of their parts.
 ghost use Rattle.std.specs.Prelude.{◌≡◌, ◌++◌, [], ◌∷◌, map, option_and_then, option_map, true};
 ghost use Rattle.std.specs.List.{AllByRecursion};
-ghost use Rattle.std.specs.Prelude.{IfErr, IfOk, OnOk};
+ghost use Rattle.std.specs.Prelude.{IfOk, OnOk, Some};
 ghost use Rattle.mailparse.specs.Mail.{Tree};
 ghost use Rattle.mailparse.specs.Outcome.{AnswersOrMemory, IsMemory, refusal_of};
 ghost use Rattle.mailparse.specs.Views.{placements_of, tree_of};
-ghost use Rattle.mail_data.specs.InnerMails.{mails_in_place, places_under};
+ghost use Rattle.mail_data.specs.InnerMails.{holds_mail, mails_in_place, places_under};
 ghost use Rattle.mail_data.specs.Reading.{mail_placements, mail_reading};
 ghost use Rattle.mail_data.specs.PartPlaces.{places};
 ghost use Rattle.mail_data.specs.PlaceViews.{place_view};
 ghost use Rattle.mail_json.specs.Inside.{mails_among, mails_inside, without_bytes};
-ghost use Rattle.mail_json.specs.InsideViews.{inside_view};
+ghost use Rattle.mail_json.specs.InsideViews.{IsRead, inside_view};
 ghost use Rattle.mail_json.specs.Members.{AddsMember, is_key};
 ghost use Rattle.mail_json.specs.Options.{options_of};
 ghost use Rattle.mail_json.specs.DecodedViews.{IsDecoded, decoded_place};
-ghost use Rattle.mail_json.specs.Printed.{after_commas, list_of, listed, string_or_null, text_of};
-ghost use Rattle.mail_json.specs.Values.{AreInsideValues, ArePartValues, inside_value};
+ghost use Rattle.mail_json.specs.Part.{place_in};
+ghost use Rattle.mail_json.specs.Printed.{after_commas, comma, list_of, listed, string_or_null};
+ghost use Rattle.mail_json.specs.Printed.{text_of};
+ghost use Rattle.mail_json.specs.Values.{AreInsideValues, ArePartValues, AreReadValues, AreValues};
+ghost use Rattle.mail_json.specs.Values.{IsPartValue, inside_value};
 ghost use Rattle.mail_json.specs.Written.{WritesOne, WroteOne};
+ghost use Rattle.mail_json.specs.declared.json_text.Position.TheVariants.{Later};
 ghost use Rattle.mail_program.specs.Fault.{IsEnd};
 ghost use Rattle.mail_program.specs.Refusal.{refusal_text};
 ghost use Rattle.mail_program.specs.Streams.{Writes};
@@ -45,29 +49,62 @@ pub(crate) struct Inside {
     error: Option<MailParseError>,
 }
 
+/// The mails inside a mail that were found, and why the search ended if it did.
+#[derive(Drop)]
+struct Found {
+    /// The mails.
+    mails: Vec<Inside>,
+    /// The fault if the search ended: that memory ran out, unless a write failed.
+    fault: Fault,
+}
+
+/// The search for mails inside a mail ended: memory ran out, or a write failed. `Found` has the
+/// fault, which is large, so that mails inside one another need less stack.
+#[derive(Clone, Copy)]
+struct Ended;
+
+/// What is the same for all mails inside a mail.
+#[derive_where(Clone, Copy)]
+struct Shared<'s, 'r, K> {
+    /// The offset of the whole mail in the input.
+    origin: usize,
+    /// How the parts are shown.
+    options: LineOptions<'r>,
+    /// The charsets in which the mails are read.
+    known: &'s K,
+}
+
 /// The mail whose parts are searched for mails inside.
 #[derive(Clone, Copy)]
 struct Within {
-    /// The offset of the whole mail in the input.
-    origin: usize,
     /// The offset of this mail in the whole mail, or `None` if it is encoded.
     start: Option<usize>,
     /// How deep mails are searched.
     most: u8,
 }
 
+/// What became of a mail inside a mail.
+#[derive(Drop)]
+pub(crate) enum Inner<'a> {
+    /// It is read and listed.
+    Read(Box<ParsedMail<'a>>),
+    /// It is listed with why it is refused.
+    Refused,
+    /// Memory ran out.
+    Ended,
+}
+
 /// Writes the objects of all parts of a mail, and then those of the mails inside it, separated by
-/// commas, and adds the mails inside to a list. The mail begins at the offset `origin` of the
+/// commas, and returns the list of the mails inside. The mail begins at the offset `origin` of the
 /// input.
 pub(crate) fn write_parts<W: Write, K: KnownCharsets>(
     alloc: Global,
     out: &mut W,
-    mails: &mut Vec<Inside>,
     parts: &[Decoded<'_, '_, '_>],
     origin: usize,
     options: LineOptions<'_>,
     known: &K,
-) -> Result<(), Fault>
+) -> Result<Vec<Inside>, Fault>
     requires { AllByRecursion (IsDecoded options.decodes_bodies) parts.now }
     ensures written { (mail : Tree) →
         map decoded_place parts.now ≡ places mail (mail_placements mail) →
@@ -75,8 +112,8 @@ pub(crate) fn write_parts<W: Write, K: KnownCharsets>(
         (ArePartValues (options_of (K.known known.now) options.entry) origin mail) }
     ensures listed { (mail : Tree) →
         map decoded_place parts.now ≡ places mail (mail_placements mail) →
-        OnOk result (map inside_view mails.new.items ≡ map inside_view mails.old.items
-        ++ map without_bytes (mails_inside (K.known known.now) options.entry.limit mail)) }
+        IfOk result (λ mails. map inside_view mails.items
+        ≡ map without_bytes (mails_inside (K.known known.now) options.entry.limit mail)) }
 {
     let form = Form {
         inside: None,
@@ -85,12 +122,23 @@ pub(crate) fn write_parts<W: Write, K: KnownCharsets>(
         known,
     };
     write_found(alloc, out, parts, Position::First, form)?;
-    let within = Within {
+    let shared = Shared {
         origin,
+        options,
+        known,
+    };
+    let within = Within {
         start: Some(0),
         most: MAX_LEVELS,
     };
-    write_inside(alloc, out, mails, parts, within, options, known)
+    let mut found = Found {
+        mails: Vec::new(alloc),
+        fault: Fault::from(AllocError),
+    };
+    match write_inside(alloc, out, &mut found, parts, &within, &shared) {
+        Ok(()) => Ok(found.mails),
+        Err(_) => Err(found.fault),
+    }
 }
 
 /// Writes the objects of the parts of the mails that these parts of a mail contain, each after a
@@ -99,34 +147,32 @@ pub(crate) fn write_parts<W: Write, K: KnownCharsets>(
 fn write_inside<W: Write, K: KnownCharsets>(
     alloc: Global,
     out: &mut W,
-    mails: &mut Vec<Inside>,
+    found: &mut Found,
     parts: &[Decoded<'_, '_, '_>],
-    within: Within,
-    options: LineOptions<'_>,
-    known: &K,
-) -> Result<(), Fault>
-    ensures written { AllByRecursion (IsDecoded options.entry.decodes_bodies) parts.now →
+    within: &Within,
+    shared: &Shared<'_, '_, K>,
+) -> Result<(), Ended>
+    ensures written { let options = options_of (K.known shared.now.known.now) shared.now.options in
+        AllByRecursion (IsDecoded options.decodes_bodies) parts.now →
         WroteOne (W.contents out.old) (W.contents out.new) result (after_commas text_of)
-        (AreInsideValues (options_of (K.known known.now) options.entry) within.origin
-        (mails_among (K.known known.now) options.entry.limit within.most within.start
-        (map decoded_place parts.now))) }
-    ensures listed { AllByRecursion (IsDecoded options.entry.decodes_bodies) parts.now →
-        OnOk result (map inside_view mails.new.items
-        ≡ map inside_view mails.old.items ++ map without_bytes
-        (mails_among (K.known known.now) options.entry.limit within.most within.start
-        (map decoded_place parts.now))) }
-    ensures failed { IfErr result IsEnd }
+        (AreInsideValues options shared.now.origin (mails_among options.known options.limit
+        within.now.most within.now.start (map decoded_place parts.now))) }
+    ensures listed { let options = options_of (K.known shared.now.known.now) shared.now.options in
+        AllByRecursion (IsDecoded options.decodes_bodies) parts.now →
+        OnOk result (map inside_view found.new.mails.items
+        ≡ map inside_view found.old.mails.items ++ map without_bytes (mails_among options.known
+        options.limit within.now.most within.now.start (map decoded_place parts.now))) }
+    ensures failed { IsEnd found.old.fault → IsEnd found.new.fault }
 {
     if within.most == 0 {
         return Ok(());
     }
     for part in parts {
         let deeper = Within {
-            origin: within.origin,
             start: within.start,
             most: within.most - 1,
         };
-        write_forwarded(alloc, out, mails, part, deeper, options, known)?;
+        write_forwarded(alloc, out, found, part, &deeper, shared)?;
     }
     Ok(())
 }
@@ -137,51 +183,153 @@ fn write_inside<W: Write, K: KnownCharsets>(
 fn write_forwarded<W: Write, K: KnownCharsets>(
     alloc: Global,
     out: &mut W,
-    mails: &mut Vec<Inside>,
+    found: &mut Found,
     part: &Decoded<'_, '_, '_>,
-    within: Within,
-    options: LineOptions<'_>,
-    known: &K,
-) -> Result<(), Fault>
-    ensures written { IsDecoded options.entry.decodes_bodies part.now →
+    within: &Within,
+    shared: &Shared<'_, '_, K>,
+) -> Result<(), Ended>
+    ensures written { let options = options_of (K.known shared.now.known.now) shared.now.options in
+        IsDecoded options.decodes_bodies part.now →
         WroteOne (W.contents out.old) (W.contents out.new) result (after_commas text_of)
-        (AreInsideValues (options_of (K.known known.now) options.entry) within.origin
-        (mails_in_place (K.known known.now) options.entry.limit within.most within.start
-        (decoded_place part.now))) }
-    ensures listed { IsDecoded options.entry.decodes_bodies part.now →
-        OnOk result (map inside_view mails.new.items
-        ≡ map inside_view mails.old.items ++ map without_bytes
-        (mails_in_place (K.known known.now) options.entry.limit within.most within.start
-        (decoded_place part.now))) }
-    ensures failed { IfErr result IsEnd }
+        (AreInsideValues options shared.now.origin (mails_in_place options.known options.limit
+        within.now.most within.now.start (decoded_place part.now))) }
+    ensures listed { let options = options_of (K.known shared.now.known.now) shared.now.options in
+        IsDecoded options.decodes_bodies part.now →
+        OnOk result (map inside_view found.new.mails.items
+        ≡ map inside_view found.old.mails.items ++ map without_bytes (mails_in_place options.known
+        options.limit within.now.most within.now.start (decoded_place part.now))) }
+    ensures failed { IsEnd found.old.fault → IsEnd found.new.fault }
 {
     if !holds_mail(part.place) {
         return Ok(());
     }
     let start = mail_start(within.start, part.place, &part.body);
-    let path = part.place.path.as_str();
-    match read_boxed(alloc, mail_in(part), options.limit, known) {
-        Ok(mail) => {
-            push_inside(alloc, mails, path, start, None)?;
-            let form = Form {
-                inside: Some(path),
-                start: place_in(start, within.origin),
-                options,
-                known,
-            };
-            let found = places_inside(alloc, &mail, path)?;
-            let parts = decoded_parts(alloc, found.as_slice(), options)?;
-            write_found(alloc, out, parts.as_slice(), Position::Later, form)?;
+    match read_listed(alloc, &mut found.mails, part, start, shared) {
+        Inner::Read(mail) => {
             let inside = Within {
-                origin: within.origin,
                 start,
                 most: within.most,
             };
-            write_inside(alloc, out, mails, parts.as_slice(), inside, options, known)
+            let path = part.place.path.as_str();
+            let written = write_read(alloc, out, found, &mail, path, &inside, shared);
+            free(mail);
+            written
         }
+        Inner::Refused => Ok(()),
+        Inner::Ended => Err(Ended),
+    }
+}
+
+/// Writes the objects of the parts of a mail that is inside the part with this path, and of the
+/// mails inside it, each after a comma, and adds these mails to a list.
+#[cycle(inside)]
+fn write_read<W: Write, K: KnownCharsets>(
+    alloc: Global,
+    out: &mut W,
+    found: &mut Found,
+    mail: &ParsedMail<'_>,
+    path: &str,
+    within: &Within,
+    shared: &Shared<'_, '_, K>,
+) -> Result<(), Ended>
+    ensures written { let options = options_of (K.known shared.now.known.now) shared.now.options in
+        placements_of mail.now ≡ mail_placements (tree_of mail.now) →
+        WroteOne (W.contents out.old) (W.contents out.new) result (after_commas text_of)
+        (AreReadValues options shared.now.origin within.now.most within.now.start path.now
+        (tree_of mail.now)) }
+    ensures listed { let options = options_of (K.known shared.now.known.now) shared.now.options in
+        placements_of mail.now ≡ mail_placements (tree_of mail.now) →
+        OnOk result (map inside_view found.new.mails.items
+        ≡ map inside_view found.old.mails.items ++ map without_bytes (mails_among options.known
+        options.limit within.now.most within.now.start (places_under path.now (tree_of mail.now)
+        (mail_placements (tree_of mail.now))))) }
+    ensures failed { IsEnd found.old.fault → IsEnd found.new.fault }
+{
+    let Ok(places) = places_inside(alloc, mail, path) else {
+        return Err(Ended);
+    };
+    let parts = write_places(
+        alloc,
+        out,
+        &mut found.fault,
+        places.as_slice(),
+        path,
+        within.start,
+        shared,
+    )?;
+    write_inside(alloc, out, found, parts.as_slice(), within, shared)
+}
+
+/// Frees a mail. It is not inlined, so that mails inside one another need less stack.
+#[inline(never)]
+fn free(_mail: Box<ParsedMail<'_>>) {}
+
+/// Reads the mail in a part, and adds it to a list. It is not inlined, so that mails inside one
+/// another need less stack.
+#[inline(never)]
+fn read_listed<'c, K: KnownCharsets>(
+    alloc: Global,
+    mails: &mut Vec<Inside>,
+    part: &'c Decoded<'_, '_, '_>,
+    start: Option<usize>,
+    shared: &Shared<'_, '_, K>,
+) -> Inner<'c>
+    ensures { let options = options_of (K.known shared.now.known.now) shared.now.options in
+        IsDecoded options.decodes_bodies part.now →
+        holds_mail (decoded_place part.now) ≡ true →
+        IsRead options.known options.limit (decoded_place part.now) start
+        (map inside_view mails.old.items) (map inside_view mails.new.items) result }
+{
+    let path = part.place.path.as_str();
+    match read_boxed(alloc, mail_in(part), shared.options.limit, shared.known) {
+        Ok(mail) => match push_inside(alloc, mails, path, start, None) {
+            Ok(()) => Inner::Read(mail),
+            Err(_) => Inner::Ended,
+        },
+        Err(error) => match push_refused(alloc, mails, path, start, error) {
+            Ok(()) => Inner::Refused,
+            Err(_) => Inner::Ended,
+        },
+    }
+}
+
+/// Writes the objects of the parts at these places of a mail that begins at the offset `start` of
+/// the whole mail and is inside the part with this path, each after a comma, and returns the parts.
+/// It is not inlined, so that mails inside one another need less stack.
+#[inline(never)]
+fn write_places<'p, 'm, 'a, W: Write, K: KnownCharsets>(
+    alloc: Global,
+    out: &mut W,
+    fault: &mut Fault,
+    places: &'p [Place<'m, 'a>],
+    path: &str,
+    start: Option<usize>,
+    shared: &Shared<'_, '_, K>,
+) -> Result<Vec<Decoded<'p, 'm, 'a>>, Ended>
+    ensures written { WroteOne (W.contents out.old) (W.contents out.new) result
+        (listed text_of (comma Later)) (AreValues
+        (IsPartValue (options_of (K.known shared.now.known.now) shared.now.options) (Some path.now)
+        (place_in start shared.now.origin)) (map place_view places.now)) }
+    ensures places { IfOk result (λ parts.
+        map decoded_place parts.items ≡ map place_view places.now) }
+    ensures decoded { IfOk result (λ parts.
+        AllByRecursion (IsDecoded shared.now.options.decodes_bodies) parts.items) }
+    ensures failed { IsEnd fault.old → IsEnd fault.new }
+{
+    let form = Form {
+        inside: Some(path),
+        start: place_in(start, shared.origin),
+        options: shared.options,
+        known: shared.known,
+    };
+    let Ok(parts) = decoded_parts(alloc, places, shared.options) else {
+        return Err(Ended);
+    };
+    match write_found(alloc, out, parts.as_slice(), Position::Later, form) {
+        Ok(()) => Ok(parts),
         Err(error) => {
-            push_refused(alloc, mails, path, start, error)?;
-            Ok(())
+            *fault = error;
+            Err(Ended)
         }
     }
 }

@@ -80,10 +80,9 @@ pub fn write_mail<W: Write, K: KnownCharsets>(
     let parts = decoded.as_slice();
     let head = head_of(alloc, mail, parts, origin, options, known)?;
     out.write_all(head.as_slice())?;
-    let mut inside = Vec::new(alloc);
     write_word(out, key!("parts"))?;
     write_word(out, "[")?;
-    write_parts(alloc, out, &mut inside, parts, origin.start, options, known)?;
+    let inside = write_parts(alloc, out, parts, origin.start, options, known)?;
     write_word(out, "]")?;
     write_word(out, key!("forwarded"))?;
     write_mails(alloc, out, inside.as_slice(), origin.start)?;
@@ -98,7 +97,9 @@ fn bytes_of<'m>(mail: &'m ParsedMail<'_>) -> &'m [u8]
     mail.raw_bytes
 }
 
-/// Returns the members of a mail before those of its parts.
+/// Returns the members of a mail before those of its parts. It is not inlined, so that mails inside
+/// it need less stack.
+#[inline(never)]
 fn head_of<K: KnownCharsets>(
     alloc: Global,
     mail: &ParsedMail<'_>,

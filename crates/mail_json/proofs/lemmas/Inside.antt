@@ -3,7 +3,7 @@ use Rattle.std.proofs.Common.{◌≡◌, ◌≢◌, ℕ, zero, suc, ◌-◌, Lis
 use Rattle.std.proofs.KnownBytes.{Appends-trans}
 use Rattle.std.proofs.lemmas.Fmt.{decimal_digit}
 use Rattle.std.proofs.lemmas.Grind.{flat_map-append}
-use Rattle.std.specs.Prelude.{codes, flat_map, IfErr, OnOk}
+use Rattle.std.specs.Prelude.{codes, flat_map, OnOk}
 use Rattle.std.specs.Io.KnownBytes.{Appends}
 use Rattle.json.specs.Json.{Json}
 use Rattle.mailparse.specs.Mail.{Tree, tree, no_parts, part_and}
@@ -14,13 +14,11 @@ use Rattle.mail_data.specs.Files.{path_under, with_paths}
 use Rattle.mail_data.specs.PartPlaces.{Place, placed, places}
 use Rattle.mail_data.specs.Reading.{mail_placements, mail_reading}
 use Rattle.mail_data.proofs.lemmas.InnerMails.{forwarded_read, forwarded_with, inner_with, not_forwarded}
-use Rattle.mail_program.specs.declared.fault.Fault.{Fault}
 use Rattle.mail_json.specs.Inside.{Listed, mails_among, mails_inside, parts_of_read, without_bytes}
 use Rattle.mail_json.specs.Part.{place_in}
 use Rattle.mail_json.specs.Printed.{after_commas, listed, text_of}
-use Rattle.mail_json.specs.Values.{AreInsideValues, ArePartValues, AreValues, IsPartValue}
-use Rattle.mail_json.specs.Written.{WritesOne, WroteOne}
-use Rattle.mail_program.specs.Fault.{IsEnd}
+use Rattle.mail_json.specs.Values.{AreInsideValues, ArePartValues, AreReadValues, AreValues, IsPartValue}
+use Rattle.mail_json.specs.Written.{WroteOne}
 use Rattle.mail_json.specs.Options.{Options}
 use Rattle.mail_json.proofs.lemmas.JsonText.{listed-comma}
 use Rattle.mail_json.proofs.lemmas.Mail.{parts_first}
@@ -76,44 +74,80 @@ module _ (options : Options) (origin most : ℕ) (start : Option ℕ) (place : P
       subst (λ (xs : List InnerMail). AreInsideValues options origin xs []) (sym (forwarded_read options.known options.limit most start at place bytes (Err refusal) h e))
       ([], [], none, refl, refl)
 
-  pub refused_listed : (at : Option ℕ) (bytes : List ℕ) (refusal : Refusal) (given : Option Refusal) (old new : List Listed)
+  pub refused_listed : (at : Option ℕ) (bytes : List ℕ) (refusal : Refusal) (old new : List Listed)
       → ◌≡◌ {A = Option Forwarded} (Some (forwarded_with bytes at)) (forwarded start place)
-      → mail_reading options.known options.limit bytes ≡ Err refusal → given ≡ Some refusal → new ≡ old ++ listed_with place.path at given ∷ []
+      → mail_reading options.known options.limit bytes ≡ Err refusal → new ≡ old ++ listed_with place.path at (Some refusal) ∷ []
       → new ≡ old ++ map without_bytes mails
-  refused_listed at bytes refusal given old new h e same is =
-      is ∙ ap (λ (r : Option Refusal). old ++ listed_with place.path at r ∷ []) same
-      ∙ ap (λ (xs : List InnerMail). old ++ map without_bytes xs) (sym (forwarded_read options.known options.limit most start at place bytes (Err refusal) h e))
+  refused_listed at bytes refusal old new h e is =
+      is ∙ ap (λ (xs : List InnerMail). old ++ map without_bytes xs) (sym (forwarded_read options.known options.limit most start at place bytes (Err refusal) h e))
 
   -- one whose mail is read
-  pub read_written : {T : Type 0} (at : Option ℕ) (bytes : List ℕ) (mail : Tree) (found again : List Place) (old mid new : Option (List ℕ)) (r : Result T Fault) (first : List Json)
+  pub read_written : {T E : Type 0} (at : Option ℕ) (bytes : List ℕ) (mail : Tree) (path : List ℕ) (old new : Option (List ℕ)) (r : Result T E)
       → ◌≡◌ {A = Option Forwarded} (Some (forwarded_with bytes at)) (forwarded start place)
-      → mail_reading options.known options.limit bytes ≡ Ok mail → found ≡ places_under place.path mail (mail_placements mail)
-      → again ≡ places_under place.path mail (mail_placements mail) → AreValues (IsPartValue options (Some place.path) (place_in at origin)) found first → Appends old mid (listed text_of (codes ",") first)
-      → WroteOne mid new r (after_commas text_of) (AreInsideValues options origin (mails_among options.known options.limit most at again))
+      → mail_reading options.known options.limit bytes ≡ Ok mail → path ≡ place.path
+      → WroteOne old new r (after_commas text_of) (AreReadValues options origin most at path mail)
       → WroteOne old new r (after_commas text_of) (AreInsideValues options origin mails)
-  read_written at bytes mail found again old mid new (Ok done) first h e same same_again is p rest =
+  read_written at bytes mail path old new (Ok done) h e same rest =
+      let is = subst (λ (p : List ℕ). AreReadValues options origin most at p mail rest.0) same rest.1 in
       let Is = IsPartValue options (Some place.path) (place_in at origin) in
-      let own = subst (λ (xs : List Place). AreValues Is xs first) (same ∙ parts-read place.path _ mail e) is in
-      let others = subst (λ (xs : List Place). AreInsideValues options origin (mails_among options.known options.limit most at xs) rest.0) same_again rest.1 in
-      let text = ap (λ t. t ++ after_commas text_of rest.0) (listed-comma text_of first) ∙ sym (flat_map-append (λ (j : Json). codes "," ++ text_of j) first rest.0) in (
-        first ++ rest.0,
-        subst (λ (xs : List InnerMail). AreInsideValues options origin xs (first ++ rest.0)) (sym (read_is options.known options.limit most start at place bytes mail h e))
-            (first, rest.0, own, others, refl),
-        appends_as old new _ _ text (Appends-trans old mid new _ _ p rest.2),
+      let own = subst (λ (xs : List Place). AreValues Is xs is.0) (parts-read place.path _ mail e) is.2 in (
+        rest.0,
+        subst (λ (xs : List InnerMail). AreInsideValues options origin xs rest.0) (sym (read_is options.known options.limit most start at place bytes mail h e))
+            (is.0, is.1, own, is.3, is.4),
+        rest.2,
       )
-  read_written at bytes mail found again old mid new (Err fault) first h e same same_again is p rest = rest
+  read_written at bytes mail path old new (Err fault) h e same rest = rest
 
-  pub read_listed : {T E : Type 0} (at : Option ℕ) (bytes : List ℕ) (mail : Tree) (found : List Place) (old mid new : List Listed) (r : Result T E)
+  pub read_listed : {T E : Type 0} (at : Option ℕ) (bytes : List ℕ) (mail : Tree) (path : List ℕ) (old mid new : List Listed) (r : Result T E)
       → ◌≡◌ {A = Option Forwarded} (Some (forwarded_with bytes at)) (forwarded start place)
-      → mail_reading options.known options.limit bytes ≡ Ok mail → found ≡ places_under place.path mail (mail_placements mail)
-      → mid ≡ old ++ listed_with place.path at None ∷ [] → OnOk r (new ≡ mid ++ map without_bytes (mails_among options.known options.limit most at found))
+      → mail_reading options.known options.limit bytes ≡ Ok mail → path ≡ place.path
+      → mid ≡ old ++ listed_with place.path at None ∷ []
+      → OnOk r (new ≡ mid ++ map without_bytes (mails_among options.known options.limit most at (places_under path mail (mail_placements mail))))
       → OnOk r (new ≡ old ++ map without_bytes mails)
-  read_listed at bytes mail found old mid new (Ok done) h e same one rest =
+  read_listed at bytes mail path old mid new (Ok done) h e same one rest =
+      let found = places_under path mail (mail_placements mail) in
       rest ∙ ap (λ (l : List Listed). l ++ map without_bytes (mails_among options.known options.limit most at found)) one
       ∙ append_assoc old (listed_with place.path at None ∷ []) (map without_bytes (mails_among options.known options.limit most at found))
-      ∙ ap (λ (xs : List Place). old ++ listed_with place.path at None ∷ map without_bytes (mails_among options.known options.limit most at xs)) same
+      ∙ ap (λ (p : List ℕ). old ++ listed_with place.path at None ∷ map without_bytes (mails_among options.known options.limit most at (places_under p mail (mail_placements mail)))) same
       ∙ ap (λ (xs : List InnerMail). old ++ map without_bytes xs) (sym (read_is options.known options.limit most start at place bytes mail h e))
-  read_listed at bytes mail found old mid new (Err fault) h e same one rest = tt
+  read_listed at bytes mail path old mid new (Err fault) h e same one rest = tt
+
+-- the same of a mail that is equal
+pub written_along : {T E : Type 0} (options : Options) (origin most : ℕ) (at : Option ℕ) (path : List ℕ) (given mail : Tree)
+    (old new : Option (List ℕ)) (r : Result T E) → given ≡ mail
+    → WroteOne old new r (after_commas text_of) (AreReadValues options origin most at path given)
+    → WroteOne old new r (after_commas text_of) (AreReadValues options origin most at path mail)
+written_along options origin most at path given mail old new r same rest =
+    subst (λ (m : Tree). WroteOne old new r (after_commas text_of) (AreReadValues options origin most at path m)) same rest
+
+pub listed_along : {T E : Type 0} (known : Charsets) (limit most : ℕ) (at : Option ℕ) (path : List ℕ) (given mail : Tree)
+    (mid new : List Listed) (r : Result T E) → given ≡ mail
+    → OnOk r (new ≡ mid ++ map without_bytes (mails_among known limit most at (places_under path given (mail_placements given))))
+    → OnOk r (new ≡ mid ++ map without_bytes (mails_among known limit most at (places_under path mail (mail_placements mail))))
+listed_along known limit most at path given mail mid new r same rest =
+    let all = λ (m : Tree). map without_bytes (mails_among known limit most at (places_under path m (mail_placements m))) in
+    subst (λ (m : Tree). OnOk r (new ≡ mid ++ all m)) same rest
+
+-- the objects of the parts of a mail, and then those of the mails inside it
+pub under_written : {T E : Type 0} (options : Options) (origin most : ℕ) (at : Option ℕ) (path : List ℕ) (mail : Tree) (found again : List Place) (old mid new : Option (List ℕ)) (r : Result T E) (first : List Json)
+    → found ≡ places_under path mail (mail_placements mail) → again ≡ places_under path mail (mail_placements mail)
+    → AreValues (IsPartValue options (Some path) (place_in at origin)) found first → Appends old mid (listed text_of (codes ",") first)
+    → WroteOne mid new r (after_commas text_of) (AreInsideValues options origin (mails_among options.known options.limit most at again))
+    → WroteOne old new r (after_commas text_of) (AreReadValues options origin most at path mail)
+under_written options origin most at path mail found again old mid new (Ok done) first same same_again is p rest =
+    let own = subst (λ (xs : List Place). AreValues (IsPartValue options (Some path) (place_in at origin)) xs first) same is in
+    let others = subst (λ (xs : List Place). AreInsideValues options origin (mails_among options.known options.limit most at xs) rest.0) same_again rest.1 in
+    let text = ap (λ t. t ++ after_commas text_of rest.0) (listed-comma text_of first) ∙ sym (flat_map-append (λ (j : Json). codes "," ++ text_of j) first rest.0) in (
+      first ++ rest.0,
+      (first, rest.0, own, others, refl),
+      appends_as old new _ _ text (Appends-trans old mid new _ _ p rest.2),
+    )
+under_written options origin most at path mail found again old mid new (Err fault) first same same_again is p rest = rest
+
+pub under_listed : {T E : Type 0} (known : Charsets) (limit most : ℕ) (at : Option ℕ) (found all : List Place) (old new : List Listed) (r : Result T E) → found ≡ all
+    → OnOk r (new ≡ old ++ map without_bytes (mails_among known limit most at found)) → OnOk r (new ≡ old ++ map without_bytes (mails_among known limit most at all))
+under_listed known limit most at found all old new (Ok done) same h = h ∙ ap (λ (xs : List Place). old ++ map without_bytes (mails_among known limit most at xs)) same
+under_listed known limit most at found all old new (Err fault) same h = tt
 
 -- ---- the mails in parts
 
@@ -181,11 +215,11 @@ pub among_whole : (known : Charsets) (limit : ℕ) (mail : Tree) → mails_among
 among_whole known limit mail =
     ap (λ (xs : List Place). mails_among known limit 100 (Some 0) xs) (sym (places_whole mail)) ∙ sym (below_among known limit 100 [] (Some 0) mail)
 
-pub parts_written : {T : Type 0} (options : Options) (origin : ℕ) (mail : Tree) (found again : List Place) (old mid new : Option (List ℕ)) (r : Result T Fault) (parts : List Json)
+pub parts_written : (options : Options) (origin : ℕ) (mail : Tree) (found again : List Place) (old mid new : Option (List ℕ)) (parts : List Json)
     → found ≡ places mail (mail_placements mail) → again ≡ places mail (mail_placements mail) → AreValues (IsPartValue options None (Some origin)) found parts → Appends old mid (listed text_of [] parts)
-    → WroteOne mid new r (after_commas text_of) (AreInsideValues options origin (mails_among options.known options.limit 100 (Some 0) again)) → IfErr r IsEnd
-    → WritesOne old new r (listed text_of []) (ArePartValues options origin mail)
-parts_written options origin mail found again old mid new (Ok done) parts same same_again is p rest failed =
+    → (others : List Json) × AreInsideValues options origin (mails_among options.known options.limit 100 (Some 0) again) others × Appends mid new (after_commas text_of others)
+    → (all : List Json) × ArePartValues options origin mail all × Appends old new (listed text_of [] all)
+parts_written options origin mail found again old mid new parts same same_again is p rest =
     let own = subst (λ (xs : List Place). AreValues (IsPartValue options None (Some origin)) xs parts) same is in
     let mails = ap (λ (xs : List Place). mails_among options.known options.limit 100 (Some 0) xs) same_again ∙ among_whole options.known options.limit mail in
     let others = subst (λ (xs : List InnerMail). AreInsideValues options origin xs rest.0) mails rest.1 in (
@@ -193,11 +227,10 @@ parts_written options origin mail found again old mid new (Ok done) parts same s
       (parts, rest.0, own, others, refl),
       appends_as old new _ _ (parts_first options None (Some origin) mail parts rest.0 own) (Appends-trans old mid new _ _ p rest.2),
     )
-parts_written options origin mail found again old mid new (Err fault) parts same same_again is p rest failed = failed
 
-pub whole_listed : {T E : Type 0} (known : Charsets) (limit : ℕ) (mail : Tree) (found : List Place) (old new : List Listed) (r : Result T E) → found ≡ places mail (mail_placements mail)
-    → OnOk r (new ≡ old ++ map without_bytes (mails_among known limit 100 (Some 0) found)) → OnOk r (new ≡ old ++ map without_bytes (mails_inside known limit mail))
-whole_listed known limit mail found old new (Ok done) same h =
-    h ∙ ap (λ (xs : List Place). old ++ map without_bytes (mails_among known limit 100 (Some 0) xs)) same
-    ∙ ap (λ (xs : List InnerMail). old ++ map without_bytes xs) (among_whole known limit mail)
-whole_listed known limit mail found old new (Err fault) same h = tt
+pub whole_listed : (known : Charsets) (limit : ℕ) (mail : Tree) (found : List Place) (old new : List Listed) → old ≡ [] → found ≡ places mail (mail_placements mail)
+    → new ≡ old ++ map without_bytes (mails_among known limit 100 (Some 0) found) → new ≡ map without_bytes (mails_inside known limit mail)
+whole_listed known limit mail found old new none same h =
+    h ∙ ap (λ (l : List Listed). l ++ map without_bytes (mails_among known limit 100 (Some 0) found)) none
+    ∙ ap (λ (xs : List Place). map without_bytes (mails_among known limit 100 (Some 0) xs)) same
+    ∙ ap (λ (xs : List InnerMail). map without_bytes xs) (among_whole known limit mail)

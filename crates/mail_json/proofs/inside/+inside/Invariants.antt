@@ -6,6 +6,7 @@ use Rattle.std.specs.Io.KnownBytes.{Appends}
 use Rattle.mail_data.specs.InnerMails.{mails_in_place}
 use Rattle.mail_json.specs.DecodedViews.{IsDecoded, decoded_place}
 use Rattle.std.specs.List.{AllByRecursion}
+use Rattle.mail_program.specs.Fault.{IsEnd}
 use Rattle.mail_json.specs.Inside.{without_bytes}
 use Rattle.mail_json.specs.InsideViews.{inside_view}
 use Rattle.mail_json.specs.Options.{options_of}
@@ -15,18 +16,22 @@ use Rattle.mail_json.proofs.lemmas.Part.{Completes}
 use Rattle.mail_json.proofs.inside.«+inside».Given as goal
 
 abbrev pub decreases-write_inside : goal.decreases-write_inside
-decreases-write_inside g l = 2 * l.within.most
+decreases-write_inside g l = 3 * l.within.now.most
 
 abbrev pub decreases-write_forwarded : goal.decreases-write_forwarded
-decreases-write_forwarded g l = 2 * l.within.most + 1
+decreases-write_forwarded g l = 3 * l.within.now.most + 2
+
+abbrev pub decreases-write_read : goal.decreases-write_read
+decreases-write_read g l = 3 * l.within.now.most + 1
 
 abbrev pub invariant-write_inside-loop-part : goal.invariant-write_inside-loop-part
 invariant-write_inside-loop-part g l =
-    let known = g.K.KnownCharsets.known l.known in
-    let step = mails_in_place known l.options.limit (l.within.most - 1) l.within.start in
+    let options = options_of (g.K.KnownCharsets.known l.shared.known.now) l.shared.options in
+    let step = mails_in_place options.known options.limit (l.within.most - 1) l.within.start in
     let all = map decoded_place l.parts in
     let left = map decoded_place (drop l.part-index l.parts) in
-    AllByRecursion (IsDecoded l.options.decodes_bodies) l.parts → ((done : List ℕ) × Appends (g.W.Write.contents l.initial.out) (g.W.Write.contents l.out) done
-    × Completes (AreInsideValues (options_of known l.options) l.within.origin (flat_map step left)) (after_commas text_of)
-    (AreInsideValues (options_of known l.options) l.within.origin (flat_map step all)) (after_commas text_of) done)
-    × (map inside_view l.mails.items ++ map without_bytes (flat_map step left) ≡ map inside_view l.initial.mails.items ++ map without_bytes (flat_map step all))
+    (AllByRecursion (IsDecoded options.decodes_bodies) l.parts → ((done : List ℕ) × Appends (g.W.Write.contents l.initial.out) (g.W.Write.contents l.out) done
+    × Completes (AreInsideValues options l.shared.origin (flat_map step left)) (after_commas text_of)
+    (AreInsideValues options l.shared.origin (flat_map step all)) (after_commas text_of) done)
+    × (map inside_view l.found.mails.items ++ map without_bytes (flat_map step left) ≡ map inside_view l.initial.found.mails.items ++ map without_bytes (flat_map step all)))
+    × (IsEnd l.initial.found.fault → IsEnd l.found.fault)

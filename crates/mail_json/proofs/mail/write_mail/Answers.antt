@@ -13,7 +13,6 @@ use Rattle.mail_json.specs.Options.{options_of}
 use Rattle.mail_json.specs.Origin.{origin_of}
 use Rattle.mail_json.specs.Printed.{list_of, object_of, text_of}
 use Rattle.mail_json.specs.Values.{IsMailValue, findings_if, found_members, head_members, inside_value, mail_members}
-use Rattle.mail_json.specs.declared.inside.Inside.{Inside}
 use Rattle.mail_json.specs.declared.json_text.Position.TheVariants.{First}
 use Rattle.mail_json.proofs.lemmas.Decoded.{whole_trees}
 use Rattle.mail_json.proofs.lemmas.JsonText.{map_twice}
@@ -40,10 +39,9 @@ returns g c =
     let found =
     ap (map decoded_place) c.as_slice-parts.ensures.value ∙ c.in_ok-decoded.ensures.places ∙ ap (map place_view) c.as_slice.ensures.value
     ∙ c.in_ok-found.ensures.read ∙ ap (λ (ps : List Placement). places mail ps) c.requires.placed in
-    let parts = c.in_ok-write_parts.ensures.written mail found in
+    let parts = c.in_ok-inside.ensures.written mail found in
     let mails : map inside_view c.as_slice-3.result.now ≡ map without_bytes inside =
-    ap (map inside_view) c.as_slice-3.ensures.value ∙ c.in_ok-write_parts.ensures.listed mail found
-    ∙ ap (λ (old : List Inside). map inside_view old ++ map without_bytes inside) c.new-inside.ensures.items in
+    ap (map inside_view) c.as_slice-3.ensures.value ∙ c.in_ok-inside.ensures.listed mail found in
     let list = list_appended _ _ _ _ parts.0 c.in_ok-write_word-2.ensures parts.2 c.in_ok-write_word-3.ensures in
     let mails_are = value_as (λ (ms : List Listed). list_of (map (inside_value origin.start) ms)) _ _ _ _ mails c.in_ok-write_mails.ensures in
     let forwarded = value_as (λ (js : List Json). list_of js) _ _ _ _ (sym (map_twice (inside_value origin.start) without_bytes inside)) mails_are in
