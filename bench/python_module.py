@@ -2,9 +2,9 @@
 
 The works: to parse a mail; five members with the names of the files; the names and values of all headers, for which
 email has BytesHeaderParser; everything, which is all headers decoded, and of each part its type, name, bytes and text;
-and subject, sender and date of each mail of a mailbox, for which email has mailbox.mbox. Threads read a mailbox of 100 MB that
-they share, or everything of mails that are shared out among 1, 2 and 4 of them. The module is the one that Python finds: install the wheel, or unpack
-it into a directory and name that in PYTHONPATH.
+and subject, sender and date of each mail of a mailbox, for which email has mailbox.mbox. Threads read a mailbox of 100 MB,
+which they share or which each opens for itself, or everything of mails that are shared out among 1, 2 and 4 of them. The
+module is the one that Python finds: install the wheel, or unpack it into a directory and name that in PYTHONPATH.
 """
 import email
 import email.policy
@@ -204,6 +204,11 @@ def mailbox_with_threads(count, path):
     run_threads([(lambda: [Rocktray.envelope(mail) for mail in mails if not mail.error],)] * count)
 
 
+def mailboxes_with_threads(count, path):
+    """Reads a mailbox as often as there are threads at most. Each thread opens it anew."""
+    run_threads([(lambda: [len(Rocktray.mailbox(path)) for _ in range(max(THREADS) // count)],)] * count)
+
+
 def measured(mails, path, shared, path_of_shared):
     """The works with their mails, and what times each: a call for each reader, or for each number of threads. Threads share
     a mailbox of more mails.
@@ -211,7 +216,11 @@ def measured(mails, path, shared, path_of_shared):
     for work in WORKS:
         yield work, mails, {name: (read_all, getattr(reader, work), mails) for name, reader in READERS.items()}
     yield "mailbox", mails, {name: (reader.mailbox, path) for name, reader in READERS.items()}
-    yield "threads, a mailbox", shared, {f"{count} threads": (mailbox_with_threads, count, path_of_shared) for count in THREADS}
+    for work, some, call in (
+        ("threads, one mailbox", shared, mailbox_with_threads),
+        ("threads, a mailbox each", shared * max(THREADS), mailboxes_with_threads),
+    ):
+        yield work, some, {f"{count} threads": (call, count, path_of_shared) for count in THREADS}
     large = [raw for raw in mails if len(raw) >= LARGE] * 4
     for work, some in (("threads", mails * 4), (f"threads, mails of {LARGE >> 10} kB and more", large)):
         if some:
