@@ -32,9 +32,9 @@
  *
  * Time. A call takes time linear in the length of its input, times the depth of nested parts.
  *
- * Stack. A call that reads a whole mail or part needs up to 128 KB of stack, if its parts are 100 levels deep.
+ * Stack. A call that reads a whole mail or part needs up to 56 KB of stack, if its parts are 100 levels deep.
  * rocktray_json also reads the mails that a mail forwards, each within the call that reads the one before, and needs up to
- * 160 KB for 100 mails that are forwarded like this. All other calls need up to 16 KB. If a type has ten times as many
+ * 88 KB for 100 mails that are forwarded like this. All other calls need up to 16 KB. If a type has ten times as many
  * parameters as 3,000, a call needs 2 KB more.
  *
  * ABI. Later versions with the same major number keep the calls, the codes, and the layout of the records. They may add
