@@ -65,7 +65,8 @@ def comment_faults():
     """For each public call its path, and what its comment lacks."""
     for crate in libraries():
         for module, _, items in crate_modules(crate):
-            calls = [(item.name, item) for item in items if item.kind == "fn" and not module.endswith("::laws")]
+            # a law does nothing, so it has no example
+            calls = [(item.name, item) for item in items if item.kind == "fn" and "laws" not in module.split("::")]
             calls += [(f"{item.name}::{it.name}", it) for item in items for it in item.members if it.kind == "fn"]
             for name, call in calls:
                 has_errors = re.search(r"-> (io::)?Result<", call.signature) is not None
