@@ -510,7 +510,7 @@ def test_options():
 
 def test_findings():
     """With --check a line has findings, or why there are none, and is otherwise the same, also without bodies."""
-    for data, wanted in ((b"A: b\n\nHi\n", ([], None)), (b"A: b\n\na\0b\n", (["nul"], None)), (b" x", (None, SPACE))):
+    for data, wanted in ((b"A: b\n\nHi\n", ([], None)), (b"A: b\0\n\nHi\n", (["nul"], None)), (b" x", (None, SPACE))):
         for options in (["--mail"], ["--mail", "--no-text"]):
             line, plain = objects([*options, "--check"], data, 0, repr(data))[0], objects(options, data, 0, repr(data))[0]
             found = line.pop("findings")
