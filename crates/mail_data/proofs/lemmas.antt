@@ -12,6 +12,7 @@ pub mod InnerMails
 pub mod LineEnds
 pub mod lenient
 pub mod Mailbox
+pub mod MailboxSearch
 pub mod MailboxJoined
 pub mod PartPlaces
 pub mod MailboxParts

@@ -33,6 +33,7 @@ pub mod AddressEscapes
 pub mod Bounce
 pub mod BounceViews
 pub mod Archive
+pub mod private
 pub use Rattle.mail_codec.specs.Ascii
 pub use Rattle.mail_codec.specs.Places
 pub use Rattle.mail_codec.specs.Base64

@@ -1,6 +1,7 @@
 //! Where lines of bytes end, and which are empty.
 ghost use Rattle.std.specs.Prelude.{◌≡◌, ◌≤◌, ℕ, Bool, List, length};
 ghost use Rattle.mail_data.specs.LineEnds.{empty_line, is_empty_line, line_length, line_place};
+ghost use Rattle.mail_data.specs.private.LineEnds.{last_empty_line};
 
 use mail_codec::bytescan::find_byte;
 
@@ -13,6 +14,21 @@ pub(crate) fn empty_line(bytes: &[u8]) -> usize
     if bytes.starts_with(b"\n") {
         1
     } else if bytes.starts_with(b"\r\n") {
+        2
+    } else {
+        0
+    }
+}
+
+/// Returns the length of the empty line at the end, LF or CR LF, or 0 if there is no empty line.
+#[tactic(auto, unfolding(crate::specs::private::LineEnds::last_empty_line))]
+pub(crate) fn last_empty_line(bytes: &[u8]) -> usize
+    ensures value { result ≡ last_empty_line bytes.now }
+    ensures bounds { result ≤ length bytes.now }
+{
+    if bytes == b"\n".as_slice() || bytes.ends_with(b"\n\n") {
+        1
+    } else if bytes == b"\r\n".as_slice() || bytes.ends_with(b"\n\r\n") {
         2
     } else {
         0

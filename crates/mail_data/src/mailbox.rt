@@ -1,7 +1,7 @@
 //! Mailboxes: the mails of an mbox file (RFC 4155, appendix A).
 ghost use Rattle.std.specs.Prelude.{◌<◌, ◌≡◌, ◌++◌, ◌≤◌, IfSome, length, option_map, take};
 ghost use Rattle.std.specs.List.{flat_map};
-ghost use Rattle.mail_data.specs.Mailbox.{Entry, ends_mail, entry_bytes, front_length};
+ghost use Rattle.mail_data.specs.Mailbox.{Entry, entry_bytes, front_length};
 ghost use Rattle.mail_data.specs.Mailbox.{has_front, has_line, is_before_text, mail_length};
 ghost use Rattle.mail_data.specs.MailboxFormats.{entries_in, settled_in};
 ghost use Rattle.mail_data.specs.MailboxViews.{entries_left};
@@ -13,9 +13,10 @@ pub mod laws;
 pub mod quoted;
 mod separator;
 
-use crate::line_ends::{empty_line, line_length, line_place};
+use crate::line_ends::{empty_line, last_empty_line, line_length};
 pub use formats::Format;
 use formats::{cut_entry, is_length_known};
+use mail_codec::bytescan::find_pair;
 use separator::is_separator;
 use std::marker::Model;
 
@@ -315,22 +316,19 @@ fn front_length(bytes: &[u8]) -> usize
 }
 
 /// Returns the number of bytes before the first line at which a mail ends.
+///
+/// A separator begins with `F`, so only the lines that begin with it are tested.
 fn mail_length(bytes: &[u8]) -> usize
     ensures value { result ≡ mail_length bytes.now }
     ensures bounds { result ≤ length bytes.now }
 {
-    line_place(bytes, ends_mail)
-}
-
-/// Returns whether a mail ends at the front of these bytes, which begin a line: an empty line is
-/// there, and after it a separator or nothing.
-fn ends_mail(bytes: &[u8]) -> bool
-    ensures { result ≡ ends_mail bytes.now }
-{
-    let length = empty_line(bytes);
-    if length == 0 {
-        return false;
+    let mut at = 0;
+    'lines: while let Some(place) = find_pair(&bytes[at..], b'\n', b'F') {
+        at += place + 1;
+        let empty = last_empty_line(&bytes[..at]);
+        if empty > 0 && is_separator(&bytes[at..]) {
+            return at - empty;
+        }
     }
-    let after = &bytes[length..];
-    after.is_empty() || is_separator(after)
+    bytes.len() - last_empty_line(bytes)
 }

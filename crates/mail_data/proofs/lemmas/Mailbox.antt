@@ -1,46 +1,14 @@
 -- Lemmas on mailboxes: where a mail ends, and that the mails make up the mailbox.
-use Rattle.std.proofs.Common.{◌≡◌, ℕ, zero, suc, ◌+◌, ◌-◌, ◌<◌, ◌≤◌, Bool, true, false, List, [], ◌∷◌, ◌&&◌, ◌||◌, length, take, drop, refl, sym, ap, ◌∙◌, arith, length-drop, ◌++◌, inl, inr}
-use Rattle.std.specs.Prelude.{nat_lt, nat_eq}
+use Rattle.std.proofs.Common.{◌≡◌, ℕ, zero, suc, ◌+◌, ◌-◌, ◌<◌, ◌≤◌, Bool, true, false, List, [], ◌∷◌, ◌||◌, length, take, drop, refl, sym, ap, ◌∙◌, arith, length-drop, ◌++◌, inl, inr}
+use Rattle.std.specs.Prelude.{nat_lt}
 use Rattle.std.specs.List.{flat_map}
-use Rattle.std.proofs.lemmas.Bool.{cond-true, cond-false, cases_Bool, lt-ltb, ltb-true, ne_eqb, and_parts, and_left, or_right, false≢true}
+use Rattle.std.proofs.lemmas.Bool.{cond-true, cond-false, cases_Bool, ltb-true, and_parts, or_right, false≢true}
 use Rattle.std.proofs.lemmas.List.{append_assoc, drop-drop, drop_all, take_rest, take-append-drop}
 use Rattle.mail_codec.specs.Places.{is_empty}
 use Rattle.mail_data.specs.LineEnds.{after_empty_line, after_line, empty_line, line_length}
 use Rattle.mail_data.specs.Mailbox.{Entry, ends_mail, mail_length, entry_bytes, after_by, after_mail, entry_by, next_by, entries_within, entries_by, front_length}
 use Rattle.mail_data.specs.Separator.{is_separator}
 use Rattle.mail_data.proofs.lemmas.LineEnds.{line_place-≤, line_place-passes, line_length-some_bytes}
-
--- ---- where a mail ends
-
-pub ends_mail-none : (bytes : List ℕ) (n : ℕ) → n ≡ empty_line bytes → n ≡ 0 → false ≡ ends_mail bytes
-unfolding ends_mail
-ends_mail-none bytes n e none =
-    let zero : empty_line bytes ≡ 0 = sym e ∙ none in
-    sym (and_left (nat_lt 0 (empty_line bytes)) (is_empty (drop (empty_line bytes) bytes) || is_separator (drop (empty_line bytes) bytes)) (ap (nat_lt 0) zero))
-
-is_empty-length : (bytes : List ℕ) → is_empty bytes ≡ nat_eq (length bytes) 0
-is_empty-length [] = refl
-is_empty-length (b ∷ bytes) = sym (ne_eqb (length (b ∷ bytes)) 0 (λ e. absurd (omega arith)))
-
--- the two tests after an empty line
-ends_mail-some : (bytes after : List ℕ) (n : ℕ) → n ≡ empty_line bytes → (n ≡ 0 → ⊥) → take (length bytes - n) (drop n bytes) ≡ after
-    → ends_mail bytes ≡ (is_empty after || is_separator after)
-unfolding ends_mail
-ends_mail-some bytes after n e some same =
-    let pos : 0 < n = omega arith in
-    let rest : drop (empty_line bytes) bytes ≡ after = ap (λ k. drop k bytes) (sym e) ∙ sym (take_rest bytes n) ∙ same in
-    ap (λ t. t && (is_empty (drop (empty_line bytes) bytes) || is_separator (drop (empty_line bytes) bytes))) (ap (nat_lt 0) (sym e) ∙ lt-ltb 0 n pos)
-    ∙ ap (λ (r : List ℕ). is_empty r || is_separator r) rest
-
-pub ends_mail-empty : (bytes after : List ℕ) (n : ℕ) (r : Bool) → n ≡ empty_line bytes → (n ≡ 0 → ⊥) → take (length bytes - n) (drop n bytes) ≡ after
-    → r ≡ nat_eq (length after) 0 → r ≡ true → r ≡ ends_mail bytes
-ends_mail-empty bytes after n r e some same is holds =
-    holds ∙ sym (ends_mail-some bytes after n e some same ∙ ap (λ t. t || is_separator after) (is_empty-length after ∙ sym is ∙ holds))
-
-pub ends_mail-marked : (bytes after : List ℕ) (n : ℕ) (r s : Bool) → n ≡ empty_line bytes → (n ≡ 0 → ⊥) → take (length bytes - n) (drop n bytes) ≡ after
-    → r ≡ nat_eq (length after) 0 → r ≡ false → s ≡ is_separator after → s ≡ ends_mail bytes
-ends_mail-marked bytes after n r s e some same is fails marked =
-    marked ∙ sym (ends_mail-some bytes after n e some same ∙ ap (λ t. t || is_separator after) (is_empty-length after ∙ sym is ∙ fails))
 
 -- ---- the mails
 

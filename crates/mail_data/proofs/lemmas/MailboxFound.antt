@@ -1,24 +1,19 @@
 -- Lemmas on a mail whose next separator was read: it stays the same whatever follows.
-use Rattle.std.proofs.Common.{◌≡◌, ℕ, ◌+◌, ◌-◌, ◌<◌, Bool, true, false, cond, List, [], ◌∷◌, ◌++◌, ◌&&◌, ◌||◌, Option, Some, None, length, take, drop, refl, sym, ap, subst, ◌∙◌, arith, length-append, length-drop, inl, inr}
+use Rattle.std.proofs.Common.{◌≡◌, ℕ, ◌+◌, ◌-◌, ◌<◌, Bool, true, false, cond, List, [], ◌∷◌, ◌++◌, ◌&&◌, Option, Some, None, length, take, drop, refl, sym, ap, subst, ◌∙◌, arith, length-append, length-drop, inl, inr}
 use Rattle.std.specs.Prelude.{nat_lt, ◌==◌}
-use Rattle.std.specs.Cmp.Lexicographic.{same_text}
-use Rattle.std.proofs.lemmas.Bool.{and_parts, cases_Bool, cases_lt, cond-false, cond_both, eqb-true, false≢true, ltb-true, ne_eqb}
+use Rattle.std.proofs.lemmas.Bool.{and_parts, cases_Bool, cases_lt, cond-false, ltb-true}
 use Rattle.std.proofs.lemmas.List.{append_assoc, drop-append-le, drop-drop, drop_all, take-append-drop}
-use Rattle.mail_codec.specs.Places.{begins, first_place, has_prefix}
+use Rattle.mail_codec.specs.Places.{begins, first_place}
 use Rattle.mail_codec.proofs.lemmas.Places.{first_place-passes, least-passes, true_not_false}
 use Rattle.mail_data.specs.LineEnds.{after_empty_line, after_line, empty_line, line_length, line_place, starts_line}
 use Rattle.mail_data.specs.Mailbox.{EndsEmpty, Entry, IsEmptyLine, after_mail, ends_mail, entries, entries_by, entry_at, entry_by, front_length, has_front, is_before_text, mail_length, next_by, next_entry}
 use Rattle.mail_data.specs.Separator.{is_separator}
-use Rattle.mail_data.proofs.lemmas.LineEnds.{has_feed, is_line}
+use Rattle.mail_data.proofs.lemmas.LineEnds.{empty_line-cases, has_feed, is_line, line_feed_first, starts-after_feed}
 use Rattle.mail_data.proofs.lemmas.Mailbox.{after_empty_line-nil, entries-here, entries-some, front_length-none, mails, opens}
 use Rattle.mail_data.proofs.lemmas.MailboxJoined.{Joined, after_place, before_last, closed, closed-bytes, closed-line, front-joined, is_separator-joined, is_separator-more, length-closed, unmarked-nil}
 use Rattle.mail_data.proofs.lemmas.MailboxParts.{front_length-≤}
 
 -- ---- the ends of a line and of a mail
-
-line_feed_first : (bytes : List ℕ) → begins (λ b. b == 10) bytes ≡ true → bytes ≡ 10 ∷ drop 1 bytes
-line_feed_first [] h = absurd (false≢true h)
-line_feed_first (b ∷ bytes) h = let same : b ≡ 10 = eqb-true b 10 h in ap (λ (x : ℕ). x ∷ bytes) same
 
 line-end : (bytes : List ℕ) → line_length bytes < length bytes → (begins (λ b. b == 10) (drop (line_length bytes - 1) bytes) ≡ true) × (0 < line_length bytes)
 unfolding line_length
@@ -36,16 +31,11 @@ mail-end body low =
     (found.0, (and_parts (nat_lt 0 (empty_line rest)) (opens (after_empty_line rest)) found.1).0)
 
 -- the bytes at the front, if there are any, are an empty line
-abbrev Shape : List ℕ → ℕ → Type 0
-Shape rest n = nat_lt 0 n ≡ true → IsEmptyLine (take n rest)
-
-empty_line-shape : (rest : List ℕ) → Shape rest (empty_line rest)
-unfolding empty_line
-empty_line-shape rest =
-    cond_both (has_prefix (10 ∷ []) rest) 1 (cond (has_prefix (13 ∷ 10 ∷ []) rest) 2 0) (Shape rest)
-    (λ lf some. inl (sym (same_text (10 ∷ []) (take 1 rest) (sym lf))))
-    (λ other. cond_both (has_prefix (13 ∷ 10 ∷ []) rest) 2 0 (Shape rest)
-    (λ cr some. inr (sym (same_text (13 ∷ 10 ∷ []) (take 2 rest) (sym cr)))) (λ none some. absurd (false≢true some)))
+empty_line-shape : (rest : List ℕ) → 0 < empty_line rest → IsEmptyLine (take (empty_line rest) rest)
+empty_line-shape rest some = elim (empty_line-cases rest some) [
+  | inl one ↦ inl (ap (λ (n : ℕ). take n rest) one.0 ∙ ap (take 1) one.1)
+  | inr two ↦ inr (ap (λ (n : ℕ). take n rest) two.0 ∙ ap (take 2) two.1)
+]
 
 -- ---- the bytes of the mail at the front, where a separator follows it
 
@@ -77,8 +67,7 @@ feed-before bytes marked =
       | inl more ↦
           let place : l + (m - 1) ≡ l + m - 1 = omega arith in
           let start : starts_line body m ≡ true = (mail-end body low).0 in
-          let begun : begins (λ b. b == 10) (drop (m - 1) body) ≡ true =
-          ap (λ (t : Bool). t || begins (λ b. b == 10) (drop (m - 1) body)) (sym (ne_eqb m 0 (λ e. absurd (omega arith)))) ∙ start in
+          let begun = starts-after_feed body m more start in
           (ap (λ (k : ℕ). begins (λ b. b == 10) (drop k bytes)) (sym place) ∙ ap (begins (λ b. b == 10)) (sym (drop-drop (m - 1) l bytes)) ∙ begun, some)
       | inr none ↦
           let place : l - 1 ≡ l + m - 1 = omega arith in
@@ -100,7 +89,7 @@ cut-found bytes marked =
     let split : rest ≡ end ++ next_entry bytes = sym (take-append-drop (empty_line rest) rest) in
     record {
       first = take q bytes ++ (10 ∷ end);
-      ends = record { front = take q bytes; line = end; is_empty = empty_line-shape rest (mail-end body (mail-low body marked)).1; whole = refl };
+      ends = record { front = take q bytes; line = end; is_empty = empty_line-shape rest (ltb-true 0 (empty_line rest) (mail-end body (mail-low body marked)).1); whole = refl };
       whole =
           append_assoc (take q bytes) (10 ∷ end) (next_entry bytes)
           ∙ ap (λ (r : List ℕ). take q bytes ++ (10 ∷ r)) (sym split)
