@@ -1,12 +1,12 @@
 -- The uuencoded files within a text (POSIX.1, `uuencode`), which mail programs wrote into the text
 -- of a mail before MIME; the crate's own rule.
-use Rattle.std.specs.Prelude.{ℕ, zero, suc, ◌+◌, Bool, not, ◌&&◌, ◌||◌, nat_lt, List, [], ◌∷◌, ◌++◌, length, drop, filter, slice_range, codes, decimal}
+use Rattle.std.specs.Prelude.{ℕ, zero, suc, ◌+◌, Bool, not, ◌&&◌, ◌||◌, nat_lt, List, [], ◌∷◌, ◌++◌, length, drop, filter, slice_range, codes, decimal, Some, if◌then◌else◌}
 use Rattle.std.specs.Option.{option_map_or}
 use Rattle.std.specs.Str.{bytes_eq}
 use Rattle.mail_codec.specs.Uuencode.{File, Span, data_bytes, first_file}
 use Rattle.mailparse.specs.Mail.{Tree, root}
 use Rattle.mail_data.specs.Files.{is_leaf, is_shown}
-use Rattle.mail_data.specs.lenient.Content.{Content, decoded_lines, has_short_lines}
+use Rattle.mail_data.specs.lenient.Content.{Content, all_of, has_short_lines, text_file_fault}
 
 -- a block of a text: its name, its lines of data, its range in the text, and whether a line `end`
 -- follows the data
@@ -40,14 +40,16 @@ blocks_from (suc most) offset rest =
     (λ file. text_file offset rest file ∷ blocks_from most (offset + file.block.end) (drop file.block.end rest))
     (first_file rest) []
 
--- the files in a text: those of its blocks that count, and it has no more blocks than bytes
-unfoldable pub text_files : List ℕ → List TextFile
-text_files text = filter is_file (blocks_from (length text) 0 text)
+-- the files in a text: those of its first blocks, at most this many, that count
+unfoldable pub text_files : ℕ → List ℕ → List TextFile
+text_files most text = filter is_file (blocks_from most 0 text)
 
 -- the bytes of a file in a text: those that its lines encode, and it is damaged if no line `end`
 -- follows them
 unfoldable pub file_bytes : TextFile → Content
-file_bytes file = decoded_lines file.lines file.is_ended 0
+file_bytes file =
+    let bytes = data_bytes file.lines in
+    if file.is_ended then all_of bytes else record { bytes = bytes; fault = Some text_file_fault; ignored = 0 }
 
 -- a part is a plain text that mail readers show: files are in such a text, unless the part itself is
 -- a file

@@ -45,7 +45,7 @@ impl<'t> TextFile<'t> {
     /// ```rust
     /// use mail_data::text_files::text_files;
     ///
-    /// let files = text_files(alloc, b"begin 644 caf\xE9.txt\n`\nend\n")?;
+    /// let files = text_files(alloc, b"begin 644 caf\xE9.txt\n`\nend\n", 1000)?;
     /// assert_eq!(rt; files[0].file_name(alloc)?.as_str(), "café.txt");
     /// ```
     pub fn file_name(&self, alloc: Global) -> Result<String, AllocError>
@@ -65,12 +65,13 @@ impl<'t> TextFile<'t> {
     /// # Examples
     ///
     /// ```rust
+    /// use mail_data::lenient::ContentFault;
     /// use mail_data::text_files::text_files;
     ///
-    /// let files = text_files(alloc, b"begin 644 cat.txt\n#0V%T\n")?;
+    /// let files = text_files(alloc, b"begin 644 cat.txt\n#0V%T\n", 1000)?;
     /// let content = files[0].content(alloc)?;
     /// assert_eq!(rt; content.bytes.as_slice(), b"Cat".as_slice());
-    /// assert!(rt; content.fault.is_some());
+    /// assert_eq!(rt; content.fault, Some(ContentFault::TextFile));
     /// ```
     #[tactic(auto, unfolding(crate::specs::TextFiles::file_bytes))]
     pub fn content(&self, alloc: Global) -> Result<Content<'static>, AllocError>
@@ -88,14 +89,15 @@ impl<'t> TextFile<'t> {
         }
         Ok(Content {
             bytes,
-            fault: Some(ContentFault::Uuencode),
+            fault: Some(ContentFault::TextFile),
             ignored: 0,
         })
     }
 }
 
-/// Returns the uuencoded files in a text, in order: those that `find_uuencode` of
-/// `mail_codec::transfer` finds one after another, each in what follows the block before it.
+/// Returns the uuencoded files in a text, in order: of the blocks that `find_uuencode` of
+/// `mail_codec::transfer` finds one after another, each in what follows the block before it, at most
+/// the first `limit` are read, which bounds the memory that a text takes.
 ///
 /// A block is not a file if its lines encode more bytes than they have, because letters are missing,
 /// or if they encode nothing and no line `end` follows: a sentence may begin like a file. Allocates the
@@ -111,21 +113,30 @@ impl<'t> TextFile<'t> {
 /// use mail_data::text_files::text_files;
 ///
 /// let text = b"Hi,\n\nbegin 644 a.txt\n#0V%T\n`\nend\n\nbegin 644 b\n#0V%T\n";
-/// let files = text_files(alloc, text)?;
+/// let files = text_files(alloc, text, 1000)?;
 /// assert_eq!(rt; files.len(), 2);
 /// assert_eq!(rt; files[0].name, b"a.txt".as_slice());
 /// assert_eq!(rt; files[0].block, 5..33);
 /// assert!(rt; !files[1].is_ended);
 /// ```
-#[tactic(auto, unfolding(crate::specs::TextFiles::text_files))]
-pub fn text_files<'t>(alloc: Global, text: &'t [u8]) -> Result<Vec<TextFile<'t>>, AllocError>
-    ensures { IfOk result (λ files. map text_file_view files.items ≡ text_files text.now) }
+pub fn text_files<'t>(
+    alloc: Global,
+    text: &'t [u8],
+    limit: usize,
+) -> Result<Vec<TextFile<'t>>, AllocError>
+    ensures { IfOk result (λ files.
+        map text_file_view files.items ≡ text_files limit text.now) }
 {
     let mut files = Vec::new(alloc);
     let mut at = 0;
-    'search: while let Some(block) = find_uuencode(&text[at..]) {
+    let mut left = limit;
+    'search: while left > 0 {
+        let Some(block) = find_uuencode(&text[at..]) else {
+            return Ok(files);
+        };
         push_file(&mut files, text_file(text, at, &block))?;
         at += block.block.end;
+        left -= 1;
     }
     Ok(files)
 }

@@ -33,6 +33,10 @@ read_or_front raw (Err refusal) = front_of refusal (base64_front raw)
 abbrev pub uuencode_fault : Refusal
 uuencode_fault = generic (codes "The body has no whole uuencoded file")
 
+-- why a uuencoded file in a text is damaged
+abbrev pub text_file_fault : Refusal
+text_file_fault = generic (codes "No line `end` follows the data of the uuencoded file")
+
 -- bytes that are not all of a body in uuencode, and the number of bytes at its end that were ignored
 abbrev pub damaged_uuencode : List ℕ → ℕ → Content
 damaged_uuencode bytes ignored =

@@ -22,12 +22,12 @@ use mailparse::{Base64Fault, MailParseError, ParsedMail};
 use std::alloc::{AllocError, Global};
 use std::borrow::CowSlice;
 
-/// The bytes of a body, as `lenient_content` returns them.
+/// The bytes of a body, as `lenient_content` returns them, or of a uuencoded file in a text.
 #[derive(Debug, Drop)]
 pub struct Content<'b> {
     /// The decoded bytes: all of them, or those that could be read.
     pub bytes: CowSlice<'b, u8>,
-    /// The damage, or `None` if the body is whole.
+    /// The damage, or `None` if they are whole.
     pub fault: Option<ContentFault>,
     /// The number of bytes of a damaged body that were ignored: of Base64 as `base64_front` counts
     /// them, and of a uuencoded file those after its data.
@@ -61,7 +61,7 @@ impl<'b> Content<'b> {
     }
 }
 
-/// The damage of a body.
+/// The damage of a body, or of a uuencoded file in a text.
 #[derive(Clone, Copy, Debug, PartialEq, Eq)]
 pub enum ContentFault {
     /// The Base64 of the body, with the group that `Body::decoded` refuses.
@@ -69,6 +69,8 @@ pub enum ContentFault {
     /// A body in uuencode has no uuencoded file, the lines of the first are too short, or no line
     /// `end` follows its data.
     Uuencode,
+    /// No line `end` follows the data of a uuencoded file in a text. No body has this damage.
+    TextFile,
 }
 
 impl From<ContentFault> for MailParseError {
@@ -83,6 +85,9 @@ impl From<ContentFault> for MailParseError {
             ContentFault::Base64(fault) => MailParseError::Base64DecodeError(fault),
             ContentFault::Uuencode => {
                 MailParseError::Generic("The body has no whole uuencoded file")
+            }
+            ContentFault::TextFile => {
+                MailParseError::Generic("No line `end` follows the data of the uuencoded file")
             }
         }
     }
