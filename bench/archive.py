@@ -83,12 +83,12 @@ def line_of(number, rng, words, text):
     sender, to = (f"{words[int(5000 * rng.random() ** power)]}@example.org" for power in (3, 2))
     subject = " ".join(text[first % 300_000 : first % 300_000 + 6])
     parts = [{"path": "1", "type": "text/plain", "extracted": False, "file_name": None, "text": " ".join(text[at : at + 100]),
-              "headers": [["List-Id", f"<l{number % 200}.example>"]] if number % 3 else []}]
+              "text_files": [], "headers": [["List-Id", f"<l{number % 200}.example>"]] if number % 3 else []}]
     if number % 5 == 0:
         kind = rng.choice(["application/pdf", "image/png"])
-        parts.append({"path": "2", "type": kind, "extracted": True, "file_name": f"{text[at]}.pdf", "text": None, "headers": []})
+        parts.append({"path": "2", "type": kind, "extracted": True, "file_name": f"{text[at]}.pdf", "text": None, "text_files": [], "headers": []})
     return {
-        "schema": 5, "file": "box", "number": number, "start": number, "end": number + 1, "message_id": [f"{number}@example.org"],
+        "schema": 6, "file": "box", "number": number, "start": number, "end": number + 1, "message_id": [f"{number}@example.org"],
         "in_reply_to": [], "references": [f"{first}@example.org"] if number % 7 else [], "date": 1_000_000_000 + number * 500,
         "from": [{"name": sender.split("@")[0], "address": sender}], "to": [{"name": None, "address": to}], "cc": [], "bcc": [],
         "subject": ("Re: " if number % 7 else "") + subject, "parts": parts,

@@ -525,27 +525,30 @@ def test_bad_file_of_a_batch(tmp_path):
 
 
 def test_lists(runs):
-    """A line whose addresses are lists, with the hash of a file."""
+    """A line whose addresses are lists, with the hashes of a file and of one in a text."""
     people = [{"name": "Ana Lima", "address": "ana@example.net"}, {"group": "all", "members": [{"name": None, "address": "bo@example.net"}]}]
-    file = {"path": "1", "type": "text/plain", "extracted": True, "file_name": "a", "text": None, "sha256": "0123abcd", "headers": [["List-Id", "x <l.example>"]]}
-    line = {"schema": 5, "from": people, "to": [{"unknown": "cai"}], "cc": [], "bcc": [], "subject": "Lists", "date": None, "parts": [file]}
+    file = {"path": "1", "type": "text/plain", "extracted": True, "file_name": "a", "text": None, "sha256": "0123abcd", "text_files": []}
+    file["headers"] = [["List-Id", "x <l.example>"]]
+    within = {"path": "2.u1", "file_name": "b", "body_start": 0, "body_end": 9, "decoded_size": 3, "sha256": "4567ef"}
+    text = {"path": "2", "type": "text/plain", "extracted": False, "file_name": None, "text": "x", "text_files": [within], "headers": []}
+    line = {"schema": 6, "from": people, "to": [{"unknown": "cai"}], "cc": [], "bcc": [], "subject": "Lists", "date": None, "parts": [file, text]}
     line.update({name: [] for name in ("message_id", "in_reply_to", "references")}, file="x", start=0, end=1)
     write(runs.path("lists/a.jsonl"), json.dumps(line).encode() + b"\n")
     write(runs.path("lists/MANIFEST"), b'{"shard": "a.jsonl"}\n')
     assert runs.call("load_sqlite.py", "lists", "lists.db").returncode == 0, "addresses in lists"
-    for arguments in (["--from", "ana@example.net"], ["--from", "bo"], ["--hash", "0123ABCD"], ["--list", "L.example"]):
+    for arguments in (["--from", "ana@example.net"], ["--from", "bo"], ["--hash", "0123ABCD"], ["--hash", "4567EF"], ["--list", "L.example"]):
         ended = runs.call("search.py", "lists.db", *arguments)
-        wanted = "-\tAna Lima <ana@example.net>, bo@example.net\tLists\ta\t1\tx:0-1\n"
+        wanted = "-\tAna Lima <ana@example.net>, bo@example.net\tLists\ta, b\t1\tx:0-1\n"
         assert ended.stdout.decode() == wanted, f"addresses in lists: {arguments}"
     html = {**file, "type": "text/html", "text": "<p>x", "html_text": None}
     write(runs.path("other/a.jsonl"), json.dumps({**line, "parts": [html]}).encode() + b"\n")
     write(runs.path("other/MANIFEST"), b'{"shard": "a.jsonl"}\n')
     ended = runs.call("load_sqlite.py", "other", "other.db")
     assert ended.returncode == 1 and b"a shard has no text of HTML: repeat index_archive.py" in ended.stderr, "lines without --html-text"
-    write(runs.path("old/a.jsonl"), json.dumps({**line, "schema": 4}).encode() + b"\n")
+    write(runs.path("old/a.jsonl"), json.dumps({**line, "schema": 5}).encode() + b"\n")
     write(runs.path("old/MANIFEST"), b'{"shard": "a.jsonl"}\n')
     ended = runs.call("load_sqlite.py", "old", "old.db")
-    assert ended.returncode == 1 and b"has lines of schema 4, not 5: repeat index_archive.py" in ended.stderr, "older lines"
+    assert ended.returncode == 1 and b"has lines of schema 5, not 6: repeat index_archive.py" in ended.stderr, "older lines"
 
 
 def test_parallel(runs):

@@ -20,7 +20,7 @@ import tempfile
 import jsonschema
 import pytest
 
-from support import FROM, SAMPLES, TOP, command, multipart, program
+from support import FROM, SAMPLES, TOP, command, multipart, program, uuencoded
 
 from by_email import all_parts, mail_object, parts_anywhere, report_of, saved_files
 
@@ -32,8 +32,8 @@ MEMBERS = ORIGIN + [
 ]
 PART_MEMBERS = [
     "path", "inside", "type", "charset", "params", "disposition", "file_name", "content_id", "attachment", "extracted",
-    "encoding", "start", "end", "size", "refusal", "decoded_size", "error", "sha256", "report", "headers", "text", "html_text",
-    "text_charset", "damaged",
+    "encoding", "start", "end", "size", "refusal", "decoded_size", "error", "sha256", "report", "text_files", "headers",
+    "text", "html_text", "text_charset", "damaged",
 ]
 # texts in the charsets of several bytes
 TEXTS = {
@@ -104,7 +104,7 @@ def compare(data, what):
     found = objects([], data, 0, what)
     assert len(found) == 1, f"{what}: the number of lines"
     found = found[0]
-    assert [found[name] for name in ORIGIN] == [5, None, None, 0, len(data)], f"{what}: where it is from"
+    assert [found[name] for name in ORIGIN] == [6, None, None, 0, len(data)], f"{what}: where it is from"
     wanted = mail_object(data)
     parts = [part for _inside, _path, part in all_parts(email.message_from_bytes(data))]
     wanted_parts = wanted.pop("parts")
@@ -205,6 +205,36 @@ def test_uuencode():
     for name in (b"x-uuencode", b"X-UUencode", b"uuencode", b"x-uue", b"uue"):
         for head in (b"Content-Type: text/plain; charset=utf-8", b"Content-Type: image/png; name=a.png"):
             compare(head + b"\nContent-Transfer-Encoding: " + name + body, f"{name}")
+
+
+# why a file in a text is damaged
+UNENDED = "No line `end` follows the data of the uuencoded file"
+
+
+def text_file(path, name, content, start, block, is_whole=True):
+    """The object of a file in a text, by its path, its name, its content and where its block begins."""
+    size = {"decoded_size": len(content)} if is_whole else {"decoded_size": None, "error": UNENDED}
+    found = {"path": path, "file_name": name, "body_start": start, "body_end": start + len(block), **size}
+    return {**found, "sha256": hashlib.sha256(content).hexdigest()}
+
+
+def test_text_files():
+    """The files that Python's binascii encoded into texts: in plain texts that are not files themselves, and only there."""
+    first, second = bytes(range(256)), b"Cat"
+    blocks = uuencoded(b"a.bin", first), uuencoded(b"caf\xe9 2.txt", second, b"")
+    text = b"Hi,\n\n" + blocks[0] + b"\nbegin 644 here:\nno data\n\n" + blocks[1]
+    found = objects(["--hash"], b"Subject: files\n\n" + text, 0, "two files")[0]["parts"][0]["text_files"]
+    at = len(text) - len(blocks[1])
+    assert found == [text_file("1.u1", "a.bin", first, 5, blocks[0]), text_file("1.u2", "café 2.txt", second, at, blocks[1], False)]
+    inner = b"Content-Type: text/plain\n\n" + text
+    parts = (
+        b"Content-Type: text/html\n\n" + text, b"Content-Disposition: attachment\n\n" + text, b"Content-Type: text/csv\n\n" + text,
+        b"Content-Transfer-Encoding: base64\n\n" + base64.encodebytes(text), b"Content-Type: message/rfc822\n\n" + inner,
+    )
+    mail = multipart(b"b", *parts)
+    listed = [(part["path"], [file["path"] for file in part["text_files"]]) for part in objects([], mail, 0, "kinds of texts")[0]["parts"]]
+    assert listed == [("", []), ("1", []), ("2", []), ("3", []), ("4", ["4.u1", "4.u2"]), ("5", []), ("5.1", ["5.1.u1", "5.1.u2"])]
+    assert {file["sha256"] for part in objects([], mail, 0, "no hashes")[0]["parts"] for file in part["text_files"]} == {None}
 
 
 def test_faults():
@@ -465,7 +495,7 @@ def without_text(line):
     if "parts" in value:
         value["recipients"] = None
         for part in value["parts"]:
-            part.update(text=None, html_text=None, decoded_size=None, sha256=None, report=None)
+            part.update(text=None, html_text=None, decoded_size=None, sha256=None, report=None, text_files=None)
             for name in ("error", "text_charset", "damaged"):
                 part.pop(name, None)
     return list(value.items())
@@ -623,7 +653,7 @@ def test_places():
         front = FROM + b"Subject: 1\n\none\n\n" + FROM
         found = objects(["--mbox"], front + raw + b"\n\n", 0, f"places {turn} in a mailbox")
         place = [found[1][name] for name in ORIGIN]
-        assert place == [5, None, 2, len(front), len(front + raw) + 1], f"places {turn} in a mailbox"
+        assert place == [6, None, 2, len(front), len(front + raw) + 1], f"places {turn} in a mailbox"
         starts = [part["start"] for part in found[1]["parts"]]
         assert starts == [len(front) + at for _path, _part, at in places], f"places {turn} in a mailbox"
 
@@ -794,7 +824,7 @@ def test_calls():
     ended = run([names[0], "/no/such/file", names[1]])
     found = lines(ended.stdout, "a file that is missing")
     assert (ended.returncode, len(found)) == (1, 3), "a file that is missing"
-    assert [found[1][name] for name in ORIGIN] == [5, "/no/such/file", None, None, None], "a file that is missing"
+    assert [found[1][name] for name in ORIGIN] == [6, "/no/such/file", None, None, None], "a file that is missing"
     assert b"/no/such/file" in ended.stderr, "a file that is missing is named"
     with open("/dev/full", "wb") as full:
         ended = run(names, stdout=full, stderr=subprocess.PIPE)

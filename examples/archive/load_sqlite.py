@@ -94,7 +94,7 @@ WORDS = "id, subject, sender, recipients, body from mails"
 # the number of mails whose words are inserted in one transaction
 WORDED = 100_000
 # the number of the form of the lines
-LINES = 5
+LINES = 6
 FLAGS = re.compile(r":2,([A-Za-z]+)$")
 LIST_ID = re.compile(r"<([^<>\s]+)>\s*$")
 
@@ -144,15 +144,22 @@ def list_id(line):
     return None
 
 
+def files_of(part):
+    """Yields the members of the file that a part is, or of the files in its text, which have no type of their own."""
+    members = ("path", "file_name", "type", "decoded_size", "start", "end", "sha256")
+    if part["extracted"]:
+        yield tuple(map(part.get, members))
+    for file in part["text_files"]:
+        yield tuple(map({"type": "application/octet-stream", **file}.get, members))
+
+
 def mail_of(line):
     """Returns what a line says: the row of the mail, and those of its recipients, links and attachments."""
     message_id = line["message_id"][0] if line["message_id"] else None
     to = [*line["to"], *line["cc"], *line["bcc"]]
     row = (message_id, line["date"], people(line["from"]), people(to), line["subject"], list_id(line), body(line["parts"]))
     links = line["references"] or line["in_reply_to"][:1]
-    members = ("path", "file_name", "type", "decoded_size", "start", "end", "sha256")
-    files = [tuple(map(part.get, members)) for part in line["parts"] if part["extracted"]]
-    return row, list(dict(mailboxes(to)).items()), links, files
+    return row, list(dict(mailboxes(to)).items()), links, [file for part in line["parts"] for file in files_of(part)]
 
 
 def read_line(line):

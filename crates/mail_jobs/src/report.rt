@@ -104,6 +104,7 @@ fn push_file(lines: &mut String, file: &StoredFile<'_>) -> Result<(), AllocError
             write!(lines, ", and a fault in Base64 group {}\n", fault.group)
         }
         Some(ContentFault::Uuencode) => lines.push_str(", and no whole uuencoded file\n"),
+        Some(ContentFault::TextFile) => lines.push_str(", and no line `end`\n"),
         None => lines.push('\n'),
     }
 }

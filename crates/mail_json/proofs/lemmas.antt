@@ -10,6 +10,7 @@ pub mod Members
 pub mod Values
 pub mod Fields
 pub mod Decoded
+pub mod TextFiles
 pub mod Bounced
 pub mod Part
 pub mod Inside

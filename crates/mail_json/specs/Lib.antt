@@ -11,6 +11,8 @@ pub mod Addresses
 pub mod Origin
 pub mod Body
 pub mod Part
+pub mod TextFiles
+pub mod TextFileViews
 pub mod Inside
 pub mod InsideViews
 pub mod JsonLines

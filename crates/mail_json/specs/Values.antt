@@ -40,6 +40,7 @@ use Rattle.mail_data.specs.Reading.{mail_placements}
 use Rattle.mail_json.specs.Inside.{Listed, mails_among, mails_inside, parts_inside, without_bytes}
 use Rattle.mail_json.specs.Origin.{Origin}
 use Rattle.mail_json.specs.Part.{Lists, content_if, hash_of, html_shown, is_attachment, is_read, path_shown, place_in, recipients_if, report_if, text_shown}
+use Rattle.mail_json.specs.TextFiles.{ListedFile, files_if}
 use Rattle.mail_json.specs.Options.{Options}
 use Rattle.mail_json.specs.Reports.{delivery_value}
 use Rattle.mail_html.specs.declared.references.References.{References}
@@ -64,7 +65,7 @@ AreJsonLines text =
 
 -- the members of the number of this schema and of a file's name
 abbrev pub file_members : Option (List ℕ) → List Member
-file_members file = one (codes "schema") (number_value 5) ++ one (codes "file") (string_or_null file)
+file_members file = one (codes "schema") (number_value 6) ++ one (codes "file") (string_or_null file)
 
 -- the members of the offsets at which a mail begins and ends
 abbrev pub bounds_members : ℕ → ℕ → List Member
@@ -173,6 +174,17 @@ block_value fields = list_of (map pair_value fields)
 abbrev pub report_value : Option (List (List (List ℕ × List ℕ))) → Json
 report_value (Some blocks) = list_of (map block_value blocks)
 report_value None = null
+
+-- the object of a file in the text of a part; and the files in such a text or `null`
+abbrev pub file_value : ListedFile → Json
+file_value file =
+    object_of (one (codes "path") (string file.path) ++ one (codes "file_name") (string file.name) ++ one (codes "body_start") (number_value file.block.start)
+    ++ one (codes "body_end") (number_value file.block.end) ++ size_members file.content.fault (length file.content.bytes)
+    ++ one (codes "sha256") (string_or_null file.sha256))
+
+abbrev pub files_value : Option (List ListedFile) → Json
+files_value (Some files) = list_of (map file_value files)
+files_value None = null
 
 -- the recipients that a mail reports, or `null`
 abbrev pub recipients_value : Option (List Delivery) → Json
@@ -311,6 +323,7 @@ module _ (options : Options) where
       front_members inside start place pairs ++ decoded_members content
       ++ one (codes "sha256") (string_or_null (hash_of (options.hashes && is_extracted options.known place.part) content))
       ++ one (codes "report") (report_value (report_if options.known options.decodes_bodies node))
+      ++ one (codes "text_files") (files_value (files_if options.limit options.hashes (is_extracted options.known place.part) place content))
       ++ one (codes "headers") (list_of (map (header_value options.known) node.headers))
       ++ body_members options.known options.joins_flowed options.html (is_read place.part disposition) node.ctype content
 

@@ -6,8 +6,8 @@ use Rattle.json.specs.Json.{Json, null, array, object, Items, no_items, item, Me
 -- a member of a part that is known only if its body is decoded: one that is `null` without that, and one that is absent
 abbrev pub is_nulled : List ℕ → Bool
 is_nulled name =
-    bytes_eq name (codes "decoded_size") || bytes_eq name (codes "sha256") || bytes_eq name (codes "report") || bytes_eq name (codes "text")
-    || bytes_eq name (codes "html_text")
+    bytes_eq name (codes "decoded_size") || bytes_eq name (codes "sha256") || bytes_eq name (codes "report") || bytes_eq name (codes "text_files")
+    || bytes_eq name (codes "text") || bytes_eq name (codes "html_text")
 
 abbrev pub is_left_out : List ℕ → Bool
 is_left_out name = bytes_eq name (codes "error") || bytes_eq name (codes "text_charset") || bytes_eq name (codes "damaged")

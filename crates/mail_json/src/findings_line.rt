@@ -44,7 +44,7 @@ use std::io::Write;
 /// };
 /// let mut out = Vec::new(alloc);
 /// write_findings(alloc, &mut out, &origin, found.as_slice())?;
-/// let line = b"{\"schema\":5,\"file\":null,\"number\":null,\"start\":0,\"end\":10,\
+/// let line = b"{\"schema\":6,\"file\":null,\"number\":null,\"start\":0,\"end\":10,\
 ///     \"findings\":[{\"name\":\"nul\",\"class\":\"structure\",\"path\":\"1\",\"start\":7,\"end\":8,";
 /// assert!(rt; out.as_slice().starts_with(line));
 /// ```

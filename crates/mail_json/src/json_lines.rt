@@ -41,7 +41,7 @@ use std::io::Write;
 /// strict.limit = 1;
 /// let written = write_single(alloc, &mut out, b"A: b\n\nHi", None, strict, &())?;
 /// assert_eq!(rt; written, Written::WithErrors);
-/// let line = b"{\"schema\":5,\"file\":null,\"number\":null,\"start\":0,\"end\":8,\"error\":";
+/// let line = b"{\"schema\":6,\"file\":null,\"number\":null,\"start\":0,\"end\":8,\"error\":";
 /// assert!(rt; out.as_slice().starts_with(line));
 /// let written = write_single(alloc, &mut out, b"Subject: Hi\n\nHello\n", None, options, &())?;
 /// assert_eq!(rt; written, Written::Clean);

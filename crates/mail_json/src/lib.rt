@@ -24,6 +24,7 @@ pub mod range;
 mod reports;
 mod selection;
 mod stream;
+mod text_files;
 mod written;
 
 pub use decoded::{Decoded, decoded_parts, mail_in};

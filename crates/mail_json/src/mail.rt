@@ -60,7 +60,7 @@ use std::io::Write;
 /// let origin = Origin { file: None, number: None, start: 0, end: 19 };
 /// let mut out = Vec::new(alloc);
 /// write_mail(alloc, &mut out, &mail, &origin, LineOptions::new(), &())?;
-/// assert!(rt; out.as_slice().starts_with(b"{\"schema\":5,\"file\":null,"));
+/// assert!(rt; out.as_slice().starts_with(b"{\"schema\":6,\"file\":null,"));
 /// ```
 pub fn write_mail<W: Write, K: KnownCharsets>(
     alloc: Global,

@@ -43,8 +43,8 @@ impl InputKind {
 /// How mails are read and shown.
 #[derive_where(Clone, Copy, Debug)]
 pub struct LineOptions<'r> {
-    /// The greatest number of messages, parts and headers in a mail that is not refused. Each mail
-    /// inside a mail has this limit for itself.
+    /// The greatest number of messages, parts and headers in a mail that is not refused, and of
+    /// uuencoded blocks that are read in a text. Each mail inside a mail has this limit for itself.
     pub limit: usize,
     /// Whether bodies are decoded. If they are not, what needs that is `null` or absent: the texts,
     /// the decoded sizes, the hashes, the reports and the recipients.

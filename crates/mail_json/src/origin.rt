@@ -43,7 +43,7 @@ fn write_file<W: Write>(out: &mut W, file: Option<&str>) -> Result<(), Fault>
     ensures { BeginsMembers (W.contents out.old) (W.contents out.new) result
         (file_members (option_map (λ name. name.now) file.entry)) }
 {
-    add_number(out, first_key!("schema"), 5)?;
+    add_number(out, first_key!("schema"), 6)?;
     add_optional(out, key!("file"), file)?;
     Ok(())
 }
@@ -91,7 +91,7 @@ pub fn write_error<W: Write>(out: &mut W, origin: &Origin<'_>, error: &str) -> R
 ///
 /// let mut out = Vec::new(alloc);
 /// write_unread(&mut out, Some("in.eml"), "it is a directory")?;
-/// let text = "{\"schema\":5,\"file\":\"in.eml\",\"number\":null,\"start\":null,\"end\":null,";
+/// let text = "{\"schema\":6,\"file\":\"in.eml\",\"number\":null,\"start\":null,\"end\":null,";
 /// assert!(rt; out.as_slice().starts_with(text.as_bytes()));
 /// assert!(rt; out.as_slice().ends_with(b"\"error\":\"it is a directory\"}\n"));
 /// ```

@@ -39,6 +39,7 @@ use crate::members::{
 };
 use crate::options::LineOptions;
 use crate::reports::{write_pair, write_report};
+use crate::text_files::write_text_files;
 use mail_codec::charset::decode_latin1;
 use mail_data::files::{describes_attachment, is_attachment_disposition, is_leaf, is_shown};
 use mail_data::flowed::unflowed_of;
@@ -173,6 +174,7 @@ fn write_object<W: Write, K: KnownCharsets>(
     let report = report_if(alloc, part, content, known)?;
     write_word(out, key!("report"))?;
     write_report(alloc, out, &report, known)?;
+    write_text_files(alloc, out, place, content, extracted, options)?;
     write_word(out, key!("headers"))?;
     write_list(alloc, out, part.headers.as_slice(), known)?;
     let shown = is_read(part, &disposition);
@@ -398,7 +400,11 @@ fn write_decoded_size<W: Write>(
 }
 
 /// Writes the size of the decoded body. If it is refused, writes `null` and the reason.
-fn write_size<W: Write>(alloc: Global, out: &mut W, content: &Content<'_>) -> Result<(), Fault>
+pub(crate) fn write_size<W: Write>(
+    alloc: Global,
+    out: &mut W,
+    content: &Content<'_>,
+) -> Result<(), Fault>
     ensures { let content = content_view content.now in
         AddsMembers (W.contents out.old) (W.contents out.new) result
         (size_members content.fault (length content.bytes)) }

@@ -171,7 +171,7 @@ pub fn write_first_part<R: Read, W: Write, M: Watch, K: KnownCharsets>(
 /// };
 /// write_range(alloc, &mut out, &mut reader, source, 20..60, &mut Unwatched)?;
 /// assert!(rt; out.as_slice().starts_with(
-///     b"{\"schema\":5,\"file\":null,\"number\":null,\"start\":74,"
+///     b"{\"schema\":6,\"file\":null,\"number\":null,\"start\":74,"
 /// ));
 /// ```
 pub fn write_range<R: Read, W: Write, M: Watch, K: KnownCharsets>(

@@ -93,7 +93,7 @@ struct Settled<'a> {
 /// };
 /// let written = write_input(alloc, &mut out, &mut reader, source, &mut Unwatched)?;
 /// assert_eq!(rt; written, Written::Clean);
-/// assert!(rt; out.as_slice().starts_with(b"{\"schema\":5,\"file\":null,\"number\":1,\"start\":34,"));
+/// assert!(rt; out.as_slice().starts_with(b"{\"schema\":6,\"file\":null,\"number\":1,\"start\":34,"));
 /// ```
 pub fn write_input<R: Read, W: Write, M: Watch, K: KnownCharsets>(
     alloc: Global,

@@ -48,8 +48,9 @@ use Rattle.mail_json.specs.Origin.{Origin}
 use Rattle.mail_json.specs.Reports.{delivery_value}
 use Rattle.mail_html.specs.declared.references.References.{References}
 use Rattle.mail_json.specs.Part.{content_if, hash_of, html_shown, is_attachment, is_read, place_in, recipients_if, report_if, text_shown}
-use Rattle.mail_json.specs.Printed.{line_of, list_of, members_of, object_of, one, seconds_value, string_or_null, text_of}
-use Rattle.mail_json.specs.Values.{address_list, AreInsideValues, AreJsonLines, AreValues, IsJsonLine, IsLineValue, IsMailValue, IsPartValue, block_value, body_members, date_members, decoded_members, element_value, error_value, finding_value, findings_if, found_members, front_members, header_value, id_list, ids_members, inner_value, origin_members, pair_value, parameter_member, part_members, raw_values, recipients_value, report_value, single_or_unknown_value, single_value, size_members, text_members, unread_value, values_members, zone_members}
+use Rattle.mail_json.specs.TextFiles.{ListedFile, files_if}
+use Rattle.mail_json.specs.Printed.{line_of, list_of, members_of, number_value, object_of, one, seconds_value, string_or_null, text_of}
+use Rattle.mail_json.specs.Values.{address_list, AreInsideValues, AreJsonLines, AreValues, IsJsonLine, IsLineValue, IsMailValue, IsPartValue, block_value, body_members, date_members, decoded_members, element_value, error_value, file_value, files_value, finding_value, findings_if, found_members, front_members, header_value, id_list, ids_members, inner_value, origin_members, pair_value, parameter_member, part_members, raw_values, recipients_value, report_value, single_or_unknown_value, single_value, size_members, text_members, unread_value, values_members, zone_members}
 use Rattle.mail_json.proofs.lemmas.Values.{AreGood, IsGood, all_distinct, all_then, flag_good, json_line, list_good, mapped_good, members_then, named_good, null_good, number_good, number_or_null_good, object_good, optional_good, seconds_good, sorted_names, string_good}
 
 -- ---- the object of a part
@@ -91,6 +92,15 @@ report_good : (d : ℕ) (report : Option (List (List (List ℕ × List ℕ)))) �
 report_good d (Some blocks) = mapped_good (suc (suc d)) block_value (block_good d) blocks
 report_good d None = null_good (suc (suc (suc d)))
 
+file_good : (d : ℕ) (file : ListedFile) (fault : Option Refusal) (size : ℕ) → IsGood (suc d) (object_of (one (codes "path") (string file.path) ++ one (codes "file_name") (string file.name)
+    ++ one (codes "body_start") (number_value file.block.start) ++ one (codes "body_end") (number_value file.block.end) ++ size_members fault size ++ one (codes "sha256") (string_or_null file.sha256)))
+file_good d file None size = named_good refl (string_good d _, (string_good d _, (number_good d _, (number_good d _, (number_good d _, (optional_good d _, tt))))))
+file_good d file (Some refusal) size = named_good refl (string_good d _, (string_good d _, (number_good d _, (number_good d _, (null_good d, (string_good d _, (optional_good d _, tt)))))))
+
+files_good : (d : ℕ) (files : Option (List ListedFile)) → IsGood (suc (suc d)) (files_value files)
+files_good d (Some files) = mapped_good (suc d) file_value (λ file. file_good d file file.content.fault (length file.content.bytes)) files
+files_good d None = null_good (suc (suc d))
+
 decoded_good : (d : ℕ) (content : Option Content) → AreGood d (decoded_members content)
 decoded_good d (Some content) = size_good d content.fault (length content.bytes)
 decoded_good d None = (null_good d, tt)
@@ -103,24 +113,24 @@ body_good d known joins html shows ctype None = (null_good d, (null_good d, tt))
 
 module _ (options : Options) where
   -- no name occurs twice, whether the size is known or not, and whatever the members of the text are
-  shown_distinct : (inside : Option (List ℕ)) (start : Option ℕ) (place : Place) (pairs : List (List ℕ × List ℕ)) (fault : Option Refusal) (size : ℕ) (hash report headers : Json) (shows : Bool)
+  shown_distinct : (inside : Option (List ℕ)) (start : Option ℕ) (place : Place) (pairs : List (List ℕ × List ℕ)) (fault : Option Refusal) (size : ℕ) (hash report files headers : Json) (shows : Bool)
       (text : List ℕ) (html : Option (List ℕ)) (charset : List ℕ) (is_damaged : Bool)
-      → all_distinct (keys (members_of (front_members options inside start place pairs ++ size_members fault size ++ one (codes "sha256") hash ++ one (codes "report") report ++ one (codes "headers") headers
+      → all_distinct (keys (members_of (front_members options inside start place pairs ++ size_members fault size ++ one (codes "sha256") hash ++ one (codes "report") report ++ one (codes "text_files") files ++ one (codes "headers") headers
       ++ text_members shows text html charset is_damaged))) ≡ true
-  shown_distinct inside start place pairs None size hash report headers false text html charset is_damaged = refl
-  shown_distinct inside start place pairs None size hash report headers true text html charset true = refl
-  shown_distinct inside start place pairs None size hash report headers true text html charset false = refl
-  shown_distinct inside start place pairs (Some refusal) size hash report headers false text html charset is_damaged = refl
-  shown_distinct inside start place pairs (Some refusal) size hash report headers true text html charset true = refl
-  shown_distinct inside start place pairs (Some refusal) size hash report headers true text html charset false = refl
+  shown_distinct inside start place pairs None size hash report files headers false text html charset is_damaged = refl
+  shown_distinct inside start place pairs None size hash report files headers true text html charset true = refl
+  shown_distinct inside start place pairs None size hash report files headers true text html charset false = refl
+  shown_distinct inside start place pairs (Some refusal) size hash report files headers false text html charset is_damaged = refl
+  shown_distinct inside start place pairs (Some refusal) size hash report files headers true text html charset true = refl
+  shown_distinct inside start place pairs (Some refusal) size hash report files headers true text html charset false = refl
 
-  part_distinct : (inside : Option (List ℕ)) (start : Option ℕ) (place : Place) (pairs : List (List ℕ × List ℕ)) (content : Option Content) (hash report headers : Json) (shows : Bool)
-      → all_distinct (keys (members_of (front_members options inside start place pairs ++ decoded_members content ++ one (codes "sha256") hash ++ one (codes "report") report ++ one (codes "headers") headers
+  part_distinct : (inside : Option (List ℕ)) (start : Option ℕ) (place : Place) (pairs : List (List ℕ × List ℕ)) (content : Option Content) (hash report files headers : Json) (shows : Bool)
+      → all_distinct (keys (members_of (front_members options inside start place pairs ++ decoded_members content ++ one (codes "sha256") hash ++ one (codes "report") report ++ one (codes "text_files") files ++ one (codes "headers") headers
       ++ body_members options.known options.joins_flowed options.html shows (root place.part).ctype content))) ≡ true
-  part_distinct inside start place pairs None hash report headers shows = refl
-  part_distinct inside start place pairs (Some content) hash report headers shows =
+  part_distinct inside start place pairs None hash report files headers shows = refl
+  part_distinct inside start place pairs (Some content) hash report files headers shows =
       let read = text_read options.known (root place.part).ctype.charset content in
-      shown_distinct inside start place pairs content.fault (length content.bytes) hash report headers shows
+      shown_distinct inside start place pairs content.fault (length content.bytes) hash report files headers shows
       (text_shown options.joins_flowed (root place.part).ctype read.text) (html_shown options.html (root place.part).ctype (text_shown options.joins_flowed (root place.part).ctype read.text)) read.charset read.is_damaged
 
   part_good : (inside : Option (List ℕ)) (start : Option ℕ) (place : Place) (pairs : List (List ℕ × List ℕ)) → IsStrictlySortedBy (slice_cmp nat_cmp) (map (λ p. p.0) pairs)
@@ -135,17 +145,20 @@ module _ (options : Options) where
       let size = decoded_members content in
       let hash = string_or_null (hash_of (options.hashes && extracted) content) in
       let report = report_value (report_if options.known options.decodes_bodies node) in
+      let files = files_value (files_if options.limit options.hashes extracted place content) in
       let headers = list_of (map (header_value options.known) node.headers) in
       let text = body_members options.known options.joins_flowed options.html shows node.ctype content in
-      let sized : AreGood 3 (size ++ one (codes "sha256") hash) = members_then 3 size (one (codes "sha256") hash) (decoded_good 3 content) (optional_good 3 _, tt) in
-      let reported : AreGood 3 (size ++ one (codes "sha256") hash ++ one (codes "report") report) =
-      members_then 3 (size ++ one (codes "sha256") hash) (one (codes "report") report) sized (report_good 0 _, tt) in
-      let listed : AreGood 3 (size ++ one (codes "sha256") hash ++ one (codes "report") report ++ one (codes "headers") headers) =
-      members_then 3 (size ++ one (codes "sha256") hash ++ one (codes "report") report) (one (codes "headers") headers) reported
-      (mapped_good 2 (header_value options.known) (header_good options.known 1) node.headers, tt) in
-      let rest : AreGood 3 (size ++ one (codes "sha256") hash ++ one (codes "report") report ++ one (codes "headers") headers ++ text) =
-      members_then 3 (size ++ one (codes "sha256") hash ++ one (codes "report") report ++ one (codes "headers") headers) text listed (body_good 3 options.known options.joins_flowed options.html shows node.ctype content) in
-      named_good (part_distinct inside start place pairs content hash report headers shows)
+      let hashed = size ++ one (codes "sha256") hash in
+      let noted = hashed ++ one (codes "report") report in
+      let filed = noted ++ one (codes "text_files") files in
+      let sized : AreGood 3 hashed = members_then 3 size (one (codes "sha256") hash) (decoded_good 3 content) (optional_good 3 _, tt) in
+      let reported : AreGood 3 noted = members_then 3 hashed (one (codes "report") report) sized (report_good 0 _, tt) in
+      let given : AreGood 3 filed = members_then 3 noted (one (codes "text_files") files) reported (files_good 1 _, tt) in
+      let listed : AreGood 3 (filed ++ one (codes "headers") headers) =
+      members_then 3 filed (one (codes "headers") headers) given (mapped_good 2 (header_value options.known) (header_good options.known 1) node.headers, tt) in
+      let rest : AreGood 3 (filed ++ one (codes "headers") headers ++ text) =
+      members_then 3 (filed ++ one (codes "headers") headers) text listed (body_good 3 options.known options.joins_flowed options.html shows node.ctype content) in
+      named_good (part_distinct inside start place pairs content hash report files headers shows)
       (string_good 3 _, (optional_good 3 inside, (string_good 3 node.ctype.mimetype, (string_good 3 node.ctype.charset, (params_good 2 pairs ordered, (optional_good 3 _, (optional_good 3 _, (optional_good 3 _, (flag_good 3 attached, (flag_good 3 extracted, (string_good 3 _, (number_or_null_good 3 _, (number_or_null_good 3 _, (number_good 3 (length node.body), (optional_good 3 _, rest)))))))))))))))
 
   parts_good : (inside : Option (List ℕ)) (start : Option ℕ) (all : List Place) (values : List Json) → AreValues (IsPartValue options inside start) all values
@@ -272,13 +285,13 @@ mail_good options origin mail value is =
     members_then 5 (own ++ one (codes "recipients") recipients ++ one (codes "parts") parts ++ one (codes "forwarded") inside) (found_members found_if) rest
     (found_good 3 found_if) in
     subst (IsGood 6) (sym is.2)
-    (named_good (mail_distinct known origin node bounced recipients parts inside _ found_if) (number_good 5 5, (optional_good 5 origin.file, (number_or_null_good 5 origin.number, (number_good 5 origin.start, (number_good 5 origin.end, (optional_good 5 _, (address_list_good known (codes "From") node, (address_list_good known (codes "To") node, (address_list_good known (codes "Cc") node, (address_list_good known (codes "Bcc") node, (address_list_good known (codes "Reply-To") node, (address_list_good known (codes "Sender") node, (raw_good 4 node, noticed))))))))))))))
+    (named_good (mail_distinct known origin node bounced recipients parts inside _ found_if) (number_good 5 6, (optional_good 5 origin.file, (number_or_null_good 5 origin.number, (number_good 5 origin.start, (number_good 5 origin.end, (optional_good 5 _, (address_list_good known (codes "From") node, (address_list_good known (codes "To") node, (address_list_good known (codes "Cc") node, (address_list_good known (codes "Bcc") node, (address_list_good known (codes "Reply-To") node, (address_list_good known (codes "Sender") node, (raw_good 4 node, noticed))))))))))))))
 
 -- ---- lines
 
 error_is_json : (origin : Origin) (text : List ℕ) → IsJsonLine (error_value origin text) (text_of (error_value origin text))
 error_is_json origin text =
-    json_line 1 (error_value origin text) (omega arith) (named_good refl (number_good 0 5, (optional_good 0 origin.file, (number_or_null_good 0 origin.number, (number_good 0 origin.start, (number_good 0 origin.end, (string_good 0 text, tt)))))))
+    json_line 1 (error_value origin text) (omega arith) (named_good refl (number_good 0 6, (optional_good 0 origin.file, (number_or_null_good 0 origin.number, (number_good 0 origin.start, (number_good 0 origin.end, (string_good 0 text, tt)))))))
 
 pub file_is_json : (line : FileLine) → (object : List ℕ) × IsJsonLine (file_line_value line) object × (line_of (file_line_value line) ≡ object ++ codes "\n")
 file_is_json line =
@@ -289,13 +302,13 @@ pub findings_are_json : (origin : Origin) (findings : List Finding)
     → (object : List ℕ) × IsJsonLine (findings_value origin findings) object × (line_of (findings_value origin findings) ≡ object ++ codes "\n")
 findings_are_json origin findings =
     let good : IsGood 3 (findings_value origin findings) =
-    named_good refl (number_good 2 5, (optional_good 2 origin.file, (number_or_null_good 2 origin.number, (number_good 2 origin.start, (number_good 2 origin.end, (mapped_good 1 finding_value (finding_good 0) findings, tt)))))) in
+    named_good refl (number_good 2 6, (optional_good 2 origin.file, (number_or_null_good 2 origin.number, (number_good 2 origin.start, (number_good 2 origin.end, (mapped_good 1 finding_value (finding_good 0) findings, tt)))))) in
     (text_of (findings_value origin findings), json_line 3 (findings_value origin findings) (omega arith) good, refl)
 
 pub unread_is_json : (file : Option (List ℕ)) (text : List ℕ)
     → (object : List ℕ) × IsJsonLine (unread_value file text) object × (line_of (unread_value file text) ≡ object ++ codes "\n")
 unread_is_json file text =
-    let good : IsGood 1 (unread_value file text) = named_good refl (number_good 0 5, (optional_good 0 file, (null_good 0, (null_good 0, (null_good 0, (string_good 0 text, tt)))))) in
+    let good : IsGood 1 (unread_value file text) = named_good refl (number_good 0 6, (optional_good 0 file, (null_good 0, (null_good 0, (null_good 0, (string_good 0 text, tt)))))) in
     (text_of (unread_value file text), json_line 1 (unread_value file text) (omega arith) good, refl)
 
 pub line_is_json : (options : Options) (origin : Origin) (mail : Reads Tree) (is_clean : Bool) (text : List ℕ) → IsLineOf options origin mail is_clean text

@@ -21,20 +21,21 @@ use Rattle.mail_json.specs.Options.{Options, decoding}
 use Rattle.mail_json.specs.Origin.{Origin}
 use Rattle.mail_json.specs.Part.{hash_of, html_shown, is_read, place_in, recipients_if, report_if, text_shown}
 use Rattle.mail_json.specs.Printed.{Member, list_of, members_of, object_of, one, string_or_null}
-use Rattle.mail_json.specs.Values.{AreInsideValues, AreValues, IsLineValue, IsMailValue, IsPartValue, date_members, findings_if, found_members, front_members, header_value, ids_members, inner_value, mail_members, no_text_members, origin_members, part_members, raw_values, recipients_value, report_value, size_members, text_members, values_members}
+use Rattle.mail_json.specs.TextFiles.{files_if}
+use Rattle.mail_json.specs.Values.{AreInsideValues, AreValues, IsLineValue, IsMailValue, IsPartValue, date_members, files_value, findings_if, found_members, front_members, header_value, ids_members, inner_value, mail_members, no_text_members, origin_members, part_members, raw_values, recipients_value, report_value, size_members, text_members, values_members}
 use Rattle.mail_json.specs.WithoutText.{items_without_text, object_without_text, part_without_text, parts_without_text, without_text}
 
 -- the members that need a decoded body, whether it is refused or not, and whatever the text is
-tail_without : (fault : Option Refusal) (size : ℕ) (hash report headers : Json) (shows : Bool) (text : List ℕ) (html : Option (List ℕ)) (charset : List ℕ) (is_damaged : Bool)
-    → members_of (one (codes "decoded_size") null ++ one (codes "sha256") null ++ one (codes "report") null ++ one (codes "headers") headers ++ no_text_members)
-    ≡ part_without_text (members_of (size_members fault size ++ one (codes "sha256") hash ++ one (codes "report") report ++ one (codes "headers") headers
+tail_without : (fault : Option Refusal) (size : ℕ) (hash report files headers : Json) (shows : Bool) (text : List ℕ) (html : Option (List ℕ)) (charset : List ℕ) (is_damaged : Bool)
+    → members_of (one (codes "decoded_size") null ++ one (codes "sha256") null ++ one (codes "report") null ++ one (codes "text_files") null ++ one (codes "headers") headers ++ no_text_members)
+    ≡ part_without_text (members_of (size_members fault size ++ one (codes "sha256") hash ++ one (codes "report") report ++ one (codes "text_files") files ++ one (codes "headers") headers
     ++ text_members shows text html charset is_damaged))
-tail_without None size hash report headers false text html charset is_damaged = refl
-tail_without None size hash report headers true text html charset true = refl
-tail_without None size hash report headers true text html charset false = refl
-tail_without (Some refusal) size hash report headers false text html charset is_damaged = refl
-tail_without (Some refusal) size hash report headers true text html charset true = refl
-tail_without (Some refusal) size hash report headers true text html charset false = refl
+tail_without None size hash report files headers false text html charset is_damaged = refl
+tail_without None size hash report files headers true text html charset true = refl
+tail_without None size hash report files headers true text html charset false = refl
+tail_without (Some refusal) size hash report files headers false text html charset is_damaged = refl
+tail_without (Some refusal) size hash report files headers true text html charset true = refl
+tail_without (Some refusal) size hash report files headers true text html charset false = refl
 
 no_hash : (is_wanted : Bool) → string_or_null (hash_of is_wanted None) ≡ null
 no_hash true = refl
@@ -56,12 +57,13 @@ module _ (options : Options) where
       let read = text_read options.known node.ctype.charset content in
       let wanted = options.hashes && is_extracted options.known place.part in
       let report = report_value (report_if options.known true node) in
+      let files = files_value (files_if options.limit options.hashes (is_extracted options.known place.part) place (Some content)) in
       let headers = list_of (map (header_value options.known) node.headers) in
       let front : Members → Json = λ rest. object (members_then (front_members options inside start place pairs) rest) in
       let bare : Json → Members =
-      λ hash. members_of (one (codes "decoded_size") null ++ one (codes "sha256") hash ++ one (codes "report") null ++ one (codes "headers") headers ++ no_text_members) in
+      λ hash. members_of (one (codes "decoded_size") null ++ one (codes "sha256") hash ++ one (codes "report") null ++ one (codes "text_files") null ++ one (codes "headers") headers ++ no_text_members) in
       ap (λ hash. front (bare hash)) (no_hash wanted)
-      ∙ ap front (tail_without content.fault (length content.bytes) (string_or_null (hash_of wanted (Some content))) report headers (is_read place.part disposition)
+      ∙ ap front (tail_without content.fault (length content.bytes) (string_or_null (hash_of wanted (Some content))) report files headers (is_read place.part disposition)
       (text_shown options.joins_flowed node.ctype read.text) (html_shown options.html node.ctype (text_shown options.joins_flowed node.ctype read.text)) read.charset read.is_damaged)
 
   parts_whole : (inside : Option (List ℕ)) (start : Option ℕ) (all : List Place) (values : List Json) → AreValues (IsPartValue (decoding false options) inside start) all values

@@ -1,4 +1,4 @@
-use Rattle.std.proofs.Common.{◌≡◌, List, ℕ, Option, option_map, length, map, refl, sym, ap, ap₂, subst, ◌∙◌}
+use Rattle.std.proofs.Common.{◌≡◌, Bool, List, ℕ, Option, option_map, length, map, refl, sym, ap, ap₂, subst, ◌∙◌}
 use Rattle.json.specs.Json.{boolean}
 use Rattle.std.specs.Prelude.{◌&&◌, ◌||◌, not}
 use Rattle.mail_data.specs.Attachments.{is_extracted}
@@ -15,11 +15,13 @@ use Rattle.mailparse.specs.Header.{Header}
 use Rattle.mailparse.specs.Mail.{root}
 use Rattle.mailparse.specs.Map.{text_found}
 use Rattle.mailparse.specs.Views.{kind, tree_of}
+use Rattle.mail_data.specs.lenient.Content.{Content}
 use Rattle.mail_data.specs.lenient.ContentViews.{content_view}
 use Rattle.mail_data.specs.lenient.Encoding.{lenient_body_kind}
 use Rattle.mail_json.specs.Part.{Lists, content_if, hash_of, is_attachment, is_read, path_shown}
 use Rattle.mail_json.specs.Printed.{list_of, number_value, object_of, string_or_null, text_of}
-use Rattle.mail_json.specs.Values.{IsPartValue, body_members, disposition_members, decoded_members, header_value, part_members, report_value}
+use Rattle.mail_json.specs.TextFiles.{files_if}
+use Rattle.mail_json.specs.Values.{IsPartValue, body_members, disposition_members, decoded_members, files_value, header_value, part_members, report_value}
 use Rattle.mail_json.specs.DecodedViews.{decoded_place}
 use Rattle.mail_json.proofs.lemmas.Fields.{ok_same}
 use Rattle.mail_json.proofs.lemmas.Members.{◌⨾◌, closed, renamed, valued, value_renamed}
@@ -63,13 +65,16 @@ returns g c =
     ∙ ap (λ is. hash_of (c.args.form.options.hashes && is) (option_map content_view c.args.decoded.now.content)) extracted
     ∙ ap (hash_of (c.args.form.options.hashes && is_extracted known (tree_of m))) read in
     let hash-is = value_renamed string_or_null _ _ c.in_ok-add_optional-2.ensures hashed in
+    let files-are =
+    value_renamed files_value _ _ c.in_ok-write_text_files.ensures
+    (ap₂ (λ (is : Bool) (content : Option Content). files_if options.limit options.hashes is place content) extracted read) in
     let headers-are = valued _ _ _ _ _ refl c.in_ok-write_word-3.ensures list in
     let body-is = renamed (c.in_ok-write_part_text.ensures read) (ap (λ is. body_members known options.joins_flowed options.html is node.ctype (content_if c.args.form.options.decodes_bodies node)) shows) in
     let front = path-is ⨾ c.in_ok-add_optional.ensures ⨾ type-is ⨾ charset-is ⨾ params-are ⨾ disposition-is ⨾ attachment-is ⨾ extracted-is ⨾ encoding-is ⨾ c.in_ok-write_bounds.ensures ⨾ size-is ⨾ c.in_ok-write_refusal.ensures in
     let members = part_members options inside c.args.form.start place params.0 in
     writes_one text_of (IsPartValue options inside c.args.form.start place) _ _ c.write_word-4.result (object_of members)
     (params.0, subst (λ (t : ContentType). Lists t.params params.0) (ctype-out m) params.1, refl)
-    (closed _ c.write_word-4.result (object_of members) (front ⨾ decoded-is ⨾ hash-is ⨾ report-is ⨾ headers-are ⨾ body-is) c.write_word-4.ensures refl)
+    (closed _ c.write_word-4.result (object_of members) (front ⨾ decoded-is ⨾ hash-is ⨾ report-is ⨾ files-are ⨾ headers-are ⨾ body-is) c.write_word-4.ensures refl)
 
 pub returns-in_err-write_part_text : goal.returns-in_err-write_part_text
 returns-in_err-write_part_text g c =
