@@ -18,7 +18,7 @@ import subprocess
 
 import pytest
 
-from support import FROM, SAMPLES, command, multipart, run
+from support import FROM, SAMPLES, command, multipart, run, uuencoded
 
 from by_email import SHOWN_TYPES, body_of, is_saved, saved_files
 
@@ -203,6 +203,63 @@ def test_choices(options, paths, tmp_path):
     assert (ended.returncode, [line["path"] for line in lines]) == (0, paths)
     assert [(into / line["saved"]).read_bytes() for line in lines] == [bodies[path] for path in paths]
     assert len(list(into.iterdir())) == len(paths)
+
+
+def with_text_files():
+    """A mail with files in its texts, the second of which is cut off, and what binascii encoded, by the paths of the files."""
+    contents = {"1.u1": bytes(range(256)) * 5, "1.u2": b"Cat", "2": b"png", "3.1.u1": b"inner"}
+    inner = b"Subject: in\n\n" + uuencoded(b"inner.txt", contents["3.1.u1"])
+    mail = multipart(
+        b"b", b"\nHi\n" + uuencoded(b"../a b.bin", contents["1.u1"]) + b"and\n" + uuencoded(b"cut.txt", contents["1.u2"], b""),
+        b"Content-Type: image/png; name=c.png\n\npng", b"Content-Type: message/rfc822\n\n" + inner,
+        b"Content-Type: text/html\n\n" + uuencoded(b"html.txt", b"no plain text"),
+    )
+    return mail, {**contents, "3": inner}
+
+
+@pytest.mark.parametrize(("options", "status", "saved"), [
+    ([], 3, {"1.u1": "_.._a b.bin", "1.u2": "cut.txt", "2": "c.png", "3": "unnamed.eml", "3.1.u1": "inner.txt"}),
+    (["--only", "1.u1"], 0, {"1.u1": "_.._a b.bin"}),
+    (["--only", "1"], 0, {}),
+    (["--name", "*.txt"], 3, {"1.u2": "cut.txt", "3.1.u1": "inner.txt"}),
+    (["--type", "application/octet-stream"], 3, {"1.u1": "_.._a b.bin", "1.u2": "cut.txt", "3.1.u1": "inner.txt"}),
+], ids=lambda value: " ".join(value) if isinstance(value, list) else "")
+def test_text_files(options, status, saved, tmp_path):
+    """The uuencoded files in plain texts are saved where their parts are, and chosen as other files are."""
+    mail, contents = with_text_files()
+    ended = run([*command("extract"), "--into", tmp_path, "--hash", *options], mail)
+    lines = [json.loads(line) for line in ended.stdout.splitlines()]
+    assert (ended.returncode, {line["path"]: line["saved"] for line in lines}) == (status, saved)
+    assert [line["path"] for line in lines] == list(saved)
+    for line in lines:
+        content = contents[line["path"]]
+        assert (tmp_path / line["saved"]).read_bytes() == content
+        assert (line["size"], line["sha256"]) == (len(content), hashlib.sha256(content).hexdigest())
+        assert line["error"] == ("No line `end` follows the data of the uuencoded file" if line["path"] == "1.u2" else None)
+
+
+def test_text_files_are_those_of_the_json(tmp_path):
+    """`rocktray json` lists the same files in texts, with the same bytes and errors."""
+    mail, _contents = with_text_files()
+    lines = run([*command("extract"), "--into", tmp_path, "--hash"], mail).stdout.splitlines()
+    saved = [(line["path"], line["sha256"], line["error"]) for line in map(json.loads, lines) if ".u" in line["path"]]
+    parts = json.loads(run([*command("json"), "--hash"], mail).stdout)["parts"]
+    assert saved == [(file["path"], file["sha256"], file.get("error")) for part in parts for file in part["text_files"]]
+    assert len(saved) == 3
+
+
+def test_stdout_of_a_text_file():
+    """A file in a text is written alone."""
+    mail, contents = with_text_files()
+    ended = run([*command("extract"), "--stdout", "--only", "3.1.u1"], mail)
+    assert (ended.returncode, ended.stdout, ended.stderr) == (0, contents["3.1.u1"], b"")
+
+
+def test_limit_on_text_files(tmp_path):
+    """As many blocks of a text are read as the limit says."""
+    mail = b"\n" + b"".join(uuencoded(b"%d" % number, b"%d" % number) for number in range(20))
+    ended = run([*command("extract"), "--into", tmp_path, "--max-items", "9"], mail)
+    assert (ended.returncode, sorted(path.name for path in tmp_path.iterdir())) == (0, [str(number) for number in range(9)])
 
 
 def test_names_by_hash(tmp_path):

@@ -164,10 +164,10 @@ def json_line():
         "path": "1", "inside": None, "type": "text/plain", "charset": "us-ascii", "params": {}, "disposition": None,
         "file_name": None, "content_id": None, "attachment": False, "extracted": False, "encoding": "7bit", "start": 0,
         "end": size, "size": 4, "refusal": None, "decoded_size": 4, "sha256": None, "report": None,
-        "headers": [["Subject", SUBJECT]] * COUNT, "text": "body", "html_text": None, "text_charset": "utf-8",
+        "text_files": [], "headers": [["Subject", SUBJECT]] * COUNT, "text": "body", "html_text": None, "text_charset": "utf-8",
     }
     lists = ("from", "to", "cc", "bcc", "reply_to", "sender")
-    mail = {"schema": 5, "file": None, "number": None, "start": 0, "end": size, "subject": SUBJECT}
+    mail = {"schema": 6, "file": None, "number": None, "start": 0, "end": size, "subject": SUBJECT}
     mail.update({name: [] for name in lists}, raw={name: None for name in lists}, date=None, message_id=[])
     mail.update(in_reply_to=[], references=[], bounced_id=None, recipients=[], parts=[part], forwarded=[])
     return json.dumps(mail, ensure_ascii=False, separators=(",", ":")) + "\n"
@@ -334,3 +334,13 @@ def test_memory_of_items(name, mail, tmp_path):
     is_refused = items > 1000 and (mail != "parts_inside" or name == "extract")
     assert status == (3 if is_refused else 0)
     assert used <= START + times * len(raw) + BYTES_PER_ITEM * 1000, used
+
+
+@pytest.mark.parametrize("name, count", [("json", 1_000_000), ("extract", 20_000)])
+def test_memory_of_files_in_a_text(name, count, tmp_path):
+    """The uuencoded blocks in a text count as items, and those after the limit are not read."""
+    # the empty lines make the bound greater than the memory of the process that measures
+    raw = b"\n" + b"begin 644 a\n`\nend\n" * count + b"\n" * 2_000_000
+    for limit in (count, 1000):
+        status, used = peak([*command(name), *ARGUMENTS.get(name, []), "--max-items", str(limit)], raw, tmp_path)
+        assert status == 0 and used <= START + 5 * len(raw) + BYTES_PER_ITEM * limit, used / limit

@@ -7,4 +7,5 @@ pub mod Parts
 pub mod Names
 pub mod Save
 pub mod Saves
+pub mod Texts
 pub mod Content

@@ -103,7 +103,7 @@ module _ (file : Option (List ℕ)) where
       -- the chosen files of a mail are saved and have lines, and then those of each mail inside it; or the mail has a line, if it is refused
       abbrev pub IsMailOf : Option ℕ → Reads Tree → Saves
       IsMailOf number (Ok t) =
-          Then (AreFiles number (chosen options.choice (wanted_among known Own (places t (mail_placements t)))))
+          Then (AreFiles number (chosen options.choice (wanted_among known options.limit Own (places t (mail_placements t)))))
           (AreInside number (inner_mails_within known options.limit 100 [] (Some 0) t (mail_placements t)))
       IsMailOf number (Err refusal) = Only (refused_line number None (refusal_text refusal) ∷ [])
 

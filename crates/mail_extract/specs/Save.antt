@@ -1,16 +1,18 @@
 -- What saving the files of a mail does to a directory; the program's own rule.
-use Rattle.std.specs.Prelude.{◌≡◌, ℕ, ◌+◌, ◌-◌, ◌^◌, ◌<◌, ◌≤◌, ◌⊎◌, Bool, true, false, not, ◌&&◌, ◌||◌, List, [], ◌∷◌, ◌++◌, length, filter, flat_map, map, Option, Some, None, is_some, option_and_then}
+use Rattle.std.specs.Prelude.{◌≡◌, ℕ, ◌+◌, ◌-◌, ◌^◌, ◌<◌, ◌≤◌, ◌⊎◌, Bool, true, false, not, ◌&&◌, ◌||◌, List, [], ◌∷◌, ◌++◌, length, filter, flat_map, codes, Option, Some, None, is_some, option_and_then, if◌then◌else◌}
 use Rattle.std.specs.Option.{option_map_or}
 use Rattle.std.specs.Result.{result_ok}
 use Rattle.mail_codec.specs.Charset.{Charsets}
 use Rattle.mailparse.specs.Mail.{Node, Tree, root}
 use Rattle.mailparse.specs.Placement.{Placement}
 use Rattle.mail_data.specs.Attachments.{is_extracted}
+use Rattle.mail_data.specs.Files.{text_of_octets}
 use Rattle.mail_data.specs.InnerMails.{InnerMail, forwards, inner_mails_within, places_under}
 use Rattle.mail_data.specs.PartPlaces.{Place, places}
 use Rattle.mail_data.specs.RawPaths.{file_name_or_path}
 use Rattle.mail_data.specs.Reading.{mail_placements, mail_reading}
-use Rattle.mail_data.specs.lenient.Content.{Content}
+use Rattle.mail_data.specs.TextFiles.{TextFile, file_bytes, is_plain_text, text_file_path, text_files}
+use Rattle.mail_data.specs.lenient.Content.{Content, message_content}
 use Rattle.mail_extract.specs.Choice.{Choice, keeps}
 use Rattle.mail_extract.specs.Content.{content}
 use Rattle.mail_extract.specs.Endings.{ending_of}
@@ -94,25 +96,50 @@ wanted_as level place name =
     let node = root place.part in
     record { path = place.path; mimetype = node.ctype.mimetype; name = name; content = content node; is_contained = is_contained level node }
 
+-- a file in a text, which has this path, as it is to be saved: it has no type of its own
+abbrev pub text_wanted : List ℕ → TextFile → Wanted
+text_wanted path file =
+    record {
+      path = path;
+      mimetype = codes "application/octet-stream";
+      name = wanted_name (Some (text_of_octets file.name)) [];
+      content = file_bytes file;
+      is_contained = false;
+    }
+
+-- files in the text of the part with this path, the first of which has this number
+abbrev pub texts_wanted : List ℕ → ℕ → List TextFile → List Wanted
+texts_wanted path number [] = []
+texts_wanted path number (file ∷ files) = text_wanted (text_file_path path number) file ∷ texts_wanted path (number + 1) files
+
+-- the files in the text of a part, if it is a plain text, at most this many
+abbrev pub wanted_texts : ℕ → Place → List Wanted
+wanted_texts limit place =
+    if is_plain_text place.part then texts_wanted place.path 1 (text_files limit (message_content (root place.part)).bytes) else []
+
 -- Under the known charsets.
 module _ (known : Charsets) where
   -- a part as it is to be saved
   abbrev pub wanted : Level → Place → Wanted
   wanted level place = wanted_as level place (wanted_name (file_name_or_path known (root place.part)) (ending_of (root place.part)))
 
+  -- a part, if it is a file, or otherwise the files in its text, with this limit
+  abbrev pub wanted_in : ℕ → Level → Place → List Wanted
+  wanted_in limit level place = if is_extracted known place.part then wanted level place ∷ [] else wanted_texts limit place
+
   -- the files among some parts
-  abbrev pub wanted_among : Level → List Place → List Wanted
-  wanted_among level found = map (wanted level) (filter (λ place. is_extracted known place.part) found)
+  abbrev pub wanted_among : ℕ → Level → List Place → List Wanted
+  wanted_among limit level found = flat_map (wanted_in limit level) found
 
   -- the files of a mail inside a mail, if it is not refused, also for this limit
   abbrev pub wanted_inside : ℕ → InnerMail → List Wanted
   wanted_inside limit inner =
-      option_map_or (λ t. wanted_among Inside (places_under inner.path t (mail_placements t))) (result_ok (mail_reading known limit inner.bytes)) []
+      option_map_or (λ t. wanted_among limit Inside (places_under inner.path t (mail_placements t))) (result_ok (mail_reading known limit inner.bytes)) []
 
   -- the files of a mail whose parts have these placements, and then those of the mails inside it, each with this limit
   abbrev pub wanted_files : ℕ → Tree → List Placement → List Wanted
   wanted_files limit t found =
-      wanted_among Own (places t found) ++ flat_map (wanted_inside limit) (inner_mails_within known limit 100 [] (Some 0) t found)
+      wanted_among limit Own (places t found) ++ flat_map (wanted_inside limit) (inner_mails_within known limit 100 [] (Some 0) t found)
 
 -- the choice keeps a file: what the file of a forwarded mail contains is kept only if the choice names its path
 abbrev pub is_chosen : Choice → Wanted → Bool

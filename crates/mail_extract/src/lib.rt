@@ -17,6 +17,7 @@ mod parts;
 mod pattern;
 mod report;
 mod save;
+mod texts;
 
 pub use choice::Choice;
 pub use directory::{Created, Directory};

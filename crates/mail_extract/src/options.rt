@@ -24,8 +24,8 @@ pub enum Naming {
 /// How files are saved, and which.
 #[derive(Clone, Copy, Debug)]
 pub struct SaveOptions<'c> {
-    /// The greatest number of messages, parts and headers in a mail that is not refused. Each mail
-    /// inside a mail has this limit for itself.
+    /// The greatest number of messages, parts and headers in a mail that is not refused, and of
+    /// uuencoded blocks that are read in a text. Each mail inside a mail has this limit for itself.
     pub limit: usize,
     /// Whether saved files are hashed.
     pub hashing: Hashing,

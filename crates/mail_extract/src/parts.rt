@@ -22,7 +22,8 @@ use crate::level::{Level, Saving, is_contained};
 use crate::names::wanted_name;
 use crate::options::{Source, Target};
 use crate::report::report_saved;
-use crate::save::save_file;
+use crate::save::save_part;
+use crate::texts::extract_text;
 use mail_data::files::{file_name_or_path, is_extracted};
 use mail_data::places::Place;
 use mail_json::Decoded;
@@ -46,7 +47,8 @@ pub(crate) fn extract_places<W: Write, D: Directory, K: KnownCharsets>(
         (AreFiles (option_map (λ name. name.now) source.entry.file) D.can_fail
         (options_view source.entry.options) saving.number
         (chosen (options_view source.entry.options).choice
-        (wanted_among (K.known source.entry.known.now) saving.level (map decoded_place parts.now)))) }
+        (wanted_among (K.known source.entry.known.now) source.entry.options.limit saving.level
+        (map decoded_place parts.now)))) }
 {
     let mut outcome = Outcome::Clean;
     for part in parts {
@@ -55,7 +57,8 @@ pub(crate) fn extract_places<W: Write, D: Directory, K: KnownCharsets>(
     Ok(outcome)
 }
 
-/// Saves a part if it is a chosen file, and writes its line.
+/// Saves a part if it is a chosen file, or otherwise the chosen files in its text, and writes the
+/// line of each after it.
 fn extract_place<W: Write, D: Directory, K: KnownCharsets>(
     alloc: Global,
     out: &mut W,
@@ -70,12 +73,12 @@ fn extract_place<W: Write, D: Directory, K: KnownCharsets>(
         (AreFiles (option_map (λ name. name.now) source.entry.file) D.can_fail
         (options_view source.entry.options) saving.number
         (chosen (options_view source.entry.options).choice
-        (wanted_among (K.known source.entry.known.now) saving.level
+        (wanted_among (K.known source.entry.known.now) source.entry.options.limit saving.level
         (decoded_place part.now ∷ [])))) }
 {
     let place = part.place;
     if !is_extracted(alloc, place.part, source.known)? {
-        return Ok(Outcome::Clean);
+        return extract_text(alloc, out, target, place, saving.number, source);
     }
     let name = name_of(alloc, place.part, source.known)?;
     if !is_kept(
@@ -87,7 +90,7 @@ fn extract_place<W: Write, D: Directory, K: KnownCharsets>(
     )? {
         return Ok(Outcome::Clean);
     }
-    let saved = save_file(alloc, target, part, name, source.options)?;
+    let saved = save_part(alloc, target, part, name, source.options)?;
     report_saved(out, &saved, source.file, saving.number)
 }
 

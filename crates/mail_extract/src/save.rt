@@ -3,10 +3,12 @@ ghost use Rattle.std.specs.Prelude.{◌≡◌, List, Some, false, is_some, strin
 ghost use Rattle.std.specs.Prelude.{IfErr, IfOk, IfSome};
 ghost use Rattle.mailparse.specs.Outcome.{IsMemory};
 ghost use Rattle.mail_data.specs.FileNames.{IsSafeName};
+ghost use Rattle.mail_data.specs.lenient.ContentViews.{content_view};
 ghost use Rattle.mail_json.specs.DecodedViews.{IsDecoded, decoded_place};
 ghost use Rattle.mail_extract.specs.ChoiceViews.{options_view};
 ghost use Rattle.mail_extract.specs.Directory.{File};
-ghost use Rattle.mail_extract.specs.Save.{IsKept, IsKeptNumbered, IsPut, IsSaved, wanted_as};
+ghost use Rattle.mail_extract.specs.Save.{IsKept, IsKeptNumbered, IsPut, IsSaved, Wanted};
+ghost use Rattle.mail_extract.specs.Save.{wanted_as};
 ghost use Rattle.mail_extract.specs.SaveViews.{kept_name, outcome};
 ghost use Rattle.mail_extract.specs.declared.level.Level.{Level};
 
@@ -15,7 +17,7 @@ use crate::directory::{Created, Directory};
 use crate::hash::wanted_hash;
 use crate::names::numbered;
 use crate::options::{Naming, SaveOptions, Target, target_name};
-use mail_data::lenient::ContentFault;
+use mail_data::lenient::{Content, ContentFault};
 use mail_json::Decoded;
 use mailparse::MailParseError;
 use std::alloc::{AllocError, Global};
@@ -45,9 +47,8 @@ enum Kept {
     Nowhere(io::Error),
 }
 
-/// Saves a file with this wanted name. Once it has its name nothing is allocated any more, so that
-/// its line can be written.
-pub(crate) fn save_file<D: Directory>(
+/// Saves a part as a file with this wanted name.
+pub(crate) fn save_part<D: Directory>(
     alloc: Global,
     target: &mut Target<D>,
     part: &Decoded<'_, '_, '_>,
@@ -66,11 +67,34 @@ pub(crate) fn save_file<D: Directory>(
     ensures only_memory { IfErr result IsMemory }
 {
     let content = saved_content(alloc, part)?;
+    let path = String::from_str(alloc, part.place.path.as_str())?;
+    Ok(save_file(alloc, target, path, &content, name, options)?)
+}
+
+/// Saves a file with this path, content and wanted name. Once it has its name nothing is allocated
+/// any more, so that its line can be written.
+pub(crate) fn save_file<D: Directory>(
+    alloc: Global,
+    target: &mut Target<D>,
+    path: String,
+    content: &Content<'_>,
+    name: String,
+    options: SaveOptions<'_>,
+) -> Result<Saved, AllocError>
+    requires { IsSafeName (string_bytes name) }
+    ensures saved { IfOk result (λ saved. (wanted : Wanted) (files : List File)
+        → wanted.path ≡ string_bytes path → wanted.name ≡ string_bytes name
+        → wanted.content ≡ content_view content.now
+        → D.held target.old.directory ≡ Some files
+        → (now : List File) × (D.held target.new.directory ≡ Some now)
+        × IsSaved D.can_fail (options_view options.entry) files wanted
+        target.old.number (outcome saved) target.new.number now) }
+    ensures safe { IfOk result (λ saved. IfSome (outcome saved).saved IsSafeName) }
+{
     let bytes = content.bytes.as_slice();
     let name = target_name(alloc, name, bytes, options.naming)?;
     let sha256 = wanted_hash(alloc, bytes, options.hashing)?;
     let damage = text_of(alloc, content.fault, content.ignored)?;
-    let path = String::from_str(alloc, part.place.path.as_str())?;
     let size = bytes.len();
     let (directory, number) = (&mut target.directory, &mut target.number);
     match put(alloc, directory, number, name, bytes, options.naming)? {

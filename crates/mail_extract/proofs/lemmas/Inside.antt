@@ -31,7 +31,7 @@ use Rattle.mail_extract.proofs.lemmas.Saves.{Implies, each_first, saved_as, save
 module _ (file : Option (List ℕ)) (can_fail : List File → Bool) (options : Options) (known : Charsets) (number : Option ℕ) where
   -- the chosen files of a mail inside a mail
   abbrev pub Files : List Place → Saves
-  Files parts = AreFiles file can_fail options number (chosen options.choice (wanted_among known Inside parts))
+  Files parts = AreFiles file can_fail options number (chosen options.choice (wanted_among known options.limit Inside parts))
 
   -- no mails
   pub inside_none : (held : Option (List File)) (old : Option (List ℕ)) (from : ℕ) (mails : List InnerMail) → mails ≡ []
@@ -64,7 +64,7 @@ module _ (file : Option (List ℕ)) (can_fail : List File → Bool) (options : O
     read-first mail parts read same = λ files from lines next now h.
         let inner = inner_with place.path bytes at None in
         let under = places_under place.path mail (mail_placements mail) in
-        let own = ap (λ (ps : List Place). chosen options.choice (wanted_among known Inside ps)) same ∙ ap (chosen options.choice) (sym (inside_read known options.limit inner mail read)) in
+        let own = ap (λ (ps : List Place). chosen options.choice (wanted_among known options.limit Inside ps)) same ∙ ap (chosen options.choice) (sym (inside_read known options.limit inner mail read)) in
         let first = subst (λ (ws : List Wanted). AreFiles file can_fail options number ws files from h.2 h.1 h.0) own h.4 in
         let others = subst (λ (ps : List Place). AreInside file can_fail options known number (mails_among known options.limit most at ps) h.0 h.1 h.3 next now) same h.5 in
         subst (λ (ms : List InnerMail). AreInside file can_fail options known number ms files from lines next now) (sym (read_is known options.limit most start at place bytes mail is read))
@@ -101,12 +101,12 @@ module _ (file : Option (List ℕ)) (can_fail : List File → Bool) (options : O
   -- a whole mail: its files, and then those of the mails inside it
   pub mail_saved : (held_old held_mid held_new : Option (List File)) (old mid new : Option (List ℕ)) (from middle next : ℕ) (a b both : Outcome) (mail : Tree) (parts again : List Place)
       → parts ≡ places mail (mail_placements mail) → again ≡ parts → both ≡ worse a b
-      → Saved held_old held_mid old mid from middle a (AreFiles file can_fail options number (chosen options.choice (wanted_among known Own parts)))
+      → Saved held_old held_mid old mid from middle a (AreFiles file can_fail options number (chosen options.choice (wanted_among known options.limit Own parts)))
       → Saved held_mid held_new mid new middle next b (AreInside file can_fail options known number (mails_among known options.limit 100 (Some 0) again))
       → Saved held_old held_new old new from next both (IsMailOf file can_fail options known number (Ok mail))
   mail_saved held_old held_mid held_new old mid new from middle next a b both mail parts again same e is_both own others =
       let inside : mails_among known options.limit 100 (Some 0) again ≡ mails_inside known options.limit mail = ap (mails_among known options.limit 100 (Some 0)) (e ∙ same) ∙ among_whole known options.limit mail in
-      saved_then held_old held_mid held_new old mid new from middle next a b both (AreFiles file can_fail options number (chosen options.choice (wanted_among known Own (places mail (mail_placements mail)))))
+      saved_then held_old held_mid held_new old mid new from middle next a b both (AreFiles file can_fail options number (chosen options.choice (wanted_among known options.limit Own (places mail (mail_placements mail)))))
       (AreInside file can_fail options known number (mails_inside known options.limit mail)) is_both
-      (subst (λ (ps : List Place). Saved held_old held_mid old mid from middle a (AreFiles file can_fail options number (chosen options.choice (wanted_among known Own ps)))) same own)
+      (subst (λ (ps : List Place). Saved held_old held_mid old mid from middle a (AreFiles file can_fail options number (chosen options.choice (wanted_among known options.limit Own ps)))) same own)
       (subst (λ (ms : List InnerMail). Saved held_mid held_new mid new middle next b (AreInside file can_fail options known number ms)) inside others)

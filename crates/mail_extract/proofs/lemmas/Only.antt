@@ -308,7 +308,7 @@ module _ (file : Option (List ℕ)) (options : Options) (by_sender : options.nam
   keeps_mail : (number : Option ℕ) (read : Reads Tree) (files now : List File) (from next : ℕ) (lines : List FileLine)
       → IsMailOf file fails_if_full options known number read files from lines next now → Keeps files (read_files known options.limit options.choice read) lines now
   keeps_mail number (Ok t) files now from next lines h =
-      let own = wanted_among known Own (places t (mail_placements t)) in
+      let own = wanted_among known options.limit Own (places t (mail_placements t)) in
       let mails = inner_mails_within known options.limit 100 [] (Some 0) t (mail_placements t) in
       subst (λ (ls : List FileLine). Keeps files (chosen options.choice (wanted_files known options.limit t (mail_placements t))) ls now) (sym h.6)
       (subst (λ (ws : List Wanted). Keeps files ws (h.2 ++ h.3) now) (chosen_all known options.limit options.choice own mails)

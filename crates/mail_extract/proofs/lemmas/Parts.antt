@@ -20,6 +20,12 @@ module _ (file : Option (List ℕ)) (can_fail : List File → Bool) (options : O
   files_none e held old from =
       subst (λ (ws : List Wanted). Saved held held old old from from Clean (AreFiles file can_fail options number ws)) (sym e) (saved_none held old from)
 
+  -- they are the same by another name
+  pub files_as : (same : List Wanted) → same ≡ files → (held_old held_new : Option (List File)) (old new : Option (List ℕ)) (from next : ℕ) (r : Result program.Outcome Fault)
+      → Ends held_old held_new old new from next r (AreFiles file can_fail options number same) → Ends held_old held_new old new from next r (AreFiles file can_fail options number files)
+  files_as same e held_old held_new old new from next r h =
+      subst (λ (ws : List Wanted). Ends held_old held_new old new from next r (AreFiles file can_fail options number ws)) e h
+
   -- there is one, which was saved and has its line
   pub file_saved : (wanted : Wanted) → files ≡ wanted ∷ [] → (held_old held_new : Option (List File)) (old new : Option (List ℕ)) (from next : ℕ) (r : Result program.Outcome Fault) (outcome : Outcome)
       → ((before : List File) → held_old ≡ Some before → (now : List File) × (held_new ≡ Some now) × IsSaved can_fail options before wanted from outcome next now)

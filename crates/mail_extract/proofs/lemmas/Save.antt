@@ -1,8 +1,8 @@
 -- Lemmas on files that are saved, and on which files these are.
 use Rattle.std.proofs.Common.{◌≡◌, ℕ, ◌+◌, Bool, true, false, cond, ◌||◌, List, [], ◌∷◌, ◌++◌, length, map, Option, Some, None, is_some, option_and_then, option_map, Ok, Err, refl, sym, ap, subst, arith, ⊎_elim, ◌∙◌}
-use Rattle.std.specs.Prelude.{filter, flat_map, not}
+use Rattle.std.specs.Prelude.{◌&&◌, codes, flat_map, not}
 use Rattle.std.proofs.lemmas.Bool.{cases_lt, cond-true, cond-false}
-use Rattle.std.proofs.lemmas.List.{map-append}
+use Rattle.std.proofs.lemmas.List.{append-nil}
 use Rattle.std.proofs.lemmas.List.Concat.{flat_map-cons}
 use Rattle.std.proofs.lemmas.List.Elements.{filter-append}
 use Rattle.std.specs.List.{list_any}
@@ -14,8 +14,9 @@ use Rattle.mailparse.specs.Refusal.{Reads, Refusal}
 use Rattle.mail_data.specs.InnerMails.{InnerMail, places_under}
 use Rattle.mail_data.specs.PartPlaces.{Place}
 use Rattle.mail_data.specs.Reading.{mail_placements, mail_reading}
+use Rattle.mail_data.specs.TextFiles.{TextFile, text_file_path}
 use Rattle.mail_data.specs.lenient.Content.{Content}
-use Rattle.mail_extract.specs.Choice.{Choice}
+use Rattle.mail_extract.specs.Choice.{Choice, keeps}
 use Rattle.mail_data.specs.Attachments.{is_extracted}
 use Rattle.mail_extract.specs.Directory.{Creates, File, has_file}
 use Rattle.mail_extract.specs.Hash.{wanted_hash}
@@ -25,7 +26,7 @@ use Rattle.mail_extract.specs.declared.directory.Created.TheVariants.{Taken}
 use Rattle.mail_extract.specs.Names.{IsNumbered}
 use Rattle.mail_extract.specs.Naming.{Options, target}
 use Rattle.mail_extract.specs.declared.options.Naming.{Naming}
-use Rattle.mail_extract.specs.Save.{AreTaken, IsPut, IsSaved, Wanted, chosen, is_chosen, wanted, wanted_among, wanted_as, wanted_inside}
+use Rattle.mail_extract.specs.Save.{AreTaken, IsPut, IsSaved, Wanted, chosen, is_chosen, text_wanted, texts_wanted, wanted, wanted_among, wanted_as, wanted_in, wanted_inside, wanted_texts}
 use Rattle.mail_extract.specs.declared.level.Level.{Level}
 use Rattle.mail_extract.specs.declared.level.Level.TheVariants.{Inside}
 
@@ -74,38 +75,68 @@ saved_file can_fail options files now wanted from next size name bytes path kept
       error = is_error ∙ ap (λ (c : Content). is_some c.fault || not (is_some saved)) is_content;
     }
 
-module _ (known : Charsets) (choice : Choice) (level : Level) where
+module _ (known : Charsets) (limit : ℕ) (choice : Choice) (level : Level) where
+  -- one part
+  among-one : (place : Place) → wanted_among known limit level (place ∷ []) ≡ wanted_in known limit level place
+  among-one place = flat_map-cons (wanted_in known limit level) place [] ∙ append-nil (wanted_in known limit level place)
+
   -- the first part, and the rest
   among-cons : (place : Place) (rest : List Place)
-      → wanted_among known level (place ∷ rest) ≡ wanted_among known level (place ∷ []) ++ wanted_among known level rest
+      → wanted_among known limit level (place ∷ rest) ≡ wanted_among known limit level (place ∷ []) ++ wanted_among known limit level rest
   among-cons place rest =
-      ap (map (wanted known level)) (filter-append (λ p. is_extracted known p.part) (place ∷ []) rest)
-      ∙ map-append (wanted known level) (filter (λ p. is_extracted known p.part) (place ∷ [])) _
+      flat_map-cons (wanted_in known limit level) place rest
+      ∙ ap (λ (files : List Wanted). files ++ wanted_among known limit level rest) (sym (among-one place))
 
-  -- a part that is no file
-  pub among-none : (place : Place) → is_extracted known place.part ≡ false → chosen choice (wanted_among known level (place ∷ [])) ≡ []
-  among-none place is = ap (λ ps. chosen choice (map (wanted known level) ps)) (cond-false (is_extracted known place.part) (place ∷ []) [] is)
+  -- a part that is no file has those in its text
+  pub among-text : (place : Place) → is_extracted known place.part ≡ false
+      → chosen choice (wanted_among known limit level (place ∷ [])) ≡ chosen choice (wanted_texts limit place)
+  among-text place is =
+      ap (chosen choice) (among-one place ∙ cond-false (is_extracted known place.part) (wanted known level place ∷ []) (wanted_texts limit place) is)
 
   -- a part that is a file
-  among-one : (place : Place) (keep : Bool) → is_extracted known place.part ≡ true → is_chosen choice (wanted known level place) ≡ keep
-      → chosen choice (wanted_among known level (place ∷ [])) ≡ cond keep (wanted known level place ∷ []) []
-  among-one place keep is kept =
-      ap (λ ps. chosen choice (map (wanted known level) ps)) (cond-true (is_extracted known place.part) (place ∷ []) [] is)
+  among-file : (place : Place) (keep : Bool) → is_extracted known place.part ≡ true → is_chosen choice (wanted known level place) ≡ keep
+      → chosen choice (wanted_among known limit level (place ∷ [])) ≡ cond keep (wanted known level place ∷ []) []
+  among-file place keep is kept =
+      ap (chosen choice) (among-one place ∙ cond-true (is_extracted known place.part) (wanted known level place ∷ []) (wanted_texts limit place) is)
       ∙ ap (λ (k : Bool). cond k (wanted known level place ∷ []) []) kept
 
   -- the choice, asked about a name
   pub among-kept : (place : Place) (keep : Bool) (name : List ℕ) → is_extracted known place.part ≡ true → name ≡ (wanted known level place).name
-      → keep ≡ is_chosen choice (wanted_as level place name) → chosen choice (wanted_among known level (place ∷ [])) ≡ cond keep (wanted_as level place name ∷ []) []
+      → keep ≡ is_chosen choice (wanted_as level place name) → chosen choice (wanted_among known limit level (place ∷ [])) ≡ cond keep (wanted_as level place name ∷ []) []
   among-kept place keep name is is_name kept =
-      among-one place keep is (ap (λ (n : List ℕ). is_chosen choice (wanted_as level place n)) (sym is_name) ∙ sym kept)
+      among-file place keep is (ap (λ (n : List ℕ). is_chosen choice (wanted_as level place n)) (sym is_name) ∙ sym kept)
       ∙ ap (λ (n : List ℕ). cond keep (wanted_as level place n ∷ []) []) (sym is_name)
 
   -- the chosen files of the first part, and of the rest
   pub chosen-cons : (all rest : List Place) (place : Place) → all ≡ place ∷ rest
-      → chosen choice (wanted_among known level all) ≡ chosen choice (wanted_among known level (place ∷ [])) ++ chosen choice (wanted_among known level rest)
+      → chosen choice (wanted_among known limit level all) ≡ chosen choice (wanted_among known limit level (place ∷ [])) ++ chosen choice (wanted_among known limit level rest)
   chosen-cons all rest place e =
-      ap (λ ps. chosen choice (wanted_among known level ps)) e ∙ ap (chosen choice) (among-cons place rest)
-      ∙ filter-append (is_chosen choice) (wanted_among known level (place ∷ [])) _
+      ap (λ ps. chosen choice (wanted_among known limit level ps)) e ∙ ap (chosen choice) (among-cons place rest)
+      ∙ filter-append (is_chosen choice) (wanted_among known limit level (place ∷ [])) _
+
+and_true : (b : Bool) → (b && true) ≡ b
+and_true true = refl
+and_true false = refl
+
+-- the type of a file in a text
+abbrev pub octets : List ℕ
+octets = codes "application/octet-stream"
+
+module _ (choice : Choice) where
+  -- a file in a text, and the choice, asked about its name
+  pub text-kept : (path : List ℕ) (file : TextFile) (keep : Bool) (name : List ℕ) → name ≡ (text_wanted path file).name → keep ≡ keeps choice path octets name
+      → chosen choice (text_wanted path file ∷ []) ≡ cond keep (text_wanted path file ∷ []) []
+  text-kept path file keep name is_name kept =
+      ap (λ (k : Bool). cond k (text_wanted path file ∷ []) [])
+      (and_true (keeps choice path octets (text_wanted path file).name) ∙ ap (λ (n : List ℕ). keeps choice path octets n) (sym is_name) ∙ sym kept)
+
+  -- the chosen files of the first file in a text, and of the rest
+  pub texts-cons : (path own : List ℕ) (number : ℕ) (all rest : List TextFile) (file : TextFile) → all ≡ file ∷ rest → own ≡ text_file_path path number
+      → chosen choice (texts_wanted path number all) ≡ chosen choice (text_wanted own file ∷ []) ++ chosen choice (texts_wanted path (number + 1) rest)
+  texts-cons path own number all rest file e is_own =
+      ap (λ (files : List TextFile). chosen choice (texts_wanted path number files)) e
+      ∙ filter-append (is_chosen choice) (text_wanted (text_file_path path number) file ∷ []) (texts_wanted path (number + 1) rest)
+      ∙ ap (λ (p : List ℕ). chosen choice (text_wanted p file ∷ []) ++ chosen choice (texts_wanted path (number + 1) rest)) (sym is_own)
 
 -- the chosen files of the mails inside a mail
 abbrev pub chosen_inside : Charsets → ℕ → Choice → List InnerMail → List Wanted
@@ -129,14 +160,14 @@ chosen_all known limit choice own mails =
 
 -- the files of a mail inside a mail that was read so
 pub inside_read : (known : Charsets) (limit : ℕ) (inner : InnerMail) (t : Tree) → mail_reading known limit inner.bytes ≡ Ok t
-    → wanted_inside known limit inner ≡ wanted_among known Inside (places_under inner.path t (mail_placements t))
+    → wanted_inside known limit inner ≡ wanted_among known limit Inside (places_under inner.path t (mail_placements t))
 inside_read known limit inner t e =
-    ap (λ (r : Reads Tree). option_map_or (λ u. wanted_among known Inside (places_under inner.path u (mail_placements u))) (result_ok r) []) e
+    ap (λ (r : Reads Tree). option_map_or (λ u. wanted_among known limit Inside (places_under inner.path u (mail_placements u))) (result_ok r) []) e
 
 -- a refused mail has none
 pub inside_refused : (known : Charsets) (limit : ℕ) (inner : InnerMail) (refusal : Refusal) → mail_reading known limit inner.bytes ≡ Err refusal → wanted_inside known limit inner ≡ []
 inside_refused known limit inner refusal e =
-    ap (λ (r : Reads Tree). option_map_or (λ u. wanted_among known Inside (places_under inner.path u (mail_placements u))) (result_ok r) []) e
+    ap (λ (r : Reads Tree). option_map_or (λ u. wanted_among known limit Inside (places_under inner.path u (mail_placements u))) (result_ok r) []) e
 
 -- no number is below the first
 pub taken_start : (can_fail : List File → Bool) (naming : Naming) (name : List ℕ) (files : List File) (from : ℕ) → AreTaken can_fail naming name files from from

@@ -20,7 +20,7 @@ loop-part-init g c =
     let options = options_view c.args.source.options in
     let known = g.K.KnownCharsets.known c.args.source.known.now in
     let Files = AreFiles (option_map (λ name. name.now) c.args.source.file) g.D.Directory.can_fail options c.args.saving.number in
-    let files = chosen options.choice (wanted_among known c.args.saving.level (map decoded_place c.args.parts.now)) in
+    let files = chosen options.choice (wanted_among known options.limit c.args.saving.level (map decoded_place c.args.parts.now)) in
     before_start _ _ _ (λ later. Files files) (λ later. Files files) (λ later before from lines next now h. h)
 
 pub loop-part-preserved : goal.loop-part-preserved
@@ -34,13 +34,13 @@ loop-part-preserved g c =
     let place = decoded_place c.part-item.result in
     let rest = map decoded_place (drop (i + 1) items) in
     let left = ap (map decoded_place) (drop_next items i c.part-item.result (omega arith) c.part-item.is) in
-    let files = λ (ps : List Place). chosen options.choice (wanted_among known level ps) in
+    let files = λ (ps : List Place). chosen options.choice (wanted_among known options.limit level ps) in
     before_more _ _ _ _ _ _ _ _ _ _ _ _ (λ later. AreFiles file g.D.Directory.can_fail options c.args.saving.number (files (map decoded_place items)))
     (λ later. AreFiles file g.D.Directory.can_fail options c.args.saving.number (files (map decoded_place (drop i items))))
     (λ later. AreFiles file g.D.Directory.can_fail options c.args.saving.number (files rest)) (AreFiles file g.D.Directory.can_fail options c.args.saving.number (files (place ∷ [])))
     c.and-outcome.ensures
     (λ later. each_first (IsFile file g.D.Directory.can_fail options c.args.saving.number) (files (map decoded_place (drop i items))) (files (place ∷ [])) (files rest)
-    (chosen-cons known options.choice level (map decoded_place (drop i items)) rest place left))
+    (chosen-cons known options.limit options.choice level (map decoded_place (drop i items)) rest place left))
     c.in_ok-extract_place.ensures c.loop-part.invariant
 
 pub returns : goal.returns
@@ -51,8 +51,8 @@ returns g c =
     let level = c.args.saving.level in
     let items = c.args.parts.now in
     let i = c.loop-part.part-index in
-    let none = ap (λ ps. chosen options.choice (wanted_among known level (map decoded_place ps))) (drop_all i items (omega arith)) in
-    before_end _ _ _ _ _ _ _ (λ later. AreFiles file g.D.Directory.can_fail options c.args.saving.number (chosen options.choice (wanted_among known level (map decoded_place items))))
-    (λ later. AreFiles file g.D.Directory.can_fail options c.args.saving.number (chosen options.choice (wanted_among known level (map decoded_place (drop i items))))) []
+    let none = ap (λ ps. chosen options.choice (wanted_among known options.limit level (map decoded_place ps))) (drop_all i items (omega arith)) in
+    before_end _ _ _ _ _ _ _ (λ later. AreFiles file g.D.Directory.can_fail options c.args.saving.number (chosen options.choice (wanted_among known options.limit level (map decoded_place items))))
+    (λ later. AreFiles file g.D.Directory.can_fail options c.args.saving.number (chosen options.choice (wanted_among known options.limit level (map decoded_place (drop i items))))) []
     (λ files from lines next now h. subst (λ (ws : List Wanted). AreFiles file g.D.Directory.can_fail options c.args.saving.number ws files from lines next now) (sym none) h)
     c.loop-part.invariant

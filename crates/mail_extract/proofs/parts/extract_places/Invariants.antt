@@ -13,5 +13,5 @@ invariant-loop-part g l =
     let known = g.K.KnownCharsets.known l.source.known.now in
     let file = option_map (λ name. name.now) l.fn.source.file in
     Saved (g.D.Directory.held l.fn.target.directory) (g.D.Directory.held l.target.directory) (g.W.Write.contents l.fn.out) (g.W.Write.contents l.out) l.fn.target.number l.target.number l.outcome
-    (Before (λ later. AreFiles file g.D.Directory.can_fail options l.saving.number (chosen options.choice (wanted_among known l.saving.level (map decoded_place l.parts))))
-    (λ later. AreFiles file g.D.Directory.can_fail options l.saving.number (chosen options.choice (wanted_among known l.saving.level (map decoded_place (drop l.part-index l.parts))))))
+    (Before (λ later. AreFiles file g.D.Directory.can_fail options l.saving.number (chosen options.choice (wanted_among known options.limit l.saving.level (map decoded_place l.parts))))
+    (λ later. AreFiles file g.D.Directory.can_fail options l.saving.number (chosen options.choice (wanted_among known options.limit l.saving.level (map decoded_place (drop l.part-index l.parts))))))
