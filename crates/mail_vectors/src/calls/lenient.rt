@@ -102,6 +102,7 @@ fn read_content(answer: &mut Answer, row: &Row) -> Outcome {
     match content.fault {
         Some(ContentFault::Base64(fault)) => answer.put(fault.group),
         Some(ContentFault::Uuencode) => answer.word("uuencode"),
+        Some(ContentFault::TextFile) => answer.word("text_file"),
         None => answer.word("none"),
     }
     answer.put(content.ignored);

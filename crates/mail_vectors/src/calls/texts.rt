@@ -6,6 +6,7 @@ use crate::notation::{Answer, Decision, Outcome, Row};
 use mail_data::flowed::{DelSp, flowed_text, unflowed};
 use mail_data::inner_mails::{InnerMail, forwards, inner_mails, places_under};
 use mail_data::readable::readable_text;
+use mail_data::text_files::text_files;
 use mail_data::texts::{text_part, text_type};
 use mail_html::{Links, References};
 use mailparse::{KnownCharsets, MailParseError, parse_mail, parse_mail_in};
@@ -22,6 +23,7 @@ pub fn make(answer: &mut Answer, row: &Row) -> Decision {
         "forwards" => say_forwards(answer, row)?,
         "text_type" => answer.put(text_type(row.text(0))),
         "unflowed" => join_lines(answer, row),
+        "text_files" => list_files(answer, row)?,
         _ => return Ok(false),
     }
     Ok(true)
@@ -35,6 +37,19 @@ fn join_lines(answer: &mut Answer, row: &Row) {
         DelSp::No
     };
     answer.put(unflowed(row.alloc, row.text(0), del_sp));
+}
+
+/// `text_files TEXT LIMIT => NAME START END CONTENT ENDED` for each uuencoded file in a text: the range
+/// is that of its block, and ENDED says whether its data has an end.
+fn list_files(answer: &mut Answer, row: &Row) -> Outcome {
+    for file in &text_files(row.alloc, row.bytes(0), row.number(1))? {
+        answer.put(file.file_name(row.alloc));
+        answer.put(file.block.start);
+        answer.put(file.block.end);
+        answer.put(file.content(row.alloc)?.bytes.as_slice());
+        answer.put(file.is_ended);
+    }
+    Ok(())
 }
 
 /// `text_part MAIL => TEXT`, the text of the part's body, or `none`; likewise `text_part_with`,
