@@ -54,7 +54,7 @@ def test_json(raw, wanted):
     """The line of a mail has the findings of its row, with the classes of the page."""
     ended = check(raw, "--json", "--label", "a\x1b.eml")
     line = json.loads(ended.stdout)
-    head = {"schema": 5, "file": "a\x1b.eml", "number": None, "start": 0, "end": len(raw)}
+    head = {"schema": 6, "file": "a\x1b.eml", "number": None, "start": 0, "end": len(raw)}
     assert {key: line[key] for key in line if key != "findings"} == head
     assert found(line) == wanted and ended.returncode == (3 if wanted else 0)
     classes = sections((TOP / "docs" / "FINDINGS.md").read_text())
@@ -146,6 +146,18 @@ def test_mailbox():
     assert text.count("Refused:  ") == 2 and "Bytes:    \\x00\n" in text
     lines = [json.loads(line) for line in check(raw, "--json", "--mbox=rd").stdout.splitlines()]
     assert lines[4]["findings"][0]["start"] == len(b"A: b\n\nFrom ")
+
+
+def test_inside():
+    """Mails inside one another are read as deep as paths have numbers, and a refused one is found by its part."""
+    head = b"Content-Type: message/rfc822\n\n"
+    for depth, names in ((3, [b"duplicate"]), (99, [b"many", b"duplicate"]), (100, [b"many"]), (300, [b"many"])):
+        raw = head * depth + b"Subject: a\nSubject: b\n\nHi\n"
+        items = found(json.loads(check(raw, "--json", "--mail").stdout))
+        paths = {b"many": b".".join([b"1"] * 10), b"duplicate": b".".join([b"1"] * (depth + 1))}
+        assert items[::4] == names and items[3::4] == [paths[name] for name in names], depth
+    line = json.loads(check(head * 2 + b" x\n", "--json", "--mail").stdout)
+    assert found(line) == [b"refused", str(2 * len(head)), str(2 * len(head) + 3), b"1.1"]
 
 
 def test_charsets():

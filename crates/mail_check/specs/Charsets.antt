@@ -78,13 +78,13 @@ is_whole Cut = false
 abbrev pub has_replaced : List ℕ → Bool
 has_replaced text = is_some (text_place text (0xEF ∷ 0xBF ∷ 0xBD ∷ [])) || has_c1_after 0 text
 
--- bytes are not read in this charset: it is none, or they are not ASCII and their text has such a character
+-- bytes are not read in this charset: there is no charset, or they are not ASCII and their text has such a character
 abbrev pub is_unread : Option (List ℕ → List ℕ) → List ℕ → Bool
 is_unread None octets = true
 is_unread (Some reading) octets = is_some (first_byte is_high octets) && has_replaced (reading octets)
 
 -- the label is that of a part of ISO 8859, and one of the bytes is from 80 to 9F; or it is that of a charset of pairs, and
--- they are not ASCII and pairs; or it is none of those above
+-- they are not ASCII and pairs; or it is another label
 abbrev pub is_foreign : List ℕ → List ℕ → Bool
 is_foreign label octets =
     if is_label_of label iso_8859_labels then list_any is_c1 octets else

@@ -14,6 +14,7 @@ pub mod Bodies
 pub mod Texts
 pub mod HiddenBits
 pub mod Findings
+pub mod Inside
 pub mod FindingViews
 pub mod Reading
 pub mod Clean

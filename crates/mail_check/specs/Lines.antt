@@ -125,7 +125,7 @@ is_encoding line =
     is_named (codes "Content-Transfer-Encoding") line
     && (has_value (codes "base64") line || has_value (codes "quoted-printable") line)
 
--- the header is to name a transfer encoding, but its value is none of the five names
+-- the header is to name a transfer encoding, but its value is not one of the five names
 unfoldable pub is_bad_encoding : HeaderLine → Bool
 is_bad_encoding line =
     is_named (codes "Content-Transfer-Encoding") line

@@ -50,6 +50,7 @@ text_of name.QpBlank = codes "qp-blank"
 text_of name.EightBitBody = codes "8bit-body"
 text_of name.Uuencode = codes "uuencode"
 text_of name.Charset = codes "charset"
+text_of name.Refused = codes "refused"
 
 -- the text of a class
 abbrev pub class_text : Class → List ℕ
@@ -104,6 +105,7 @@ class_of name.QpBlank = class.Bytes
 class_of name.EightBitBody = class.Note
 class_of name.Uuencode = class.Note
 class_of name.Charset = class.Text
+class_of name.Refused = class.Structure
 
 -- the sentence of a name
 abbrev pub sentence_of : Name → List ℕ
@@ -150,3 +152,4 @@ sentence_of name.QpBlank = codes "Blanks end a line of quoted-printable, a soft 
 sentence_of name.EightBitBody = codes "A body in 7bit or quoted-printable has bytes that are not ASCII."
 sentence_of name.Uuencode = codes "A line of the text begins a file in uuencode or yEnc: some programs take the file out of the text."
 sentence_of name.Charset = codes "The text has an unknown charset, bytes that its charset lacks, a NUL or a byte order mark: readers show different texts."
+sentence_of name.Refused = codes "The mail in the part cannot be read as a mail: other programs read something in it."

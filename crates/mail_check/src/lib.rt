@@ -12,6 +12,7 @@ mod bodies;
 mod charsets;
 mod file_names;
 mod hidden_bits;
+mod inside;
 pub mod laws;
 mod line_tests;
 mod lines;

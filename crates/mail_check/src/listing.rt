@@ -11,8 +11,8 @@ ghost use Rattle.mail_data.specs.PlaceViews.{place_view};
 ghost use Rattle.mail_check.specs.FindingViews.{finding_view, spot_view};
 ghost use Rattle.mail_check.specs.Findings.{base64_findings, block_findings, body_findings, byte_findings};
 ghost use Rattle.mail_check.specs.Findings.{delimiter_findings, file_line, first_findings};
-ghost use Rattle.mail_check.specs.Findings.{encoded_findings, file_findings, finding_at, findings};
-ghost use Rattle.mail_check.specs.Findings.{header_findings, is_far};
+ghost use Rattle.mail_check.specs.Findings.{encoded_findings, file_findings, finding_at};
+ghost use Rattle.mail_check.specs.Findings.{findings_from, header_findings, is_far};
 ghost use Rattle.mail_check.specs.Findings.{leaf_findings, line_findings, listed, listed_if};
 ghost use Rattle.mail_check.specs.Findings.{message_findings, multipart_findings};
 ghost use Rattle.mail_check.specs.Findings.{parameter_findings, part_findings};
@@ -21,16 +21,18 @@ ghost use Rattle.mail_check.specs.Findings.{name_findings, repeated_findings, sp
 ghost use Rattle.mail_check.specs.Findings.{spot_of_body, strict_findings};
 ghost use Rattle.mail_check.specs.Findings.{text_findings, type_findings, value_findings};
 ghost use Rattle.mail_check.specs.Findings.{word_findings, worded_findings};
+ghost use Rattle.mail_check.specs.Inside.{all_findings};
 ghost use Rattle.mail_check.specs.LineViews.{line_view};
 ghost use Rattle.mail_codec.specs.Ascii.{colon};
 ghost use Rattle.mail_codec.specs.Places.{byte_place};
 ghost use Rattle.mail_check.specs.Lines.{header_lines, second_named, single_names};
-ghost use Rattle.mail_check.specs.declared.names.Name.TheVariants.{Preamble, Uuencode};
+ghost use Rattle.mail_check.specs.declared.names.Name.TheVariants.{Preamble, Refused, Uuencode};
 ghost use Rattle.mail_check.specs.Multiparts.{dash_of};
 
 use crate::bodies::is_base64_lines;
 use crate::file_names::{has_two_names, has_unsafe_name, has_untyped_name};
 use crate::hidden_bits::hidden_bits;
+use crate::inside::push_inside;
 use crate::line_tests::{file_line, long_line};
 use crate::lines::{
     HeaderLine, ends_block, has_blank_fold, has_comment_fold, has_high_value, header_lines,
@@ -56,7 +58,7 @@ use mail_codec::charset::KnownCharsets;
 use mail_data::files::is_leaf;
 use mail_data::places::{Place, places};
 use mailparse::body::Body;
-use mailparse::{MailParseError, ParsedContentDisposition, ParsedMail};
+use mailparse::{MAX_LEVELS, MailParseError, ParsedContentDisposition, ParsedMail};
 use std::alloc::{AllocError, Global};
 use std::ops::Range;
 
@@ -87,15 +89,19 @@ struct Spot<'p> {
 }
 
 /// Returns the findings of a mail: where programs may read something else than `parse_mail` does
-/// (RFC 5322, sections 2 and 3; RFC 2045, section 6; RFC 2046, section 5.1). Encoded words and
-/// texts are read in the charsets `known` (RFC 2047, section 2; RFC 2046, section 4.1.2).
+/// (RFC 5322, sections 2 and 3; RFC 2045, section 6; RFC 2046, sections 5.1 and 5.2.1). Encoded
+/// words and texts are read in the charsets `known` (RFC 2047, section 2; RFC 2046, section 4.1.2).
 ///
 /// They are listed for the mail and each of its parts, in the order in which these appear, each
 /// before its own parts. First come line ends, NUL bytes and long lines of the whole mail, then for
 /// each message its headers, its delimiters and its body. What may occur at many places of a mail,
-/// a header or a body is reported once, where it first occurs. Mails inside the mail are not read.
-/// The time is linear in the bytes, times the levels. Allocates the findings, their paths, and for
-/// each message a list of its headers, its boundary and its text.
+/// a header or a body is reported once, where it first occurs.
+///
+/// The findings of the mails that messages forward follow, each with those of the mails inside it. A
+/// mail inside is read as a whole mail is, if it is not encoded; it is refused if it has more than
+/// `mail_data::reading::DEFAULT_LIMIT` messages, parts and headers. The time is linear in the bytes,
+/// times the levels. Allocates the findings, their paths, the mails inside, and for each message a
+/// list of its headers, its boundary and its text.
 ///
 /// # Errors
 ///
@@ -113,23 +119,42 @@ struct Spot<'p> {
 /// assert!(rt; found[0].name == Name::Duplicate);
 /// assert_eq!(rt; found[0].range, 11..22);
 /// ```
-#[tactic(auto, unfolding(crate::specs::Findings::findings))]
+#[tactic(auto, unfolding(crate::specs::Findings::findings, crate::specs::Inside::all_findings))]
 pub fn findings<K: KnownCharsets>(
     alloc: Global,
     mail: &ParsedMail<'_>,
     known: &K,
 ) -> Result<Vec<Finding>, MailParseError>
     ensures { AnswersOrMemory (λ found. map finding_view found.items) result
-        (Ok (findings (K.known known.now) (tree_of mail.now) (placements_of mail.now))) }
+        (Ok (all_findings (K.known known.now) (tree_of mail.now) (placements_of mail.now))) }
 {
-    let places = places(alloc, mail)?;
+    let messages = places(alloc, mail)?;
     let mut found = Vec::new(alloc);
+    push_messages(alloc, &mut found, messages.as_slice(), known)?;
+    push_inside(alloc, &mut found, messages.as_slice(), MAX_LEVELS, known)?;
+    Ok(found)
+}
+
+/// Appends the findings of the messages of a mail. It is not inlined, so that mails inside one
+/// another need less stack.
+#[inline(never)]
+pub(crate) fn push_messages<K: KnownCharsets>(
+    alloc: Global,
+    found: &mut Vec<Finding>,
+    messages: &[Place<'_, '_>],
+    known: &K,
+) -> Result<(), MailParseError>
+    ensures written { OnOk result (map finding_view found.new.items
+        ≡ map finding_view found.old.items
+        ++ findings_from (K.known known.now) 0 (map place_view messages.now)) }
+    ensures only_memory { IfErr result IsMemory }
+{
     let mut number = 0;
-    for place in &places {
-        push_message(alloc, &mut found, place, number, known)?;
+    for place in messages {
+        push_message(alloc, found, place, number, known)?;
         number += 1;
     }
-    Ok(found)
+    Ok(())
 }
 
 /// Appends the findings of a message, given how many come before it.
@@ -862,6 +887,31 @@ fn push_quoted(
     );
     push_at(alloc, found, spot, Name::QpBlank, blank)?;
     push_at(alloc, found, spot, Name::EightBitBody, high_byte(raw))
+}
+
+/// Appends the finding of a mail of this size in the body of a message, which is refused with this
+/// error, unless that is out of memory.
+#[inline(never)]
+pub(crate) fn push_refused(
+    alloc: Global,
+    found: &mut Vec<Finding>,
+    place: &Place<'_, '_>,
+    size: usize,
+    error: MailParseError,
+) -> Result<(), MailParseError>
+    ensures written { OnOk result (map finding_view found.new.items
+        ≡ map finding_view found.old.items
+        ++ finding_at (spot_of_body (place_view place.now) size) Refused 0 ∷ []) }
+    ensures passed_on { IfOk result (λ done. IsMemory error → ⊥) }
+    ensures only_memory { IfErr result IsMemory }
+{
+    match error {
+        MailParseError::Memory(error) => Err(MailParseError::Memory(error)),
+        _refusal => {
+            push(alloc, found, &spot_of_body(place, size), Name::Refused, 0)?;
+            Ok(())
+        }
+    }
 }
 
 /// Returns where findings of a message may be, at an offset after its first byte.

@@ -131,6 +131,8 @@ pub enum Name {
     Uuencode,
     /// `charset`
     Charset,
+    /// `refused`
+    Refused,
 }
 
 impl Name {
@@ -192,6 +194,7 @@ impl Name {
             Name::EightBitBody => "8bit-body",
             Name::Uuencode => "uuencode",
             Name::Charset => "charset",
+            Name::Refused => "refused",
         }
     }
 
@@ -230,7 +233,8 @@ impl Name {
             | Name::DelimiterTail
             | Name::NoClose
             | Name::LateDelimiter
-            | Name::DuplicateParameter => Class::Structure,
+            | Name::DuplicateParameter
+            | Name::Refused => Class::Structure,
             Name::Header8bit
             | Name::QuotedSpecial
             | Name::QuotedPair
@@ -392,6 +396,9 @@ impl Name {
             }
             Name::Charset => {
                 "The text has an unknown charset, bytes that its charset lacks, a NUL or a byte order mark: readers show different texts."
+            }
+            Name::Refused => {
+                "The mail in the part cannot be read as a mail: other programs read something in it."
             }
         }
     }

@@ -164,7 +164,8 @@ option says which it is. --mbox=rd is the mboxrd format, whose quoted lines lose
 
 Of each finding its name, its class, its part and its bytes in the mail are written, and a sentence
 that says what programs read. Bytes that are no printable ASCII are escaped. A mail without a
-finding has no text, and with --json a line whose list is empty. Mails inside a mail are not read.
+finding has no text, and with --json a line whose list is empty. After the findings of a mail come
+those of the mails inside it that are not encoded.
 
 The class structure says that programs may find other parts, bytes that they may decode others, and
 name that they may read another file name, sender or subject. A note is a risk without that.

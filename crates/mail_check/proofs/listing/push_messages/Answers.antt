@@ -4,12 +4,12 @@ use Rattle.mail_data.specs.PlaceViews.{place_view}
 use Rattle.mail_data.proofs.lemmas.InnerMails.{drop_next}
 use Rattle.mail_check.specs.FindingViews.{finding_view}
 use Rattle.mail_check.specs.Findings.{Finding, findings_from, message_findings}
-use Rattle.mail_check.proofs.listing.findings.Goals as goal
+use Rattle.mail_check.proofs.listing.push_messages.Goals as goal
 
 pub loop-place-preserved : goal.loop-place-preserved
 loop-place-preserved g c =
     let known = g.K.KnownCharsets.known c.args.known.now in
-    let items = c.deref-place-items.result.now in
+    let items = c.args.messages.now in
     let number = c.loop-place.number in
     let done = map finding_view c.loop-place.found.items in
     let own = message_findings known number (place_view c.place-item.result) in

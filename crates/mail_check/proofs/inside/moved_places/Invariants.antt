@@ -1,0 +1,8 @@
+-- The messages so far, and then those that are left, are all.
+use Rattle.std.proofs.Common.{◌≡◌, ◌++◌, drop, map}
+use Rattle.mail_data.specs.PlaceViews.{place_view}
+use Rattle.mail_check.specs.Inside.{moved}
+use Rattle.mail_check.proofs.inside.moved_places.Given as goal
+
+abbrev pub invariant-loop-place : goal.invariant-loop-place
+invariant-loop-place l = map place_view l.found.items ++ map (moved l.start) (map place_view (drop l.place-index l.messages)) ≡ map (moved l.start) (map place_view l.messages)
