@@ -5,6 +5,7 @@ pub mod Parameters
 pub mod Words
 pub mod Clean
 pub mod Paths
+pub mod Inside
 pub mod StrictLineEnds
 pub mod StrictOthers
 pub mod StrictNamed
@@ -14,4 +15,10 @@ pub mod StrictComments
 pub mod StrictBlocks
 pub mod StrictUnique
 pub mod StrictReading
+pub mod StrictKeys
+pub mod StrictFields
+pub mod StrictDelimiters
+pub mod StrictParts
+pub mod StrictBodies
+pub mod StrictLevels
 pub mod StrictMessages

@@ -2,4 +2,8 @@
 pub mod Named
 pub mod LineEnds
 pub mod Headers
+pub mod Fields
+pub mod Delimiters
+pub mod Bodies
+pub mod Levels
 pub mod Mail

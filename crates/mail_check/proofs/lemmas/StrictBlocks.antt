@@ -26,7 +26,7 @@ pub record GoodLine (size : ℕ) (line : HeaderLine) : Type 0 where
 
 -- ---- readings
 
-abbrev listed_in : Result HeaderList Refusal → List Header
+abbrev pub listed_in : Result HeaderList Refusal → List Header
 listed_in (Ok block) = block.headers
 listed_in (Err refusal) = []
 
@@ -34,7 +34,7 @@ abbrev pub index_in : Result HeaderList Refusal → ℕ
 index_in (Ok block) = block.index
 index_in (Err refusal) = 0
 
-abbrev was_read : Result HeaderList Refusal → Bool
+abbrev pub was_read : Result HeaderList Refusal → Bool
 was_read (Ok block) = true
 was_read (Err refusal) = false
 
@@ -47,13 +47,13 @@ none_listed true returned n a b = refl
 none_listed false true n a b = refl
 none_listed false false n a b = refl
 
--- where no header begins there is none
+-- if no header begins, there are no headers
 no_headers : (xs : List ℕ) → has_header xs ≡ false → listed_in (read_headers xs) ≡ []
 no_headers xs e =
     ap listed_in (read_headers-none xs e)
     ∙ none_listed (headers_end xs) (has_prefix (13 ∷ []) xs) (0 + blank_line xs) lone_carriage_return leading_space
 
-header_there : (h : Header) (hs : List Header) (index : ℕ) (raw : List ℕ) → read_headers raw ≡ Ok (record { headers = h ∷ hs; index = index }) → has_header raw ≡ true
+pub header_there : (h : Header) (hs : List Header) (index : ℕ) (raw : List ℕ) → read_headers raw ≡ Ok (record { headers = h ∷ hs; index = index }) → has_header raw ≡ true
 header_there h hs index raw read = elim (cases_Bool (has_header raw)) [
   | inl e ↦ e
   | inr e ↦
@@ -78,7 +78,7 @@ two_feeds b (c ∷ rest) h = both (b == 13) (c == 10) h refl refl
 abbrev blank_size : Bool → Bool → ℕ
 blank_size feed return_feed = cond feed 1 (cond return_feed 2 0)
 
--- it is none, or there is a line end
+-- it is 0, or there is a line end
 abbrev MayBeBlank : List ℕ → ℕ → Type 0
 MayBeBlank xs n = (n ≡ 0) ⊎ ((take n xs ≡ codes "\n") ⊎ (take n xs ≡ codes "\r\n"))
 
@@ -114,7 +114,7 @@ list_ends xs index read = elim (cases_Bool (has_header xs)) [
 
 -- ---- from findings to the grammar
 
-take_first : (m n : ℕ) (xs : List ℕ) → m ≤ n → take m (take n xs) ≡ take m xs
+pub take_first : (m n : ℕ) (xs : List ℕ) → m ≤ n → take m (take n xs) ≡ take m xs
 take_first zero n xs low = refl
 take_first (suc m) zero xs low = absurd (omega arith)
 take_first (suc m) (suc n) [] low = refl
@@ -150,15 +150,15 @@ at_end : (at size : ℕ) (block : List ℕ) → GoodLine size (line_of at block)
 at_end at size block good e = let no = good.goes_on in let yes = eq-eqb (at + header_length block) size e in cc
 
 -- the length of a header that ends at the end of the bytes, or before it
-whole_header : (raw : List ℕ) → length raw ≤ header_end raw → header_length raw ≡ length raw
+pub whole_header : (raw : List ℕ) → length raw ≤ header_end raw → header_length raw ≡ length raw
 unfolding header_length
 whole_header raw most = omega (arith, most)
 
-short_header : (raw : List ℕ) → header_end raw < length raw → header_length raw ≡ suc (header_end raw)
+pub short_header : (raw : List ℕ) → header_end raw < length raw → header_length raw ≡ suc (header_end raw)
 unfolding header_length
 short_header raw low = omega (arith, low)
 
-flip_drop : (n m : ℕ) (xs : List ℕ) → drop (n + m) xs ≡ drop n (drop m xs)
+pub flip_drop : (n m : ℕ) (xs : List ℕ) → drop (n + m) xs ≡ drop n (drop m xs)
 flip_drop n m xs = ap (λ (i : ℕ). drop i xs) {x = n + m} {y = m + n} (omega arith) ∙ sym (drop-drop n m xs)
 
 one_header : (h : Header) (hs : List Header) → BlockFor hs → BlockFor (h ∷ hs)
@@ -215,7 +215,7 @@ lines_block (h ∷ hs) = one_header h hs (lines_block hs)
 
 -- ---- from the grammar to findings
 
--- a byte after the space is none up to it
+-- a byte above the space is no byte up to it
 other_byte : (b c : ℕ) → nat_lt space b ≡ true → nat_lt space c ≡ false → (b == c) ≡ false
 other_byte b c h e = elim (cases_Bool (b == c)) [
   | inr f ↦ f

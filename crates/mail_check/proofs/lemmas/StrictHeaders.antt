@@ -20,11 +20,11 @@ pub cases_Bool : (t : Bool) → (t ≡ true) ⊎ (t ≡ false)
 cases_Bool true = inl refl
 cases_Bool false = inr refl
 
-both_true : (s t : Bool) → (s && t) ≡ true → (s ≡ true) × (t ≡ true)
+pub both_true : (s t : Bool) → (s && t) ≡ true → (s ≡ true) × (t ≡ true)
 both_true true t h = (refl, h)
 both_true false t h = absurd (cc)
 
-are_true : (s t : Bool) → s ≡ true → t ≡ true → (s && t) ≡ true
+pub are_true : (s t : Bool) → s ≡ true → t ≡ true → (s && t) ≡ true
 are_true true t h e = e
 are_true false t h e = absurd (cc)
 
@@ -48,11 +48,11 @@ pub second_false : (s t : Bool) → s ≡ true → (s && t) ≡ false → t ≡ 
 second_false true t e h = h
 second_false false t e h = absurd (cc)
 
-not_false : (t : Bool) → not t ≡ false → t ≡ true
+pub not_false : (t : Bool) → not t ≡ false → t ≡ true
 not_false true h = refl
 not_false false h = absurd (cc)
 
-not_true : (t : Bool) → not t ≡ true → t ≡ false
+pub not_true : (t : Bool) → not t ≡ true → t ≡ false
 not_true false h = refl
 not_true true h = absurd (cc)
 
@@ -87,7 +87,7 @@ two_prefix c d b (x ∷ xs) =
     ap (λ (t : Bool). (c == b) && t) (and_true (d == x) ∙ eq_flip d x) ∙ ap (λ (t : Bool). t && (x == d)) (eq_flip c b)
 
 -- nothing of a line is left exactly if these bytes are there
-left_at : (b : ℕ) (xs : List ℕ) → is_line_left (b ∷ xs) ≡ ((b == line_feed) || ((b == carriage_return) && begins (λ x. x == line_feed) xs))
+pub left_at : (b : ℕ) (xs : List ℕ) → is_line_left (b ∷ xs) ≡ ((b == line_feed) || ((b == carriage_return) && begins (λ x. x == line_feed) xs))
 left_at b xs = ap (λ (t : Bool). t || has_prefix (carriage_return ∷ line_feed ∷ []) (b ∷ xs)) (one_prefix line_feed (b ∷ xs))
     ∙ ap (λ (t : Bool). (b == line_feed) || t) (two_prefix carriage_return line_feed b xs)
 
@@ -102,7 +102,7 @@ begins_take test n (x ∷ xs) = refl
 pub all_head : (test : ℕ → Bool) (b : ℕ) (rest : List ℕ) → list_all test (b ∷ rest) ≡ true → test b ≡ true
 all_head test b rest h = (both_true (test b) (list_all test rest) h).0
 
-all_tail : (test : ℕ → Bool) (b : ℕ) (rest : List ℕ) → list_all test (b ∷ rest) ≡ true → list_all test rest ≡ true
+pub all_tail : (test : ℕ → Bool) (b : ℕ) (rest : List ℕ) → list_all test (b ∷ rest) ≡ true → list_all test rest ≡ true
 all_tail test b rest h = (both_true (test b) (list_all test rest) h).1
 
 -- ---- names
@@ -347,7 +347,7 @@ module _ (raw : List ℕ) (m : ℕ) (within : suc (header_end raw) ≤ m) where
     | inr e ↦ let same = header_end-key raw e in omega arith
   ]
 
-  cut_key : key_end (take m raw) ≡ key_end raw
+  pub cut_key : key_end (take m raw) ≡ key_end raw
   unfolding key_end
   cut_key = cut_begins ends_key raw m (omega (arith, within, key_before))
 
@@ -355,7 +355,7 @@ module _ (raw : List ℕ) (m : ℕ) (within : suc (header_end raw) ≤ m) where
   cut_after : (k : ℕ) → k < m → (n : ℕ) → m ≡ k + n → drop k (take m raw) ≡ take n (drop k raw)
   cut_after k some n is = ap (λ (i : ℕ). drop k (take i raw)) is ∙ drop-take k n raw
 
-  cut_colon : has_colon (take m raw) ≡ has_colon raw
+  pub cut_colon : has_colon (take m raw) ≡ has_colon raw
   unfolding has_colon
   cut_colon =
       let k = key_end raw in

@@ -1,30 +1,46 @@
 -- The messages of a mail without findings of the names that the grammar of strict mails covers.
 use Rattle.std.proofs.Common.{inl, inr, ◌≡◌, ◌∙◌, ◌<◌, ℕ, Bool, true, false, List, [], ◌∷◌, length, take, drop, Ok, ◌++◌, ◌+◌, length-take, refl, sym, ap, subst, Option, Some, None, arith}
-use Rattle.std.specs.Prelude.{◌↔◌, ◌&&◌, is_some}
+use Rattle.std.specs.Prelude.{◌↔◌, ◌&&◌, ◌==◌, codes, is_some, not}
 use Rattle.std.specs.List.{AllByRecursion}
 use Rattle.std.proofs.lemmas.List.{take-append-drop}
+use Rattle.mail_codec.specs.Ascii.{colon}
 use Rattle.mail_codec.specs.Charset.{Charsets}
 use Rattle.mailparse.specs.Block.{read_headers}
+use Rattle.mailparse.specs.Body.{BodyKind, in_base64, in_quoted_printable, in_7bit, in_8bit, in_binary}
+use Rattle.mailparse.specs.ContentType.{ContentType}
 use Rattle.mailparse.specs.Header.{Header}
-use Rattle.mailparse.specs.Mail.{Node, Tree, read_mail_in, root, trees_within}
+use Rattle.mailparse.specs.Mail.{Node, Tree, body_kind, read_mail_in, root, trees_within}
 use Rattle.mailparse.specs.Placement.{placements}
+use Rattle.mail_data.specs.Files.{is_leaf}
 use Rattle.mail_data.specs.PartPlaces.{Place, places}
-use Rattle.mail_check.specs.Bytes.{first_offset, is_blank_fold, is_comment_fold}
+use Rattle.mail_check.specs.Bodies.{is_base64_lines}
+use Rattle.mail_check.specs.Bytes.{first_byte, first_offset, is_bad_escape, is_blank_fold, is_comment_fold, is_control, is_end_blank, is_escaped_end}
 use Rattle.mail_check.specs.Findings.{findings, has_none}
-use Rattle.mail_check.specs.Lines.{HeaderLine, header_lines, lines_from}
+use Rattle.mail_check.specs.Lines.{HeaderLine, header_lines, lines_from, second_named}
+use Rattle.mail_check.specs.Multiparts.{dash_of, is_inside, is_tailed}
+use Rattle.mail_check.specs.strict.Bodies.{HasStrictBody, IsEncoded}
+use Rattle.mail_check.specs.strict.Delimiters.{HasStrictParts, IsSplit}
+use Rattle.mail_check.specs.strict.Fields.{HasAtMostOne, HasStrictFields, IsBoundary, IsField, once_names}
 use Rattle.mail_check.specs.strict.Headers.{IsBlock, is_address_name}
+use Rattle.mail_check.specs.strict.Levels.{IsSmall}
 use Rattle.mail_check.specs.strict.LineEnds.{IsText}
-use Rattle.mail_check.specs.strict.Mail.{HasStrictBlocks, IsStrictSoFar}
-use Rattle.mail_check.specs.strict.Named.{Lacks, is_block_name, is_covered, is_line_name}
+use Rattle.mail_check.specs.strict.Mail.{AreStrictBodies, AreStrictFields, AreStrictParts, HasStrictBlocks, IsStrictSoFar}
+use Rattle.mail_check.specs.strict.Named.{Lacks, is_block_name, is_body_name, is_covered, is_field_name, is_line_name, is_many_name, is_part_name}
 use Rattle.mail_check.specs.declared.names.Name.{Name}
 use Rattle.mail_check.specs.declared.names.Name.TheVariants as name
 use Rattle.mailparse.proofs.lemmas.Block.{read_headers-bounded}
 use Rattle.mail_check.proofs.lemmas.Clean.{found_nowhere, nowhere_found}
 use Rattle.mail_check.proofs.lemmas.StrictComments.{comment-opened, comments_nowhere, nowhere_comments}
-use Rattle.mail_check.proofs.lemmas.StrictHeaders.{cases_Bool, left_false, right_false, second_false}
+use Rattle.mail_check.proofs.lemmas.StrictHeaders.{cases_Bool, is_not, is_so, left_false, not_false, right_false, second_false}
 use Rattle.mail_check.proofs.lemmas.StrictBlocks.{GoodLine, block_lines, lines_block}
 use Rattle.mail_check.proofs.lemmas.StrictBytes.{found_text, text_found}
-use Rattle.mail_check.proofs.lemmas.StrictNamed.{BytesLack, LineLacks, MessageLacks, first_found, found_first}
+use Rattle.mail_check.proofs.lemmas.StrictFields.{field_found, found_field, most_one, one_most}
+use Rattle.mail_check.proofs.lemmas.StrictDelimiters.{found_parts, parts_found}
+use Rattle.mail_check.proofs.lemmas.StrictParts.{boundary_inner, dash_made, made_of, not_found, opened_of}
+use Rattle.mail_check.proofs.lemmas.StrictLevels.{found_small, small_found}
+use Rattle.mail_check.proofs.lemmas.StrictBodies.{QuotedFree, base64_of, first_none, none_earlier, none_first, not_earlier, of_base64, of_quoted, quoted_of}
+use Rattle.mail_check.proofs.lemmas.StrictKeys.{lines_are_headers, of_line}
+use Rattle.mail_check.proofs.lemmas.StrictNamed.{BlockLacks, BodyLacks, BytesLack, EncodedLacks, FieldsLack, LineLacks, MessageLacks, PartsLack, TypeLacks, all_free, all_map, block_free, body_free, bytes_free, far_first, far_free, fields_free, first_found, found_first, parts_free, text_after}
 use Rattle.mail_check.proofs.lemmas.StrictReading.{IsRead, all_of_map, all_with, bytes-there, headers-there, map_of_all, parts-there}
 
 none_some : (o : Option ℕ) → is_some o ≡ false → o ≡ None
@@ -53,7 +69,7 @@ module _ (test : Name → Bool) (asked : (n : Name) → is_block_name n ≡ true
   some_header [] block h = absurd (cc)
   some_header (h ∷ hs) block e = omega arith
 
-  block_strict : (node : Node) → IsRead node → MessageLacks test node → IsBlock node.block
+  block_strict : (node : Node) → IsRead node → BlockLacks test node → IsBlock node.block
   block_strict node is h =
       let whole : node.block ≡ take is.index node.bytes = is.block in
       let fits : take is.index node.bytes ≡ node.block = sym whole in
@@ -92,7 +108,7 @@ some_line : (hs : List Header) (block : List ℕ) → 0 < length hs → has_none
 some_line [] block h = absurd (omega arith)
 some_line (h ∷ hs) block e = refl
 
-strict_block : (test : Name → Bool) (node : Node) → IsRead node → IsBlock node.block → MessageLacks test node
+strict_block : (test : Name → Bool) (node : Node) → IsRead node → IsBlock node.block → BlockLacks test node
 strict_block test node is block =
     let whole : node.block ++ drop is.index node.bytes ≡ node.bytes = ap (λ (xs : List ℕ). xs ++ drop is.index node.bytes) is.block ∙ take-append-drop is.index node.bytes in
     let found = block_lines node.block block (drop is.index node.bytes) 0 (length node.block) node.headers is.index node.block (ap read_headers whole ∙ is.headers) refl (omega arith) in
@@ -101,16 +117,160 @@ strict_block test node is block =
       lines = lines_lacked test (length node.block) (header_lines node) found.0;
     }
 
+-- the headers of one message, if all names of them are asked for
+module _ (test : Name → Bool) (asked : (n : Name) → is_field_name n ≡ true → test n ≡ true) where
+  type_field : (ctype : ContentType) (line : HeaderLine) → TypeLacks test ctype line → IsField ctype (of_line line)
+  type_field ctype line h = field_found ctype line (record {
+    encoding = h.encoding (asked name.EncodingSyntax refl);
+    composite = h.composite (asked name.EncodingOnComposite refl);
+    message = h.message (asked name.OtherMessage refl);
+    boundary = h.boundary (asked name.BadBoundary refl);
+  })
+
+  fields_strict : (node : Node) → IsRead node → FieldsLack test node → HasStrictFields node
+  fields_strict node is h =
+      let same = lines_are_headers node is in
+      record {
+        once = all_map (λ (n : List ℕ). second_named n (header_lines node) ≡ None) (λ (n : List ℕ). HasAtMostOne n node.headers)
+            (λ n e. subst (HasAtMostOne n) same (most_one n (header_lines node) e)) once_names (h.repeats (asked name.Duplicate refl));
+        each = subst (AllByRecursion (IsField node.ctype)) same (map_of_all of_line (IsField node.ctype) (header_lines node)
+            (all_map (TypeLacks test node.ctype) (λ line. IsField node.ctype (of_line line)) (type_field node.ctype) (header_lines node) h.types));
+      }
+
+field_type : (test : Name → Bool) (ctype : ContentType) (line : HeaderLine) → IsField ctype (of_line line) → TypeLacks test ctype line
+field_type test ctype line h =
+    let lacks = found_field ctype line h in
+    record {
+      encoding = λ e. lacks.encoding;
+      composite = λ e. lacks.composite;
+      message = λ e. lacks.message;
+      boundary = λ e. lacks.boundary;
+    }
+
+strict_fields : (test : Name → Bool) (node : Node) → IsRead node → HasStrictFields node → FieldsLack test node
+strict_fields test node is h =
+    let same = lines_are_headers node is in
+    record {
+      types = all_map (λ line. IsField node.ctype (of_line line)) (TypeLacks test node.ctype) (field_type test node.ctype) (header_lines node)
+          (all_of_map of_line (IsField node.ctype) (header_lines node) (subst (AllByRecursion (IsField node.ctype)) (sym same) h.each));
+      repeats = λ e. all_map (λ (n : List ℕ). HasAtMostOne n node.headers) (λ (n : List ℕ). second_named n (header_lines node) ≡ None)
+          (λ n most. one_most n node.headers most (header_lines node) same) once_names h.once;
+    }
+
+-- how one message is split, if all names of that are asked for
+module _ (test : Name → Bool) (asked : (n : Name) → is_part_name n ≡ true → test n ≡ true) where
+  text_split : (t : Tree) (text : List ℕ) → IsBoundary 70 text → PartsLack test t (codes "--" ++ text) → IsSplit (codes "--" ++ text) t
+  text_split t text is h =
+      let dash = codes "--" ++ text in
+      let parts = h.parts (asked name.NoDelimiter refl) in
+      let inside = nowhere_found (is_inside dash (text_after t)) (text_after t) (h.inside (asked name.DelimiterInside refl)) in
+      let tailed = nowhere_found (is_tailed dash (text_after t)) (text_after t) (h.tail (asked name.DelimiterTail refl)) in
+      let closed = second_false (not (is_leaf t)) _ (is_not (is_leaf t) parts) (h.closed (asked name.NoClose refl)) in
+      let opened = opened_of dash (text_after t) inside tailed (h.late (asked name.LateDelimiter refl)) closed in
+      record {
+        parts = parts;
+        preamble = none_first (λ b. b == colon) (root t).body (h.preamble (asked name.Preamble refl));
+        text = found_parts dash (boundary_inner 70 text is) (omega arith) true (text_after t) opened;
+      }
+
+  parts_strict : (t : Tree) → ((dash : List ℕ) → dash_of (root t).ctype ≡ Some dash → PartsLack test t dash) → HasStrictParts t
+  parts_strict t h = record { split = λ text e f is. text_split t text is (h (codes "--" ++ text) (dash_made (root t).ctype text e f is)) }
+
+split_text : (test : Name → Bool) (t : Tree) (text : List ℕ) → IsBoundary 70 text → IsSplit (codes "--" ++ text) t → PartsLack test t (codes "--" ++ text)
+split_text test t text is h =
+    let dash = codes "--" ++ text in
+    let none = not_found dash (text_after t) (parts_found dash (boundary_inner 70 text is) (omega arith) true (text_after t) h.text) in
+    record {
+      preamble = λ e. first_none (λ b. b == colon) (root t).body h.preamble;
+      parts = λ e. h.parts;
+      closed = λ e. right_false (not (is_leaf t)) _ none.closed;
+      inside = λ e. none.inside;
+      tail = λ e. none.tail;
+      late = λ e. none.late;
+    }
+
+strict_parts : (test : Name → Bool) (t : Tree) → HasStrictParts t → (dash : List ℕ) → dash_of (root t).ctype ≡ Some dash → PartsLack test t dash
+strict_parts test t h dash e =
+    let made = made_of (root t).ctype dash e in
+    subst (PartsLack test t) made.made (split_text test t made.text made.is (h.split made.text made.several made.given made.is))
+
+-- the body of one message, if all names of that are asked for
+module _ (test : Name → Bool) (asked : (n : Name) → is_body_name n ≡ true → test n ≡ true) where
+  quoted_free : (body : List ℕ) → EncodedLacks test in_quoted_printable body → QuotedFree body
+  quoted_free body h =
+      let syntax = not_earlier (first_offset (is_bad_escape body) body) (first_byte is_control body) (h.0 (asked name.QpSyntax refl)) in
+      let blank = not_earlier (first_offset (is_end_blank body) body) (first_offset (is_escaped_end body) body) (h.1 (asked name.QpBlank refl)) in
+      record {
+        escapes = nowhere_found (is_bad_escape body) body syntax.0;
+        ends = nowhere_found (is_escaped_end body) body blank.1;
+        blanks = nowhere_found (is_end_blank body) body blank.0;
+        controls = none_first is_control body syntax.1;
+      }
+
+  encoded_strict : (kind : BodyKind) (body : List ℕ) → EncodedLacks test kind body → IsEncoded kind body
+  encoded_strict in_base64 body h = base64_of body (not_false (is_base64_lines body) (h (asked name.Base64Syntax refl)))
+  encoded_strict in_quoted_printable body h = quoted_of body (quoted_free body h)
+  encoded_strict in_7bit body h = tt
+  encoded_strict in_8bit body h = tt
+  encoded_strict in_binary body h = tt
+
+  body_strict : (t : Tree) → BodyLacks test t → HasStrictBody t
+  body_strict t h = record { encoded = λ e. encoded_strict (body_kind (root t)) (root t).body (h.encoded e) }
+
+free_quoted : (test : Name → Bool) (body : List ℕ) → QuotedFree body → EncodedLacks test in_quoted_printable body
+free_quoted test body h = (
+  λ e. none_earlier (first_offset (is_bad_escape body) body) (first_byte is_control body) (found_nowhere (is_bad_escape body) body h.escapes) (first_none is_control body h.controls),
+  λ e. none_earlier (first_offset (is_end_blank body) body) (first_offset (is_escaped_end body) body) (found_nowhere (is_end_blank body) body h.blanks)
+      (found_nowhere (is_escaped_end body) body h.ends),
+)
+
+strict_encoded : (test : Name → Bool) (kind : BodyKind) (body : List ℕ) → IsEncoded kind body → EncodedLacks test kind body
+strict_encoded test in_base64 body h = λ e. is_so (is_base64_lines body) (of_base64 body h)
+strict_encoded test in_quoted_printable body h = free_quoted test body (of_quoted body h)
+strict_encoded test in_7bit body h = tt
+strict_encoded test in_8bit body h = tt
+strict_encoded test in_binary body h = tt
+
+strict_body : (test : Name → Bool) (t : Tree) → HasStrictBody t → BodyLacks test t
+strict_body test t h = record { encoded = λ e. strict_encoded test (body_kind (root t)) (root t).body (h.encoded e) }
+
 -- ---- a whole mail
 
-no_line_name : (n : Name) → is_covered n ≡ false → is_block_name n ≡ false
-no_line_name name.NoHeaders h = absurd (cc)
-no_line_name name.NoBlankLine h = absurd (cc)
-no_line_name name.BadKey h = absurd (cc)
-no_line_name name.BlankFold h = absurd (cc)
-no_line_name name.CommentFold h = absurd (cc)
-no_line_name name.Header8bit h = absurd (cc)
-no_line_name _ h = refl
+block_covered : (n : Name) → is_covered n ≡ false → is_block_name n ≡ false
+block_covered name.NoHeaders h = absurd (cc)
+block_covered name.NoBlankLine h = absurd (cc)
+block_covered name.BadKey h = absurd (cc)
+block_covered name.BlankFold h = absurd (cc)
+block_covered name.CommentFold h = absurd (cc)
+block_covered name.Header8bit h = absurd (cc)
+block_covered _ h = refl
+
+field_covered : (n : Name) → is_covered n ≡ false → is_field_name n ≡ false
+field_covered name.Duplicate h = absurd (cc)
+field_covered name.EncodingSyntax h = absurd (cc)
+field_covered name.EncodingOnComposite h = absurd (cc)
+field_covered name.OtherMessage h = absurd (cc)
+field_covered name.BadBoundary h = absurd (cc)
+field_covered _ h = refl
+
+part_covered : (n : Name) → is_covered n ≡ false → is_part_name n ≡ false
+part_covered name.Preamble h = absurd (cc)
+part_covered name.NoDelimiter h = absurd (cc)
+part_covered name.DelimiterInside h = absurd (cc)
+part_covered name.DelimiterTail h = absurd (cc)
+part_covered name.NoClose h = absurd (cc)
+part_covered name.LateDelimiter h = absurd (cc)
+part_covered _ h = refl
+
+body_covered : (n : Name) → is_covered n ≡ false → is_body_name n ≡ false
+body_covered name.Base64Syntax h = absurd (cc)
+body_covered name.QpSyntax h = absurd (cc)
+body_covered name.QpBlank h = absurd (cc)
+body_covered _ h = refl
+
+many_covered : (n : Name) → is_covered n ≡ false → is_many_name n ≡ false
+many_covered name.Many h = absurd (cc)
+many_covered _ h = refl
 
 covers_blocks : (n : Name) → is_block_name n ≡ true → is_covered n ≡ true
 covers_blocks name.NoHeaders h = refl
@@ -121,6 +281,188 @@ covers_blocks name.CommentFold h = refl
 covers_blocks name.Header8bit h = refl
 covers_blocks _ h = absurd (cc)
 
+covers_fields : (n : Name) → is_field_name n ≡ true → is_covered n ≡ true
+covers_fields name.Duplicate h = refl
+covers_fields name.EncodingSyntax h = refl
+covers_fields name.EncodingOnComposite h = refl
+covers_fields name.OtherMessage h = refl
+covers_fields name.BadBoundary h = refl
+covers_fields _ h = absurd (cc)
+
+covers_parts : (n : Name) → is_part_name n ≡ true → is_covered n ≡ true
+covers_parts name.Preamble h = refl
+covers_parts name.NoDelimiter h = refl
+covers_parts name.DelimiterInside h = refl
+covers_parts name.DelimiterTail h = refl
+covers_parts name.NoClose h = refl
+covers_parts name.LateDelimiter h = refl
+covers_parts _ h = absurd (cc)
+
+covers_bodies : (n : Name) → is_body_name n ≡ true → is_covered n ≡ true
+covers_bodies name.Base64Syntax h = refl
+covers_bodies name.QpSyntax h = refl
+covers_bodies name.QpBlank h = refl
+covers_bodies _ h = absurd (cc)
+
+-- names of one kind are of no other kind
+line_no_block : (n : Name) → is_line_name n ≡ true → is_block_name n ≡ false
+line_no_block name.Nul h = refl
+line_no_block name.LoneCr h = refl
+line_no_block name.MixedLineEnds h = refl
+line_no_block _ h = absurd (cc)
+
+line_no_field : (n : Name) → is_line_name n ≡ true → is_field_name n ≡ false
+line_no_field name.Nul h = refl
+line_no_field name.LoneCr h = refl
+line_no_field name.MixedLineEnds h = refl
+line_no_field _ h = absurd (cc)
+
+line_no_part : (n : Name) → is_line_name n ≡ true → is_part_name n ≡ false
+line_no_part name.Nul h = refl
+line_no_part name.LoneCr h = refl
+line_no_part name.MixedLineEnds h = refl
+line_no_part _ h = absurd (cc)
+
+block_no_field : (n : Name) → is_block_name n ≡ true → is_field_name n ≡ false
+block_no_field name.NoHeaders h = refl
+block_no_field name.NoBlankLine h = refl
+block_no_field name.BadKey h = refl
+block_no_field name.BlankFold h = refl
+block_no_field name.CommentFold h = refl
+block_no_field name.Header8bit h = refl
+block_no_field _ h = absurd (cc)
+
+block_no_part : (n : Name) → is_block_name n ≡ true → is_part_name n ≡ false
+block_no_part name.NoHeaders h = refl
+block_no_part name.NoBlankLine h = refl
+block_no_part name.BadKey h = refl
+block_no_part name.BlankFold h = refl
+block_no_part name.CommentFold h = refl
+block_no_part name.Header8bit h = refl
+block_no_part _ h = absurd (cc)
+
+field_no_block : (n : Name) → is_field_name n ≡ true → is_block_name n ≡ false
+field_no_block name.Duplicate h = refl
+field_no_block name.EncodingSyntax h = refl
+field_no_block name.EncodingOnComposite h = refl
+field_no_block name.OtherMessage h = refl
+field_no_block name.BadBoundary h = refl
+field_no_block _ h = absurd (cc)
+
+field_no_part : (n : Name) → is_field_name n ≡ true → is_part_name n ≡ false
+field_no_part name.Duplicate h = refl
+field_no_part name.EncodingSyntax h = refl
+field_no_part name.EncodingOnComposite h = refl
+field_no_part name.OtherMessage h = refl
+field_no_part name.BadBoundary h = refl
+field_no_part _ h = absurd (cc)
+
+part_no_block : (n : Name) → is_part_name n ≡ true → is_block_name n ≡ false
+part_no_block name.Preamble h = refl
+part_no_block name.NoDelimiter h = refl
+part_no_block name.DelimiterInside h = refl
+part_no_block name.DelimiterTail h = refl
+part_no_block name.NoClose h = refl
+part_no_block name.LateDelimiter h = refl
+part_no_block _ h = absurd (cc)
+
+part_no_field : (n : Name) → is_part_name n ≡ true → is_field_name n ≡ false
+part_no_field name.Preamble h = refl
+part_no_field name.NoDelimiter h = refl
+part_no_field name.DelimiterInside h = refl
+part_no_field name.DelimiterTail h = refl
+part_no_field name.NoClose h = refl
+part_no_field name.LateDelimiter h = refl
+part_no_field _ h = absurd (cc)
+
+line_no_body : (n : Name) → is_line_name n ≡ true → is_body_name n ≡ false
+line_no_body name.Nul h = refl
+line_no_body name.LoneCr h = refl
+line_no_body name.MixedLineEnds h = refl
+line_no_body _ h = absurd (cc)
+
+block_no_body : (n : Name) → is_block_name n ≡ true → is_body_name n ≡ false
+block_no_body name.NoHeaders h = refl
+block_no_body name.NoBlankLine h = refl
+block_no_body name.BadKey h = refl
+block_no_body name.BlankFold h = refl
+block_no_body name.CommentFold h = refl
+block_no_body name.Header8bit h = refl
+block_no_body _ h = absurd (cc)
+
+field_no_body : (n : Name) → is_field_name n ≡ true → is_body_name n ≡ false
+field_no_body name.Duplicate h = refl
+field_no_body name.EncodingSyntax h = refl
+field_no_body name.EncodingOnComposite h = refl
+field_no_body name.OtherMessage h = refl
+field_no_body name.BadBoundary h = refl
+field_no_body _ h = absurd (cc)
+
+part_no_body : (n : Name) → is_part_name n ≡ true → is_body_name n ≡ false
+part_no_body name.Preamble h = refl
+part_no_body name.NoDelimiter h = refl
+part_no_body name.DelimiterInside h = refl
+part_no_body name.DelimiterTail h = refl
+part_no_body name.NoClose h = refl
+part_no_body name.LateDelimiter h = refl
+part_no_body _ h = absurd (cc)
+
+body_no_block : (n : Name) → is_body_name n ≡ true → is_block_name n ≡ false
+body_no_block name.Base64Syntax h = refl
+body_no_block name.QpSyntax h = refl
+body_no_block name.QpBlank h = refl
+body_no_block _ h = absurd (cc)
+
+body_no_field : (n : Name) → is_body_name n ≡ true → is_field_name n ≡ false
+body_no_field name.Base64Syntax h = refl
+body_no_field name.QpSyntax h = refl
+body_no_field name.QpBlank h = refl
+body_no_field _ h = absurd (cc)
+
+body_no_part : (n : Name) → is_body_name n ≡ true → is_part_name n ≡ false
+body_no_part name.Base64Syntax h = refl
+body_no_part name.QpSyntax h = refl
+body_no_part name.QpBlank h = refl
+body_no_part _ h = absurd (cc)
+
+line_no_many : (n : Name) → is_line_name n ≡ true → is_many_name n ≡ false
+line_no_many name.Nul h = refl
+line_no_many name.LoneCr h = refl
+line_no_many name.MixedLineEnds h = refl
+line_no_many _ h = absurd (cc)
+
+block_no_many : (n : Name) → is_block_name n ≡ true → is_many_name n ≡ false
+block_no_many name.NoHeaders h = refl
+block_no_many name.NoBlankLine h = refl
+block_no_many name.BadKey h = refl
+block_no_many name.BlankFold h = refl
+block_no_many name.CommentFold h = refl
+block_no_many name.Header8bit h = refl
+block_no_many _ h = absurd (cc)
+
+field_no_many : (n : Name) → is_field_name n ≡ true → is_many_name n ≡ false
+field_no_many name.Duplicate h = refl
+field_no_many name.EncodingSyntax h = refl
+field_no_many name.EncodingOnComposite h = refl
+field_no_many name.OtherMessage h = refl
+field_no_many name.BadBoundary h = refl
+field_no_many _ h = absurd (cc)
+
+part_no_many : (n : Name) → is_part_name n ≡ true → is_many_name n ≡ false
+part_no_many name.Preamble h = refl
+part_no_many name.NoDelimiter h = refl
+part_no_many name.DelimiterInside h = refl
+part_no_many name.DelimiterTail h = refl
+part_no_many name.NoClose h = refl
+part_no_many name.LateDelimiter h = refl
+part_no_many _ h = absurd (cc)
+
+body_no_many : (n : Name) → is_body_name n ≡ true → is_many_name n ≡ false
+body_no_many name.Base64Syntax h = refl
+body_no_many name.QpSyntax h = refl
+body_no_many name.QpBlank h = refl
+body_no_many _ h = absurd (cc)
+
 module _ (known : Charsets) (greatest : ℕ) (bytes : List ℕ) (t : Tree) (read : read_mail_in known greatest bytes ≡ Ok t) where
   -- what is so of the messages at all places is so of all messages
   module _ (P : Tree → Type 0) where
@@ -130,29 +472,127 @@ module _ (known : Charsets) (greatest : ℕ) (bytes : List ℕ) (t : Tree) (read
     to_places : AllByRecursion P (trees_within t) → AllByRecursion (λ (p : Place). P p.part) (places t (placements 0 t))
     to_places h = all_of_map (λ (p : Place). p.part) P (places t (placements 0 t)) (subst (AllByRecursion P) (sym (parts-there known greatest bytes t read)) h)
 
-  -- some names that are covered, among them all of header blocks
-  module _ (test : Name → Bool) (others : (n : Name) → is_covered n ≡ false → test n ≡ false) where
-    blocks_found : ((n : Name) → is_block_name n ≡ true → test n ≡ true) → AllByRecursion (λ (p : Place). MessageLacks test (root p.part)) (places t (placements 0 t)) → HasStrictBlocks t
+  -- what is so of all messages that were read and have something else
+  read_with : (P Q : Node → Type 0) → ((node : Node) → IsRead node → P node → Q node) → AllByRecursion (λ (t : Tree). P (root t)) (trees_within t)
+      → AllByRecursion (λ (t : Tree). Q (root t)) (trees_within t)
+  read_with P Q f h = all_with (λ (t : Tree). IsRead (root t)) (λ (t : Tree). P (root t)) (λ (t : Tree). Q (root t)) (λ t. f (root t)) (trees_within t)
+      (headers-there known greatest bytes t read) h
+
+  module _ (test : Name → Bool) where
+    abbrev AllLack : Type 0
+    AllLack = AllByRecursion (λ (p : Place). MessageLacks test p.part) (places t (placements 0 t))
+
+    -- from findings to the grammar
+    blocks_found : ((n : Name) → is_block_name n ≡ true → test n ≡ true) → AllLack → HasStrictBlocks t
     blocks_found asked h =
         map_of_all root (λ (node : Node). IsBlock node.block) (trees_within t)
-        (all_with (λ (t : Tree). IsRead (root t)) (λ (t : Tree). MessageLacks test (root t)) (λ (t : Tree). IsBlock (root t).block)
-        (λ t is lacks. block_strict test asked (root t) is lacks) (trees_within t) (headers-there known greatest bytes t read)
-        (of_places (λ (t : Tree). MessageLacks test (root t)) h))
+        (read_with (BlockLacks test) (λ (node : Node). IsBlock node.block) (block_strict test asked)
+        (all_map (MessageLacks test) (λ (t : Tree). BlockLacks test (root t)) (λ t lacks. lacks.block) (trees_within t) (of_places (MessageLacks test) h)))
 
-    found_blocks : HasStrictBlocks t → AllByRecursion (λ (p : Place). MessageLacks test (root p.part)) (places t (placements 0 t))
-    found_blocks h =
-        to_places (λ (t : Tree). MessageLacks test (root t))
-        (all_with (λ (t : Tree). IsRead (root t)) (λ (t : Tree). IsBlock (root t).block) (λ (t : Tree). MessageLacks test (root t))
-        (λ t is block. strict_block test (root t) is block) (trees_within t) (headers-there known greatest bytes t read)
-        (all_of_map root (λ (node : Node). IsBlock node.block) (trees_within t) h))
+    fields_found : ((n : Name) → is_field_name n ≡ true → test n ≡ true) → AllLack → AreStrictFields t
+    fields_found asked h =
+        map_of_all root HasStrictFields (trees_within t)
+        (read_with (FieldsLack test) HasStrictFields (fields_strict test asked)
+        (all_map (MessageLacks test) (λ (t : Tree). FieldsLack test (root t)) (λ t lacks. lacks.fields) (trees_within t) (of_places (MessageLacks test) h)))
 
-  bytes_free : BytesLack is_block_name (root t).bytes
-  bytes_free = record { nul = λ e. absurd (cc); lone_cr = λ e. absurd (cc); mixed = λ e. absurd (cc) }
+    parts_of_all : ((n : Name) → is_part_name n ≡ true → test n ≡ true) → AllLack → AreStrictParts t
+    parts_of_all asked h = all_map (MessageLacks test) HasStrictParts (λ t lacks. parts_strict test asked t lacks.parts) (trees_within t) (of_places (MessageLacks test) h)
+
+    bodies_of_all : ((n : Name) → is_body_name n ≡ true → test n ≡ true) → AllLack → AreStrictBodies t
+    bodies_of_all asked h = all_map (MessageLacks test) HasStrictBody (λ t lacks. body_strict test asked t lacks.body) (trees_within t) (of_places (MessageLacks test) h)
+
+    -- and back
+    abbrev AllBlocks : Type 0
+    AllBlocks = AllByRecursion (λ (t : Tree). BlockLacks test (root t)) (trees_within t)
+
+    abbrev AllFields : Type 0
+    AllFields = AllByRecursion (λ (t : Tree). FieldsLack test (root t)) (trees_within t)
+
+    abbrev Splits : Tree → Type 0
+    Splits t = (dash : List ℕ) → dash_of (root t).ctype ≡ Some dash → PartsLack test t dash
+
+    abbrev AllSplit : Type 0
+    AllSplit = AllByRecursion Splits (trees_within t)
+
+    found_blocks : HasStrictBlocks t → AllBlocks
+    found_blocks h = read_with (λ (node : Node). IsBlock node.block) (BlockLacks test) (strict_block test) (all_of_map root (λ (node : Node). IsBlock node.block) (trees_within t) h)
+
+    found_fields : AreStrictFields t → AllFields
+    found_fields h = read_with HasStrictFields (FieldsLack test) (strict_fields test) (all_of_map root HasStrictFields (trees_within t) h)
+
+    found_splits : AreStrictParts t → AllSplit
+    found_splits h = all_map HasStrictParts Splits (strict_parts test) (trees_within t) h
+
+    abbrev AllBodies : Type 0
+    AllBodies = AllByRecursion (BodyLacks test) (trees_within t)
+
+    found_bodies : AreStrictBodies t → AllBodies
+    found_bodies h = all_map HasStrictBody (BodyLacks test) (strict_body test) (trees_within t) h
+
+    -- all of a message but its header block and its headers
+    abbrev Contents : Tree → Type 0
+    Contents t = Splits t × BodyLacks test t
+
+    all_lack : AllBlocks → AllFields → AllSplit → AllBodies → AllLack
+    all_lack blocks fields splits bodies =
+        to_places (MessageLacks test)
+        (all_with (λ (t : Tree). BlockLacks test (root t) × FieldsLack test (root t)) Contents (MessageLacks test)
+        (λ t both more. record { block = both.0; fields = both.1; parts = more.0; body = more.1 }) (trees_within t)
+        (all_with (λ (t : Tree). BlockLacks test (root t)) (λ (t : Tree). FieldsLack test (root t)) (λ (t : Tree). BlockLacks test (root t) × FieldsLack test (root t))
+        (λ t block fields. (block, fields)) (trees_within t) blocks fields)
+        (all_with Splits (BodyLacks test) Contents (λ t parts body. (parts, body)) (trees_within t) splits bodies))
+
+    -- what is not asked for
+    no_blocks : ((n : Name) → is_block_name n ≡ true → test n ≡ false) → AllBlocks
+    no_blocks free = all_free (λ (t : Tree). BlockLacks test (root t)) (λ (t : Tree). block_free test free (root t)) (trees_within t)
+
+    no_fields : ((n : Name) → is_field_name n ≡ true → test n ≡ false) → AllFields
+    no_fields free = all_free (λ (t : Tree). FieldsLack test (root t)) (λ (t : Tree). fields_free test free (root t)) (trees_within t)
+
+    no_splits : ((n : Name) → is_part_name n ≡ true → test n ≡ false) → AllSplit
+    no_splits free = all_free Splits (parts_free test free) (trees_within t)
+
+    no_bodies : ((n : Name) → is_body_name n ≡ true → test n ≡ false) → AllBodies
+    no_bodies free = all_free (BodyLacks test) (body_free test free) (trees_within t)
 
   pub blocks_strict : Lacks is_block_name (findings known t (placements 0 t)) ↔ HasStrictBlocks t
   blocks_strict = (
-    λ h. blocks_found is_block_name no_line_name (λ n e. e) (found_first known is_block_name no_line_name t h).1,
-    λ h. first_found known is_block_name no_line_name t bytes_free (found_blocks is_block_name no_line_name h),
+    λ h. blocks_found is_block_name (λ n e. e) (found_first known is_block_name block_covered t h).1,
+    λ h. first_found known is_block_name block_covered t (bytes_free is_block_name line_no_block (root t).bytes)
+        (all_lack is_block_name (found_blocks is_block_name h) (no_fields is_block_name field_no_block) (no_splits is_block_name part_no_block) (no_bodies is_block_name body_no_block))
+        (far_free is_block_name refl 0 (places t (placements 0 t))),
+  )
+
+  pub fields_are_of_grammar : Lacks is_field_name (findings known t (placements 0 t)) ↔ AreStrictFields t
+  fields_are_of_grammar = (
+    λ h. fields_found is_field_name (λ n e. e) (found_first known is_field_name field_covered t h).1,
+    λ h. first_found known is_field_name field_covered t (bytes_free is_field_name line_no_field (root t).bytes)
+        (all_lack is_field_name (no_blocks is_field_name block_no_field) (found_fields is_field_name h) (no_splits is_field_name part_no_field) (no_bodies is_field_name body_no_field))
+        (far_free is_field_name refl 0 (places t (placements 0 t))),
+  )
+
+  pub parts_are_of_grammar : Lacks is_part_name (findings known t (placements 0 t)) ↔ AreStrictParts t
+  parts_are_of_grammar = (
+    λ h. parts_of_all is_part_name (λ n e. e) (found_first known is_part_name part_covered t h).1,
+    λ h. first_found known is_part_name part_covered t (bytes_free is_part_name line_no_part (root t).bytes)
+        (all_lack is_part_name (no_blocks is_part_name block_no_part) (no_fields is_part_name field_no_part) (found_splits is_part_name h) (no_bodies is_part_name body_no_part))
+        (far_free is_part_name refl 0 (places t (placements 0 t))),
+  )
+
+  pub bodies_are_of_grammar : Lacks is_body_name (findings known t (placements 0 t)) ↔ AreStrictBodies t
+  bodies_are_of_grammar = (
+    λ h. bodies_of_all is_body_name (λ n e. e) (found_first known is_body_name body_covered t h).1,
+    λ h. first_found known is_body_name body_covered t (bytes_free is_body_name line_no_body (root t).bytes)
+        (all_lack is_body_name (no_blocks is_body_name block_no_body) (no_fields is_body_name field_no_body) (no_splits is_body_name part_no_body) (found_bodies is_body_name h))
+        (far_free is_body_name refl 0 (places t (placements 0 t))),
+  )
+
+  pub many_of_grammar : Lacks is_many_name (findings known t (placements 0 t)) ↔ IsSmall t
+  many_of_grammar = (
+    λ h. small_found is_many_name known greatest bytes t read refl (far_first known is_many_name many_covered t h),
+    λ h. first_found known is_many_name many_covered t (bytes_free is_many_name line_no_many (root t).bytes)
+        (all_lack is_many_name (no_blocks is_many_name block_no_many) (no_fields is_many_name field_no_many) (no_splits is_many_name part_no_many)
+        (no_bodies is_many_name body_no_many)) (found_small is_many_name known greatest bytes t read h),
   )
 
   line_part : BytesLack is_covered (root t).bytes → BytesLack is_line_name (root t).bytes
@@ -166,13 +606,18 @@ module _ (known : Charsets) (greatest : ℕ) (bytes : List ℕ) (t : Tree) (read
       let both = found_first known is_covered (λ n e. e) t h in
       record {
         lines = subst IsText (bytes-there known greatest bytes t read) (text_found (root t).bytes (line_part both.0));
-        blocks = blocks_found is_covered (λ n e. e) covers_blocks both.1;
+        blocks = blocks_found is_covered covers_blocks both.1;
+        fields = fields_found is_covered covers_fields both.1;
+        parts = parts_of_all is_covered covers_parts both.1;
+        bodies = bodies_of_all is_covered covers_bodies both.1;
+        small = small_found is_covered known greatest bytes t read refl (far_first known is_covered (λ n e. e) t h);
       }
 
   from_so_far : IsStrictSoFar bytes t → Lacks is_covered (findings known t (placements 0 t))
   from_so_far h =
       first_found known is_covered (λ n e. e) t (part_line (found_text (root t).bytes (subst IsText (sym (bytes-there known greatest bytes t read)) h.lines)))
-      (found_blocks is_covered (λ n e. e) h.blocks)
+      (all_lack is_covered (found_blocks is_covered h.blocks) (found_fields is_covered h.fields) (found_splits is_covered h.parts) (found_bodies is_covered h.bodies))
+      (found_small is_covered known greatest bytes t read h.small)
 
   pub mail_strict : Lacks is_covered (findings known t (placements 0 t)) ↔ IsStrictSoFar bytes t
   mail_strict = (so_far, from_so_far)

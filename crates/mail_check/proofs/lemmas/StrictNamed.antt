@@ -1,22 +1,29 @@
 -- What it means that the findings of a mail lack some names that the grammar of strict mails covers.
-use Rattle.std.proofs.Common.{◌≡◌, ℕ, suc, ◌+◌, Bool, true, false, List, [], ◌∷◌, ◌++◌, length, refl, sym, subst, None}
-use Rattle.std.specs.Prelude.{flat_map, ◌==◌, if◌then◌else◌}
+use Rattle.std.proofs.Common.{◌≡◌, ℕ, suc, ◌+◌, Bool, true, false, List, [], ◌∷◌, ◌++◌, length, drop, refl, sym, subst, Option, Some, None, inl, inr}
+use Rattle.std.specs.Prelude.{flat_map, is_none, not, ◌&&◌, ◌==◌, ⊤, codes, if◌then◌else◌}
 use Rattle.std.specs.List.{AllByRecursion}
 use Rattle.std.proofs.Math.Dec.{eqb-suc-zero}
+use Rattle.mail_codec.specs.Ascii.{colon}
 use Rattle.mail_codec.specs.Charset.{Charsets}
-use Rattle.mailparse.specs.Mail.{Forest, Node, Tree, tree, cut_of_as, root, shown_as}
+use Rattle.mail_codec.specs.Places.{byte_place}
+use Rattle.mailparse.specs.Body.{BodyKind, in_base64, in_quoted_printable, in_7bit, in_8bit, in_binary}
+use Rattle.mailparse.specs.ContentType.{ContentType}
+use Rattle.mailparse.specs.Mail.{Forest, Node, Tree, tree, body_kind, cut_of_as, root, shown_as}
 use Rattle.mailparse.specs.Ranges.{moved}
-use Rattle.mail_data.specs.Files.{parts_with_paths, whole_path}
+use Rattle.mail_data.specs.Files.{is_leaf, parts_with_paths, whole_path}
 use Rattle.mailparse.specs.Placement.{placements, placements_in_as}
 use Rattle.mail_data.specs.PartPlaces.{Place, placed, places}
-use Rattle.mail_check.specs.Bytes.{first_offset, is_lone_return, is_nul, mixed_line_end}
-use Rattle.mail_check.specs.Findings.{Finding, Spot, block_findings, byte_findings, file_findings, findings, findings_from, first_findings, has_none, header_findings, is_far}
-use Rattle.mail_check.specs.Findings.{leaf_findings, line_findings, listed, listed_if, multipart_findings, parameter_findings, repeated_findings, sender_findings, spot_in, type_findings, worded_findings}
+use Rattle.mail_check.specs.Bytes.{earlier, first_byte, first_offset, is_bad_escape, is_control, is_end_blank, is_escaped_end, is_high, is_lone_return, is_nul, mixed_line_end}
+use Rattle.mail_check.specs.HiddenBits.{hidden_bits}
+use Rattle.mail_check.specs.Bodies.{is_base64_lines}
+use Rattle.mail_check.specs.Findings.{Finding, Spot, block_findings, body_findings, byte_findings, encoded_findings, file_findings, findings, findings_from, first_findings, has_none, header_findings, is_far, is_single}
+use Rattle.mail_check.specs.Findings.{leaf_findings, line_findings, listed, listed_if, multipart_findings, parameter_findings, repeated, repeated_findings, sender_findings, spot_in, spot_of_body, text_findings, type_findings, worded_findings}
 use Rattle.mail_check.specs.LineTests.{first_line, is_long_line}
-use Rattle.mail_check.specs.Lines.{HeaderLine, ends_block, has_blank_fold, has_comment_fold, has_high_value, header_lines, is_bad_key, single_names}
-use Rattle.mail_check.specs.Multiparts.{dash_of}
-use Rattle.mail_check.specs.strict.Named.{Lacks, is_covered, is_line_name}
-use Rattle.mail_check.proofs.lemmas.StrictOthers.{each_lacks, false_listed, file_others, lacks_both, lacks_each, lacks_left, lacks_right, leaf_others, listed_false, listed_none, multipart_others, none_listed, other, other_if, parameter_others, repeated_others, sender_others, type_others, worded_others}
+use Rattle.mail_check.specs.Lines.{HeaderLine, ends_block, has_blank_fold, has_comment_fold, has_high_value, header_lines, is_bad_encoding, is_bad_key, is_composite, is_encoding, is_named, is_other_message, second_named, single_names}
+use Rattle.mail_check.specs.Multiparts.{dash_of, is_bad_boundary, is_close, is_inside, is_tailed, late_delimiter}
+use Rattle.mail_check.specs.strict.Named.{Lacks, is_block_name, is_body_name, is_covered, is_field_name, is_line_name, is_part_name}
+use Rattle.mail_check.proofs.lemmas.StrictOthers.{each_lacks, false_listed, file_others, lacks_both, lacks_each, lacks_left, lacks_right, listed_false, listed_none, none_listed, other, parameter_others, sender_others, text_others, truth, worded_others}
+use Rattle.mail_check.proofs.lemmas.StrictReading.{all_with}
 use Rattle.mail_check.specs.declared.names.Name.{Name}
 use Rattle.mail_check.specs.declared.names.Name.TheVariants as name
 
@@ -34,12 +41,63 @@ pub record LineLacks (test : Name → Bool) (size : ℕ) (line : HeaderLine) : T
   pub comment_fold : test name.CommentFold ≡ true → has_comment_fold line ≡ false
   pub header_8bit : test name.Header8bit ≡ true → has_high_value line ≡ false
 
--- nor has a message
-pub record MessageLacks (test : Name → Bool) (node : Node) : Type 0 where
+-- nor has what it says of a message of this type
+pub record TypeLacks (test : Name → Bool) (ctype : ContentType) (line : HeaderLine) : Type 0 where
+  pub encoding : test name.EncodingSyntax ≡ true → is_bad_encoding line ≡ false
+  pub composite : test name.EncodingOnComposite ≡ true → (is_encoding line && is_composite ctype) ≡ false
+  pub message : test name.OtherMessage ≡ true → (is_named (codes "Content-Type") line && is_other_message ctype) ≡ false
+  pub boundary : test name.BadBoundary ≡ true → (is_named (codes "Content-Type") line && is_bad_boundary ctype) ≡ false
+
+-- nor has a header block
+pub record BlockLacks (test : Name → Bool) (node : Node) : Type 0 where
   pub no_headers : test name.NoHeaders ≡ true → has_none (header_lines node) ≡ false
   pub lines : AllByRecursion (LineLacks test (length node.block)) (header_lines node)
 
-all_map : {X : Type 0} (P Q : X → Type 0) → ((x : X) → P x → Q x) → (xs : List X) → AllByRecursion P xs → AllByRecursion Q xs
+-- nor have its headers
+pub record FieldsLack (test : Name → Bool) (node : Node) : Type 0 where
+  pub types : AllByRecursion (TypeLacks test node.ctype) (header_lines node)
+  pub repeats : test name.Duplicate ≡ true → AllByRecursion (λ (n : List ℕ). second_named n (header_lines node) ≡ None) single_names
+
+-- the text of a message after its header block
+abbrev pub text_after : Tree → List ℕ
+text_after t = drop (length (root t).block) (root t).bytes
+
+-- nor has a multipart with this dash-boundary
+pub record PartsLack (test : Name → Bool) (t : Tree) (dash : List ℕ) : Type 0 where
+  pub preamble : test name.Preamble ≡ true → byte_place (root t).body colon ≡ None
+  pub parts : test name.NoDelimiter ≡ true → is_leaf t ≡ false
+  pub closed : test name.NoClose ≡ true → (not (is_leaf t) && is_none (first_offset (is_close dash (text_after t)) (text_after t))) ≡ false
+  pub inside : test name.DelimiterInside ≡ true → first_offset (is_inside dash (text_after t)) (text_after t) ≡ None
+  pub tail : test name.DelimiterTail ≡ true → first_offset (is_tailed dash (text_after t)) (text_after t) ≡ None
+  pub late : test name.LateDelimiter ≡ true → late_delimiter dash (text_after t) ≡ None
+
+-- nor has a body in this encoding
+abbrev pub EncodedLacks : (Name → Bool) → BodyKind → List ℕ → Type 0
+EncodedLacks test in_base64 body = test name.Base64Syntax ≡ true → not (is_base64_lines body) ≡ false
+EncodedLacks test in_quoted_printable body =
+    (test name.QpSyntax ≡ true → earlier (first_offset (is_bad_escape body) body) (first_byte is_control body) ≡ None)
+    × (test name.QpBlank ≡ true → earlier (first_offset (is_end_blank body) body) (first_offset (is_escaped_end body) body) ≡ None)
+EncodedLacks test in_7bit body = ⊤
+EncodedLacks test in_8bit body = ⊤
+EncodedLacks test in_binary body = ⊤
+
+-- nor has the body of a message
+pub record BodyLacks (test : Name → Bool) (t : Tree) : Type 0 where
+  pub encoded : is_single t ≡ true → EncodedLacks test (body_kind (root t)) (root t).body
+
+-- nor has a message
+pub record MessageLacks (test : Name → Bool) (t : Tree) : Type 0 where
+  pub block : BlockLacks test (root t)
+  pub fields : FieldsLack test (root t)
+  pub parts : (dash : List ℕ) → dash_of (root t).ctype ≡ Some dash → PartsLack test t dash
+  pub body : BodyLacks test t
+
+-- nor has the number of a message, or its path
+abbrev pub FarLacks : (Name → Bool) → ℕ → List Place → Type 0
+FarLacks test number [] = ⊤
+FarLacks test number (place ∷ found) = (test name.Many ≡ true → is_far number place ≡ false) × FarLacks test (suc number) found
+
+pub all_map : {X : Type 0} (P Q : X → Type 0) → ((x : X) → P x → Q x) → (xs : List X) → AllByRecursion P xs → AllByRecursion Q xs
 all_map P Q f [] h = tt
 all_map P Q f (x ∷ xs) h = (f x h.0, all_map P Q f xs h.1)
 
@@ -113,46 +171,203 @@ module _ (known : Charsets) (test : Name → Bool) (others : (n : Name) → is_c
       (both _ _ (false_listed test spot name.CommentFold (has_comment_fold line) h.comment_fold)
       (false_listed test spot name.Header8bit (has_high_value line) h.header_8bit))))
 
+  type_lacks : (spot : Spot) (ctype : ContentType) (line : HeaderLine) → Lacks test (type_findings spot ctype line) → TypeLacks test ctype line
+  type_lacks spot ctype line h =
+      let encoding = listed_if spot name.EncodingSyntax (is_bad_encoding line) in
+      let composite = listed_if spot name.EncodingOnComposite (is_encoding line && is_composite ctype) in
+      let message = listed_if spot name.OtherMessage (is_named (codes "Content-Type") line && is_other_message ctype) in
+      let boundary = listed_if spot name.BadBoundary (is_named (codes "Content-Type") line && is_bad_boundary ctype) in
+      let first = lacks_right test encoding (composite ++ (message ++ boundary)) h in
+      let second = lacks_right test composite (message ++ boundary) first in
+      record {
+        encoding = listed_false test spot name.EncodingSyntax _ (lacks_left test encoding (composite ++ (message ++ boundary)) h);
+        composite = listed_false test spot name.EncodingOnComposite _ (lacks_left test composite (message ++ boundary) first);
+        message = listed_false test spot name.OtherMessage _ (lacks_left test message boundary second);
+        boundary = listed_false test spot name.BadBoundary _ (lacks_right test message boundary second);
+      }
+
+  lack_type : (spot : Spot) (ctype : ContentType) (line : HeaderLine) → TypeLacks test ctype line → Lacks test (type_findings spot ctype line)
+  lack_type spot ctype line h =
+      both _ _ (false_listed test spot name.EncodingSyntax (is_bad_encoding line) h.encoding)
+      (both _ _ (false_listed test spot name.EncodingOnComposite (is_encoding line && is_composite ctype) h.composite)
+      (both _ _ (false_listed test spot name.OtherMessage (is_named (codes "Content-Type") line && is_other_message ctype) h.message)
+      (false_listed test spot name.BadBoundary (is_named (codes "Content-Type") line && is_bad_boundary ctype) h.boundary)))
+
   header_lacks : (number : ℕ) (place : Place) (line : HeaderLine) → Lacks test (header_findings known number place line)
-      → LineLacks test (length (root place.part).block) line
+      → LineLacks test (length (root place.part).block) line × TypeLacks test (root place.part).ctype line
   header_lacks number place line h =
       let spot = spot_in place line.start (length line.bytes) in
       let size = length (root place.part).block in
-      line_lacks spot size line (lacks_left test (line_findings spot size line) (parameter_findings spot line
-      ++ (type_findings spot (root place.part).ctype line ++ (sender_findings number spot line ++ worded_findings known spot line))) h)
+      let ctype = (root place.part).ctype in
+      let later = sender_findings number spot line ++ worded_findings known spot line in
+      let rest = lacks_right test (line_findings spot size line) (parameter_findings spot line ++ (type_findings spot ctype line ++ later)) h in (
+        line_lacks spot size line (lacks_left test (line_findings spot size line) (parameter_findings spot line ++ (type_findings spot ctype line ++ later)) h),
+        type_lacks spot ctype line (lacks_left test (type_findings spot ctype line) later (lacks_right test (parameter_findings spot line) (type_findings spot ctype line ++ later) rest)),
+      )
 
   lack_header : (number : ℕ) (place : Place) (line : HeaderLine) → LineLacks test (length (root place.part).block) line
-      → Lacks test (header_findings known number place line)
-  lack_header number place line h =
+      → TypeLacks test (root place.part).ctype line → Lacks test (header_findings known number place line)
+  lack_header number place line h k =
       let spot = spot_in place line.start (length line.bytes) in
       both _ _ (lack_line spot (length (root place.part).block) line h)
       (both _ _ (parameter_others test others spot line)
-      (both _ _ (type_others test others spot (root place.part).ctype line)
+      (both _ _ (lack_type spot (root place.part).ctype line k)
       (both _ _ (sender_others test others number spot line) (worded_others test others known spot line))))
+
+  -- ---- repeated headers
+
+  repeated_none : (place : Place) (line : Option HeaderLine) → Lacks test (repeated place line) → test name.Duplicate ≡ true → line ≡ None
+  repeated_none place None h e = refl
+  repeated_none place (Some line) h e = let no : test name.Duplicate ≡ false = h.0 in absurd (cc)
+
+  none_repeated : (place : Place) (line : Option HeaderLine) → (test name.Duplicate ≡ true → line ≡ None) → Lacks test (repeated place line)
+  none_repeated place None f = tt
+  none_repeated place (Some line) f = elim (truth (test name.Duplicate)) [
+    | inl e ↦ let no : Some line ≡ None = f e in absurd (cc)
+    | inr e ↦ (e, tt)
+  ]
+
+  repeats_lack : (place : Place) (lines : List HeaderLine) (names : List (List ℕ))
+      → (test name.Duplicate ≡ true → AllByRecursion (λ (n : List ℕ). second_named n lines ≡ None) names)
+      → AllByRecursion (λ (n : List ℕ). Lacks test (repeated place (second_named n lines))) names
+  repeats_lack place lines [] f = tt
+  repeats_lack place lines (n ∷ names) f = (none_repeated place (second_named n lines) (λ e. (f e).0), repeats_lack place lines names (λ e. (f e).1))
 
   -- ---- a message
 
-  block_lacks : (number : ℕ) (place : Place) → Lacks test (block_findings known number place (header_lines (root place.part))) → MessageLacks test (root place.part)
+  block_lacks : (number : ℕ) (place : Place) → Lacks test (block_findings known number place (header_lines (root place.part)))
+      → BlockLacks test (root place.part) × FieldsLack test (root place.part)
   block_lacks number place h =
       let node = root place.part in
       let lines = header_lines node in
       let none = listed_if (spot_in place 0 0) name.NoHeaders (has_none lines) in
       let headers = flat_map (header_findings known number place) lines in
       let repeats = repeated_findings place lines single_names in
-      record {
-        no_headers = listed_false test (spot_in place 0 0) name.NoHeaders (has_none lines) (lacks_left test none (headers ++ repeats) h);
-        lines = all_map (λ line. Lacks test (header_findings known number place line)) (LineLacks test (length node.block)) (header_lacks number place) lines
-            (lacks_each test (header_findings known number place) lines (lacks_left test headers repeats (lacks_right test none (headers ++ repeats) h)));
-      }
+      let rest = lacks_right test none (headers ++ repeats) h in
+      let each = lacks_each test (header_findings known number place) lines (lacks_left test headers repeats rest) in (
+        record {
+          no_headers = listed_false test (spot_in place 0 0) name.NoHeaders (has_none lines) (lacks_left test none (headers ++ repeats) h);
+          lines = all_map (λ line. Lacks test (header_findings known number place line)) (LineLacks test (length node.block))
+              (λ line lacks. (header_lacks number place line lacks).0) lines each;
+        },
+        record {
+          types = all_map (λ line. Lacks test (header_findings known number place line)) (TypeLacks test node.ctype)
+              (λ line lacks. (header_lacks number place line lacks).1) lines each;
+          repeats = λ e. all_map (λ (n : List ℕ). Lacks test (repeated place (second_named n lines))) (λ (n : List ℕ). second_named n lines ≡ None)
+              (λ n lacks. repeated_none place (second_named n lines) lacks e) single_names
+              (lacks_each test (λ (n : List ℕ). repeated place (second_named n lines)) single_names (lacks_right test headers repeats rest));
+        },
+      )
 
-  lack_block : (number : ℕ) (place : Place) → MessageLacks test (root place.part) → Lacks test (block_findings known number place (header_lines (root place.part)))
+  lack_block : (number : ℕ) (place : Place) → MessageLacks test place.part → Lacks test (block_findings known number place (header_lines (root place.part)))
   lack_block number place h =
       let node = root place.part in
       let lines = header_lines node in
-      both _ _ (false_listed test (spot_in place 0 0) name.NoHeaders (has_none lines) h.no_headers)
+      both _ _ (false_listed test (spot_in place 0 0) name.NoHeaders (has_none lines) h.block.no_headers)
       (both _ _ (each_lacks test (header_findings known number place) lines
-      (all_map (LineLacks test (length node.block)) (λ line. Lacks test (header_findings known number place line)) (lack_header number place) lines h.lines))
-      (repeated_others test others place lines))
+      (all_with (LineLacks test (length node.block)) (TypeLacks test node.ctype) (λ line. Lacks test (header_findings known number place line))
+      (lack_header number place) lines h.block.lines h.fields.types))
+      (each_lacks test (λ (n : List ℕ). repeated place (second_named n lines)) single_names (repeats_lack place lines single_names h.fields.repeats)))
+
+  -- ---- multiparts
+
+  part_lacks : (place : Place) (dash : List ℕ) → Lacks test (multipart_findings place (Some dash)) → PartsLack test place.part dash
+  part_lacks place dash h =
+      let text = text_after place.part in
+      let size = length (root place.part).block in
+      let spot = spot_in place size (length dash) in
+      let preamble = listed (spot_of_body place 1) name.Preamble (byte_place (root place.part).body colon) in
+      let empty = listed_if (spot_in place size 0) name.NoDelimiter (is_leaf place.part) in
+      let unclosed = listed_if (spot_in place size (length text)) name.NoClose (not (is_leaf place.part) && is_none (first_offset (is_close dash text) text)) in
+      let inside = listed spot name.DelimiterInside (first_offset (is_inside dash text) text) in
+      let tail = listed spot name.DelimiterTail (first_offset (is_tailed dash text) text) in
+      let late = listed spot name.LateDelimiter (late_delimiter dash text) in
+      let rest = lacks_right test preamble ((empty ++ unclosed) ++ (inside ++ (tail ++ late))) h in
+      let parts = lacks_left test (empty ++ unclosed) (inside ++ (tail ++ late)) rest in
+      let delimiters = lacks_right test (empty ++ unclosed) (inside ++ (tail ++ late)) rest in
+      let last = lacks_right test inside (tail ++ late) delimiters in
+      record {
+        preamble = listed_none test (spot_of_body place 1) name.Preamble _ (lacks_left test preamble ((empty ++ unclosed) ++ (inside ++ (tail ++ late))) h);
+        parts = listed_false test (spot_in place size 0) name.NoDelimiter _ (lacks_left test empty unclosed parts);
+        closed = listed_false test (spot_in place size (length text)) name.NoClose _ (lacks_right test empty unclosed parts);
+        inside = listed_none test spot name.DelimiterInside _ (lacks_left test inside (tail ++ late) delimiters);
+        tail = listed_none test spot name.DelimiterTail _ (lacks_left test tail late last);
+        late = listed_none test spot name.LateDelimiter _ (lacks_right test tail late last);
+      }
+
+  multipart_lacks : (place : Place) (dash : Option (List ℕ)) → Lacks test (multipart_findings place dash) → (d : List ℕ) → dash ≡ Some d → PartsLack test place.part d
+  multipart_lacks place None h d e = absurd (cc)
+  multipart_lacks place (Some dash) h d e =
+      let same : dash ≡ d = cc in
+      subst (PartsLack test place.part) same (part_lacks place dash h)
+
+  lack_part : (place : Place) (dash : List ℕ) → PartsLack test place.part dash → Lacks test (multipart_findings place (Some dash))
+  lack_part place dash h =
+      let text = text_after place.part in
+      let size = length (root place.part).block in
+      let spot = spot_in place size (length dash) in
+      both _ _ (none_listed test (spot_of_body place 1) name.Preamble (byte_place (root place.part).body colon) h.preamble)
+      (both _ _ (both _ _ (false_listed test (spot_in place size 0) name.NoDelimiter (is_leaf place.part) h.parts)
+      (false_listed test (spot_in place size (length text)) name.NoClose (not (is_leaf place.part) && is_none (first_offset (is_close dash text) text)) h.closed))
+      (both _ _ (none_listed test spot name.DelimiterInside (first_offset (is_inside dash text) text) h.inside)
+      (both _ _ (none_listed test spot name.DelimiterTail (first_offset (is_tailed dash text) text) h.tail)
+      (none_listed test spot name.LateDelimiter (late_delimiter dash text) h.late))))
+
+  lack_multipart : (place : Place) (dash : Option (List ℕ)) → ((d : List ℕ) → dash ≡ Some d → PartsLack test place.part d) → Lacks test (multipart_findings place dash)
+  lack_multipart place None f = tt
+  lack_multipart place (Some dash) f = lack_part place dash (f dash refl)
+
+  -- ---- bodies
+
+  encoded_lacks : (place : Place) (kind : BodyKind) (body : List ℕ) → Lacks test (encoded_findings place kind body) → EncodedLacks test kind body
+  encoded_lacks place in_base64 body h =
+      let syntax = listed_if (spot_of_body place (length body)) name.Base64Syntax (not (is_base64_lines body)) in
+      listed_false test (spot_of_body place (length body)) name.Base64Syntax (not (is_base64_lines body))
+      (lacks_left test syntax (listed (spot_of_body place 4) name.Base64Bits (hidden_bits body)) h)
+  encoded_lacks place in_quoted_printable body h =
+      let spot = spot_of_body place 1 in
+      let syntax = listed spot name.QpSyntax (earlier (first_offset (is_bad_escape body) body) (first_byte is_control body)) in
+      let blank = listed spot name.QpBlank (earlier (first_offset (is_end_blank body) body) (first_offset (is_escaped_end body) body)) in
+      let high = listed spot name.EightBitBody (first_byte is_high body) in (
+        listed_none test spot name.QpSyntax _ (lacks_left test syntax (blank ++ high) h),
+        listed_none test spot name.QpBlank _ (lacks_left test blank high (lacks_right test syntax (blank ++ high) h)),
+      )
+  encoded_lacks place in_7bit body h = tt
+  encoded_lacks place in_8bit body h = tt
+  encoded_lacks place in_binary body h = tt
+
+  lack_encoded : (place : Place) (kind : BodyKind) (body : List ℕ) → EncodedLacks test kind body → Lacks test (encoded_findings place kind body)
+  lack_encoded place in_base64 body h =
+      both _ _ (false_listed test (spot_of_body place (length body)) name.Base64Syntax (not (is_base64_lines body)) h)
+      (other test others (spot_of_body place 4) name.Base64Bits (hidden_bits body) refl)
+  lack_encoded place in_quoted_printable body h =
+      let spot = spot_of_body place 1 in
+      both _ _ (none_listed test spot name.QpSyntax (earlier (first_offset (is_bad_escape body) body) (first_byte is_control body)) h.0)
+      (both _ _ (none_listed test spot name.QpBlank (earlier (first_offset (is_end_blank body) body) (first_offset (is_escaped_end body) body)) h.1)
+      (other test others spot name.EightBitBody (first_byte is_high body) refl))
+  lack_encoded place in_7bit body h = other test others (spot_of_body place 1) name.EightBitBody (first_byte is_high body) refl
+  lack_encoded place in_8bit body h = tt
+  lack_encoded place in_binary body h = tt
+
+  body_lacks : (place : Place) → Lacks test (leaf_findings known place) → BodyLacks test place.part
+  body_lacks place h =
+      let node = root place.part in
+      let found = body_findings known place node in
+      record {
+        encoded = λ e. encoded_lacks place (body_kind node) node.body
+            (lacks_left test (encoded_findings place (body_kind node) node.body) (text_findings known place node node.body)
+            (subst (λ (t : Bool). Lacks test (if t then found else [])) e h));
+      }
+
+  lack_body : (place : Place) → BodyLacks test place.part → Lacks test (leaf_findings known place)
+  lack_body place h =
+      let node = root place.part in
+      let found = body_findings known place node in
+      elim (truth (is_single place.part)) [
+        | inl e ↦ subst (λ (t : Bool). Lacks test (if t then found else [])) (sym e)
+            (both _ _ (lack_encoded place (body_kind node) node.body (h.encoded e)) (text_others test others place known node node.body))
+        | inr e ↦ subst (λ (t : Bool). Lacks test (if t then found else [])) (sym e) tt
+      ]
 
   -- what comes after the findings of the bytes
   abbrev later_findings : ℕ → Place → List Finding
@@ -164,26 +379,37 @@ module _ (known : Charsets) (test : Name → Bool) (others : (n : Name) → is_c
       ++ (multipart_findings place (dash_of node.ctype)
       ++ leaf_findings known place)))
 
-  later_lacks : (number : ℕ) (place : Place) → Lacks test (later_findings number place) → MessageLacks test (root place.part)
+  later_lacks : (number : ℕ) (place : Place) → Lacks test (later_findings number place) → MessageLacks test place.part
   later_lacks number place h =
       let node = root place.part in
       let far = listed_if (spot_in place 0 (length node.bytes)) name.Many (is_far number place) in
       let block = block_findings known number place (header_lines node) in
-      let rest = file_findings (spot_in place 0 (length node.block)) (shown_as node) node ++ (multipart_findings place (dash_of node.ctype) ++ leaf_findings known place) in
-      block_lacks number place (lacks_left test block rest (lacks_right test far (block ++ rest) h))
+      let files = file_findings (spot_in place 0 (length node.block)) (shown_as node) node in
+      let multipart = multipart_findings place (dash_of node.ctype) in
+      let leaf = leaf_findings known place in
+      let later = lacks_right test far (block ++ (files ++ (multipart ++ leaf))) h in
+      let both = block_lacks number place (lacks_left test block (files ++ (multipart ++ leaf)) later) in
+      let last = lacks_right test files (multipart ++ leaf) (lacks_right test block (files ++ (multipart ++ leaf)) later) in
+      record {
+        block = both.0;
+        fields = both.1;
+        parts = multipart_lacks place (dash_of node.ctype) (lacks_left test multipart leaf last);
+        body = body_lacks place (lacks_right test multipart leaf last);
+      }
 
-  lack_later : (number : ℕ) (place : Place) → MessageLacks test (root place.part) → Lacks test (later_findings number place)
-  lack_later number place h =
+  lack_later : (number : ℕ) (place : Place) → MessageLacks test place.part → (test name.Many ≡ true → is_far number place ≡ false)
+      → Lacks test (later_findings number place)
+  lack_later number place h far =
       let node = root place.part in
-      both _ _ (other_if test others (spot_in place 0 (length node.bytes)) name.Many (is_far number place) refl)
+      both _ _ (false_listed test (spot_in place 0 (length node.bytes)) name.Many (is_far number place) far)
       (both _ _ (lack_block number place h)
       (both _ _ (file_others test others (spot_in place 0 (length node.block)) (shown_as node) node)
-      (both _ _ (multipart_others test others place (dash_of node.ctype)) (leaf_others test others place known))))
+      (both _ _ (lack_multipart place (dash_of node.ctype) h.parts) (lack_body place h.body))))
 
   -- ---- messages after the first
 
   abbrev parts_lack : List Place → Type 0
-  parts_lack found = AllByRecursion (λ (place : Place). MessageLacks test (root place.part)) found
+  parts_lack found = AllByRecursion (λ (place : Place). MessageLacks test place.part) found
 
   -- no bytes are searched for them
   no_bytes : (number : ℕ) (xs : List Finding) → Lacks test (if suc number == 0 then xs else [])
@@ -198,13 +424,13 @@ module _ (known : Charsets) (test : Name → Bool) (others : (n : Name) → is_c
         after_lack (suc number) found (lacks_right test message (findings_from known (suc (suc number)) found) h),
       )
 
-  lack_after : (number : ℕ) (found : List Place) → parts_lack found → Lacks test (findings_from known (suc number) found)
-  lack_after number [] h = tt
-  lack_after number (place ∷ found) h =
+  lack_after : (number : ℕ) (found : List Place) → parts_lack found → FarLacks test (suc number) found → Lacks test (findings_from known (suc number) found)
+  lack_after number [] h far = tt
+  lack_after number (place ∷ found) h far =
       let own = if suc number == 0 then first_findings (spot_in place 0 1) (root place.part).bytes else [] in
       both (own ++ later_findings (suc number) place) (findings_from known (suc (suc number)) found)
-      (both own (later_findings (suc number) place) (no_bytes number (first_findings (spot_in place 0 1) (root place.part).bytes)) (lack_later (suc number) place h.0))
-      (lack_after (suc number) found h.1)
+      (both own (later_findings (suc number) place) (no_bytes number (first_findings (spot_in place 0 1) (root place.part).bytes)) (lack_later (suc number) place h.0 far.0))
+      (lack_after (suc number) found h.1 far.1)
 
   -- ---- a mail
 
@@ -218,46 +444,140 @@ module _ (known : Charsets) (test : Name → Bool) (others : (n : Name) → is_c
         (later_lacks 0 place (lacks_right test bytes (later_findings 0 place) own), after_lack 0 found (lacks_right test message (findings_from known 1 found) h)),
       )
 
-  lack_mail : (place : Place) (found : List Place) → BytesLack test (root place.part).bytes → parts_lack (place ∷ found) → Lacks test (findings_from known 0 (place ∷ found))
-  lack_mail place found bytes parts =
+  lack_mail : (place : Place) (found : List Place) → BytesLack test (root place.part).bytes → parts_lack (place ∷ found) → FarLacks test 0 (place ∷ found)
+      → Lacks test (findings_from known 0 (place ∷ found))
+  lack_mail place found bytes parts far =
       let own = first_findings (spot_in place 0 1) (root place.part).bytes in
       both (own ++ later_findings 0 place) (findings_from known 1 found)
-      (both own (later_findings 0 place) (lack_bytes (spot_in place 0 1) (root place.part).bytes bytes) (lack_later 0 place parts.0))
-      (lack_after 0 found parts.1)
+      (both own (later_findings 0 place) (lack_bytes (spot_in place 0 1) (root place.part).bytes bytes) (lack_later 0 place parts.0 far.0))
+      (lack_after 0 found parts.1 far.1)
 
   -- the mail itself is at the first place
   pub found_first : (t : Tree) → Lacks test (findings known t (placements 0 t)) → BytesLack test (root t).bytes × parts_lack (places t (placements 0 t))
   unfolding findings
   found_first (tree node parts) h = mail_lacks (first_place_of node parts) (later_places node parts) h
 
-  pub first_found : (t : Tree) → BytesLack test (root t).bytes → parts_lack (places t (placements 0 t)) → Lacks test (findings known t (placements 0 t))
+  far_lacks : (number : ℕ) (found : List Place) → Lacks test (findings_from known number found) → FarLacks test number found
+  far_lacks number [] h = tt
+  far_lacks number (place ∷ found) h =
+      let node = root place.part in
+      let own = if number == 0 then first_findings (spot_in place 0 1) node.bytes else [] in
+      let far = listed_if (spot_in place 0 (length node.bytes)) name.Many (is_far number place) in
+      let rest =
+      block_findings known number place (header_lines node)
+      ++ (file_findings (spot_in place 0 (length node.block)) (shown_as node) node ++ (multipart_findings place (dash_of node.ctype) ++ leaf_findings known place)) in
+      let message = own ++ (far ++ rest) in (
+        listed_false test (spot_in place 0 (length node.bytes)) name.Many (is_far number place)
+            (lacks_left test far rest (lacks_right test own (far ++ rest) (lacks_left test message (findings_from known (suc number) found) h))),
+        far_lacks (suc number) found (lacks_right test message (findings_from known (suc number) found) h),
+      )
+
+  pub far_first : (t : Tree) → Lacks test (findings known t (placements 0 t)) → FarLacks test 0 (places t (placements 0 t))
   unfolding findings
-  first_found (tree node parts) h k = lack_mail (first_place_of node parts) (later_places node parts) h k
+  far_first t h = far_lacks 0 (places t (placements 0 t)) h
 
--- if only names of lines are asked for, nothing is asked of headers
+  pub first_found : (t : Tree) → BytesLack test (root t).bytes → parts_lack (places t (placements 0 t)) → FarLacks test 0 (places t (placements 0 t))
+      → Lacks test (findings known t (placements 0 t))
+  unfolding findings
+  first_found (tree node parts) h k far = lack_mail (first_place_of node parts) (later_places node parts) h k far
+
+-- ---- names that are not asked for
+
+not_asked : (test : Name → Bool) (n : Name) → test n ≡ false → {A : Type 0} → test n ≡ true → A
+not_asked test n other h = absurd (cc)
+
+pub all_free : {X : Type 0} (P : X → Type 0) → ((x : X) → P x) → (xs : List X) → AllByRecursion P xs
+all_free P f [] = tt
+all_free P f (x ∷ xs) = (f x, all_free P f xs)
+
+pub bytes_free : (test : Name → Bool) → ((n : Name) → is_line_name n ≡ true → test n ≡ false) → (bytes : List ℕ) → BytesLack test bytes
+bytes_free test free bytes = record {
+  nul = not_asked test name.Nul (free name.Nul refl);
+  lone_cr = not_asked test name.LoneCr (free name.LoneCr refl);
+  mixed = not_asked test name.MixedLineEnds (free name.MixedLineEnds refl);
+}
+
+pub block_free : (test : Name → Bool) → ((n : Name) → is_block_name n ≡ true → test n ≡ false) → (node : Node) → BlockLacks test node
+block_free test free node = record {
+  no_headers = not_asked test name.NoHeaders (free name.NoHeaders refl);
+  lines = all_free (LineLacks test (length node.block)) (λ line. record {
+    no_blank_line = not_asked test name.NoBlankLine (free name.NoBlankLine refl);
+    bad_key = not_asked test name.BadKey (free name.BadKey refl);
+    blank_fold = not_asked test name.BlankFold (free name.BlankFold refl);
+    comment_fold = not_asked test name.CommentFold (free name.CommentFold refl);
+    header_8bit = not_asked test name.Header8bit (free name.Header8bit refl);
+  }) (header_lines node);
+}
+
+pub fields_free : (test : Name → Bool) → ((n : Name) → is_field_name n ≡ true → test n ≡ false) → (node : Node) → FieldsLack test node
+fields_free test free node = record {
+  types = all_free (TypeLacks test node.ctype) (λ line. record {
+    encoding = not_asked test name.EncodingSyntax (free name.EncodingSyntax refl);
+    composite = not_asked test name.EncodingOnComposite (free name.EncodingOnComposite refl);
+    message = not_asked test name.OtherMessage (free name.OtherMessage refl);
+    boundary = not_asked test name.BadBoundary (free name.BadBoundary refl);
+  }) (header_lines node);
+  repeats = not_asked test name.Duplicate (free name.Duplicate refl);
+}
+
+pub parts_free : (test : Name → Bool) → ((n : Name) → is_part_name n ≡ true → test n ≡ false) → (t : Tree) (dash : List ℕ)
+    → dash_of (root t).ctype ≡ Some dash → PartsLack test t dash
+parts_free test free t dash e = record {
+  preamble = not_asked test name.Preamble (free name.Preamble refl);
+  parts = not_asked test name.NoDelimiter (free name.NoDelimiter refl);
+  closed = not_asked test name.NoClose (free name.NoClose refl);
+  inside = not_asked test name.DelimiterInside (free name.DelimiterInside refl);
+  tail = not_asked test name.DelimiterTail (free name.DelimiterTail refl);
+  late = not_asked test name.LateDelimiter (free name.LateDelimiter refl);
+}
+
+pub body_free : (test : Name → Bool) → ((n : Name) → is_body_name n ≡ true → test n ≡ false) → (t : Tree) → BodyLacks test t
+body_free test free t = record { encoded = λ e. by_kind (body_kind (root t)) }
+  where
+    by_kind : (kind : BodyKind) → EncodedLacks test kind (root t).body
+    by_kind in_base64 = not_asked test name.Base64Syntax (free name.Base64Syntax refl)
+    by_kind in_quoted_printable = (not_asked test name.QpSyntax (free name.QpSyntax refl), not_asked test name.QpBlank (free name.QpBlank refl))
+    by_kind in_7bit = tt
+    by_kind in_8bit = tt
+    by_kind in_binary = tt
+
+pub far_free : (test : Name → Bool) → test name.Many ≡ false → (number : ℕ) (found : List Place) → FarLacks test number found
+far_free test free number [] = tt
+far_free test free number (place ∷ found) = (not_asked test name.Many free, far_free test free (suc number) found)
+
+block_no_line : (n : Name) → is_block_name n ≡ true → is_line_name n ≡ false
+block_no_line name.Nul h = absurd (cc)
+block_no_line name.LoneCr h = absurd (cc)
+block_no_line name.MixedLineEnds h = absurd (cc)
+block_no_line _ h = refl
+
+field_no_line : (n : Name) → is_field_name n ≡ true → is_line_name n ≡ false
+field_no_line name.Nul h = absurd (cc)
+field_no_line name.LoneCr h = absurd (cc)
+field_no_line name.MixedLineEnds h = absurd (cc)
+field_no_line _ h = refl
+
+part_no_line : (n : Name) → is_part_name n ≡ true → is_line_name n ≡ false
+part_no_line name.Nul h = absurd (cc)
+part_no_line name.LoneCr h = absurd (cc)
+part_no_line name.MixedLineEnds h = absurd (cc)
+part_no_line _ h = refl
+
+body_no_line : (n : Name) → is_body_name n ≡ true → is_line_name n ≡ false
+body_no_line name.Nul h = absurd (cc)
+body_no_line name.LoneCr h = absurd (cc)
+body_no_line name.MixedLineEnds h = absurd (cc)
+body_no_line _ h = refl
+
+-- if only names of lines are asked for, nothing is asked of a message
 module _ (test : Name → Bool) (only : (n : Name) → is_line_name n ≡ false → test n ≡ false) where
-  not_asked : (n : Name) → is_line_name n ≡ false → {A : Type 0} → test n ≡ true → A
-  not_asked n e h = let no = only n e in absurd (cc)
-
-  line_free : (size : ℕ) (line : HeaderLine) → LineLacks test size line
-  line_free size line = record {
-    no_blank_line = not_asked name.NoBlankLine refl;
-    bad_key = not_asked name.BadKey refl;
-    blank_fold = not_asked name.BlankFold refl;
-    comment_fold = not_asked name.CommentFold refl;
-    header_8bit = not_asked name.Header8bit refl;
+  message_free : (t : Tree) → MessageLacks test t
+  message_free t = record {
+    block = block_free test (λ n e. only n (block_no_line n e)) (root t);
+    fields = fields_free test (λ n e. only n (field_no_line n e)) (root t);
+    parts = parts_free test (λ n e. only n (part_no_line n e)) t;
+    body = body_free test (λ n e. only n (body_no_line n e)) t;
   }
 
-  lines_free : (size : ℕ) (lines : List HeaderLine) → AllByRecursion (LineLacks test size) lines
-  lines_free size [] = tt
-  lines_free size (line ∷ lines) = (line_free size line, lines_free size lines)
-
-  message_free : (node : Node) → MessageLacks test node
-  message_free node = record {
-    no_headers = not_asked name.NoHeaders refl;
-    lines = lines_free (length node.block) (header_lines node);
-  }
-
-  pub messages_free : (found : List Place) → AllByRecursion (λ (place : Place). MessageLacks test (root place.part)) found
-  messages_free [] = tt
-  messages_free (place ∷ found) = (message_free (root place.part), messages_free found)
+  pub messages_free : (found : List Place) → AllByRecursion (λ (place : Place). MessageLacks test place.part) found
+  messages_free found = all_free (λ (place : Place). MessageLacks test place.part) (λ place. message_free place.part) found

@@ -1,24 +1,15 @@
 -- Lists of findings without some names, and the findings whose names the grammar of strict mails does not cover.
-use Rattle.std.proofs.Common.{◌≡◌, ℕ, Bool, true, false, List, [], ◌∷◌, ◌++◌, length, drop, refl, Option, Some, None, inl, inr}
-use Rattle.std.specs.Prelude.{◌⊎◌, flat_map, is_none, ◌&&◌, ◌==◌, not, codes, if◌then◌else◌}
+use Rattle.std.proofs.Common.{◌≡◌, ℕ, Bool, true, false, List, [], ◌∷◌, ◌++◌, length, refl, Option, Some, None, inl, inr}
+use Rattle.std.specs.Prelude.{◌⊎◌, flat_map, ◌&&◌, ◌==◌, if◌then◌else◌}
 use Rattle.std.specs.List.{AllByRecursion, list_any}
-use Rattle.mail_codec.specs.Ascii.{colon}
 use Rattle.mail_codec.specs.Charset.{Charsets}
-use Rattle.mail_codec.specs.Places.{byte_place}
-use Rattle.mail_data.specs.Files.{is_leaf}
-use Rattle.mailparse.specs.Body.{BodyKind, in_base64, in_quoted_printable, in_7bit, in_8bit, in_binary}
-use Rattle.mailparse.specs.ContentType.{ContentType}
 use Rattle.mailparse.specs.Disposition.{Disposition}
-use Rattle.mailparse.specs.Mail.{Node, body_kind, root}
+use Rattle.mailparse.specs.Mail.{Node}
 use Rattle.mail_data.specs.PartPlaces.{Place}
-use Rattle.mail_check.specs.Bodies.{is_base64_lines}
-use Rattle.mail_check.specs.HiddenBits.{hidden_bits}
-use Rattle.mail_check.specs.Bytes.{earlier, first_byte, first_offset, is_bad_escape, is_control, is_end_blank, is_escaped_end, is_high}
-use Rattle.mail_check.specs.Findings.{Finding, Spot, body_findings, delimiter_findings, multipart_findings, part_findings, encoded_findings, file_findings, file_line, is_single, leaf_findings, listed, listed_if, name_findings}
-use Rattle.mail_check.specs.Findings.{parameter_findings, quoted_findings, repeated, repeated_findings, sender_findings, spot_in, spot_of_body, strict_findings, type_findings, value_findings, word_findings, worded_findings}
+use Rattle.mail_check.specs.Findings.{Finding, Spot, file_findings, file_line, listed, listed_if, name_findings}
+use Rattle.mail_check.specs.Findings.{parameter_findings, sender_findings, spot_of_body, strict_findings, text_findings, value_findings, word_findings, worded_findings}
 use Rattle.mail_check.specs.FileNames.{has_two_names, has_unsafe_name, has_untyped_name}
-use Rattle.mail_check.specs.Lines.{HeaderLine, is_bad_encoding, is_composite, is_encoding, is_named, is_other_message, second_named, single_names}
-use Rattle.mail_check.specs.Multiparts.{is_bad_boundary, is_close, is_inside, is_tailed, late_delimiter}
+use Rattle.mail_check.specs.Lines.{HeaderLine}
 use Rattle.mail_check.specs.Senders.{is_bad_sender}
 use Rattle.mail_check.specs.Texts.{has_bad_text}
 use Rattle.mail_check.specs.Parameters.{has_extended, has_other_name, has_quoted_pair, has_quoted_special, has_repeat, has_word, is_bad_value, none_seen, parameter_names, strict_value}
@@ -28,7 +19,7 @@ use Rattle.mail_check.specs.strict.Named.{Lacks, is_covered}
 use Rattle.mail_check.specs.declared.names.Name.{Name}
 use Rattle.mail_check.specs.declared.names.Name.TheVariants as name
 
-truth : (t : Bool) → (t ≡ true) ⊎ (t ≡ false)
+pub truth : (t : Bool) → (t ≡ true) ⊎ (t ≡ false)
 truth true = inl refl
 truth false = inr refl
 
@@ -117,13 +108,6 @@ module _ (test : Name → Bool) (others : (n : Name) → is_covered n ≡ false 
   pub parameter_others : (spot : Spot) (line : HeaderLine) → Lacks test (parameter_findings spot line)
   parameter_others spot line = both _ _ (other_if spot name.TypeSyntax (is_bad_value line) refl) (strict_others spot line (strict_value line))
 
-  pub type_others : (spot : Spot) (ctype : ContentType) (line : HeaderLine) → Lacks test (type_findings spot ctype line)
-  type_others spot ctype line =
-      both _ _ (other_if spot name.EncodingSyntax (is_bad_encoding line) refl)
-      (both _ _ (other_if spot name.EncodingOnComposite (is_encoding line && is_composite ctype) refl)
-      (both _ _ (other_if spot name.OtherMessage (is_named (codes "Content-Type") line && is_other_message ctype) refl)
-      (other_if spot name.BadBoundary (is_named (codes "Content-Type") line && is_bad_boundary ctype) refl)))
-
   pub sender_others : (number : ℕ) (spot : Spot) (line : HeaderLine) → Lacks test (sender_findings number spot line)
   sender_others number spot line = other_if spot name.FromSyntax (number == 0 && is_bad_sender line) refl
 
@@ -141,52 +125,7 @@ module _ (test : Name → Bool) (others : (n : Name) → is_covered n ≡ false 
       both _ _ (other_if spot name.NoType (has_untyped_name shown node) refl)
       (both _ _ (other_if spot name.TwoNames (has_two_names shown node.ctype) refl) (other_if spot name.UnsafeName (has_unsafe_name shown node.ctype) refl))
 
-  quoted_others : (spot : Spot) (body : List ℕ) → Lacks test (quoted_findings spot body)
-  quoted_others spot body =
-      both _ _ (other spot name.QpSyntax (earlier (first_offset (is_bad_escape body) body) (first_byte is_control body)) refl)
-      (both _ _ (other spot name.QpBlank (earlier (first_offset (is_end_blank body) body) (first_offset (is_escaped_end body) body)) refl)
-      (other spot name.EightBitBody (first_byte is_high body) refl))
-
-  module _ (place : Place) where
-    repeated_one : (line : Option HeaderLine) → Lacks test (repeated place line)
-    repeated_one None = tt
-    repeated_one (Some line) = (others name.Duplicate refl, tt)
-
-    pub repeated_others : (lines : List HeaderLine) → Lacks test (repeated_findings place lines single_names)
-    repeated_others lines = each (λ (n : List ℕ). repeated place (second_named n lines)) (λ n. repeated_one (second_named n lines)) single_names
-
-    encoded_others : (kind : BodyKind) (body : List ℕ) → Lacks test (encoded_findings place kind body)
-    encoded_others in_base64 body =
-        both _ _ (other_if (spot_of_body place (length body)) name.Base64Syntax (not (is_base64_lines body)) refl)
-        (other (spot_of_body place 4) name.Base64Bits (hidden_bits body) refl)
-    encoded_others in_quoted_printable body = quoted_others (spot_of_body place 1) body
-    encoded_others in_7bit body = other (spot_of_body place 1) name.EightBitBody (first_byte is_high body) refl
-    encoded_others in_8bit body = tt
-    encoded_others in_binary body = tt
-
-    body_others : (known : Charsets) (node : Node) → Lacks test (body_findings known place node)
-    body_others known node =
-        both _ _ (encoded_others (body_kind node) node.body)
-        (both _ _ (other (spot_of_body place 1) name.Uuencode (file_line node.ctype node.body) refl)
-        (other_if (spot_of_body place (length node.body)) name.Charset (has_bad_text known node) refl))
-
-    pub leaf_others : (known : Charsets) → Lacks test (leaf_findings known place)
-    leaf_others known = either (is_single place.part) _ (body_others known (root place.part))
-
-    delimiter_others : (spot : Spot) (dash text : List ℕ) → Lacks test (delimiter_findings spot dash text)
-    delimiter_others spot dash text =
-        both _ _ (other spot name.DelimiterInside (first_offset (is_inside dash text) text) refl)
-        (both _ _ (other spot name.DelimiterTail (first_offset (is_tailed dash text) text) refl) (other spot name.LateDelimiter (late_delimiter dash text) refl))
-
-    part_others : (size : ℕ) (dash text : List ℕ) → Lacks test (part_findings place size dash text)
-    part_others size dash text =
-        both _ _ (other_if (spot_in place size 0) name.NoDelimiter (is_leaf place.part) refl)
-        (other_if (spot_in place size (length text)) name.NoClose (not (is_leaf place.part) && is_none (first_offset (is_close dash text) text)) refl)
-
-    pub multipart_others : (dash : Option (List ℕ)) → Lacks test (multipart_findings place dash)
-    multipart_others None = tt
-    multipart_others (Some dash) =
-        let size = length (root place.part).block in
-        let text = drop size (root place.part).bytes in
-        both _ _ (other (spot_of_body place 1) name.Preamble (byte_place (root place.part).body colon) refl)
-        (both _ _ (part_others size dash text) (delimiter_others (spot_in place size (length dash)) dash text))
+  pub text_others : (place : Place) (known : Charsets) (node : Node) (body : List ℕ) → Lacks test (text_findings known place node body)
+  text_others place known node body =
+      both _ _ (other (spot_of_body place 1) name.Uuencode (file_line node.ctype body) refl)
+      (other_if (spot_of_body place (length body)) name.Charset (has_bad_text known node) refl)

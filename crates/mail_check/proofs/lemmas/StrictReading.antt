@@ -132,15 +132,20 @@ parts-placed [] found e = refl
 parts-placed (m ∷ messages) [] e = absurd (omega (arith, e))
 parts-placed (m ∷ messages) (p ∷ found) e = ap (λ (ts : List Tree). m.1 ∷ ts) (parts-placed messages found (omega (arith, e)))
 
+-- each message of a mail that was read has a placement
+pub whole-counted : (known : Charsets) (greatest : ℕ) (bytes : List ℕ) (t : Tree) → read_mail_in known greatest bytes ≡ Ok t
+    → length (placements 0 t) ≡ length (with_paths (whole_path t) t)
+whole-counted known greatest bytes t e =
+    let messages = with_paths (whole_path t) t in
+    let counted : length messages ≡ length (trees_within t) =
+    sym (length-map messages (λ (m : List ℕ × Tree). m.1)) ∙ ap length (trees-paths (whole_path t) t) in
+    (mail-read known greatest bytes t e).count 0 ∙ sym counted
+
 -- the messages at the places of a mail that was read are the mail and its parts
 pub parts-there : (known : Charsets) (greatest : ℕ) (bytes : List ℕ) (t : Tree) → read_mail_in known greatest bytes ≡ Ok t
     → map (λ (p : Place). p.part) (places t (placements 0 t)) ≡ trees_within t
 parts-there known greatest bytes t e =
-    let messages = with_paths (whole_path t) t in
-    let trees = trees-paths (whole_path t) t in
-    let counted : length messages ≡ length (trees_within t) = sym (length-map messages (λ (m : List ℕ × Tree). m.1)) ∙ ap length trees in
-    let count = (mail-read known greatest bytes t e).count 0 in
-    parts-placed messages (placements 0 t) (count ∙ sym counted) ∙ trees
+    parts-placed (with_paths (whole_path t) t) (placements 0 t) (whole-counted known greatest bytes t e) ∙ trees-paths (whole_path t) t
 
 pub bytes-there : (known : Charsets) (greatest : ℕ) (bytes : List ℕ) (t : Tree) → read_mail_in known greatest bytes ≡ Ok t → (root t).bytes ≡ bytes
 bytes-there known greatest bytes t e = (mail-read known greatest bytes t e).whole

@@ -1,15 +1,35 @@
 -- Mails that are strict in what the grammar covers so far.
 use Rattle.std.specs.Prelude.{ℕ, List}
 use Rattle.std.specs.List.{AllByRecursion}
-use Rattle.mailparse.specs.Mail.{Tree, nodes}
+use Rattle.mailparse.specs.Mail.{Tree, nodes, trees_within}
+use Rattle.mail_check.specs.strict.Bodies.{HasStrictBody}
+use Rattle.mail_check.specs.strict.Delimiters.{HasStrictParts}
+use Rattle.mail_check.specs.strict.Fields.{HasStrictFields}
 use Rattle.mail_check.specs.strict.Headers.{IsBlock}
+use Rattle.mail_check.specs.strict.Levels.{IsSmall}
 use Rattle.mail_check.specs.strict.LineEnds.{IsText}
 
 -- the header block of each message of a mail is one of the grammar
 abbrev pub HasStrictBlocks : Tree → Type 0
 HasStrictBlocks mail = AllByRecursion (λ node. IsBlock node.block) (nodes mail)
 
--- and so are the lines of its bytes
+-- so are its headers, by their names and values, and its type
+abbrev pub AreStrictFields : Tree → Type 0
+AreStrictFields mail = AllByRecursion HasStrictFields (nodes mail)
+
+-- so is the text of each multipart
+abbrev pub AreStrictParts : Tree → Type 0
+AreStrictParts mail = AllByRecursion HasStrictParts (trees_within mail)
+
+-- so is each body
+abbrev pub AreStrictBodies : Tree → Type 0
+AreStrictBodies mail = AllByRecursion HasStrictBody (trees_within mail)
+
+-- and so are the lines of the bytes of the mail
 pub record IsStrictSoFar (bytes : List ℕ) (mail : Tree) : Type 0 where
   pub lines : IsText bytes
   pub blocks : HasStrictBlocks mail
+  pub fields : AreStrictFields mail
+  pub parts : AreStrictParts mail
+  pub bodies : AreStrictBodies mail
+  pub small : IsSmall mail

@@ -1,5 +1,7 @@
 //! Mails without some findings are exactly those of a grammar of bytes, whatever charsets are
 //! known.
+//!
+//! The findings are those of a mail and its parts, without those of the mails inside it.
 ghost use Rattle.std.specs.Prelude.{◌≡◌, ◌↔◌, ◌++◌, ℕ, IsOkAnd, List, Ok, length};
 ghost use Rattle.mail_codec.specs.Charset.{Charsets};
 ghost use Rattle.mailparse.specs.Block.{read_headers};
@@ -9,9 +11,13 @@ ghost use Rattle.mail_check.specs.Findings.{findings};
 ghost use Rattle.mail_check.specs.strict.Headers.{IsBlock};
 ghost use Rattle.mail_check.specs.strict.LineEnds.{HasNoLoneReturn, HasNoNul};
 ghost use Rattle.mail_check.specs.strict.LineEnds.{HasOneLineEnd, IsText};
+ghost use Rattle.mail_check.specs.strict.Levels.{IsSmall};
+ghost use Rattle.mail_check.specs.strict.Mail.{AreStrictBodies, AreStrictFields, AreStrictParts};
 ghost use Rattle.mail_check.specs.strict.Mail.{HasStrictBlocks, IsStrictSoFar};
-ghost use Rattle.mail_check.specs.strict.Named.{Lacks, is_block_name, is_covered, is_line_name};
-ghost use Rattle.mail_check.specs.strict.Named.{is_lone_cr_name, is_mixed_name, is_nul_name};
+ghost use Rattle.mail_check.specs.strict.Named.{Lacks, is_block_name, is_body_name, is_covered};
+ghost use Rattle.mail_check.specs.strict.Named.{is_field_name, is_line_name, is_lone_cr_name};
+ghost use Rattle.mail_check.specs.strict.Named.{is_many_name, is_mixed_name, is_nul_name};
+ghost use Rattle.mail_check.specs.strict.Named.{is_part_name};
 
 /// A mail has no finding `nul` exactly if no byte of it is NUL; no `lone-cr` exactly if a LF
 /// follows each CR; and no `mixed-line-ends` exactly if not both line ends are there. It has none
@@ -39,6 +45,48 @@ pub fn blocks_are_strict()
         Lacks is_block_name (findings known t (placements 0 t)) ↔ HasStrictBlocks t }
 {}
 
+/// A mail that the port reads has no finding `duplicate`, `encoding-syntax`,
+/// `encoding-on-composite`, `other-message` and `bad-boundary` exactly if in each of its messages
+/// no header is repeated that may occur once, and what its headers say of its transfer encoding and
+/// its type is of the grammar.
+#[tactic(auto, using(crate::proofs::lemmas::StrictMessages::fields_are_of_grammar))]
+pub fn fields_are_strict()
+    ensures { (known : Charsets) (greatest : ℕ) (bytes : List ℕ) (t : Tree) →
+        read_mail_in known greatest bytes ≡ Ok t →
+        Lacks is_field_name (findings known t (placements 0 t)) ↔ AreStrictFields t }
+{}
+
+/// A mail that the port reads has no finding `preamble`, `no-delimiter`, `delimiter-inside`,
+/// `delimiter-tail`, `no-close` and `late-delimiter` exactly if each of its multiparts with a
+/// boundary has parts, no colon in its preamble, and a text of the grammar after its header block:
+/// a preamble, parts with a delimiter before each, one close-delimiter and an epilogue, and the
+/// dash-boundary occurs nowhere else.
+#[tactic(auto, using(crate::proofs::lemmas::StrictMessages::parts_are_of_grammar))]
+pub fn parts_are_strict()
+    ensures { (known : Charsets) (greatest : ℕ) (bytes : List ℕ) (t : Tree) →
+        read_mail_in known greatest bytes ≡ Ok t →
+        Lacks is_part_name (findings known t (placements 0 t)) ↔ AreStrictParts t }
+{}
+
+/// A mail that the port reads has no finding `base64-syntax`, `qp-syntax` and `qp-blank` exactly if
+/// the body of each of its messages without parts that is no multipart is of the grammar, if it is
+/// encoded.
+#[tactic(auto, using(crate::proofs::lemmas::StrictMessages::bodies_are_of_grammar))]
+pub fn bodies_are_strict()
+    ensures { (known : Charsets) (greatest : ℕ) (bytes : List ℕ) (t : Tree) →
+        read_mail_in known greatest bytes ≡ Ok t →
+        Lacks is_body_name (findings known t (placements 0 t)) ↔ AreStrictBodies t }
+{}
+
+/// A mail that the port reads has no finding `many` exactly if it has at most 10 levels, and at most
+/// 100 messages, itself and its parts.
+#[tactic(auto, using(crate::proofs::lemmas::StrictMessages::many_of_grammar))]
+pub fn small_mails_are_strict()
+    ensures { (known : Charsets) (greatest : ℕ) (bytes : List ℕ) (t : Tree) →
+        read_mail_in known greatest bytes ≡ Ok t →
+        Lacks is_many_name (findings known t (placements 0 t)) ↔ IsSmall t }
+{}
+
 /// No message that begins with a header block of the grammar is refused for its headers, and its
 /// header block is that one. So no message begins with two.
 #[tactic(auto, using(crate::proofs::lemmas::StrictUnique::block_readings))]
@@ -49,8 +97,9 @@ pub fn strict_blocks_are_read()
         block ++ body ≡ other ++ rest → block ≡ other }
 {}
 
-/// A mail that the port reads has no finding with any of these nine names exactly if its bytes and
-/// its header blocks are those of the grammar.
+/// A mail that the port reads has no finding with any of these twenty-four names exactly if
+/// its bytes, its header blocks, its headers, its types, its multiparts, its bodies and the number
+/// of its messages and levels are those of the grammar.
 pub fn strict_so_far()
     ensures { (known : Charsets) (greatest : ℕ) (bytes : List ℕ) (t : Tree) →
         read_mail_in known greatest bytes ≡ Ok t →
