@@ -743,6 +743,81 @@ static void check_recipients(void)
     }
 }
 
+/* docs/FINDINGS.md: a NUL, and a header that occurs twice */
+static void check_findings(void)
+{
+    const struct bytes mail = BYTES("A: b\0\nSubject: a\nSubject: b\n\nHi\n");
+    const struct bytes none = BYTES("A: b\n\nHi\n"), space = BYTES(" A: b\n\n"), lone = BYTES("A: b\n\rB");
+    static const char first[] = "nul1The mail contains a NUL byte: readers in C may end the line or the mail there.";
+    static const uint64_t first_wanted[9] = { ROCKTRAY_CLASS_STRUCTURE, 4, 5, 0, 3, 3, 4, 4, sizeof first - 1 };
+    struct rocktray_finding found[2];
+    char strings[300];
+    size_t found_needed = 77, needed = 77, length;
+    uint32_t code = rocktray_findings(mail.at, mail.length, found, 2, &found_needed, strings, sizeof strings, &needed);
+    count(code == ROCKTRAY_DONE && found_needed == 2 && memcmp(&found[0], first_wanted, sizeof found[0]) == 0
+              && memcmp(strings, first, sizeof first - 1) == 0,
+          "the first finding", 0);
+    count(found[1].finding_class == ROCKTRAY_CLASS_STRUCTURE && found[1].start == 17 && found[1].end == 28
+              && found[1].name_start == sizeof first - 1 && found[1].sentence_end == needed
+              && memcmp(strings + found[1].name_start, "duplicate1", 10) == 0,
+          "the second finding", 0);
+    length = needed, strings[0] = 'x', found[0].start = 5;
+    code = rocktray_findings(mail.at, mail.length, found, 1, &found_needed, strings, sizeof strings, &needed);
+    count(code == ROCKTRAY_TOO_SHORT && found_needed == 2 && needed == length && strings[0] == 'x' && found[0].start == 5,
+          "one finding too many", 0);
+    code = rocktray_findings(mail.at, mail.length, found, 2, &found_needed, strings, length - 1, &needed);
+    count(code == ROCKTRAY_TOO_SHORT && strings[0] == 'x' && found[0].start == 5, "findings that are too long", 0);
+    code = rocktray_findings(none.at, none.length, NULL, 0, &found_needed, NULL, 0, &needed);
+    count(code == ROCKTRAY_DONE && found_needed == 0 && needed == 0, "a mail without findings", 0);
+    found_needed = needed = 77;
+    code = rocktray_findings(space.at, space.length, found, 2, &found_needed, strings, sizeof strings, &needed);
+    count(code == ROCKTRAY_LEADING_SPACE && found_needed == 77 && needed == 77, "findings of a mail with a space", 0);
+    code = rocktray_findings(lone.at, lone.length, found, 2, &found_needed, strings, sizeof strings, &needed);
+    count(code == ROCKTRAY_LONE_CARRIAGE_RETURN && strings[0] == 'x', "findings of a mail with a lone CR", 0);
+    for (long at = 1; at < 1000; at++) {
+        begin_refusing(at);
+        code = rocktray_findings(mail.at, mail.length, found, 2, &found_needed, strings, sizeof strings, &needed);
+        if (is_all_given(at))
+            break;
+        count(code == ROCKTRAY_NO_MEMORY && found_needed == 77 && needed == 77 && blocks == 0, "findings without memory",
+              (size_t)at);
+    }
+}
+
+/* POSIX.1, uuencode: a file whose name is not in UTF-8, and one that is cut off */
+static void check_text_files(void)
+{
+    const struct bytes text = BYTES("begin 644 caf\xe9.txt\n#0V%T\n`\nend\nbegin 644 b\n#0V%T\n"), none = BYTES("begin here\n");
+    static const char wanted[] = "caf\xc3\xa9.txtCatbCat";
+    static const uint64_t records_wanted[2][7] = { { 0, 31, 0, 9, 9, 12, 0 }, { 31, 49, 12, 13, 13, 16, 1 } };
+    struct rocktray_text_file found[2];
+    char strings[30];
+    size_t found_needed = 77, needed = 77;
+    uint32_t code = rocktray_text_files(text.at, text.length, 2, found, 2, &found_needed, strings, sizeof strings, &needed);
+    count(code == ROCKTRAY_DONE && found_needed == 2 && needed == 16 && memcmp(strings, wanted, 16) == 0
+              && memcmp(found, records_wanted, sizeof found) == 0,
+          "files in a text", 0);
+    code = rocktray_text_files(text.at, text.length, 1, found, 2, &found_needed, strings, sizeof strings, &needed);
+    count(code == ROCKTRAY_DONE && found_needed == 1 && needed == 12, "the limit on files in a text", 0);
+    strings[0] = 'x', found[0].name_end = 5;
+    code = rocktray_text_files(text.at, text.length, 2, found, 1, &found_needed, strings, sizeof strings, &needed);
+    count(code == ROCKTRAY_TOO_SHORT && found_needed == 2 && needed == 16 && strings[0] == 'x' && found[0].name_end == 5,
+          "one file too many", 0);
+    code = rocktray_text_files(text.at, text.length, 2, found, 2, &found_needed, strings, 15, &needed);
+    count(code == ROCKTRAY_TOO_SHORT && strings[0] == 'x' && found[0].name_end == 5, "files that are too long", 0);
+    code = rocktray_text_files(none.at, none.length, SIZE_MAX, NULL, 0, &found_needed, NULL, 0, &needed);
+    count(code == ROCKTRAY_DONE && found_needed == 0 && needed == 0, "a text without files", 0);
+    found_needed = needed = 77;
+    for (long at = 1; at < 1000; at++) {
+        begin_refusing(at);
+        code = rocktray_text_files(text.at, text.length, 2, found, 2, &found_needed, strings, sizeof strings, &needed);
+        if (is_all_given(at))
+            break;
+        count(code == ROCKTRAY_NO_MEMORY && found_needed == 77 && needed == 77 && blocks == 0,
+              "files in a text without memory", (size_t)at);
+    }
+}
+
 /* The version of the library as a text. */
 static const char *version_text(void)
 {
@@ -768,6 +843,8 @@ static int check_cases(void)
     check_addresses();
     check_report();
     check_recipients();
+    check_findings();
+    check_text_files();
     return 0;
 }
 
@@ -928,6 +1005,32 @@ static void print_recipients(struct bytes mail)
     free(strings);
 }
 
+/* Writes the files in the text of a body: the range of the block of each, its name, its bytes, and whether it is damaged. */
+static void print_text_files(uint64_t encoding, struct bytes body)
+{
+    size_t length = 0, found_needed = 0, needed = 0;
+    bool is_damaged;
+    rocktray_body(encoding, body.at, body.length, NULL, 0, &length, &is_damaged);
+    char *text = malloc(length + 1);
+    rocktray_body(encoding, body.at, body.length, text, length, &length, &is_damaged);
+    rocktray_text_files(text, length, 1000000, NULL, 0, &found_needed, NULL, 0, &needed);
+    struct rocktray_text_file *found = malloc((found_needed + 1) * sizeof *found);
+    char *strings = malloc(needed + 1);
+    uint32_t code = rocktray_text_files(text, length, 1000000, found, found_needed, &found_needed, strings, needed, &needed);
+    printf(" text_files=");
+    if (code != ROCKTRAY_DONE)
+        printf("!%u", code);
+    for (size_t i = 0; code == ROCKTRAY_DONE && i < found_needed; i++) {
+        printf("%s%llu:%llu", i ? "," : "", (unsigned long long)found[i].block_start, (unsigned long long)found[i].block_end);
+        print_bytes(strings, found[i].name_start, found[i].name_end);
+        print_bytes(strings, found[i].content_start, found[i].content_end);
+        printf(":%d", (int)found[i].is_damaged);
+    }
+    free(text);
+    free(found);
+    free(strings);
+}
+
 static void print_digits(const char *at, uint64_t start, uint64_t end)
 {
     for (; start < end; start++)
@@ -1006,6 +1109,7 @@ static void print_part(struct bytes mail, const struct records *records, const s
     print_result("text", BODY_TEXT, body, type, part->encoding);
     print_result("charset", BODY_CHARSET, body, type, part->encoding);
     print_report(range(mail, part->start, part->end));
+    print_text_files(part->encoding, body);
     print_type(type);
     printf(" block=%u same=%d\n", block, is_block_same);
     for (uint64_t i = part->first_header; i < part->first_header + part->header_count; i++) {
@@ -1018,6 +1122,32 @@ static void print_part(struct bytes mail, const struct records *records, const s
     }
 }
 
+/* Writes the findings of a mail: of each its class, its range and its texts. */
+static void print_findings(struct bytes mail)
+{
+    size_t found_needed = 0, needed = 0;
+    struct rocktray_finding *found = NULL;
+    char *strings = NULL;
+    uint32_t code = rocktray_findings(mail.at, mail.length, NULL, 0, &found_needed, NULL, 0, &needed);
+    if (code == ROCKTRAY_TOO_SHORT) {
+        found = malloc((found_needed + 1) * sizeof *found);
+        strings = malloc(needed + 1);
+        code = rocktray_findings(mail.at, mail.length, found, found_needed, &found_needed, strings, needed, &needed);
+    }
+    printf(" findings=");
+    if (code != ROCKTRAY_DONE)
+        printf("!%u", code);
+    for (size_t i = 0; code == ROCKTRAY_DONE && i < found_needed; i++) {
+        printf("%s%d:%llu:%llu", i ? "," : "", (int)found[i].finding_class, (unsigned long long)found[i].start,
+               (unsigned long long)found[i].end);
+        print_bytes(strings, found[i].name_start, found[i].name_end);
+        print_bytes(strings, found[i].path_start, found[i].path_end);
+        print_bytes(strings, found[i].sentence_start, found[i].sentence_end);
+    }
+    free(found);
+    free(strings);
+}
+
 static int write_records(char **names)
 {
     for (; *names; names++) {
@@ -1027,6 +1157,7 @@ static int write_records(char **names)
         printf("mail code=%u", code);
         print_result("bounced_id", BOUNCED_ID, mail, range(mail, 0, 0), 0);
         print_recipients(mail);
+        print_findings(mail);
         print_result("unquoted", UNQUOTED, mail, range(mail, 0, 0), 0);
         printf("\n");
         for (size_t i = 0; code == ROCKTRAY_DONE && i < records.parts_length; i++)
@@ -1139,6 +1270,11 @@ static void run_kinds(enum kind from, enum kind to)
 static void *run_lines(void *unused)
 {
     run_kinds(JSON, JSON);
+    for (size_t i = 0; i < count_of_files + TESTS; i++) {
+        size_t found_needed, needed;
+        const struct bytes in = i < TESTS ? tests[i].input : files[i - TESTS];
+        rocktray_findings(in.at, in.length, NULL, 0, &found_needed, NULL, 0, &needed);
+    }
     return unused;
 }
 
@@ -1153,6 +1289,7 @@ static void *run_mails(void *unused)
         free_records(&records);
         rocktray_report(in.at, in.length, NULL, 0, &fields_needed, NULL, 0, &needed);
         rocktray_recipients(in.at, in.length, NULL, 0, &fields_needed, NULL, 0, &needed);
+        rocktray_text_files(in.at, in.length, SIZE_MAX, NULL, 0, &fields_needed, NULL, 0, &needed);
     }
     return unused;
 }

@@ -33,9 +33,9 @@
  * Time. A call takes time linear in the length of its input, times the depth of nested parts.
  *
  * Stack. A call that reads a whole mail or part needs up to 56 KB of stack, if its parts are 100 levels deep.
- * rocktray_json also reads the mails that a mail forwards, each within the call that reads the one before, and needs up to
- * 88 KB for 100 mails that are forwarded like this. All other calls need up to 16 KB. If a type has ten times as many
- * parameters as 3,000, a call needs 2 KB more.
+ * rocktray_json and rocktray_findings also read the mails that a mail forwards, each within the call that reads the one
+ * before, and need up to 104 KB for 100 mails that are forwarded like this. All other calls need up to 16 KB. If a type has
+ * ten times as many parameters as 3,000, a call needs 2 KB more.
  *
  * ABI. Later versions with the same major number keep the calls, the codes, and the layout of the records. They may add
  * calls, codes and flags.
@@ -65,8 +65,7 @@ enum rocktray_code {
     /* Why a header block is refused. */
     ROCKTRAY_LEADING_SPACE = 16,        /* a space where a header should begin */
     ROCKTRAY_LONE_CARRIAGE_RETURN = 17, /* a CR without LF where a header should begin */
-    /* Why a part was kept as plain text, if its block is not refused. No call of this version returns it. */
-    ROCKTRAY_TOO_DEEP = 18,             /* it is more than 100 levels deep */
+    ROCKTRAY_TOO_DEEP = 18,             /* a part is more than 100 levels deep; only rocktray_findings refuses it */
     /* Why a body, a name or a text is refused. */
     ROCKTRAY_NOT_BASE64 = 19,
     ROCKTRAY_NOT_UTF8 = 20,
@@ -115,7 +114,7 @@ enum rocktray_disposition {
 enum rocktray_flag {
     ROCKTRAY_IS_LEAF = 1,       /* it has no parts */
     ROCKTRAY_IS_ATTACHMENT = 2, /* the member `attachment` of the JSON: a leaf that is attached or has a file name */
-    ROCKTRAY_IS_EXTRACTED = 4,  /* the member `extracted`: `rocktray extract` saves it */
+    ROCKTRAY_IS_EXTRACTED = 4,  /* the member `extracted`: `rocktray extract` saves it, and not the files in its text */
     ROCKTRAY_IS_TEXT = 8,       /* the JSON has its text: a leaf of a type text/.. that is not attached */
     ROCKTRAY_IS_MAIL = 16       /* it forwards a mail (message/rfc822, message/global): read its content as a mail */
 };
@@ -167,6 +166,25 @@ struct rocktray_recipient {
     uint64_t diagnostic_start, diagnostic_end; /* the reply of the other mail system: Diagnostic-Code */
 };
 
+/* What a finding is about. */
+enum rocktray_finding_class {
+    ROCKTRAY_CLASS_STRUCTURE = 0, /* where headers, bodies and parts begin and end */
+    ROCKTRAY_CLASS_BYTES = 1,     /* the decoded bytes of a part */
+    ROCKTRAY_CLASS_NAME = 2,      /* the name of a file, the sender or the subject */
+    ROCKTRAY_CLASS_TEXT = 3,      /* the characters of a text */
+    ROCKTRAY_CLASS_NOTE = 4       /* a risk, though no two readers were seen to differ if nothing else is found */
+};
+
+/* A finding: a place of a mail at which other programs may read something else (docs/FINDINGS.md). Its texts are in
+ * UTF-8, and their ranges are offsets in the buffer of strings. */
+struct rocktray_finding {
+    uint64_t finding_class;                /* enum rocktray_finding_class */
+    uint64_t start, end;                   /* the bytes of the mail at which it is found */
+    uint64_t name_start, name_end;         /* its name, as lone-cr */
+    uint64_t path_start, path_end;         /* the part, by the member `path` of the JSON; empty for a mail with parts */
+    uint64_t sentence_start, sentence_end; /* what programs read there, a sentence in English */
+};
+
 /* A field of a report. The ranges are offsets in the buffer of strings. */
 struct rocktray_field {
     uint64_t block;                  /* the index of its block */
@@ -174,18 +192,30 @@ struct rocktray_field {
     uint64_t value_start, value_end; /* its value in UTF-8, without whitespace around it */
 };
 
+/* A uuencoded file in a text. The ranges of its name and of its bytes are offsets in the buffer of strings. */
+struct rocktray_text_file {
+    uint64_t block_start, block_end;     /* its block in the text, from `begin` to the line `end`, if that follows */
+    uint64_t name_start, name_end;       /* its name in UTF-8, as the sender wrote it; never empty */
+    uint64_t content_start, content_end; /* its bytes */
+    uint64_t is_damaged;                 /* 1 if no line `end` follows its data, so that bytes may be missing, or 0 */
+};
+
 #if defined(__cplusplus) && __cplusplus >= 201103L
 static_assert(sizeof(struct rocktray_part) == 88, "eleven numbers of 64 bits");
 static_assert(sizeof(struct rocktray_header_record) == 40, "five numbers of 64 bits");
 static_assert(sizeof(struct rocktray_address) == 48, "six numbers of 64 bits");
 static_assert(sizeof(struct rocktray_recipient) == 80, "ten numbers of 64 bits");
+static_assert(sizeof(struct rocktray_finding) == 72, "nine numbers of 64 bits");
 static_assert(sizeof(struct rocktray_field) == 40, "five numbers of 64 bits");
+static_assert(sizeof(struct rocktray_text_file) == 56, "seven numbers of 64 bits");
 #elif defined(__STDC_VERSION__) && __STDC_VERSION__ >= 201112L
 _Static_assert(sizeof(struct rocktray_part) == 88, "eleven numbers of 64 bits");
 _Static_assert(sizeof(struct rocktray_header_record) == 40, "five numbers of 64 bits");
 _Static_assert(sizeof(struct rocktray_address) == 48, "six numbers of 64 bits");
 _Static_assert(sizeof(struct rocktray_recipient) == 80, "ten numbers of 64 bits");
+_Static_assert(sizeof(struct rocktray_finding) == 72, "nine numbers of 64 bits");
 _Static_assert(sizeof(struct rocktray_field) == 40, "five numbers of 64 bits");
+_Static_assert(sizeof(struct rocktray_text_file) == 56, "seven numbers of 64 bits");
 #endif
 
 /* Reads a mail and fills a record for it and for each of its parts, each before its own parts and in their order, and a
@@ -254,6 +284,23 @@ uint32_t rocktray_report(const void *part, size_t part_length, struct rocktray_f
  * their strings to the buffer. A mail that is no such report has none. Refuses no mail. */
 uint32_t rocktray_recipients(const void *mail, size_t mail_length, struct rocktray_recipient *recipients,
                              size_t recipients_capacity, size_t *recipients_needed, void *buffer, size_t capacity,
+                             size_t *needed);
+
+/* Lists the places of a mail at which other programs may read something else, as `rocktray check` does: fills a record
+ * for each, in their order, and writes their strings to the buffer. For them the mail is read strictly, and refused with
+ * ROCKTRAY_LEADING_SPACE, _LONE_CARRIAGE_RETURN or _TOO_DEEP if a part of it is. The findings of the mails inside it
+ * follow its own. */
+uint32_t rocktray_findings(const void *mail, size_t mail_length, struct rocktray_finding *findings,
+                           size_t findings_capacity, size_t *findings_needed, void *buffer, size_t capacity,
+                           size_t *needed);
+
+/* Reads the uuencoded files in a text, which mail programs wrote there before MIME (docs/RULES.md, "Uuencoded files in
+ * texts"). Fills a record for each file, in their order, and writes their names and bytes to the buffer; make a name safe
+ * by rocktray_safe_name. `text` is what rocktray_body writes of a part that ROCKTRAY_IS_LEAF marks, ROCKTRAY_IS_EXTRACTED
+ * does not, and whose type is not text/html: the files in such texts are those that `rocktray extract` saves, and that
+ * the JSON has as `text_files`. At most `limit` blocks are read, and a million there. Refuses no text. */
+uint32_t rocktray_text_files(const void *text, size_t text_length, size_t limit, struct rocktray_text_file *files,
+                             size_t files_capacity, size_t *files_needed, void *buffer, size_t capacity,
                              size_t *needed);
 
 /* Reads the raw value of a header with addresses, as From or To. Fills a record for each element, and writes their

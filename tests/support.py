@@ -1,5 +1,6 @@
 """What the tests share: the repository, its built programs and libraries, and made mails."""
 
+import binascii
 import functools
 import os
 import re
@@ -55,6 +56,12 @@ def compiled(source, target, *arguments):
     compiler = (os.environ.get("CC") or "cc").split()
     subprocess.run([*compiler, "-Wall", *arguments, "-o", str(target), str(source)], check=True)
     return target
+
+
+def uuencoded(name, content, end=b"`\nend\n"):
+    """A file as `uuencode` writes it, by Python's binascii."""
+    rows = (binascii.b2a_uu(content[at : at + 45], backtick=True) for at in range(0, len(content), 45))
+    return b"begin 644 " + name + b"\n" + b"".join(rows) + end
 
 
 def multipart(boundary, *parts, kind=b"mixed"):

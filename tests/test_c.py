@@ -1,6 +1,7 @@
 """The C library: check.c under sanitizers, its exports and needs, its header, its lines beside those of rocktray json, and
 the example of docs/C.md."""
 
+import base64
 import json
 import os
 import re
@@ -9,7 +10,9 @@ import sys
 
 import pytest
 
-from support import SAMPLES, TOP, VERSION, command, run
+from support import SAMPLES, TOP, VERSION, command, run, uuencoded
+
+from suite import DATA, rows_in
 
 STRICT = ["-std=c11", "-Wall", "-Wextra", "-Werror"]
 
@@ -58,17 +61,17 @@ def as_json(line, path):
     refused = re.fullmatch(r"refused (\d+) (.*)", line)
     if not refused:
         return json.loads(line) | {"file": path}
-    return {"schema": 5, "file": path, "number": None, "start": 0, "end": int(refused[1]), "error": refused[2]}
+    return {"schema": 6, "file": path, "number": None, "start": 0, "end": int(refused[1]), "error": refused[2]}
 
 
-def batches(check, what, hostile):
+def batches(check, what, hostile, options=()):
     """The samples and the hostile mails, by the thousand: their paths, what `check` writes of them, and their JSON lines."""
     paths = [str(path) for path in [*SAMPLES, *hostile]]
     for first in range(0, len(paths), 1000):
         batch = paths[first : first + 1000]
         ours = run_check(check, what, *batch)
         assert (ours.returncode, ours.stderr) == (0, b"")
-        lines = run([*command("json"), "--mail", *batch]).stdout.decode().split("\n")[:-1]
+        lines = run([*command("json"), "--mail", *options, *batch]).stdout.decode().split("\n")[:-1]
         assert len(lines) == len(batch)
         yield batch, ours.stdout.decode(), lines
 
@@ -83,7 +86,7 @@ def test_lines(check, hostile):
             assert same or as_json(line, path) == json.loads(line_of_json), path
 
 
-ENCODINGS = ["7bit", "8bit", "binary", "quoted-printable", "base64"]
+ENCODINGS = ["7bit", "8bit", "binary", "quoted-printable", "base64", "x-uuencode"]
 DISPOSITIONS = [None, "inline", "attachment", "form-data"]
 
 
@@ -142,6 +145,39 @@ def recipients_in(word):
     return [dict(zip(RECIPIENT, texts, strict=True)) for texts in found]
 
 
+CLASSES = ["structure", "bytes", "name", "text", "note"]
+
+
+def findings_in(word):
+    """The findings, as the JSON says them, or the code of the refusal."""
+    if word.startswith("!"):
+        return word[1:]
+    found = []
+    for one in filter(None, word.split(",")):
+        number, start, end, *texts = one.split(":")
+        name, path, sentence = (bytes.fromhex(text).decode() for text in texts)
+        place = {"path": path, "start": int(start), "end": int(end)}
+        found.append({"name": name, "class": CLASSES[int(number)], **place, "sentence": sentence})
+    return found
+
+
+def text_files_in(word):
+    """The files in a text: the range of the block of each, its name, and its size, or None if it is damaged."""
+    files = [file.split(":") for file in word.split(",") if file]
+    return [
+        [int(start), int(end), bytes.fromhex(name).decode(), None if is_damaged == "1" else len(content) // 2]
+        for start, end, name, content, is_damaged in files
+    ]
+
+
+def text_files_of(part, flags):
+    """The same of the JSON, or None if the caller of rocktray_text_files does not give it such a part."""
+    if not flags & 1 or flags & 4 or part["type"] == "text/html":
+        assert part["text_files"] == []
+        return None
+    return [[file[name] for name in ("body_start", "body_end", "file_name", "decoded_size")] for file in part["text_files"]]
+
+
 def fields_of(report):
     """The same of the JSON."""
     return report and [[number, *field] for number, block in enumerate(report) for field in block]
@@ -186,6 +222,13 @@ BLOCKS = {
     "Recursion limit reached": ["0", "1"],
 }
 
+# The codes of rocktray_findings for a mail that is refused.
+REFUSED = {
+    "Header cannot start with a space; it is likely an overhanging line from a previous header": "16",
+    "Headers were followed by an unexpected lone CR character!": "17",
+    "Recursion limit reached": "18",
+}
+
 # Mails in which a blank line is missing, so that a line that begins with `--` and has no colon ends the headers.
 UNENDED = [
     b"A: b\n--c\nD: e\n\nx\n", b"A: b\n \n--c\nD: e\n", b"A: b\r\n\t\r\n--\r\n\r\nx", b"A: b\n--c", b"--c\n--d\n\n", b"A: b\n--c: d\n--e\n f\n",
@@ -195,13 +238,24 @@ UNENDED = [
 ]  # fmt: skip
 
 
+# Mails with uuencoded files in their texts, and such texts whose files are not listed.
+TEXT_FILES = [
+    b"\nHi\n" + uuencoded(b"a b.bin", bytes(range(256))) + b"\n" + uuencoded(b"caf\xe9.txt", b"Cat", b""),
+    b"Content-Transfer-Encoding: base64\n\n" + base64.encodebytes(uuencoded(b"../a", b"Cat")),
+    b"Content-Type: text/html\n\n" + uuencoded(b"a", b"Cat"), b"Content-Disposition: attachment\n\n" + uuencoded(b"a", b"Cat"),
+]  # fmt: skip
+
+
 def test_records(check, hostile, tmp_path):
-    """Of the samples, of 20,000 made mails and of some where a blank line is missing the records and the calls on ranges
-    say what rocktray json writes."""
-    unended = [tmp_path / f"{number}.eml" for number in range(len(UNENDED))]
-    for path, raw in zip(unended, UNENDED):
+    """Of the samples, of 20,000 made mails, of the rows with findings, of some mails where a blank line is missing and of
+    some with files in texts the records and the calls on ranges say what rocktray json writes, and the findings are those
+    of rocktray check."""
+    found = [row.inputs[0] for row in rows_in(f"{DATA}/findings.txt") if row.call == "findings"]
+    made = [*UNENDED, *TEXT_FILES, *found]
+    paths = [tmp_path / f"{number}.eml" for number in range(len(made))]
+    for path, raw in zip(paths, made):
         path.write_bytes(raw)
-    for batch, ours, lines in batches(check, "records", [*unended, *hostile]):
+    for batch, ours, lines in batches(check, "records", [*paths, *hostile], ["--check"]):
         found = records_of(ours)
         assert len(found) == len(lines)
         for path, mail, line in zip(batch, found, map(json.loads, lines)):
@@ -211,6 +265,8 @@ def test_records(check, hostile, tmp_path):
                 continue
             assert text_in(mail["bounced_id"]) == line["bounced_id"], path
             assert recipients_in(mail["recipients"]) == line["recipients"], path
+            refused = line.get("findings_error")
+            assert findings_in(mail["findings"]) == (REFUSED[refused] if refused else line["findings"]), path
             for name in ("from", "to", "cc", "bcc", "reply-to"):
                 if sum(key.lower() == name for key, _ in parts[0]["headers"]) == 1:
                     assert addresses_of(mail, name) == line[name.replace("-", "_")], (path, name)
@@ -225,6 +281,8 @@ def test_records(check, hostile, tmp_path):
                 if int(part["flags"]) & 8:
                     assert text_in(part["charset"]) == json_part["text_charset"], path
                 assert fields_in(part["report"]) == fields_of(json_part["report"]), path
+                text_files = text_files_of(json_part, int(part["flags"]))
+                assert text_files is None or text_files_in(part["text_files"]) == text_files, path
                 is_mail = json_part["type"] in ("message/rfc822", "message/global")
                 assert bool(int(part["flags"]) & 16) == is_mail, path
 

@@ -13,5 +13,7 @@ pub mod Strings
 pub mod Rows
 pub mod Reports
 pub mod Recipients
+pub mod Findings
+pub mod TextFiles
 pub mod Laws
 pub mod AddressRecords

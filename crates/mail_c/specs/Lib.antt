@@ -12,4 +12,6 @@ pub mod Rows
 pub mod Laws
 pub mod Reports
 pub mod Recipients
+pub mod Findings
+pub mod TextFiles
 pub mod AddressRecords

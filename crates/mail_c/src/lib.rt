@@ -15,6 +15,7 @@ ghost use Rattle.mail_data.specs.MailboxFormats.{entries_in};
 ghost use Rattle.mail_c.specs.AddressRecords.{addresses_read};
 ghost use Rattle.mail_c.specs.Buffer.{Ends, EndsBoth, EndsItems, filled, output, written_code};
 ghost use Rattle.mail_c.specs.Codes.{reason};
+ghost use Rattle.mail_c.specs.Findings.{findings_read};
 ghost use Rattle.mail_c.specs.Numbers.{ReturnsDate, ReturnsOffset, ReturnsOffsets, date};
 ghost use Rattle.mail_c.specs.Numbers.{first_offsets, format_named, no_mail_code};
 ghost use Rattle.mail_c.specs.Ranges as read;
@@ -25,11 +26,13 @@ ghost use Rattle.mail_c.specs.Reports.{report};
 ghost use Rattle.mail_c.specs.Strings.{AreTypeStrings, EndsStrings};
 ghost use Rattle.mail_c.specs.Results.{IsJson, content, ids, raw_value, readable};
 ghost use Rattle.mail_c.specs.Results.{text, text_of_html, value};
+ghost use Rattle.mail_c.specs.TextFiles.{files_read};
 ghost use Rattle.mail_html.specs.declared.references.References.{References};
 
 mod addresses;
 mod buffer;
 mod codes;
+mod findings;
 mod laws;
 mod nameless;
 mod numbers;
@@ -40,10 +43,12 @@ mod records;
 mod reports;
 mod results;
 mod strings;
+mod text_files;
 
 use addresses::{AddressRecord, write_addresses};
 use buffer::{write_headers, write_items, write_records, write_result};
 use codes::reason;
+use findings::{FindingRecord, write_findings};
 use mail_charsets::AllCharsets;
 use mail_html::References;
 use mail_version::VERSION_NUMBER;
@@ -53,6 +58,7 @@ use records::{HeaderRecord, Part};
 use reports::{FieldRecord, write_report};
 use std::alloc::Global;
 use strings::write_strings;
+use text_files::{TextFileRecord, write_text_files};
 
 /// Returns the charsets in which mails are read: all those of the Encoding Standard.
 fn charsets() -> AllCharsets {
@@ -266,6 +272,44 @@ pub extern "C" fn rocktray_recipients(
 {
     let found = recipients::recipients(alloc, mail, &charsets());
     write_recipients(recipients, recipients_needed, buffer, needed, found)
+}
+
+/// Fills the records of the findings of a mail, and writes their strings.
+#[unsafe(no_mangle)]
+pub extern "C" fn rocktray_findings(
+    alloc: Global,
+    mail: &[u8],
+    findings: &mut [FindingRecord],
+    findings_needed: &mut usize,
+    buffer: &mut [u8],
+    needed: &mut usize,
+) -> u32
+    ensures { (all : all_charsets.AllCharsets) ×
+        EndsBoth (output findings.old findings.new findings_needed.old findings_needed.new)
+        (output buffer.old buffer.new needed.old needed.new) result
+        (findings_read (all_known all) mail.now) }
+{
+    let found = findings::findings(alloc, mail, &charsets());
+    write_findings(findings, findings_needed, buffer, needed, found)
+}
+
+/// Fills the records of the uuencoded files in a text, and writes their names and bytes.
+#[unsafe(no_mangle)]
+pub extern "C" fn rocktray_text_files(
+    alloc: Global,
+    text: &[u8],
+    limit: usize,
+    files: &mut [TextFileRecord],
+    files_needed: &mut usize,
+    buffer: &mut [u8],
+    needed: &mut usize,
+) -> u32
+    ensures { EndsBoth (output files.old files.new files_needed.old files_needed.new)
+        (output buffer.old buffer.new needed.old needed.new) result
+        (Ok (files_read limit text.now)) }
+{
+    let found = text_files::records_in(alloc, text, limit);
+    write_text_files(files, files_needed, buffer, needed, found)
 }
 
 /// Fills the records of the addresses in a raw value, and writes their strings.
