@@ -223,4 +223,11 @@ PyObject *read_mails(PyObject *module, PyObject *const *arguments, Py_ssize_t co
 /* recipients(data): of each recipient that a mail reports its five texts, of which a missing one is None. */
 PyObject *read_recipients(PyObject *module, PyObject *data);
 
+/* findings(data): of each finding of a mail its name, its class, its path, its start and end, and its sentence. */
+PyObject *read_findings(PyObject *module, PyObject *data);
+
+/* text_files(text, limit): of each uuencoded file in a text, of which at most `limit` blocks are read, where its block
+ * begins and ends, its name, its bytes, and whether it is damaged. */
+PyObject *read_text_files(PyObject *module, PyObject *const *arguments, Py_ssize_t count);
+
 #endif

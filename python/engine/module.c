@@ -540,6 +540,8 @@ static PyMethodDef functions[] = {
     { "reason", reason, METH_O, NULL },
     { "json", json, METH_O, NULL },
     { "recipients", read_recipients, METH_O, NULL },
+    { "findings", read_findings, METH_O, NULL },
+    { "text_files", FAST(read_text_files), METH_FASTCALL, NULL },
     { "bounced_id", bounced_id, METH_O, NULL },
     { "header", FAST(header), METH_FASTCALL, NULL },
     { "raw_header", FAST(raw_header), METH_FASTCALL, NULL },

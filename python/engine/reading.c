@@ -448,6 +448,7 @@ CALL_FOR_RECORDS(type)
 CALL_FOR_RECORDS(addresses)
 CALL_FOR_RECORDS(report)
 CALL_FOR_RECORDS(recipients)
+CALL_FOR_RECORDS(findings)
 CALL(file_name, OTHER, INPUT)
 
 /* The k-th string of a type. */
@@ -808,6 +809,24 @@ static PyObject *reading_report(PyObject *self, PyObject *index)
     return blocks;
 }
 
+/* Returns the object of a record, or NULL with an exception. */
+typedef PyObject *item_of_record(const struct found *found, const void *record);
+
+/* Makes the list of the records that a call finds, each of this size, and gives the input back. */
+static PyObject *list_of_found(struct request *it, size_t record_size, item_of_record *item_of)
+{
+    struct found found;
+    uint32_t code = find(it, &found, record_size);
+    PyObject *list = code == ROCKTRAY_DONE ? PyList_New(0) : no_result(code);
+    size_t k;
+    give_back(&it->input);
+    for (k = 0; code == ROCKTRAY_DONE && list && k < found.record_count; k++)
+        if (append(list, item_of(&found, (const char *)found.records + k * record_size)) < 0)
+            Py_CLEAR(list);
+    forget(&found);
+    return list;
+}
+
 /* Recipients. */
 
 /* The text at the start of a range, or NULL if it is missing. */
@@ -817,8 +836,9 @@ static const char *text_at(const struct found *found, uint64_t start)
 }
 
 /* The texts of a recipient. A missing text is NULL, of which Py_BuildValue makes None. */
-static PyObject *recipient_of(const struct found *found, const struct rocktray_recipient *it)
+static PyObject *recipient_of(const struct found *found, const void *record)
 {
+    const struct rocktray_recipient *it = record;
     return Py_BuildValue("z#z#z#z#z#", text_at(found, it->final_start), (Py_ssize_t)(it->final_end - it->final_start),
                          text_at(found, it->original_start), (Py_ssize_t)(it->original_end - it->original_start),
                          text_at(found, it->action_start), (Py_ssize_t)(it->action_end - it->action_start),
@@ -829,21 +849,65 @@ static PyObject *recipient_of(const struct found *found, const struct rocktray_r
 PyObject *read_recipients(PyObject *module, PyObject *data)
 {
     struct request it = { .call = call_recipients };
-    struct found found;
-    PyObject *list;
-    uint32_t code;
-    size_t k;
     (void)module;
     if (take(&it.input, data) < 0)
         return NULL;
-    code = find(&it, &found, sizeof(struct rocktray_recipient));
-    give_back(&it.input);
-    list = code == ROCKTRAY_DONE ? PyList_New(0) : no_result(code);
-    for (k = 0; code == ROCKTRAY_DONE && list && k < found.record_count; k++)
-        if (append(list, recipient_of(&found, (const struct rocktray_recipient *)found.records + k)) < 0)
-            Py_CLEAR(list);
-    forget(&found);
-    return list;
+    return list_of_found(&it, sizeof(struct rocktray_recipient), recipient_of);
+}
+
+/* Findings. */
+
+/* The texts of the classes, by their numbers. */
+static const char *const class_texts[] = { "structure", "bytes", "name", "text", "note" };
+
+/* A finding: its name, its class, the path of its part, its bytes, and its sentence. */
+static PyObject *finding_of(const struct found *found, const void *record)
+{
+    const struct rocktray_finding *it = record;
+    return Py_BuildValue("s#ss#KKs#", found->buffer + it->name_start, (Py_ssize_t)(it->name_end - it->name_start),
+                         class_texts[it->finding_class], found->buffer + it->path_start,
+                         (Py_ssize_t)(it->path_end - it->path_start), (unsigned long long)it->start,
+                         (unsigned long long)it->end,
+                         found->buffer + it->sentence_start, (Py_ssize_t)(it->sentence_end - it->sentence_start));
+}
+
+PyObject *read_findings(PyObject *module, PyObject *data)
+{
+    struct request it = { .call = call_findings };
+    (void)module;
+    if (take(&it.input, data) < 0)
+        return NULL;
+    return list_of_found(&it, sizeof(struct rocktray_finding), finding_of);
+}
+
+/* Files in texts. */
+
+static uint32_t call_text_files(struct request *it, void *buffer, size_t capacity, size_t *needed)
+{
+    struct found *found = buffer;
+    (void)capacity;
+    (void)needed;
+    return rocktray_text_files(INPUT, it->number, found->records, found->record_capacity, &found->record_count,
+                               found->buffer, found->capacity, &found->length);
+}
+
+/* Where the block of a file begins and ends, its name, its bytes, and whether it is damaged. */
+static PyObject *text_file_of(const struct found *found, const void *record)
+{
+    const struct rocktray_text_file *it = record;
+    return Py_BuildValue("KKs#y#O", (unsigned long long)it->block_start, (unsigned long long)it->block_end,
+                         found->buffer + it->name_start, (Py_ssize_t)(it->name_end - it->name_start),
+                         found->buffer + it->content_start, (Py_ssize_t)(it->content_end - it->content_start),
+                         it->is_damaged ? Py_True : Py_False);
+}
+
+PyObject *read_text_files(PyObject *module, PyObject *const *arguments, Py_ssize_t count)
+{
+    struct request it = { .call = call_text_files };
+    (void)module;
+    if (!is_count(count, 2) || take_size(&it.number, arguments[1]) < 0 || take(&it.input, arguments[0]) < 0)
+        return NULL;
+    return list_of_found(&it, sizeof(struct rocktray_text_file), text_file_of);
 }
 
 /* Bodies. */

@@ -13,11 +13,12 @@ from ._library import Refused, TooMany
 from ._mail import Mail, parse
 from ._mailbox import Mailbox, open_mailbox
 from ._maildir import Maildir, open_maildir
-from ._part import Header, Part
-from ._values import Address, Recipient, read_date, read_ids
+from ._part import Header, Part, TextFile
+from ._values import Address, Finding, Recipient, read_date, read_ids
 
 __all__ = [
     "Address",
+    "Finding",
     "Header",
     "Mail",
     "Mailbox",
@@ -25,6 +26,7 @@ __all__ = [
     "Part",
     "Recipient",
     "Refused",
+    "TextFile",
     "TooMany",
     "open_mailbox",
     "open_maildir",

@@ -15,6 +15,14 @@ def json(mail: Bytes, /) -> bytes: ...
 def recipients(mail: Bytes, /) -> List[Tuple[Optional[str], Optional[str], Optional[str], Optional[str], Optional[str]]]:
     """Of each recipient that a mail reports the members of `Recipient`."""
 
+def findings(mail: Bytes, /) -> List[Tuple[str, str, str, int, int, str]]:
+    """Of each finding of a mail the members of `Finding`."""
+
+def text_files(text: Bytes, limit: int, /) -> List[Tuple[int, int, str, bytes, bool]]:
+    """Of each uuencoded file in a text, of which at most `limit` blocks are read: where its block begins and ends, its
+    name, its bytes, and whether it is damaged.
+    """
+
 def bounced_id(mail: Bytes, /) -> Optional[str]: ...
 def header(part: Bytes, name: bytes, number: int, /) -> Optional[str]: ...
 def raw_header(part: Bytes, name: bytes, number: int, /) -> Optional[bytes]: ...

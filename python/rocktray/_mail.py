@@ -11,8 +11,8 @@ from typing import cast, overload
 from . import _engine, _library
 from ._library import MOST_ITEMS, UNLIMITED, Refused
 from ._node import IS_ATTACHMENT, IS_EXTRACTED, IS_MAIL, IS_TEXT, Node, add_inside
-from ._part import Header, Part
-from ._values import Address, Recipient, zone_of
+from ._part import Header, Part, TextFile
+from ._values import Address, Finding, Recipient, zone_of
 
 if TYPE_CHECKING:
     from ._library import Bytes
@@ -207,15 +207,23 @@ class Mail(_engine.Mail):
         for node in self._own_nodes:
             yield Part(self, node)
 
-    def files(self) -> List[Part]:
-        """The parts that the program `rocktray extract` saves: the attachments, and all else that is not shown as text,
-        such as images without a name, forwarded mails and reports. Those of the forwarded mails follow.
+    def files(self) -> List[Union[Part, TextFile]]:
+        """What the program `rocktray extract` saves: the attachments, and all other parts that are not shown as text, such
+        as images without a name, forwarded mails and reports; and the uuencoded files in plain texts. Those of the
+        forwarded mails follow.
 
         >>> mail = parse(b"Content-Type: application/pdf\\n\\n%PDF")
         >>> [(file.path, file.extracted_content()) for file in mail.files()], mail.attachments()
         ([('1', b'%PDF')], [])
         """
-        return [Part(self, node) for node in self._nodes if node.flags & IS_EXTRACTED]
+        files: List[Union[Part, TextFile]] = []
+        for node in self._nodes:
+            part = Part(self, node)
+            if node.flags & IS_EXTRACTED:
+                files.append(part)
+            else:
+                files.extend(part.text_files)
+        return files
 
     def attachments(self) -> List[Part]:
         """The mail's own parts whose disposition is 'attachment' or that have a file name. `files` has more.
@@ -272,6 +280,16 @@ class Mail(_engine.Mail):
         [('a@b', 'failed', '5.1.1')]
         """
         return self.recipients
+
+    def findings(self) -> List[Finding]:
+        """The places at which other programs may read something else, as `rocktray check` lists them, and then those of the
+        mails inside: the mail is read once more, strictly. Raises `Refused` if a part is refused there.
+
+        >>> [(it.name, it.class_, it.start, it.end) for it in parse(b"Subject: a\\nSubject: b\\n\\n").findings()]
+        [('duplicate', 'structure', 11, 22)]
+        """
+        self._reading
+        return [Finding(*members) for members in _engine.findings(self._data)]
 
     def to_email(self) -> email.message.EmailMessage:
         """The same mail as Python's `email` reads it, for code that needs an `EmailMessage`."""

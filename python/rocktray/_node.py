@@ -2,7 +2,8 @@
 
 from __future__ import annotations
 
-from typing import TYPE_CHECKING, List, Tuple
+from contextlib import contextmanager
+from typing import TYPE_CHECKING, Iterator, List, Tuple
 
 from . import _engine
 from ._library import TOO_MANY, Refused
@@ -53,6 +54,13 @@ class Node(_engine.Node):
         self._size = len(found), is_damaged
         return found, is_damaged
 
+    def text_files(self, limit: int) -> List[Tuple[int, int, str, bytes, bool]]:
+        """The uuencoded files in the decoded body, among at most this many blocks."""
+        if self.encoding not in IDENTITIES:
+            return _engine.text_files(self.body()[0], limit)
+        with view_of(self.data, self.body_start, self.body_end) as body:
+            return _engine.text_files(body, limit)
+
     def bytes_from(self, start: int) -> bytes:
         """The bytes from an offset up to the end of the part."""
         return bytes_of(self.data, start, self.end)
@@ -62,10 +70,18 @@ def bytes_of(data: Bytes, start: int, end: int) -> bytes:
     """These bytes of a mail."""
     if isinstance(data, bytes):
         return data[start:end]
+    with view_of(data, start, end) as view:
+        return view.tobytes()
+
+
+@contextmanager
+def view_of(data: Bytes, start: int, end: int) -> Iterator[memoryview]:
+    """A view of these bytes of a mail."""
     with memoryview(data) as view, view.cast("B") as items:
         if end > len(items):
             raise BufferError("the bytes of the mail became fewer while it was in use")
-        return items[start:end].tobytes()
+        with items[start:end] as found:
+            yield found
 
 
 def add_inside(nodes: List[Node], own: List[Node], limit: int, levels: int = LEVELS) -> None:

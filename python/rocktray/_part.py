@@ -7,7 +7,7 @@ from typing import TYPE_CHECKING, Any, Dict, List, Optional, Tuple
 
 from . import _engine, _library
 from ._library import Refused
-from ._node import ENCODINGS, IS_ATTACHMENT, IS_EXTRACTED, IS_TEXT, UUENCODE, Node, bytes_of
+from ._node import ENCODINGS, IS_ATTACHMENT, IS_EXTRACTED, IS_LEAF, IS_TEXT, UUENCODE, Node, bytes_of
 
 if TYPE_CHECKING:
     from ._mail import Mail
@@ -138,7 +138,7 @@ class Part:
 
     @property
     def is_extracted(self) -> bool:
-        """Whether the program `rocktray extract` saves the part: it is one of `Mail.files`."""
+        """Whether the program `rocktray extract` saves the part itself: it is one of `Mail.files`."""
         return bool(self._node.flags & IS_EXTRACTED)
 
     @property
@@ -232,6 +232,19 @@ class Part:
         return node.body()[0] if self.size > 0 else node.bytes_from(node.body_start)
 
     @property
+    def text_files(self) -> List["TextFile"]:
+        """The uuencoded files in the text of the part, if it is a plain text and not extracted itself.
+
+        >>> part = next(parse(b"\\nHi\\n\\nbegin 644 cat.txt\\n#0V%T\\n`\\nend\\n").walk())
+        >>> [(file.path, file.file_name, file.content) for file in part.text_files]
+        [('1.u1', 'cat.txt', b'Cat')]
+        """
+        node = self._node
+        if node.flags & (IS_LEAF | IS_EXTRACTED) != IS_LEAF or node.type[0] == "text/html":
+            return []
+        return [TextFile(self, number, *file) for number, file in enumerate(node.text_files(self._mail._limit), 1)]
+
+    @property
     def report(self) -> Optional[List[List[Tuple[str, str]]]]:
         """The blocks of a delivery status (RFC 3464), feedback report (RFC 5965) or disposition notification (RFC 8098),
         as the names and values of their fields. `None` for any other part. A block that is refused has no fields.
@@ -286,6 +299,87 @@ class Part:
 
     def __repr__(self) -> str:
         return f"<rocktray.Part {self.path!r} {self.content_type}>"
+
+
+class TextFile:
+    """A file in the text of a part, as `uuencode` writes it: mail programs wrote files so before MIME. It has what other
+    files of `Mail.files` have, but no headers.
+
+    >>> file = parse(b"\\nbegin 644 ../cat.txt\\n#0V%T\\n").files()[0]
+    >>> file.path, file.file_name, file.safe_name, file.extracted_content(), file.is_damaged
+    ('1.u1', '../cat.txt', '.._cat.txt', b'Cat', True)
+    """
+
+    __slots__ = ("parent", "number", "body_start", "body_end", "file_name", "is_damaged", "_content")
+
+    parent: Part
+    """The part in whose text it is."""
+    number: int
+    """Its number in this text, counted from 1."""
+    body_start: int
+    """The offset in the decoded body of the part at which its block begins."""
+    body_end: int
+    """The offset at which its block ends."""
+    file_name: str
+    """Its name as the sender wrote it. It may contain slashes: never open it as it is."""
+    is_damaged: bool
+    """Whether no line `end` follows its data, so that bytes may be missing: `content` is refused."""
+
+    def __init__(self, parent: Part, number: int, start: int, end: int, name: str, content: bytes, is_damaged: bool) -> None:
+        self.parent, self.number, self.body_start, self.body_end = parent, number, start, end
+        self.file_name, self.is_damaged, self._content = name, is_damaged, content
+
+    @property
+    def path(self) -> str:
+        """The path of the part, `.u` and the number. No part has it."""
+        return f"{self.parent.path}.u{self.number}"
+
+    @property
+    def inside(self) -> Optional[str]:
+        """The path of the part with the forwarded mail that the text belongs to, or `None`."""
+        return self.parent.inside
+
+    @property
+    def content_type(self) -> str:
+        """'application/octet-stream': the file has no type of its own."""
+        return "application/octet-stream"
+
+    @property
+    def safe_name(self) -> str:
+        """The file name made safe for any directory, as `Part.safe_name`."""
+        return _engine.safe_name(self.file_name)
+
+    @property
+    def decoded_size(self) -> Optional[int]:
+        """The number of bytes of `content`, or `None` if it is refused."""
+        return None if self.is_damaged else len(self._content)
+
+    @property
+    def content(self) -> bytes:
+        """The bytes of the file. Raises `Refused` if it is damaged: `extracted_content` has what can be read."""
+        if self.is_damaged:
+            raise Refused("No line `end` follows the data of the uuencoded file", _library.REFUSED)
+        return self._content
+
+    def extracted_content(self) -> bytes:
+        """The bytes that `rocktray extract` saves: of a damaged file those that can be read."""
+        return self._content
+
+    def _key(self) -> Tuple[Part, int]:
+        return self.parent, self.number
+
+    def __eq__(self, other: object) -> bool:
+        return isinstance(other, TextFile) and self._key() == other._key()
+
+    def __hash__(self) -> int:
+        return hash(self._key())
+
+    def __reduce__(self) -> Tuple[Any, ...]:
+        file = self.body_start, self.body_end, self.file_name, self._content, self.is_damaged
+        return TextFile, (self.parent, self.number, *file)
+
+    def __repr__(self) -> str:
+        return f"<rocktray.TextFile {self.path!r} {self.file_name!r}>"
 
 
 def _part_of(mail: "Mail", index: int) -> Part:

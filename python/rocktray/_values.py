@@ -49,6 +49,19 @@ class Recipient(NamedTuple):
     diagnostic_code: Optional[str]
 
 
+class Finding(NamedTuple):
+    """A place of a mail at which other programs may read something else: its name, as `lone-cr`, and its class, which is
+    `structure`, `bytes`, `name`, `text` or `note`; the path of the part; its bytes, from `start` up to `end`; and what
+    programs read there."""
+
+    name: str
+    class_: str
+    path: str
+    start: int
+    end: int
+    sentence: str
+
+
 def zone_of(offset: int) -> timezone:
     """The zone with this offset, or UTC if that is a day or more."""
     return timezone(timedelta(seconds=offset)) if offset and abs(offset) < 86400 else timezone.utc

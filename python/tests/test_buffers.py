@@ -253,7 +253,8 @@ def work():
         for part in range(len(reading)):
             found += [reading.type(part), reading.disposition(part), reading.file_name(part)]
             found += [reading.body(part, 0), reading.body(part, reading.body_size(part)[0]), reading.text(part)]
-        found += [engine.json(data), engine.recipients(data), engine.bounced_id(data), engine.unquoted(data)]
+        found += [engine.json(data), engine.recipients(data), engine.findings(data), engine.bounced_id(data)]
+        found += [engine.unquoted(data)]
         found += [engine.header(data, b"from", 0), engine.raw_header(data, b"from", 0), engine.header(data, b"x-none", 0)]
     found += [engine.ids("<a@b>", True), engine.date("1 Jan 2000 00:00"), engine.reason(17), engine.version(), engine.safe_name("a/b")]
     use, box = engine.Use(), b"".join(b"From a Fri Jul  8 12:08:34 2011\\n" + mail + b"\\n" for mail in (raw, large, b"A: b\\n\\n"))

@@ -10,6 +10,9 @@ import rocktray
 from rocktray import _engine
 
 TEXT = b"Content-Type: text/plain\n\nsome text\n"
+TEXT_FILES = b"Content-Type: message/rfc822\n\n\nHi\n\nbegin 644 caf\xe9.txt\n#0V%T\n`\nend\nbegin 644 ../b\n#0V%T\n"
+# why a file in a text is damaged
+UNENDED = "No line `end` follows the data of the uuencoded file"
 FORWARDED = b"Content-Type: multipart/mixed; boundary=b\n\n--b\n" + TEXT + b"\n--b\nContent-Type: message/rfc822\n\n" + TEXT + b"\n--b--\n"
 
 
@@ -30,6 +33,14 @@ def part_of_json(part):
         "attachment": part.is_attachment, "extracted": part.is_extracted, "encoding": part.encoding, "start": part.start,
         "end": part.end, "size": part.size, "refusal": part.refusal, "decoded_size": part.decoded_size, "sha256": None,
         "report": part.report and [[list(pair) for pair in block] for block in part.report],
+        "text_files": [
+            {
+                "path": file.path, "file_name": file.file_name, "body_start": file.body_start, "body_end": file.body_end,
+                "decoded_size": file.decoded_size, **({"error": UNENDED} if file.is_damaged else {}),
+                "sha256": None,
+            }
+            for file in part.text_files
+        ],
         "headers": [[header.name, header.value] for header in part.headers], "text": part.text, "html_text": None,
     }  # fmt: skip
     if part.is_damaged:
@@ -45,7 +56,7 @@ def part_of_json(part):
 
 def test_members_are_those_of_the_json(samples, hostile):
     made = 0
-    for raw in [FORWARDED, *samples.values(), *hostile]:
+    for raw in [FORWARDED, TEXT_FILES, *samples.values(), *hostile]:
         mail = rocktray.Mail(raw)
         if mail.error:
             continue

@@ -3,6 +3,7 @@
 import base64
 import binascii
 import email
+import pickle
 import random
 
 import by_email
@@ -46,6 +47,27 @@ def test_files(mails):
         assert all(file.is_extracted and file.content == file.extracted_content() for file in files)
         found += len(files)
     assert found > 20
+
+
+def test_files_in_texts():
+    """What binascii encoded into texts is found as the JSON says, in plain texts that are not files themselves."""
+    contents = bytes(range(256)), b"Cat"
+    blocks = [b"begin 644 %d.bin\n" % number for number in range(2)]
+    for number, content in enumerate(contents):
+        blocks[number] += b"".join(binascii.b2a_uu(content[at : at + 45]) for at in range(0, len(content), 45))
+    text = b"\nHi\n\n" + blocks[0] + b"`\nend\nand\n" + blocks[1]
+    raw = multipart(b"b", text, b"Content-Type: text/html\n" + text, forwarding(text, b"base64"), IMAGE)
+    mail = rocktray.parse(raw)
+    found = [(file.path, file.extracted_content(), file.is_damaged) for file in mail.files() if ".u" in file.path]
+    assert found == [(f"{path}.u{number}", contents[number - 1], number == 2) for path in ("1", "3.1") for number in (1, 2)]
+    assert [file.path for file in mail.files()] == ["1.u1", "1.u2", "3", "4", "3.1.u1", "3.1.u2"]
+    whole, damaged = mail.files()[:2]
+    body = next(part for part in mail.walk() if part.path == "1").content
+    assert body[whole.body_start : whole.body_end] == blocks[0] + b"`\nend\n"
+    assert (whole.file_name, whole.safe_name, whole.content, whole.parent.path) == ("0.bin", "0.bin", contents[0], "1")
+    with pytest.raises(rocktray.Refused, match="No line `end` follows the data of the uuencoded file"):
+        damaged.content
+    assert pickle.loads(pickle.dumps(whole)).content == contents[0] and len({*mail.files(), *mail.files()}) == 6
 
 
 def test_files_that_are_no_attachments():
@@ -215,6 +237,19 @@ def test_many_recipients(monkeypatch):
     wanted = by_email.mail_object(raw)["recipients"]
     monkeypatch.setattr("json.loads", None)
     assert [one._asdict() for one in rocktray.parse(raw).recipients] == wanted and len(wanted) == 300
+
+
+def test_findings():
+    """What `rocktray check` finds, with the class and the sentence, and the refusal of a part."""
+    raw = b"A: b\0\n\nHi\n"
+    sentence = "The mail contains a NUL byte: readers in C may end the line or the mail there."
+    assert rocktray.parse(raw).findings() == [rocktray.Finding("nul", "structure", "1", 4, 5, sentence)]
+    assert rocktray.parse(TEXT).findings() == []
+    many = multipart(b"b", *[b"Subject: %d\nSubject: caf\xc3\xa9\n\n\xc3\n" % k for k in range(300)])
+    found = [(it.name, it.class_) for it in rocktray.parse(many).findings() if it.path == "300"]
+    assert found == [("header-8bit", "name"), ("duplicate", "structure"), ("8bit-body", "note"), ("charset", "text")]
+    with pytest.raises(rocktray.Refused, match="cannot start with a space"):
+        rocktray.parse(multipart(b"b", b" A: b\n\nHi\n")).findings()
 
 
 def test_bounced_id(samples):

@@ -38,6 +38,10 @@ def recipients(raw):
     return [optional(field) for one in rocktray.parse(raw).bounces() for field in one]
 
 
+def findings(raw):
+    return [it for one in rocktray.parse(raw).findings() for it in (one.name.encode(), str(one.start), str(one.end), one.path.encode())]
+
+
 def attachments(raw):
     return [it for part in rocktray.parse(raw).attachments() for it in (part.path.encode(), optional(part.file_name), part.content)]
 
@@ -56,6 +60,7 @@ CALLS = {
     "find_ids": lambda row: [as_bytes(it) for it in rocktray.read_ids(row.inputs[0].decode())],
     "find_any_ids": lambda row: [as_bytes(it) for it in rocktray.read_ids(row.inputs[0].decode(), needs_at=False)],
     "recipients": lambda row: recipients(row.inputs[0]),
+    "findings": lambda row: findings(row.inputs[0]),
     "attachments_with": lambda row: attachments(row.inputs[0]),
 }
 
