@@ -20,5 +20,7 @@ pub mod StrictFields
 pub mod StrictDelimiters
 pub mod StrictParts
 pub mod StrictBodies
+pub mod StrictParameters
+pub mod StrictTypes
 pub mod StrictLevels
 pub mod StrictMessages

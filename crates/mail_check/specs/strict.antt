@@ -2,6 +2,7 @@
 pub mod Named
 pub mod LineEnds
 pub mod Headers
+pub mod Parameters
 pub mod Fields
 pub mod Delimiters
 pub mod Bodies

@@ -8,7 +8,8 @@ use Rattle.mail_codec.specs.Ascii.{carriage_return, line_feed}
 use Rattle.mail_codec.specs.Places.{begins, has_prefix}
 use Rattle.mail_check.specs.Bytes.{is_line_left}
 use Rattle.mail_check.specs.Multiparts.{without_dashes}
-use Rattle.mail_check.specs.strict.Delimiters.{IsLineEnd, EndsLine, no_more_bytes, line_ends, HasNoDash, no_dash, no_dash_here, IsClosed, HasClose, part_byte, delimiter, close_delimiter, HasParts, preamble_byte, first_delimiter}
+use Rattle.mail_check.specs.strict.LineEnds.{IsLineEnd}
+use Rattle.mail_check.specs.strict.Delimiters.{EndsLine, no_more_bytes, line_ends, HasNoDash, no_dash, no_dash_here, IsClosed, HasClose, part_byte, delimiter, close_delimiter, HasParts, preamble_byte, first_delimiter}
 use Rattle.mail_check.proofs.lemmas.StrictHeaders.{all_head, all_tail, are_true, both_true, cases_Bool, left_at, left_false, right_false}
 
 -- ---- bytes of line ends, and texts at the front

@@ -12,10 +12,10 @@ use Rattle.mail_codec.proofs.lemmas.Places.{first_place-here, first_place-past}
 use Rattle.mailparse.specs.ContentType.{ContentType}
 use Rattle.mailparse.specs.Header.{Header}
 use Rattle.mail_check.specs.Bytes.{blank_count}
-use Rattle.mail_check.specs.Lines.{HeaderLine, is_bad_encoding, is_composite, is_encoding, is_named, is_other_message, second_named, second_of}
+use Rattle.mail_check.specs.Lines.{HeaderLine, is_bad_encoding, is_encoding, is_named, is_other_message, second_named, second_of}
 use Rattle.mail_check.specs.Multiparts.{dash_with, is_bad_boundary, is_boundary, is_boundary_byte}
 use Rattle.mail_check.specs.strict.Fields.{HasNone, none_named, another, HasAtMostOne, no_more_headers, other_name, the_one, encoding_names, IsOneOf, name_here, blank_before}
-use Rattle.mail_check.specs.strict.Fields.{IsBoundary, last_character, more_characters, HasBoundary, of_multipart, of_other, IsField}
+use Rattle.mail_check.specs.strict.Fields.{IsBoundary, last_character, more_characters, HasBoundary, of_multipart, of_other}
 use Rattle.mail_check.proofs.lemmas.StrictHeaders.{are_true, both_true, cases_Bool, eq_flip, is_not, is_so, left_false, not_false, not_true, right_false, second_false}
 use Rattle.mail_check.proofs.lemmas.StrictKeys.{of_line}
 
@@ -91,13 +91,13 @@ no_blank_name false b rest h = elim (blanks b h) [
   | inr e ↦ subst (λ (x : ℕ). list_any (str_eq_ignore_ascii_case (x ∷ rest)) (encoding_names false) ≡ false) (sym e) refl
 ]
 
-abbrev trimmed : List ℕ → List ℕ
+abbrev pub trimmed : List ℕ → List ℕ
 trimmed value = drop (blank_count value) value
 
-trimmed_past : (b : ℕ) (rest : List ℕ) → is_blank b ≡ true → trimmed (b ∷ rest) ≡ trimmed rest
+pub trimmed_past : (b : ℕ) (rest : List ℕ) → is_blank b ≡ true → trimmed (b ∷ rest) ≡ trimmed rest
 trimmed_past b rest h = ap (λ (n : ℕ). drop n (b ∷ rest)) (first_place-past (begins (λ x. not (is_blank x))) b rest (is_so (is_blank b) h))
 
-trimmed_here : (b : ℕ) (rest : List ℕ) → is_blank b ≡ false → trimmed (b ∷ rest) ≡ b ∷ rest
+pub trimmed_here : (b : ℕ) (rest : List ℕ) → is_blank b ≡ false → trimmed (b ∷ rest) ≡ b ∷ rest
 trimmed_here b rest h = ap (λ (n : ℕ). drop n (b ∷ rest)) (first_place-here (begins (λ x. not (is_blank x))) (b ∷ rest) (is_not (is_blank b) h))
 
 one_of : (names : List (List ℕ)) (value : List ℕ) → list_any (str_eq_ignore_ascii_case (trimmed value)) names ≡ true → IsOneOf names value
@@ -147,7 +147,8 @@ three_any false false true w x h = refl
 three_any false false false w x h = absurd (cc)
 
 -- a text that is one name is no other
-apart : (v a b : List ℕ) → str_eq_ignore_ascii_case v a ≡ true → str_eq_ignore_ascii_case a b ≡ false → str_eq_ignore_ascii_case v b ≡ false
+pub apart : (v a b : List ℕ) → str_eq_ignore_ascii_case v a ≡ true → str_eq_ignore_ascii_case a b ≡ false
+    → str_eq_ignore_ascii_case v b ≡ false
 apart v a b e f = ap (λ (xs : List ℕ). bytes_eq xs (str_to_ascii_lowercase b)) ((bytes_eq-Decides (str_to_ascii_lowercase v) (str_to_ascii_lowercase a)).0 e) ∙ f
 
 nor_both : (s t : Bool) → s ≡ false → t ≡ false → (s || t) ≡ false
@@ -178,7 +179,7 @@ module _ (line : HeaderLine) where
   unfolding is_bad_encoding
   bad_opened = refl
 
-  found_encoding : (composite : Bool) → is_bad_encoding line ≡ false → (is_encoding line && composite) ≡ false
+  pub found_encoding : (composite : Bool) → is_bad_encoding line ≡ false → (is_encoding line && composite) ≡ false
       → is_named (codes "Content-Transfer-Encoding") line ≡ true → IsOneOf (encoding_names composite) line.value
   found_encoding false bad encoded is =
       let some = second_false (is_named (codes "Content-Transfer-Encoding") line) _ is (sym bad_opened ∙ bad) in
@@ -192,7 +193,8 @@ module _ (line : HeaderLine) where
       without_true false h = refl
       without_true true h = h
 
-  encoding_found : (composite : Bool) → (is_named (codes "Content-Transfer-Encoding") line ≡ true → IsOneOf (encoding_names composite) line.value)
+  pub encoding_found : (composite : Bool)
+      → (is_named (codes "Content-Transfer-Encoding") line ≡ true → IsOneOf (encoding_names composite) line.value)
       → (is_bad_encoding line ≡ false) × ((is_encoding line && composite) ≡ false)
   encoding_found composite h = elim (cases_Bool (is_named (codes "Content-Transfer-Encoding") line)) [
     | inr e ↦ (
@@ -315,7 +317,7 @@ module _ (ctype : ContentType) where
   unfolding is_bad_boundary
   bad_boundary = refl
 
-  has_boundary : is_bad_boundary ctype ≡ false → HasBoundary ctype
+  pub has_boundary : is_bad_boundary ctype ≡ false → HasBoundary ctype
   has_boundary h = by_type (has_prefix (codes "multipart") ctype.mimetype) (has_prefix (codes "multipart/") ctype.mimetype) (ctype.params (codes "boundary")) refl refl refl (sym bad_boundary ∙ h)
     where
       by_text : (text : List ℕ) (t : Bool) → is_boundary text ≡ t → has_prefix (codes "multipart/") ctype.mimetype ≡ true → ctype.params (codes "boundary") ≡ Some text
@@ -330,7 +332,7 @@ module _ (ctype : ContentType) where
       by_type true true None e f g h = absurd (cc)
       by_type true true (Some text) e f g h = by_text text (is_boundary text) refl f g h
 
-  boundary_has : HasBoundary ctype → is_bad_boundary ctype ≡ false
+  pub boundary_has : HasBoundary ctype → is_bad_boundary ctype ≡ false
   boundary_has (of_multipart {text = text} f g is) =
       bad_boundary
       ∙ ap (λ (s : Bool). bad_with s (has_prefix (codes "multipart/") ctype.mimetype) (ctype.params (codes "boundary"))) (shorter_prefix (codes "multipart") (codes "/") ctype.mimetype f)
@@ -365,12 +367,12 @@ module _ (ctype : ContentType) where
   of_three false false true h = refl
   of_three false false false h = absurd (cc)
 
-  known_message : is_other_message ctype ≡ false → KnownMessage
+  pub known_message : is_other_message ctype ≡ false → KnownMessage
   known_message h e =
       three_of (bytes_eq ctype.mimetype (codes "message/rfc822")) (bytes_eq ctype.mimetype (codes "message/delivery-status")) (bytes_eq ctype.mimetype (codes "message/disposition-notification"))
       (not_false is_known (second_false (has_prefix (codes "message/") ctype.mimetype) (not is_known) e (sym other_opened ∙ h)))
 
-  message_known : KnownMessage → is_other_message ctype ≡ false
+  pub message_known : KnownMessage → is_other_message ctype ≡ false
   message_known h = other_opened ∙ by_type (has_prefix (codes "message/") ctype.mimetype) h
     where
       by_type : (t : Bool) → (t ≡ true → list_any (bytes_eq ctype.mimetype) (codes "message/rfc822" ∷ codes "message/delivery-status" ∷ codes "message/disposition-notification" ∷ []) ≡ true)
@@ -378,37 +380,3 @@ module _ (ctype : ContentType) where
       by_type false h = refl
       by_type true h = is_so is_known (of_three (bytes_eq ctype.mimetype (codes "message/rfc822")) (bytes_eq ctype.mimetype (codes "message/delivery-status"))
           (bytes_eq ctype.mimetype (codes "message/disposition-notification")) (h refl))
-
-  -- ---- what a header says of the message
-
-  pub record FieldLacks (line : HeaderLine) : Type 0 where
-    pub encoding : is_bad_encoding line ≡ false
-    pub composite : (is_encoding line && is_composite ctype) ≡ false
-    pub message : (is_named (codes "Content-Type") line && is_other_message ctype) ≡ false
-    pub boundary : (is_named (codes "Content-Type") line && is_bad_boundary ctype) ≡ false
-
-  pub field_found : (line : HeaderLine) → FieldLacks line → IsField ctype (of_line line)
-  field_found line h = record {
-    encoding = found_encoding line (is_composite ctype) h.encoding h.composite;
-    type = λ e. record {
-      message = known_message (second_false (is_named (codes "Content-Type") line) _ e h.message);
-      boundary = has_boundary (second_false (is_named (codes "Content-Type") line) _ e h.boundary);
-    };
-  }
-
-  pub found_field : (line : HeaderLine) → IsField ctype (of_line line) → FieldLacks line
-  found_field line h =
-      let encoding = encoding_found line (is_composite ctype) h.encoding in
-      let type : (is_named (codes "Content-Type") line ≡ true) ⊎ (is_named (codes "Content-Type") line ≡ false) = cases_Bool (is_named (codes "Content-Type") line) in
-      record {
-        encoding = encoding.0;
-        composite = encoding.1;
-        message = elim type [
-          | inl e ↦ right_false (is_named (codes "Content-Type") line) _ (message_known (λ m. (h.type e).message m))
-          | inr e ↦ left_false (is_named (codes "Content-Type") line) _ e
-        ];
-        boundary = elim type [
-          | inl e ↦ right_false (is_named (codes "Content-Type") line) _ (boundary_has (h.type e).boundary)
-          | inr e ↦ left_false (is_named (codes "Content-Type") line) _ e
-        ];
-      }

@@ -34,7 +34,8 @@ use Rattle.mail_check.proofs.lemmas.StrictComments.{comment-opened, comments_now
 use Rattle.mail_check.proofs.lemmas.StrictHeaders.{cases_Bool, is_not, is_so, left_false, not_false, right_false, second_false}
 use Rattle.mail_check.proofs.lemmas.StrictBlocks.{GoodLine, block_lines, lines_block}
 use Rattle.mail_check.proofs.lemmas.StrictBytes.{found_text, text_found}
-use Rattle.mail_check.proofs.lemmas.StrictFields.{field_found, found_field, most_one, one_most}
+use Rattle.mail_check.proofs.lemmas.StrictFields.{most_one, one_most}
+use Rattle.mail_check.proofs.lemmas.StrictTypes.{field_found, found_field}
 use Rattle.mail_check.proofs.lemmas.StrictDelimiters.{found_parts, parts_found}
 use Rattle.mail_check.proofs.lemmas.StrictParts.{boundary_inner, dash_made, made_of, not_found, opened_of}
 use Rattle.mail_check.proofs.lemmas.StrictLevels.{found_small, small_found}
@@ -121,6 +122,7 @@ strict_block test node is block =
 module _ (test : Name → Bool) (asked : (n : Name) → is_field_name n ≡ true → test n ≡ true) where
   type_field : (ctype : ContentType) (line : HeaderLine) → TypeLacks test ctype line → IsField ctype (of_line line)
   type_field ctype line h = field_found ctype line (record {
+    syntax = h.syntax (asked name.TypeSyntax refl);
     encoding = h.encoding (asked name.EncodingSyntax refl);
     composite = h.composite (asked name.EncodingOnComposite refl);
     message = h.message (asked name.OtherMessage refl);
@@ -141,6 +143,7 @@ field_type : (test : Name → Bool) (ctype : ContentType) (line : HeaderLine) �
 field_type test ctype line h =
     let lacks = found_field ctype line h in
     record {
+      syntax = λ e. lacks.syntax;
       encoding = λ e. lacks.encoding;
       composite = λ e. lacks.composite;
       message = λ e. lacks.message;
@@ -247,6 +250,7 @@ block_covered _ h = refl
 
 field_covered : (n : Name) → is_covered n ≡ false → is_field_name n ≡ false
 field_covered name.Duplicate h = absurd (cc)
+field_covered name.TypeSyntax h = absurd (cc)
 field_covered name.EncodingSyntax h = absurd (cc)
 field_covered name.EncodingOnComposite h = absurd (cc)
 field_covered name.OtherMessage h = absurd (cc)
@@ -283,6 +287,7 @@ covers_blocks _ h = absurd (cc)
 
 covers_fields : (n : Name) → is_field_name n ≡ true → is_covered n ≡ true
 covers_fields name.Duplicate h = refl
+covers_fields name.TypeSyntax h = refl
 covers_fields name.EncodingSyntax h = refl
 covers_fields name.EncodingOnComposite h = refl
 covers_fields name.OtherMessage h = refl
@@ -343,6 +348,7 @@ block_no_part _ h = absurd (cc)
 
 field_no_block : (n : Name) → is_field_name n ≡ true → is_block_name n ≡ false
 field_no_block name.Duplicate h = refl
+field_no_block name.TypeSyntax h = refl
 field_no_block name.EncodingSyntax h = refl
 field_no_block name.EncodingOnComposite h = refl
 field_no_block name.OtherMessage h = refl
@@ -351,6 +357,7 @@ field_no_block _ h = absurd (cc)
 
 field_no_part : (n : Name) → is_field_name n ≡ true → is_part_name n ≡ false
 field_no_part name.Duplicate h = refl
+field_no_part name.TypeSyntax h = refl
 field_no_part name.EncodingSyntax h = refl
 field_no_part name.EncodingOnComposite h = refl
 field_no_part name.OtherMessage h = refl
@@ -392,6 +399,7 @@ block_no_body _ h = absurd (cc)
 
 field_no_body : (n : Name) → is_field_name n ≡ true → is_body_name n ≡ false
 field_no_body name.Duplicate h = refl
+field_no_body name.TypeSyntax h = refl
 field_no_body name.EncodingSyntax h = refl
 field_no_body name.EncodingOnComposite h = refl
 field_no_body name.OtherMessage h = refl
@@ -442,6 +450,7 @@ block_no_many _ h = absurd (cc)
 
 field_no_many : (n : Name) → is_field_name n ≡ true → is_many_name n ≡ false
 field_no_many name.Duplicate h = refl
+field_no_many name.TypeSyntax h = refl
 field_no_many name.EncodingSyntax h = refl
 field_no_many name.EncodingOnComposite h = refl
 field_no_many name.OtherMessage h = refl

@@ -17,12 +17,13 @@ use Rattle.mail_check.specs.Bytes.{earlier, first_byte, first_offset, is_bad_esc
 use Rattle.mail_check.specs.HiddenBits.{hidden_bits}
 use Rattle.mail_check.specs.Bodies.{is_base64_lines}
 use Rattle.mail_check.specs.Findings.{Finding, Spot, block_findings, body_findings, byte_findings, encoded_findings, file_findings, findings, findings_from, first_findings, has_none, header_findings, is_far, is_single}
-use Rattle.mail_check.specs.Findings.{leaf_findings, line_findings, listed, listed_if, multipart_findings, parameter_findings, repeated, repeated_findings, sender_findings, spot_in, spot_of_body, text_findings, type_findings, worded_findings}
+use Rattle.mail_check.specs.Findings.{leaf_findings, line_findings, listed, listed_if, multipart_findings, parameter_findings, repeated, repeated_findings, sender_findings, spot_in, spot_of_body, strict_findings, text_findings, type_findings, worded_findings}
 use Rattle.mail_check.specs.LineTests.{first_line, is_long_line}
 use Rattle.mail_check.specs.Lines.{HeaderLine, ends_block, has_blank_fold, has_comment_fold, has_high_value, header_lines, is_bad_encoding, is_bad_key, is_composite, is_encoding, is_named, is_other_message, second_named, single_names}
+use Rattle.mail_check.specs.Parameters.{is_bad_value, strict_value}
 use Rattle.mail_check.specs.Multiparts.{dash_of, is_bad_boundary, is_close, is_inside, is_tailed, late_delimiter}
 use Rattle.mail_check.specs.strict.Named.{Lacks, is_block_name, is_body_name, is_covered, is_field_name, is_line_name, is_part_name}
-use Rattle.mail_check.proofs.lemmas.StrictOthers.{each_lacks, false_listed, file_others, lacks_both, lacks_each, lacks_left, lacks_right, listed_false, listed_none, none_listed, other, parameter_others, sender_others, text_others, truth, worded_others}
+use Rattle.mail_check.proofs.lemmas.StrictOthers.{each_lacks, false_listed, file_others, lacks_both, lacks_each, lacks_left, lacks_right, listed_false, listed_none, none_listed, other, sender_others, strict_others, text_others, truth, worded_others}
 use Rattle.mail_check.proofs.lemmas.StrictReading.{all_with}
 use Rattle.mail_check.specs.declared.names.Name.{Name}
 use Rattle.mail_check.specs.declared.names.Name.TheVariants as name
@@ -43,6 +44,7 @@ pub record LineLacks (test : Name → Bool) (size : ℕ) (line : HeaderLine) : T
 
 -- nor has what it says of a message of this type
 pub record TypeLacks (test : Name → Bool) (ctype : ContentType) (line : HeaderLine) : Type 0 where
+  pub syntax : test name.TypeSyntax ≡ true → is_bad_value line ≡ false
   pub encoding : test name.EncodingSyntax ≡ true → is_bad_encoding line ≡ false
   pub composite : test name.EncodingOnComposite ≡ true → (is_encoding line && is_composite ctype) ≡ false
   pub message : test name.OtherMessage ≡ true → (is_named (codes "Content-Type") line && is_other_message ctype) ≡ false
@@ -171,8 +173,10 @@ module _ (known : Charsets) (test : Name → Bool) (others : (n : Name) → is_c
       (both _ _ (false_listed test spot name.CommentFold (has_comment_fold line) h.comment_fold)
       (false_listed test spot name.Header8bit (has_high_value line) h.header_8bit))))
 
-  type_lacks : (spot : Spot) (ctype : ContentType) (line : HeaderLine) → Lacks test (type_findings spot ctype line) → TypeLacks test ctype line
-  type_lacks spot ctype line h =
+  type_lacks : (spot : Spot) (ctype : ContentType) (line : HeaderLine)
+      → Lacks test (parameter_findings spot line) → Lacks test (type_findings spot ctype line)
+      → TypeLacks test ctype line
+  type_lacks spot ctype line k h =
       let encoding = listed_if spot name.EncodingSyntax (is_bad_encoding line) in
       let composite = listed_if spot name.EncodingOnComposite (is_encoding line && is_composite ctype) in
       let message = listed_if spot name.OtherMessage (is_named (codes "Content-Type") line && is_other_message ctype) in
@@ -180,6 +184,8 @@ module _ (known : Charsets) (test : Name → Bool) (others : (n : Name) → is_c
       let first = lacks_right test encoding (composite ++ (message ++ boundary)) h in
       let second = lacks_right test composite (message ++ boundary) first in
       record {
+        syntax = listed_false test spot name.TypeSyntax (is_bad_value line)
+            (lacks_left test (listed_if spot name.TypeSyntax (is_bad_value line)) (strict_findings spot line (strict_value line)) k);
         encoding = listed_false test spot name.EncodingSyntax _ (lacks_left test encoding (composite ++ (message ++ boundary)) h);
         composite = listed_false test spot name.EncodingOnComposite _ (lacks_left test composite (message ++ boundary) first);
         message = listed_false test spot name.OtherMessage _ (lacks_left test message boundary second);
@@ -202,7 +208,9 @@ module _ (known : Charsets) (test : Name → Bool) (others : (n : Name) → is_c
       let later = sender_findings number spot line ++ worded_findings known spot line in
       let rest = lacks_right test (line_findings spot size line) (parameter_findings spot line ++ (type_findings spot ctype line ++ later)) h in (
         line_lacks spot size line (lacks_left test (line_findings spot size line) (parameter_findings spot line ++ (type_findings spot ctype line ++ later)) h),
-        type_lacks spot ctype line (lacks_left test (type_findings spot ctype line) later (lacks_right test (parameter_findings spot line) (type_findings spot ctype line ++ later) rest)),
+        type_lacks spot ctype line (lacks_left test (parameter_findings spot line) (type_findings spot ctype line ++ later) rest)
+            (lacks_left test (type_findings spot ctype line) later
+            (lacks_right test (parameter_findings spot line) (type_findings spot ctype line ++ later) rest)),
       )
 
   lack_header : (number : ℕ) (place : Place) (line : HeaderLine) → LineLacks test (length (root place.part).block) line
@@ -210,7 +218,9 @@ module _ (known : Charsets) (test : Name → Bool) (others : (n : Name) → is_c
   lack_header number place line h k =
       let spot = spot_in place line.start (length line.bytes) in
       both _ _ (lack_line spot (length (root place.part).block) line h)
-      (both _ _ (parameter_others test others spot line)
+      (both _ _
+      (both _ _ (false_listed test spot name.TypeSyntax (is_bad_value line) k.syntax)
+      (strict_others test others spot line (strict_value line)))
       (both _ _ (lack_type spot (root place.part).ctype line k)
       (both _ _ (sender_others test others number spot line) (worded_others test others known spot line))))
 
@@ -512,6 +522,7 @@ block_free test free node = record {
 pub fields_free : (test : Name → Bool) → ((n : Name) → is_field_name n ≡ true → test n ≡ false) → (node : Node) → FieldsLack test node
 fields_free test free node = record {
   types = all_free (TypeLacks test node.ctype) (λ line. record {
+    syntax = not_asked test name.TypeSyntax (free name.TypeSyntax refl);
     encoding = not_asked test name.EncodingSyntax (free name.EncodingSyntax refl);
     composite = not_asked test name.EncodingOnComposite (free name.EncodingOnComposite refl);
     message = not_asked test name.OtherMessage (free name.OtherMessage refl);

@@ -7,12 +7,12 @@ use Rattle.mailparse.specs.Disposition.{Disposition}
 use Rattle.mailparse.specs.Mail.{Node}
 use Rattle.mail_data.specs.PartPlaces.{Place}
 use Rattle.mail_check.specs.Findings.{Finding, Spot, file_findings, file_line, listed, listed_if, name_findings}
-use Rattle.mail_check.specs.Findings.{parameter_findings, sender_findings, spot_of_body, strict_findings, text_findings, value_findings, word_findings, worded_findings}
+use Rattle.mail_check.specs.Findings.{sender_findings, spot_of_body, strict_findings, text_findings, value_findings, word_findings, worded_findings}
 use Rattle.mail_check.specs.FileNames.{has_two_names, has_unsafe_name, has_untyped_name}
 use Rattle.mail_check.specs.Lines.{HeaderLine}
 use Rattle.mail_check.specs.Senders.{is_bad_sender}
 use Rattle.mail_check.specs.Texts.{has_bad_text}
-use Rattle.mail_check.specs.Parameters.{has_extended, has_other_name, has_quoted_pair, has_quoted_special, has_repeat, has_word, is_bad_value, none_seen, parameter_names, strict_value}
+use Rattle.mail_check.specs.Parameters.{has_extended, has_other_name, has_quoted_pair, has_quoted_special, has_repeat, has_word, none_seen, parameter_names}
 use Rattle.mail_check.specs.WordBytes.{has_bad_octets}
 use Rattle.mail_check.specs.Words.{has_join, is_bad_name, is_bad_piece, is_worded, pieces}
 use Rattle.mail_check.specs.strict.Named.{Lacks, is_covered}
@@ -101,12 +101,9 @@ module _ (test : Name → Bool) (others : (n : Name) → is_covered n ≡ false 
   name_others spot line names =
       both _ _ (other_if spot name.DuplicateParameter (has_repeat none_seen names) refl) (other_if spot name.TwoNames (has_other_name line names) refl)
 
-  strict_others : (spot : Spot) (line : HeaderLine) (value : Option (List ℕ)) → Lacks test (strict_findings spot line value)
+  pub strict_others : (spot : Spot) (line : HeaderLine) (value : Option (List ℕ)) → Lacks test (strict_findings spot line value)
   strict_others spot line None = tt
   strict_others spot line (Some bytes) = both _ _ (value_others spot bytes) (name_others spot line (parameter_names bytes))
-
-  pub parameter_others : (spot : Spot) (line : HeaderLine) → Lacks test (parameter_findings spot line)
-  parameter_others spot line = both _ _ (other_if spot name.TypeSyntax (is_bad_value line) refl) (strict_others spot line (strict_value line))
 
   pub sender_others : (number : ℕ) (spot : Spot) (line : HeaderLine) → Lacks test (sender_findings number spot line)
   sender_others number spot line = other_if spot name.FromSyntax (number == 0 && is_bad_sender line) refl

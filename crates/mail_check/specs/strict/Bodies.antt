@@ -3,12 +3,13 @@
 use Rattle.std.specs.Prelude.{◌≡◌, ℕ, Bool, true, false, not, ◌&&◌, ◌||◌, ◌==◌, nat_lt, List, [], ◌∷◌, ◌++◌, ⊤, codes}
 use Rattle.std.specs.Char.{is_ascii_alphanumeric}
 use Rattle.std.specs.List.{list_all}
-use Rattle.mail_codec.specs.Ascii.{carriage_return, digit_0, digit_9, equals_sign, is_blank, line_feed, slash, tab, upper_a, upper_f}
+use Rattle.mail_codec.specs.Ascii.{carriage_return, digit_0, digit_9, equals_sign, is_blank, line_feed, slash, upper_a, upper_f}
 use Rattle.mail_codec.specs.Places.{begins, has_prefix}
 use Rattle.mail_data.specs.Files.{is_leaf}
 use Rattle.mailparse.specs.Body.{BodyKind, in_base64, in_quoted_printable, in_7bit, in_8bit, in_binary}
 use Rattle.mailparse.specs.Mail.{Tree, body_kind, root}
-use Rattle.mail_check.specs.strict.Delimiters.{IsLineEnd}
+use Rattle.mail_check.specs.strict.LineEnds.{IsLineEnd}
+use Rattle.mail_check.specs.strict.Parameters.{is_control_byte}
 
 -- ---- quoted-printable
 
@@ -16,10 +17,6 @@ use Rattle.mail_check.specs.strict.Delimiters.{IsLineEnd}
 abbrev pub is_upper_digit : ℕ → Bool
 is_upper_digit b =
     (not (nat_lt b digit_0) && not (nat_lt digit_9 b)) || (not (nat_lt b upper_a) && not (nat_lt upper_f b))
-
--- a control character other than tabs and bytes of line ends
-abbrev pub is_control_byte : ℕ → Bool
-is_control_byte b = (nat_lt b 32 && not (b == tab || (b == line_feed || b == carriage_return))) || b == 127
 
 -- the line does not end here. The cases:
 pub data GoesOn : List ℕ → Type 0 where

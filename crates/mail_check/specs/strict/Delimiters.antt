@@ -1,16 +1,13 @@
 -- The text of a strict multipart after its header block: a preamble, parts between delimiters, a close-delimiter and an epilogue
 -- (RFC 2046, section 5.1.1). A grammar of bytes, which says nothing of how delimiters are searched.
-use Rattle.std.specs.Prelude.{◌≡◌, ◌⊎◌, ℕ, Bool, true, false, not, ◌==◌, List, [], ◌∷◌, ◌++◌, length, drop, Some, codes}
+use Rattle.std.specs.Prelude.{◌≡◌, ℕ, Bool, true, false, not, ◌==◌, List, [], ◌∷◌, ◌++◌, length, drop, Some, codes}
 use Rattle.std.specs.List.{list_all}
 use Rattle.mail_codec.specs.Ascii.{colon, line_feed}
 use Rattle.mail_codec.specs.Places.{has_prefix}
 use Rattle.mail_data.specs.Files.{is_leaf}
 use Rattle.mailparse.specs.Mail.{Tree, root}
 use Rattle.mail_check.specs.strict.Fields.{IsBoundary}
-
--- a line end
-abbrev pub IsLineEnd : List ℕ → Type 0
-IsLineEnd bytes = (bytes ≡ codes "\n") ⊎ (bytes ≡ codes "\r\n")
+use Rattle.mail_check.specs.strict.LineEnds.{IsLineEnd}
 
 -- The line ends here. The cases:
 pub data EndsLine : List ℕ → Type 0 where

@@ -9,6 +9,7 @@ use Rattle.mail_codec.specs.Places.{byte_place, has_prefix}
 use Rattle.mailparse.specs.ContentType.{ContentType}
 use Rattle.mailparse.specs.Header.{Header}
 use Rattle.mailparse.specs.Mail.{Node}
+use Rattle.mail_check.specs.strict.Parameters.{IsDispositionValue, IsTypeValue}
 
 -- ---- repeated headers
 
@@ -89,11 +90,13 @@ pub record IsType (ctype : ContentType) : Type 0 where
 
 -- ---- all of them
 
--- what a header says of a message of this type
+-- what a header has and says of a message of this type
 pub record IsField (ctype : ContentType) (header : Header) : Type 0 where
   pub encoding : str_eq_ignore_ascii_case header.key (codes "Content-Transfer-Encoding") ≡ true
       → IsOneOf (encoding_names (is_of_messages ctype)) header.value
   pub type : str_eq_ignore_ascii_case header.key (codes "Content-Type") ≡ true → IsType ctype
+  pub type_value : str_eq_ignore_ascii_case header.key (codes "Content-Type") ≡ true → IsTypeValue header.value
+  pub disposition_value : str_eq_ignore_ascii_case header.key (codes "Content-Disposition") ≡ true → IsDispositionValue header.value
 
 -- the headers of a message
 pub record HasStrictFields (node : Node) : Type 0 where

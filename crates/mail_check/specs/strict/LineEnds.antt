@@ -62,3 +62,8 @@ pub data AreLines (line_end : List ℕ) : List ℕ → Type 0 where
 -- lines that end in LF, or lines that end in CR LF
 abbrev pub IsText : List ℕ → Type 0
 IsText bytes = AreLines (codes "\n") bytes ⊎ AreLines (codes "\r\n") bytes
+
+-- ---- one line end
+
+abbrev pub IsLineEnd : List ℕ → Type 0
+IsLineEnd bytes = (bytes ≡ codes "\n") ⊎ (bytes ≡ codes "\r\n")

@@ -42,6 +42,7 @@ is_block_name _ = false
 -- a name of which headers a message has, and of what they say of its encoding and its type
 abbrev pub is_field_name : Name → Bool
 is_field_name name.Duplicate = true
+is_field_name name.TypeSyntax = true
 is_field_name name.EncodingSyntax = true
 is_field_name name.EncodingOnComposite = true
 is_field_name name.OtherMessage = true
@@ -83,6 +84,7 @@ is_covered name.BlankFold = true
 is_covered name.CommentFold = true
 is_covered name.Header8bit = true
 is_covered name.Duplicate = true
+is_covered name.TypeSyntax = true
 is_covered name.EncodingSyntax = true
 is_covered name.EncodingOnComposite = true
 is_covered name.OtherMessage = true

@@ -45,10 +45,10 @@ pub fn blocks_are_strict()
         Lacks is_block_name (findings known t (placements 0 t)) ↔ HasStrictBlocks t }
 {}
 
-/// A mail that the port reads has no finding `duplicate`, `encoding-syntax`,
+/// A mail that the port reads has no finding `duplicate`, `type-syntax`, `encoding-syntax`,
 /// `encoding-on-composite`, `other-message` and `bad-boundary` exactly if in each of its messages
-/// no header is repeated that may occur once, and what its headers say of its transfer encoding and
-/// its type is of the grammar.
+/// no header is repeated that may occur once, and the values of its headers of types, dispositions
+/// and transfer encodings, and its type itself, are of the grammar.
 #[tactic(auto, using(crate::proofs::lemmas::StrictMessages::fields_are_of_grammar))]
 pub fn fields_are_strict()
     ensures { (known : Charsets) (greatest : ℕ) (bytes : List ℕ) (t : Tree) →
@@ -97,7 +97,7 @@ pub fn strict_blocks_are_read()
         block ++ body ≡ other ++ rest → block ≡ other }
 {}
 
-/// A mail that the port reads has no finding with any of these twenty-four names exactly if
+/// A mail that the port reads has no finding with any of these twenty-five names exactly if
 /// its bytes, its header blocks, its headers, its types, its multiparts, its bodies and the number
 /// of its messages and levels are those of the grammar.
 pub fn strict_so_far()
