@@ -9,6 +9,7 @@ pub mod Inside
 pub mod StrictLineEnds
 pub mod StrictOthers
 pub mod StrictNamed
+pub mod StrictGroups
 pub mod StrictBytes
 pub mod StrictHeaders
 pub mod StrictComments
@@ -21,6 +22,8 @@ pub mod StrictDelimiters
 pub mod StrictParts
 pub mod StrictBodies
 pub mod StrictParameters
+pub mod StrictPlain
 pub mod StrictTypes
+pub mod StrictValues
 pub mod StrictLevels
 pub mod StrictMessages

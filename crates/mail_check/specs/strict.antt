@@ -3,6 +3,7 @@ pub mod Named
 pub mod LineEnds
 pub mod Headers
 pub mod Parameters
+pub mod PlainParameters
 pub mod Fields
 pub mod Delimiters
 pub mod Bodies

@@ -1,7 +1,7 @@
 -- The messages of a mail without findings of the names that the grammar of strict mails covers.
 use Rattle.std.proofs.Common.{inl, inr, ◌≡◌, ◌∙◌, ◌<◌, ℕ, Bool, true, false, List, [], ◌∷◌, length, take, drop, Ok, ◌++◌, ◌+◌, length-take, refl, sym, ap, subst, Option, Some, None, arith}
 use Rattle.std.specs.Prelude.{◌↔◌, ◌&&◌, ◌==◌, codes, is_some, not}
-use Rattle.std.specs.List.{AllByRecursion}
+use Rattle.std.specs.List.{AllByRecursion, list_all}
 use Rattle.std.proofs.lemmas.List.{take-append-drop}
 use Rattle.mail_codec.specs.Ascii.{colon}
 use Rattle.mail_codec.specs.Charset.{Charsets}
@@ -24,8 +24,10 @@ use Rattle.mail_check.specs.strict.Fields.{HasAtMostOne, HasStrictFields, IsBoun
 use Rattle.mail_check.specs.strict.Headers.{IsBlock, is_address_name}
 use Rattle.mail_check.specs.strict.Levels.{IsSmall}
 use Rattle.mail_check.specs.strict.LineEnds.{IsText}
-use Rattle.mail_check.specs.strict.Mail.{AreStrictBodies, AreStrictFields, AreStrictParts, HasStrictBlocks, IsStrictSoFar}
-use Rattle.mail_check.specs.strict.Named.{Lacks, is_block_name, is_body_name, is_covered, is_field_name, is_line_name, is_many_name, is_part_name}
+use Rattle.mail_check.specs.strict.Mail.{AreStrictBodies, AreStrictFields, AreStrictParameters, AreStrictParts, HasStrictBlocks, IsStrictSoFar}
+use Rattle.mail_check.specs.strict.Named.{Group, Lacks, Size, group_of, is_block_name, is_body_name, is_covered, is_field_name, is_line_name, is_many_name, is_parameter_name, is_part_name}
+use Rattle.mail_check.specs.strict.PlainParameters.{HasPlainValue}
+use Rattle.mail_check.specs.Parameters.{is_bad_value, strict_value}
 use Rattle.mail_check.specs.declared.names.Name.{Name}
 use Rattle.mail_check.specs.declared.names.Name.TheVariants as name
 use Rattle.mailparse.proofs.lemmas.Block.{read_headers-bounded}
@@ -36,12 +38,14 @@ use Rattle.mail_check.proofs.lemmas.StrictBlocks.{GoodLine, block_lines, lines_b
 use Rattle.mail_check.proofs.lemmas.StrictBytes.{found_text, text_found}
 use Rattle.mail_check.proofs.lemmas.StrictFields.{most_one, one_most}
 use Rattle.mail_check.proofs.lemmas.StrictTypes.{field_found, found_field}
+use Rattle.mail_check.proofs.lemmas.StrictValues.{found_plain, plain_found}
+use Rattle.mail_check.proofs.lemmas.StrictGroups.{among, groups, no_other, of_blocks, of_bodies, of_covered, of_fields, of_lines, of_others, of_own_fields, of_parameters, of_parts, of_size, of_values, uncovered}
 use Rattle.mail_check.proofs.lemmas.StrictDelimiters.{found_parts, parts_found}
 use Rattle.mail_check.proofs.lemmas.StrictParts.{boundary_inner, dash_made, made_of, not_found, opened_of}
 use Rattle.mail_check.proofs.lemmas.StrictLevels.{found_small, small_found}
 use Rattle.mail_check.proofs.lemmas.StrictBodies.{QuotedFree, base64_of, first_none, none_earlier, none_first, not_earlier, of_base64, of_quoted, quoted_of}
 use Rattle.mail_check.proofs.lemmas.StrictKeys.{lines_are_headers, of_line}
-use Rattle.mail_check.proofs.lemmas.StrictNamed.{BlockLacks, BodyLacks, BytesLack, EncodedLacks, FieldsLack, LineLacks, MessageLacks, PartsLack, TypeLacks, all_free, all_map, block_free, body_free, bytes_free, far_first, far_free, fields_free, first_found, found_first, parts_free, text_after}
+use Rattle.mail_check.proofs.lemmas.StrictNamed.{BlockLacks, BodyLacks, BytesLack, EncodedLacks, FarLacks, FieldsLack, LineLacks, MessageLacks, ParametersLack, PartsLack, TypeLacks, all_free, all_map, block_free, body_free, bytes_free, far_first, far_free, fields_free, first_found, found_first, lacks_some, own_fields_free, parameters_free, parts_free, some_lacks, text_after}
 use Rattle.mail_check.proofs.lemmas.StrictReading.{IsRead, all_of_map, all_with, bytes-there, headers-there, map_of_all, parts-there}
 
 none_some : (o : Option ℕ) → is_some o ≡ false → o ≡ None
@@ -118,6 +122,10 @@ strict_block test node is block =
       lines = lines_lacked test (length node.block) (header_lines node) found.0;
     }
 
+-- what the headers of a message say, and the parameters of its types and dispositions
+abbrev ValuesLack : (Name → Bool) → Node → Type 0
+ValuesLack test node = FieldsLack test node × AllByRecursion (ParametersLack test) (header_lines node)
+
 -- the headers of one message, if all names of them are asked for
 module _ (test : Name → Bool) (asked : (n : Name) → is_field_name n ≡ true → test n ≡ true) where
   type_field : (ctype : ContentType) (line : HeaderLine) → TypeLacks test ctype line → IsField ctype (of_line line)
@@ -159,6 +167,52 @@ strict_fields test node is h =
       repeats = λ e. all_map (λ (n : List ℕ). HasAtMostOne n node.headers) (λ (n : List ℕ). second_named n (header_lines node) ≡ None)
           (λ n most. one_most n node.headers most (header_lines node) same) once_names h.once;
     }
+
+-- the types and dispositions of one message, if all names of them are asked for
+module _ (test : Name → Bool) (asked : (n : Name) → is_parameter_name n ≡ true → test n ≡ true) where
+  plain_line : (ctype : ContentType) (line : HeaderLine) → TypeLacks test ctype line → ParametersLack test line
+      → HasPlainValue (of_line line)
+  plain_line ctype line h k = found_plain line (h.syntax (asked name.TypeSyntax refl)) (λ text e.
+      let lacks = some_lacks test (strict_value line) k text e in
+      record {
+        special = lacks.special (asked name.QuotedSpecial refl);
+        pair = lacks.pair (asked name.QuotedPair refl);
+        extended = lacks.extended (asked name.ExtendedParameter refl);
+        word = lacks.word (asked name.WordParameter refl);
+        repeats = lacks.repeats (asked name.DuplicateParameter refl);
+      })
+
+  parameters_strict : (node : Node) → IsRead node → ValuesLack test node → AllByRecursion HasPlainValue node.headers
+  parameters_strict node is h =
+      subst (AllByRecursion HasPlainValue) (lines_are_headers node is) (map_of_all of_line HasPlainValue (header_lines node)
+      (all_with (TypeLacks test node.ctype) (ParametersLack test) (λ line. HasPlainValue (of_line line)) (plain_line node.ctype)
+      (header_lines node) h.0.types h.1))
+
+line_plain : (test : Name → Bool) (line : HeaderLine) → HasPlainValue (of_line line)
+    → (is_bad_value line ≡ false) × ParametersLack test line
+line_plain test line h =
+    let found = plain_found line h in (
+      found.0,
+      lacks_some test (strict_value line) (λ text e.
+          let lacks = found.1 text e in
+          record {
+            special = λ e. lacks.special;
+            pair = λ e. lacks.pair;
+            extended = λ e. lacks.extended;
+            word = λ e. lacks.word;
+            repeats = λ e. lacks.repeats;
+          }),
+    )
+
+-- the syntax of its types and dispositions, and their parameters
+abbrev PlainLines : (Name → Bool) → Node → Type 0
+PlainLines test node = AllByRecursion (λ line. (is_bad_value line ≡ false) × ParametersLack test line) (header_lines node)
+
+strict_parameters : (test : Name → Bool) (node : Node) → IsRead node → AllByRecursion HasPlainValue node.headers → PlainLines test node
+strict_parameters test node is h =
+    all_map (λ line. HasPlainValue (of_line line)) (λ line. (is_bad_value line ≡ false) × ParametersLack test line) (line_plain test)
+    (header_lines node)
+    (all_of_map of_line HasPlainValue (header_lines node) (subst (AllByRecursion HasPlainValue) (sym (lines_are_headers node is)) h))
 
 -- how one message is split, if all names of that are asked for
 module _ (test : Name → Bool) (asked : (n : Name) → is_part_name n ≡ true → test n ≡ true) where
@@ -239,239 +293,6 @@ strict_body test t h = record { encoded = λ e. strict_encoded test (body_kind (
 
 -- ---- a whole mail
 
-block_covered : (n : Name) → is_covered n ≡ false → is_block_name n ≡ false
-block_covered name.NoHeaders h = absurd (cc)
-block_covered name.NoBlankLine h = absurd (cc)
-block_covered name.BadKey h = absurd (cc)
-block_covered name.BlankFold h = absurd (cc)
-block_covered name.CommentFold h = absurd (cc)
-block_covered name.Header8bit h = absurd (cc)
-block_covered _ h = refl
-
-field_covered : (n : Name) → is_covered n ≡ false → is_field_name n ≡ false
-field_covered name.Duplicate h = absurd (cc)
-field_covered name.TypeSyntax h = absurd (cc)
-field_covered name.EncodingSyntax h = absurd (cc)
-field_covered name.EncodingOnComposite h = absurd (cc)
-field_covered name.OtherMessage h = absurd (cc)
-field_covered name.BadBoundary h = absurd (cc)
-field_covered _ h = refl
-
-part_covered : (n : Name) → is_covered n ≡ false → is_part_name n ≡ false
-part_covered name.Preamble h = absurd (cc)
-part_covered name.NoDelimiter h = absurd (cc)
-part_covered name.DelimiterInside h = absurd (cc)
-part_covered name.DelimiterTail h = absurd (cc)
-part_covered name.NoClose h = absurd (cc)
-part_covered name.LateDelimiter h = absurd (cc)
-part_covered _ h = refl
-
-body_covered : (n : Name) → is_covered n ≡ false → is_body_name n ≡ false
-body_covered name.Base64Syntax h = absurd (cc)
-body_covered name.QpSyntax h = absurd (cc)
-body_covered name.QpBlank h = absurd (cc)
-body_covered _ h = refl
-
-many_covered : (n : Name) → is_covered n ≡ false → is_many_name n ≡ false
-many_covered name.Many h = absurd (cc)
-many_covered _ h = refl
-
-covers_blocks : (n : Name) → is_block_name n ≡ true → is_covered n ≡ true
-covers_blocks name.NoHeaders h = refl
-covers_blocks name.NoBlankLine h = refl
-covers_blocks name.BadKey h = refl
-covers_blocks name.BlankFold h = refl
-covers_blocks name.CommentFold h = refl
-covers_blocks name.Header8bit h = refl
-covers_blocks _ h = absurd (cc)
-
-covers_fields : (n : Name) → is_field_name n ≡ true → is_covered n ≡ true
-covers_fields name.Duplicate h = refl
-covers_fields name.TypeSyntax h = refl
-covers_fields name.EncodingSyntax h = refl
-covers_fields name.EncodingOnComposite h = refl
-covers_fields name.OtherMessage h = refl
-covers_fields name.BadBoundary h = refl
-covers_fields _ h = absurd (cc)
-
-covers_parts : (n : Name) → is_part_name n ≡ true → is_covered n ≡ true
-covers_parts name.Preamble h = refl
-covers_parts name.NoDelimiter h = refl
-covers_parts name.DelimiterInside h = refl
-covers_parts name.DelimiterTail h = refl
-covers_parts name.NoClose h = refl
-covers_parts name.LateDelimiter h = refl
-covers_parts _ h = absurd (cc)
-
-covers_bodies : (n : Name) → is_body_name n ≡ true → is_covered n ≡ true
-covers_bodies name.Base64Syntax h = refl
-covers_bodies name.QpSyntax h = refl
-covers_bodies name.QpBlank h = refl
-covers_bodies _ h = absurd (cc)
-
--- names of one kind are of no other kind
-line_no_block : (n : Name) → is_line_name n ≡ true → is_block_name n ≡ false
-line_no_block name.Nul h = refl
-line_no_block name.LoneCr h = refl
-line_no_block name.MixedLineEnds h = refl
-line_no_block _ h = absurd (cc)
-
-line_no_field : (n : Name) → is_line_name n ≡ true → is_field_name n ≡ false
-line_no_field name.Nul h = refl
-line_no_field name.LoneCr h = refl
-line_no_field name.MixedLineEnds h = refl
-line_no_field _ h = absurd (cc)
-
-line_no_part : (n : Name) → is_line_name n ≡ true → is_part_name n ≡ false
-line_no_part name.Nul h = refl
-line_no_part name.LoneCr h = refl
-line_no_part name.MixedLineEnds h = refl
-line_no_part _ h = absurd (cc)
-
-block_no_field : (n : Name) → is_block_name n ≡ true → is_field_name n ≡ false
-block_no_field name.NoHeaders h = refl
-block_no_field name.NoBlankLine h = refl
-block_no_field name.BadKey h = refl
-block_no_field name.BlankFold h = refl
-block_no_field name.CommentFold h = refl
-block_no_field name.Header8bit h = refl
-block_no_field _ h = absurd (cc)
-
-block_no_part : (n : Name) → is_block_name n ≡ true → is_part_name n ≡ false
-block_no_part name.NoHeaders h = refl
-block_no_part name.NoBlankLine h = refl
-block_no_part name.BadKey h = refl
-block_no_part name.BlankFold h = refl
-block_no_part name.CommentFold h = refl
-block_no_part name.Header8bit h = refl
-block_no_part _ h = absurd (cc)
-
-field_no_block : (n : Name) → is_field_name n ≡ true → is_block_name n ≡ false
-field_no_block name.Duplicate h = refl
-field_no_block name.TypeSyntax h = refl
-field_no_block name.EncodingSyntax h = refl
-field_no_block name.EncodingOnComposite h = refl
-field_no_block name.OtherMessage h = refl
-field_no_block name.BadBoundary h = refl
-field_no_block _ h = absurd (cc)
-
-field_no_part : (n : Name) → is_field_name n ≡ true → is_part_name n ≡ false
-field_no_part name.Duplicate h = refl
-field_no_part name.TypeSyntax h = refl
-field_no_part name.EncodingSyntax h = refl
-field_no_part name.EncodingOnComposite h = refl
-field_no_part name.OtherMessage h = refl
-field_no_part name.BadBoundary h = refl
-field_no_part _ h = absurd (cc)
-
-part_no_block : (n : Name) → is_part_name n ≡ true → is_block_name n ≡ false
-part_no_block name.Preamble h = refl
-part_no_block name.NoDelimiter h = refl
-part_no_block name.DelimiterInside h = refl
-part_no_block name.DelimiterTail h = refl
-part_no_block name.NoClose h = refl
-part_no_block name.LateDelimiter h = refl
-part_no_block _ h = absurd (cc)
-
-part_no_field : (n : Name) → is_part_name n ≡ true → is_field_name n ≡ false
-part_no_field name.Preamble h = refl
-part_no_field name.NoDelimiter h = refl
-part_no_field name.DelimiterInside h = refl
-part_no_field name.DelimiterTail h = refl
-part_no_field name.NoClose h = refl
-part_no_field name.LateDelimiter h = refl
-part_no_field _ h = absurd (cc)
-
-line_no_body : (n : Name) → is_line_name n ≡ true → is_body_name n ≡ false
-line_no_body name.Nul h = refl
-line_no_body name.LoneCr h = refl
-line_no_body name.MixedLineEnds h = refl
-line_no_body _ h = absurd (cc)
-
-block_no_body : (n : Name) → is_block_name n ≡ true → is_body_name n ≡ false
-block_no_body name.NoHeaders h = refl
-block_no_body name.NoBlankLine h = refl
-block_no_body name.BadKey h = refl
-block_no_body name.BlankFold h = refl
-block_no_body name.CommentFold h = refl
-block_no_body name.Header8bit h = refl
-block_no_body _ h = absurd (cc)
-
-field_no_body : (n : Name) → is_field_name n ≡ true → is_body_name n ≡ false
-field_no_body name.Duplicate h = refl
-field_no_body name.TypeSyntax h = refl
-field_no_body name.EncodingSyntax h = refl
-field_no_body name.EncodingOnComposite h = refl
-field_no_body name.OtherMessage h = refl
-field_no_body name.BadBoundary h = refl
-field_no_body _ h = absurd (cc)
-
-part_no_body : (n : Name) → is_part_name n ≡ true → is_body_name n ≡ false
-part_no_body name.Preamble h = refl
-part_no_body name.NoDelimiter h = refl
-part_no_body name.DelimiterInside h = refl
-part_no_body name.DelimiterTail h = refl
-part_no_body name.NoClose h = refl
-part_no_body name.LateDelimiter h = refl
-part_no_body _ h = absurd (cc)
-
-body_no_block : (n : Name) → is_body_name n ≡ true → is_block_name n ≡ false
-body_no_block name.Base64Syntax h = refl
-body_no_block name.QpSyntax h = refl
-body_no_block name.QpBlank h = refl
-body_no_block _ h = absurd (cc)
-
-body_no_field : (n : Name) → is_body_name n ≡ true → is_field_name n ≡ false
-body_no_field name.Base64Syntax h = refl
-body_no_field name.QpSyntax h = refl
-body_no_field name.QpBlank h = refl
-body_no_field _ h = absurd (cc)
-
-body_no_part : (n : Name) → is_body_name n ≡ true → is_part_name n ≡ false
-body_no_part name.Base64Syntax h = refl
-body_no_part name.QpSyntax h = refl
-body_no_part name.QpBlank h = refl
-body_no_part _ h = absurd (cc)
-
-line_no_many : (n : Name) → is_line_name n ≡ true → is_many_name n ≡ false
-line_no_many name.Nul h = refl
-line_no_many name.LoneCr h = refl
-line_no_many name.MixedLineEnds h = refl
-line_no_many _ h = absurd (cc)
-
-block_no_many : (n : Name) → is_block_name n ≡ true → is_many_name n ≡ false
-block_no_many name.NoHeaders h = refl
-block_no_many name.NoBlankLine h = refl
-block_no_many name.BadKey h = refl
-block_no_many name.BlankFold h = refl
-block_no_many name.CommentFold h = refl
-block_no_many name.Header8bit h = refl
-block_no_many _ h = absurd (cc)
-
-field_no_many : (n : Name) → is_field_name n ≡ true → is_many_name n ≡ false
-field_no_many name.Duplicate h = refl
-field_no_many name.TypeSyntax h = refl
-field_no_many name.EncodingSyntax h = refl
-field_no_many name.EncodingOnComposite h = refl
-field_no_many name.OtherMessage h = refl
-field_no_many name.BadBoundary h = refl
-field_no_many _ h = absurd (cc)
-
-part_no_many : (n : Name) → is_part_name n ≡ true → is_many_name n ≡ false
-part_no_many name.Preamble h = refl
-part_no_many name.NoDelimiter h = refl
-part_no_many name.DelimiterInside h = refl
-part_no_many name.DelimiterTail h = refl
-part_no_many name.NoClose h = refl
-part_no_many name.LateDelimiter h = refl
-part_no_many _ h = absurd (cc)
-
-body_no_many : (n : Name) → is_body_name n ≡ true → is_many_name n ≡ false
-body_no_many name.Base64Syntax h = refl
-body_no_many name.QpSyntax h = refl
-body_no_many name.QpBlank h = refl
-body_no_many _ h = absurd (cc)
-
 module _ (known : Charsets) (greatest : ℕ) (bytes : List ℕ) (t : Tree) (read : read_mail_in known greatest bytes ≡ Ok t) where
   -- what is so of the messages at all places is so of all messages
   module _ (P : Tree → Type 0) where
@@ -504,6 +325,13 @@ module _ (known : Charsets) (greatest : ℕ) (bytes : List ℕ) (t : Tree) (read
         (read_with (FieldsLack test) HasStrictFields (fields_strict test asked)
         (all_map (MessageLacks test) (λ (t : Tree). FieldsLack test (root t)) (λ t lacks. lacks.fields) (trees_within t) (of_places (MessageLacks test) h)))
 
+    parameters_found : ((n : Name) → is_parameter_name n ≡ true → test n ≡ true) → AllLack → AreStrictParameters t
+    parameters_found asked h =
+        map_of_all root (λ (node : Node). AllByRecursion HasPlainValue node.headers) (trees_within t)
+        (read_with (ValuesLack test) (λ (node : Node). AllByRecursion HasPlainValue node.headers) (parameters_strict test asked)
+        (all_map (MessageLacks test) (λ (t : Tree). ValuesLack test (root t)) (λ t lacks. (lacks.fields, lacks.parameters)) (trees_within t)
+        (of_places (MessageLacks test) h)))
+
     parts_of_all : ((n : Name) → is_part_name n ≡ true → test n ≡ true) → AllLack → AreStrictParts t
     parts_of_all asked h = all_map (MessageLacks test) HasStrictParts (λ t lacks. parts_strict test asked t lacks.parts) (trees_within t) (of_places (MessageLacks test) h)
 
@@ -517,6 +345,9 @@ module _ (known : Charsets) (greatest : ℕ) (bytes : List ℕ) (t : Tree) (read
     abbrev AllFields : Type 0
     AllFields = AllByRecursion (λ (t : Tree). FieldsLack test (root t)) (trees_within t)
 
+    abbrev AllParameters : Type 0
+    AllParameters = AllByRecursion (λ (t : Tree). AllByRecursion (ParametersLack test) (header_lines (root t))) (trees_within t)
+
     abbrev Splits : Tree → Type 0
     Splits t = (dash : List ℕ) → dash_of (root t).ctype ≡ Some dash → PartsLack test t dash
 
@@ -528,6 +359,25 @@ module _ (known : Charsets) (greatest : ℕ) (bytes : List ℕ) (t : Tree) (read
 
     found_fields : AreStrictFields t → AllFields
     found_fields h = read_with HasStrictFields (FieldsLack test) (strict_fields test) (all_of_map root HasStrictFields (trees_within t) h)
+
+    found_plain_lines : AreStrictParameters t → AllByRecursion (λ (t : Tree). PlainLines test (root t)) (trees_within t)
+    found_plain_lines h =
+        read_with (λ (node : Node). AllByRecursion HasPlainValue node.headers) (PlainLines test) (strict_parameters test)
+        (all_of_map root (λ (node : Node). AllByRecursion HasPlainValue node.headers) (trees_within t) h)
+
+    found_parameters : AreStrictParameters t → AllParameters
+    found_parameters h =
+        all_map (λ (t : Tree). PlainLines test (root t)) (λ (t : Tree). AllByRecursion (ParametersLack test) (header_lines (root t)))
+        (λ t lines. all_map (λ line. (is_bad_value line ≡ false) × ParametersLack test line) (ParametersLack test) (λ line both. both.1)
+        (header_lines (root t)) lines) (trees_within t) (found_plain_lines h)
+
+    -- the syntax of types and dispositions is all that is asked of fields
+    found_syntax : ((n : Name) → of_own_fields (group_of n) ≡ true → test n ≡ false) → AreStrictParameters t → AllFields
+    found_syntax free h =
+        all_map (λ (t : Tree). PlainLines test (root t)) (λ (t : Tree). FieldsLack test (root t))
+        (λ t lines. own_fields_free test free (root t)
+        (all_map (λ line. (is_bad_value line ≡ false) × ParametersLack test line) (λ line. test name.TypeSyntax ≡ true → is_bad_value line ≡ false)
+        (λ line both e. both.0) (header_lines (root t)) lines)) (trees_within t) (found_plain_lines h)
 
     found_splits : AreStrictParts t → AllSplit
     found_splits h = all_map HasStrictParts Splits (strict_parts test) (trees_within t) h
@@ -542,66 +392,106 @@ module _ (known : Charsets) (greatest : ℕ) (bytes : List ℕ) (t : Tree) (read
     abbrev Contents : Tree → Type 0
     Contents t = Splits t × BodyLacks test t
 
-    all_lack : AllBlocks → AllFields → AllSplit → AllBodies → AllLack
-    all_lack blocks fields splits bodies =
+    all_lack : AllBlocks → AllFields → AllParameters → AllSplit → AllBodies → AllLack
+    all_lack blocks fields parameters splits bodies =
         to_places (MessageLacks test)
-        (all_with (λ (t : Tree). BlockLacks test (root t) × FieldsLack test (root t)) Contents (MessageLacks test)
-        (λ t both more. record { block = both.0; fields = both.1; parts = more.0; body = more.1 }) (trees_within t)
-        (all_with (λ (t : Tree). BlockLacks test (root t)) (λ (t : Tree). FieldsLack test (root t)) (λ (t : Tree). BlockLacks test (root t) × FieldsLack test (root t))
-        (λ t block fields. (block, fields)) (trees_within t) blocks fields)
+        (all_with (λ (t : Tree). BlockLacks test (root t) × ValuesLack test (root t)) Contents (MessageLacks test)
+        (λ t both more. record { block = both.0; fields = both.1.0; parameters = both.1.1; parts = more.0; body = more.1 })
+        (trees_within t)
+        (all_with (λ (t : Tree). BlockLacks test (root t)) (λ (t : Tree). ValuesLack test (root t))
+        (λ (t : Tree). BlockLacks test (root t) × ValuesLack test (root t)) (λ t block values. (block, values)) (trees_within t) blocks
+        (all_with (λ (t : Tree). FieldsLack test (root t)) (λ (t : Tree). AllByRecursion (ParametersLack test) (header_lines (root t)))
+        (λ (t : Tree). ValuesLack test (root t)) (λ t fields parameters. (fields, parameters)) (trees_within t) fields parameters))
         (all_with Splits (BodyLacks test) Contents (λ t parts body. (parts, body)) (trees_within t) splits bodies))
 
-    -- what is not asked for
-    no_blocks : ((n : Name) → is_block_name n ≡ true → test n ≡ false) → AllBlocks
-    no_blocks free = all_free (λ (t : Tree). BlockLacks test (root t)) (λ (t : Tree). block_free test free (root t)) (trees_within t)
+  -- what is not asked for, if the names of some groups are
+  module _ (some : Group → Bool) where
+    abbrev asks : Name → Bool
+    asks n = some (group_of n)
 
-    no_fields : ((n : Name) → is_field_name n ≡ true → test n ≡ false) → AllFields
-    no_fields free = all_free (λ (t : Tree). FieldsLack test (root t)) (λ (t : Tree). fields_free test free (root t)) (trees_within t)
+    no_blocks : list_all (λ g. not (of_blocks g && some g)) groups ≡ true → AllBlocks asks
+    no_blocks apart =
+        all_free (λ (t : Tree). BlockLacks asks (root t)) (λ (t : Tree). block_free asks (no_other of_blocks some apart) (root t)) (trees_within t)
 
-    no_splits : ((n : Name) → is_part_name n ≡ true → test n ≡ false) → AllSplit
-    no_splits free = all_free Splits (parts_free test free) (trees_within t)
+    no_fields : list_all (λ g. not (of_fields g && some g)) groups ≡ true → AllFields asks
+    no_fields apart =
+        all_free (λ (t : Tree). FieldsLack asks (root t)) (λ (t : Tree). fields_free asks (no_other of_fields some apart) (root t)) (trees_within t)
 
-    no_bodies : ((n : Name) → is_body_name n ≡ true → test n ≡ false) → AllBodies
-    no_bodies free = all_free (BodyLacks test) (body_free test free) (trees_within t)
+    no_parameters : list_all (λ g. not (of_parameters g && some g)) groups ≡ true → AllParameters asks
+    no_parameters apart =
+        all_free (λ (t : Tree). AllByRecursion (ParametersLack asks) (header_lines (root t)))
+        (λ (t : Tree). parameters_free asks (no_other of_parameters some apart) (root t)) (trees_within t)
+
+    no_splits : list_all (λ g. not (of_parts g && some g)) groups ≡ true → AllSplit asks
+    no_splits apart = all_free (Splits asks) (parts_free asks (no_other of_parts some apart)) (trees_within t)
+
+    no_bodies : list_all (λ g. not (of_bodies g && some g)) groups ≡ true → AllBodies asks
+    no_bodies apart = all_free (BodyLacks asks) (body_free asks (no_other of_bodies some apart)) (trees_within t)
+
+    no_far : some Size ≡ false → FarLacks asks 0 (places t (placements 0 t))
+    no_far apart = far_free asks apart 0 (places t (placements 0 t))
+
+    abbrev Uncovered : Type 0
+    Uncovered = list_all (λ g. not (of_others g && some g)) groups ≡ true
+
+    abbrev NoneFound : Type 0
+    NoneFound = Lacks asks (findings known t (placements 0 t))
+
+    -- none of these names, if the bytes are not asked for
+    none_found : Uncovered → list_all (λ g. not (of_lines g && some g)) groups ≡ true → AllLack asks
+        → FarLacks asks 0 (places t (placements 0 t)) → NoneFound
+    none_found covered apart h far =
+        first_found known asks (uncovered some covered) t (bytes_free asks (no_other of_lines some apart) (root t).bytes) h far
+
+    of_messages : Uncovered → NoneFound → AllLack asks
+    of_messages covered h = (found_first known asks (uncovered some covered) t h).1
 
   pub blocks_strict : Lacks is_block_name (findings known t (placements 0 t)) ↔ HasStrictBlocks t
   blocks_strict = (
-    λ h. blocks_found is_block_name (λ n e. e) (found_first known is_block_name block_covered t h).1,
-    λ h. first_found known is_block_name block_covered t (bytes_free is_block_name line_no_block (root t).bytes)
-        (all_lack is_block_name (found_blocks is_block_name h) (no_fields is_block_name field_no_block) (no_splits is_block_name part_no_block) (no_bodies is_block_name body_no_block))
-        (far_free is_block_name refl 0 (places t (placements 0 t))),
+    λ h. blocks_found is_block_name (λ n e. e) (of_messages of_blocks refl h),
+    λ h. none_found of_blocks refl refl
+        (all_lack is_block_name (found_blocks is_block_name h) (no_fields of_blocks refl) (no_parameters of_blocks refl) (no_splits of_blocks refl)
+        (no_bodies of_blocks refl)) (no_far of_blocks refl),
   )
 
   pub fields_are_of_grammar : Lacks is_field_name (findings known t (placements 0 t)) ↔ AreStrictFields t
   fields_are_of_grammar = (
-    λ h. fields_found is_field_name (λ n e. e) (found_first known is_field_name field_covered t h).1,
-    λ h. first_found known is_field_name field_covered t (bytes_free is_field_name line_no_field (root t).bytes)
-        (all_lack is_field_name (no_blocks is_field_name block_no_field) (found_fields is_field_name h) (no_splits is_field_name part_no_field) (no_bodies is_field_name body_no_field))
-        (far_free is_field_name refl 0 (places t (placements 0 t))),
+    λ h. fields_found is_field_name (λ n e. e) (of_messages of_fields refl h),
+    λ h. none_found of_fields refl refl
+        (all_lack is_field_name (no_blocks of_fields refl) (found_fields is_field_name h) (no_parameters of_fields refl) (no_splits of_fields refl)
+        (no_bodies of_fields refl)) (no_far of_fields refl),
+  )
+
+  pub parameters_are_of_grammar : Lacks is_parameter_name (findings known t (placements 0 t)) ↔ AreStrictParameters t
+  parameters_are_of_grammar = (
+    λ h. parameters_found is_parameter_name (λ n e. e) (of_messages of_values refl h),
+    λ h. none_found of_values refl refl
+        (all_lack is_parameter_name (no_blocks of_values refl) (found_syntax is_parameter_name (no_other of_own_fields of_values refl) h)
+        (found_parameters is_parameter_name h) (no_splits of_values refl) (no_bodies of_values refl)) (no_far of_values refl),
   )
 
   pub parts_are_of_grammar : Lacks is_part_name (findings known t (placements 0 t)) ↔ AreStrictParts t
   parts_are_of_grammar = (
-    λ h. parts_of_all is_part_name (λ n e. e) (found_first known is_part_name part_covered t h).1,
-    λ h. first_found known is_part_name part_covered t (bytes_free is_part_name line_no_part (root t).bytes)
-        (all_lack is_part_name (no_blocks is_part_name block_no_part) (no_fields is_part_name field_no_part) (found_splits is_part_name h) (no_bodies is_part_name body_no_part))
-        (far_free is_part_name refl 0 (places t (placements 0 t))),
+    λ h. parts_of_all is_part_name (λ n e. e) (of_messages of_parts refl h),
+    λ h. none_found of_parts refl refl
+        (all_lack is_part_name (no_blocks of_parts refl) (no_fields of_parts refl) (no_parameters of_parts refl) (found_splits is_part_name h)
+        (no_bodies of_parts refl)) (no_far of_parts refl),
   )
 
   pub bodies_are_of_grammar : Lacks is_body_name (findings known t (placements 0 t)) ↔ AreStrictBodies t
   bodies_are_of_grammar = (
-    λ h. bodies_of_all is_body_name (λ n e. e) (found_first known is_body_name body_covered t h).1,
-    λ h. first_found known is_body_name body_covered t (bytes_free is_body_name line_no_body (root t).bytes)
-        (all_lack is_body_name (no_blocks is_body_name block_no_body) (no_fields is_body_name field_no_body) (no_splits is_body_name part_no_body) (found_bodies is_body_name h))
-        (far_free is_body_name refl 0 (places t (placements 0 t))),
+    λ h. bodies_of_all is_body_name (λ n e. e) (of_messages of_bodies refl h),
+    λ h. none_found of_bodies refl refl
+        (all_lack is_body_name (no_blocks of_bodies refl) (no_fields of_bodies refl) (no_parameters of_bodies refl) (no_splits of_bodies refl)
+        (found_bodies is_body_name h)) (no_far of_bodies refl),
   )
 
   pub many_of_grammar : Lacks is_many_name (findings known t (placements 0 t)) ↔ IsSmall t
   many_of_grammar = (
-    λ h. small_found is_many_name known greatest bytes t read refl (far_first known is_many_name many_covered t h),
-    λ h. first_found known is_many_name many_covered t (bytes_free is_many_name line_no_many (root t).bytes)
-        (all_lack is_many_name (no_blocks is_many_name block_no_many) (no_fields is_many_name field_no_many) (no_splits is_many_name part_no_many)
-        (no_bodies is_many_name body_no_many)) (found_small is_many_name known greatest bytes t read h),
+    λ h. small_found is_many_name known greatest bytes t read refl (far_first known is_many_name (uncovered of_size refl) t h),
+    λ h. none_found of_size refl refl
+        (all_lack is_many_name (no_blocks of_size refl) (no_fields of_size refl) (no_parameters of_size refl) (no_splits of_size refl)
+        (no_bodies of_size refl)) (found_small is_many_name known greatest bytes t read h),
   )
 
   line_part : BytesLack is_covered (root t).bytes → BytesLack is_line_name (root t).bytes
@@ -615,17 +505,19 @@ module _ (known : Charsets) (greatest : ℕ) (bytes : List ℕ) (t : Tree) (read
       let both = found_first known is_covered (λ n e. e) t h in
       record {
         lines = subst IsText (bytes-there known greatest bytes t read) (text_found (root t).bytes (line_part both.0));
-        blocks = blocks_found is_covered covers_blocks both.1;
-        fields = fields_found is_covered covers_fields both.1;
-        parts = parts_of_all is_covered covers_parts both.1;
-        bodies = bodies_of_all is_covered covers_bodies both.1;
+        blocks = blocks_found is_covered (among of_blocks of_covered refl) both.1;
+        fields = fields_found is_covered (among of_fields of_covered refl) both.1;
+        parameters = parameters_found is_covered (among of_values of_covered refl) both.1;
+        parts = parts_of_all is_covered (among of_parts of_covered refl) both.1;
+        bodies = bodies_of_all is_covered (among of_bodies of_covered refl) both.1;
         small = small_found is_covered known greatest bytes t read refl (far_first known is_covered (λ n e. e) t h);
       }
 
   from_so_far : IsStrictSoFar bytes t → Lacks is_covered (findings known t (placements 0 t))
   from_so_far h =
       first_found known is_covered (λ n e. e) t (part_line (found_text (root t).bytes (subst IsText (sym (bytes-there known greatest bytes t read)) h.lines)))
-      (all_lack is_covered (found_blocks is_covered h.blocks) (found_fields is_covered h.fields) (found_splits is_covered h.parts) (found_bodies is_covered h.bodies))
+      (all_lack is_covered (found_blocks is_covered h.blocks) (found_fields is_covered h.fields)
+      (found_parameters is_covered h.parameters) (found_splits is_covered h.parts) (found_bodies is_covered h.bodies))
       (found_small is_covered known greatest bytes t read h.small)
 
   pub mail_strict : Lacks is_covered (findings known t (placements 0 t)) ↔ IsStrictSoFar bytes t

@@ -20,10 +20,11 @@ use Rattle.mail_check.specs.Findings.{Finding, Spot, block_findings, body_findin
 use Rattle.mail_check.specs.Findings.{leaf_findings, line_findings, listed, listed_if, multipart_findings, parameter_findings, repeated, repeated_findings, sender_findings, spot_in, spot_of_body, strict_findings, text_findings, type_findings, worded_findings}
 use Rattle.mail_check.specs.LineTests.{first_line, is_long_line}
 use Rattle.mail_check.specs.Lines.{HeaderLine, ends_block, has_blank_fold, has_comment_fold, has_high_value, header_lines, is_bad_encoding, is_bad_key, is_composite, is_encoding, is_named, is_other_message, second_named, single_names}
-use Rattle.mail_check.specs.Parameters.{is_bad_value, strict_value}
+use Rattle.mail_check.specs.Parameters.{has_extended, has_other_name, has_quoted_pair, has_quoted_special, has_repeat, has_word, is_bad_value, none_seen, parameter_names, strict_value}
 use Rattle.mail_check.specs.Multiparts.{dash_of, is_bad_boundary, is_close, is_inside, is_tailed, late_delimiter}
-use Rattle.mail_check.specs.strict.Named.{Lacks, is_block_name, is_body_name, is_covered, is_field_name, is_line_name, is_part_name}
-use Rattle.mail_check.proofs.lemmas.StrictOthers.{each_lacks, false_listed, file_others, lacks_both, lacks_each, lacks_left, lacks_right, listed_false, listed_none, none_listed, other, sender_others, strict_others, text_others, truth, worded_others}
+use Rattle.mail_check.specs.strict.Named.{Lacks, group_of, is_block_name, is_body_name, is_covered, is_field_name, is_line_name, is_part_name}
+use Rattle.mail_check.proofs.lemmas.StrictGroups.{among, no_other, of_blocks, of_bodies, of_fields, of_lines, of_own_fields, of_parameters, of_parts}
+use Rattle.mail_check.proofs.lemmas.StrictOthers.{each_lacks, false_listed, file_others, lacks_both, lacks_each, lacks_left, lacks_right, listed_false, listed_none, none_listed, other, other_if, sender_others, text_others, truth, worded_others}
 use Rattle.mail_check.proofs.lemmas.StrictReading.{all_with}
 use Rattle.mail_check.specs.declared.names.Name.{Name}
 use Rattle.mail_check.specs.declared.names.Name.TheVariants as name
@@ -49,6 +50,35 @@ pub record TypeLacks (test : Name → Bool) (ctype : ContentType) (line : Header
   pub composite : test name.EncodingOnComposite ≡ true → (is_encoding line && is_composite ctype) ≡ false
   pub message : test name.OtherMessage ≡ true → (is_named (codes "Content-Type") line && is_other_message ctype) ≡ false
   pub boundary : test name.BadBoundary ≡ true → (is_named (codes "Content-Type") line && is_bad_boundary ctype) ≡ false
+
+-- nor has the text of a value that has the syntax that all programs know
+pub record TextLacks (test : Name → Bool) (text : List ℕ) : Type 0 where
+  pub special : test name.QuotedSpecial ≡ true → has_quoted_special text ≡ false
+  pub pair : test name.QuotedPair ≡ true → has_quoted_pair text ≡ false
+  pub extended : test name.ExtendedParameter ≡ true → has_extended text ≡ false
+  pub word : test name.WordParameter ≡ true → has_word text ≡ false
+  pub repeats : test name.DuplicateParameter ≡ true → has_repeat none_seen (parameter_names text) ≡ false
+
+-- if there is one
+abbrev pub SomeLacks : (Name → Bool) → Option (List ℕ) → Type 0
+SomeLacks test None = ⊤
+SomeLacks test (Some text) = TextLacks test text
+
+pub some_lacks : (test : Name → Bool) (value : Option (List ℕ)) → SomeLacks test value → (text : List ℕ) → value ≡ Some text
+    → TextLacks test text
+some_lacks test None h text e = absurd (cc)
+some_lacks test (Some other) h text e =
+    let same : other ≡ text = cc in
+    subst (TextLacks test) same h
+
+pub lacks_some : (test : Name → Bool) (value : Option (List ℕ)) → ((text : List ℕ) → value ≡ Some text → TextLacks test text)
+    → SomeLacks test value
+lacks_some test None f = tt
+lacks_some test (Some text) f = f text refl
+
+-- nor has that of a header
+abbrev pub ParametersLack : (Name → Bool) → HeaderLine → Type 0
+ParametersLack test line = SomeLacks test (strict_value line)
 
 -- nor has a header block
 pub record BlockLacks (test : Name → Bool) (node : Node) : Type 0 where
@@ -91,6 +121,7 @@ pub record BodyLacks (test : Name → Bool) (t : Tree) : Type 0 where
 pub record MessageLacks (test : Name → Bool) (t : Tree) : Type 0 where
   pub block : BlockLacks test (root t)
   pub fields : FieldsLack test (root t)
+  pub parameters : AllByRecursion (ParametersLack test) (header_lines (root t))
   pub parts : (dash : List ℕ) → dash_of (root t).ctype ≡ Some dash → PartsLack test t dash
   pub body : BodyLacks test t
 
@@ -199,8 +230,43 @@ module _ (known : Charsets) (test : Name → Bool) (others : (n : Name) → is_c
       (both _ _ (false_listed test spot name.OtherMessage (is_named (codes "Content-Type") line && is_other_message ctype) h.message)
       (false_listed test spot name.BadBoundary (is_named (codes "Content-Type") line && is_bad_boundary ctype) h.boundary)))
 
+  some_lack : (spot : Spot) (line : HeaderLine) (value : Option (List ℕ)) → Lacks test (strict_findings spot line value)
+      → SomeLacks test value
+  some_lack spot line None h = tt
+  some_lack spot line (Some text) h =
+      let special = listed_if spot name.QuotedSpecial (has_quoted_special text) in
+      let pair = listed_if spot name.QuotedPair (has_quoted_pair text) in
+      let extended = listed_if spot name.ExtendedParameter (has_extended text) in
+      let word = listed_if spot name.WordParameter (has_word text) in
+      let repeats = listed_if spot name.DuplicateParameter (has_repeat none_seen (parameter_names text)) in
+      let names = repeats ++ listed_if spot name.TwoNames (has_other_name line (parameter_names text)) in
+      let own = lacks_left test (special ++ (pair ++ (extended ++ word))) names h in
+      let first = lacks_right test special (pair ++ (extended ++ word)) own in
+      let second = lacks_right test pair (extended ++ word) first in
+      let later = lacks_right test (special ++ (pair ++ (extended ++ word))) names h in
+      record {
+        special = listed_false test spot name.QuotedSpecial _ (lacks_left test special (pair ++ (extended ++ word)) own);
+        pair = listed_false test spot name.QuotedPair _ (lacks_left test pair (extended ++ word) first);
+        extended = listed_false test spot name.ExtendedParameter _ (lacks_left test extended word second);
+        word = listed_false test spot name.WordParameter _ (lacks_right test extended word second);
+        repeats = listed_false test spot name.DuplicateParameter _
+            (lacks_left test repeats (listed_if spot name.TwoNames (has_other_name line (parameter_names text))) later);
+      }
+
+  lack_some : (spot : Spot) (line : HeaderLine) (value : Option (List ℕ)) → SomeLacks test value
+      → Lacks test (strict_findings spot line value)
+  lack_some spot line None h = tt
+  lack_some spot line (Some text) h =
+      both _ _
+      (both _ _ (false_listed test spot name.QuotedSpecial (has_quoted_special text) h.special)
+      (both _ _ (false_listed test spot name.QuotedPair (has_quoted_pair text) h.pair)
+      (both _ _ (false_listed test spot name.ExtendedParameter (has_extended text) h.extended)
+      (false_listed test spot name.WordParameter (has_word text) h.word))))
+      (both _ _ (false_listed test spot name.DuplicateParameter (has_repeat none_seen (parameter_names text)) h.repeats)
+      (other_if test others spot name.TwoNames (has_other_name line (parameter_names text)) refl))
+
   header_lacks : (number : ℕ) (place : Place) (line : HeaderLine) → Lacks test (header_findings known number place line)
-      → LineLacks test (length (root place.part).block) line × TypeLacks test (root place.part).ctype line
+      → LineLacks test (length (root place.part).block) line × (TypeLacks test (root place.part).ctype line × ParametersLack test line)
   header_lacks number place line h =
       let spot = spot_in place line.start (length line.bytes) in
       let size = length (root place.part).block in
@@ -208,19 +274,25 @@ module _ (known : Charsets) (test : Name → Bool) (others : (n : Name) → is_c
       let later = sender_findings number spot line ++ worded_findings known spot line in
       let rest = lacks_right test (line_findings spot size line) (parameter_findings spot line ++ (type_findings spot ctype line ++ later)) h in (
         line_lacks spot size line (lacks_left test (line_findings spot size line) (parameter_findings spot line ++ (type_findings spot ctype line ++ later)) h),
-        type_lacks spot ctype line (lacks_left test (parameter_findings spot line) (type_findings spot ctype line ++ later) rest)
-            (lacks_left test (type_findings spot ctype line) later
-            (lacks_right test (parameter_findings spot line) (type_findings spot ctype line ++ later) rest)),
+        (
+          type_lacks spot ctype line (lacks_left test (parameter_findings spot line) (type_findings spot ctype line ++ later) rest)
+              (lacks_left test (type_findings spot ctype line) later
+              (lacks_right test (parameter_findings spot line) (type_findings spot ctype line ++ later) rest)),
+          some_lack spot line (strict_value line)
+              (lacks_right test (listed_if spot name.TypeSyntax (is_bad_value line)) (strict_findings spot line (strict_value line))
+              (lacks_left test (parameter_findings spot line) (type_findings spot ctype line ++ later) rest)),
+        ),
       )
 
   lack_header : (number : ℕ) (place : Place) (line : HeaderLine) → LineLacks test (length (root place.part).block) line
-      → TypeLacks test (root place.part).ctype line → Lacks test (header_findings known number place line)
-  lack_header number place line h k =
+      → TypeLacks test (root place.part).ctype line × ParametersLack test line → Lacks test (header_findings known number place line)
+  lack_header number place line h both_lack =
       let spot = spot_in place line.start (length line.bytes) in
+      let k = both_lack.0 in
       both _ _ (lack_line spot (length (root place.part).block) line h)
       (both _ _
       (both _ _ (false_listed test spot name.TypeSyntax (is_bad_value line) k.syntax)
-      (strict_others test others spot line (strict_value line)))
+      (lack_some spot line (strict_value line) both_lack.1))
       (both _ _ (lack_type spot (root place.part).ctype line k)
       (both _ _ (sender_others test others number spot line) (worded_others test others known spot line))))
 
@@ -246,7 +318,8 @@ module _ (known : Charsets) (test : Name → Bool) (others : (n : Name) → is_c
   -- ---- a message
 
   block_lacks : (number : ℕ) (place : Place) → Lacks test (block_findings known number place (header_lines (root place.part)))
-      → BlockLacks test (root place.part) × FieldsLack test (root place.part)
+      → BlockLacks test (root place.part)
+      × (FieldsLack test (root place.part) × AllByRecursion (ParametersLack test) (header_lines (root place.part)))
   block_lacks number place h =
       let node = root place.part in
       let lines = header_lines node in
@@ -260,13 +333,17 @@ module _ (known : Charsets) (test : Name → Bool) (others : (n : Name) → is_c
           lines = all_map (λ line. Lacks test (header_findings known number place line)) (LineLacks test (length node.block))
               (λ line lacks. (header_lacks number place line lacks).0) lines each;
         },
-        record {
-          types = all_map (λ line. Lacks test (header_findings known number place line)) (TypeLacks test node.ctype)
-              (λ line lacks. (header_lacks number place line lacks).1) lines each;
-          repeats = λ e. all_map (λ (n : List ℕ). Lacks test (repeated place (second_named n lines))) (λ (n : List ℕ). second_named n lines ≡ None)
-              (λ n lacks. repeated_none place (second_named n lines) lacks e) single_names
-              (lacks_each test (λ (n : List ℕ). repeated place (second_named n lines)) single_names (lacks_right test headers repeats rest));
-        },
+        (
+          record {
+            types = all_map (λ line. Lacks test (header_findings known number place line)) (TypeLacks test node.ctype)
+                (λ line lacks. (header_lacks number place line lacks).1.0) lines each;
+            repeats = λ e. all_map (λ (n : List ℕ). Lacks test (repeated place (second_named n lines))) (λ (n : List ℕ). second_named n lines ≡ None)
+                (λ n lacks. repeated_none place (second_named n lines) lacks e) single_names
+                (lacks_each test (λ (n : List ℕ). repeated place (second_named n lines)) single_names (lacks_right test headers repeats rest));
+          },
+          all_map (λ line. Lacks test (header_findings known number place line)) (ParametersLack test)
+              (λ line lacks. (header_lacks number place line lacks).1.1) lines each,
+        ),
       )
 
   lack_block : (number : ℕ) (place : Place) → MessageLacks test place.part → Lacks test (block_findings known number place (header_lines (root place.part)))
@@ -275,8 +352,10 @@ module _ (known : Charsets) (test : Name → Bool) (others : (n : Name) → is_c
       let lines = header_lines node in
       both _ _ (false_listed test (spot_in place 0 0) name.NoHeaders (has_none lines) h.block.no_headers)
       (both _ _ (each_lacks test (header_findings known number place) lines
-      (all_with (LineLacks test (length node.block)) (TypeLacks test node.ctype) (λ line. Lacks test (header_findings known number place line))
-      (lack_header number place) lines h.block.lines h.fields.types))
+      (all_with (LineLacks test (length node.block)) (λ line. TypeLacks test node.ctype line × ParametersLack test line)
+      (λ line. Lacks test (header_findings known number place line)) (lack_header number place) lines h.block.lines
+      (all_with (TypeLacks test node.ctype) (ParametersLack test) (λ line. TypeLacks test node.ctype line × ParametersLack test line)
+      (λ line types parameters. (types, parameters)) lines h.fields.types h.parameters)))
       (each_lacks test (λ (n : List ℕ). repeated place (second_named n lines)) single_names (repeats_lack place lines single_names h.fields.repeats)))
 
   -- ---- multiparts
@@ -402,7 +481,8 @@ module _ (known : Charsets) (test : Name → Bool) (others : (n : Name) → is_c
       let last = lacks_right test files (multipart ++ leaf) (lacks_right test block (files ++ (multipart ++ leaf)) later) in
       record {
         block = both.0;
-        fields = both.1;
+        fields = both.1.0;
+        parameters = both.1.1;
         parts = multipart_lacks place (dash_of node.ctype) (lacks_left test multipart leaf last);
         body = body_lacks place (lacks_right test multipart leaf last);
       }
@@ -519,17 +599,36 @@ block_free test free node = record {
   }) (header_lines node);
 }
 
-pub fields_free : (test : Name → Bool) → ((n : Name) → is_field_name n ≡ true → test n ≡ false) → (node : Node) → FieldsLack test node
-fields_free test free node = record {
-  types = all_free (TypeLacks test node.ctype) (λ line. record {
-    syntax = not_asked test name.TypeSyntax (free name.TypeSyntax refl);
+-- the syntax of types and dispositions may be asked for
+pub own_fields_free : (test : Name → Bool) → ((n : Name) → of_own_fields (group_of n) ≡ true → test n ≡ false) → (node : Node)
+    → AllByRecursion (λ line. test name.TypeSyntax ≡ true → is_bad_value line ≡ false) (header_lines node) → FieldsLack test node
+own_fields_free test free node syntax = record {
+  types = all_map (λ line. test name.TypeSyntax ≡ true → is_bad_value line ≡ false) (TypeLacks test node.ctype) (λ line is. record {
+    syntax = is;
     encoding = not_asked test name.EncodingSyntax (free name.EncodingSyntax refl);
     composite = not_asked test name.EncodingOnComposite (free name.EncodingOnComposite refl);
     message = not_asked test name.OtherMessage (free name.OtherMessage refl);
     boundary = not_asked test name.BadBoundary (free name.BadBoundary refl);
-  }) (header_lines node);
+  }) (header_lines node) syntax;
   repeats = not_asked test name.Duplicate (free name.Duplicate refl);
 }
+
+pub fields_free : (test : Name → Bool) → ((n : Name) → is_field_name n ≡ true → test n ≡ false) → (node : Node) → FieldsLack test node
+fields_free test free node =
+    own_fields_free test (λ n e. free n (among of_own_fields of_fields refl n e)) node
+    (all_free (λ line. test name.TypeSyntax ≡ true → is_bad_value line ≡ false)
+    (λ line. not_asked test name.TypeSyntax (free name.TypeSyntax refl)) (header_lines node))
+
+pub parameters_free : (test : Name → Bool) → ((n : Name) → of_parameters (group_of n) ≡ true → test n ≡ false) → (node : Node)
+    → AllByRecursion (ParametersLack test) (header_lines node)
+parameters_free test free node =
+    all_free (ParametersLack test) (λ line. lacks_some test (strict_value line) (λ text e. record {
+      special = not_asked test name.QuotedSpecial (free name.QuotedSpecial refl);
+      pair = not_asked test name.QuotedPair (free name.QuotedPair refl);
+      extended = not_asked test name.ExtendedParameter (free name.ExtendedParameter refl);
+      word = not_asked test name.WordParameter (free name.WordParameter refl);
+      repeats = not_asked test name.DuplicateParameter (free name.DuplicateParameter refl);
+    })) (header_lines node)
 
 pub parts_free : (test : Name → Bool) → ((n : Name) → is_part_name n ≡ true → test n ≡ false) → (t : Tree) (dash : List ℕ)
     → dash_of (root t).ctype ≡ Some dash → PartsLack test t dash
@@ -556,38 +655,15 @@ pub far_free : (test : Name → Bool) → test name.Many ≡ false → (number :
 far_free test free number [] = tt
 far_free test free number (place ∷ found) = (not_asked test name.Many free, far_free test free (suc number) found)
 
-block_no_line : (n : Name) → is_block_name n ≡ true → is_line_name n ≡ false
-block_no_line name.Nul h = absurd (cc)
-block_no_line name.LoneCr h = absurd (cc)
-block_no_line name.MixedLineEnds h = absurd (cc)
-block_no_line _ h = refl
-
-field_no_line : (n : Name) → is_field_name n ≡ true → is_line_name n ≡ false
-field_no_line name.Nul h = absurd (cc)
-field_no_line name.LoneCr h = absurd (cc)
-field_no_line name.MixedLineEnds h = absurd (cc)
-field_no_line _ h = refl
-
-part_no_line : (n : Name) → is_part_name n ≡ true → is_line_name n ≡ false
-part_no_line name.Nul h = absurd (cc)
-part_no_line name.LoneCr h = absurd (cc)
-part_no_line name.MixedLineEnds h = absurd (cc)
-part_no_line _ h = refl
-
-body_no_line : (n : Name) → is_body_name n ≡ true → is_line_name n ≡ false
-body_no_line name.Nul h = absurd (cc)
-body_no_line name.LoneCr h = absurd (cc)
-body_no_line name.MixedLineEnds h = absurd (cc)
-body_no_line _ h = refl
-
 -- if only names of lines are asked for, nothing is asked of a message
 module _ (test : Name → Bool) (only : (n : Name) → is_line_name n ≡ false → test n ≡ false) where
   message_free : (t : Tree) → MessageLacks test t
   message_free t = record {
-    block = block_free test (λ n e. only n (block_no_line n e)) (root t);
-    fields = fields_free test (λ n e. only n (field_no_line n e)) (root t);
-    parts = parts_free test (λ n e. only n (part_no_line n e)) t;
-    body = body_free test (λ n e. only n (body_no_line n e)) t;
+    block = block_free test (λ n e. only n (no_other of_blocks of_lines refl n e)) (root t);
+    fields = fields_free test (λ n e. only n (no_other of_fields of_lines refl n e)) (root t);
+    parameters = parameters_free test (λ n e. only n (no_other of_parameters of_lines refl n e)) (root t);
+    parts = parts_free test (λ n e. only n (no_other of_parts of_lines refl n e)) t;
+    body = body_free test (λ n e. only n (no_other of_bodies of_lines refl n e)) t;
   }
 
   pub messages_free : (found : List Place) → AllByRecursion (λ (place : Place). MessageLacks test place.part) found

@@ -6,13 +6,12 @@ use Rattle.mail_codec.specs.Charset.{Charsets}
 use Rattle.mailparse.specs.Disposition.{Disposition}
 use Rattle.mailparse.specs.Mail.{Node}
 use Rattle.mail_data.specs.PartPlaces.{Place}
-use Rattle.mail_check.specs.Findings.{Finding, Spot, file_findings, file_line, listed, listed_if, name_findings}
-use Rattle.mail_check.specs.Findings.{sender_findings, spot_of_body, strict_findings, text_findings, value_findings, word_findings, worded_findings}
+use Rattle.mail_check.specs.Findings.{Finding, Spot, file_findings, file_line, listed, listed_if}
+use Rattle.mail_check.specs.Findings.{sender_findings, spot_of_body, text_findings, word_findings, worded_findings}
 use Rattle.mail_check.specs.FileNames.{has_two_names, has_unsafe_name, has_untyped_name}
 use Rattle.mail_check.specs.Lines.{HeaderLine}
 use Rattle.mail_check.specs.Senders.{is_bad_sender}
 use Rattle.mail_check.specs.Texts.{has_bad_text}
-use Rattle.mail_check.specs.Parameters.{has_extended, has_other_name, has_quoted_pair, has_quoted_special, has_repeat, has_word, none_seen, parameter_names}
 use Rattle.mail_check.specs.WordBytes.{has_bad_octets}
 use Rattle.mail_check.specs.Words.{has_join, is_bad_name, is_bad_piece, is_worded, pieces}
 use Rattle.mail_check.specs.strict.Named.{Lacks, is_covered}
@@ -90,20 +89,6 @@ module _ (test : Name → Bool) (others : (n : Name) → is_covered n ≡ false 
   each : {X : Type 0} (f : X → List Finding) → ((x : X) → Lacks test (f x)) → (xs : List X) → Lacks test (flat_map f xs)
   each f h [] = tt
   each f h (x ∷ xs) = both (f x) (flat_map f xs) (h x) (each f h xs)
-
-  value_others : (spot : Spot) (bytes : List ℕ) → Lacks test (value_findings spot bytes)
-  value_others spot bytes =
-      both _ _ (other_if spot name.QuotedSpecial (has_quoted_special bytes) refl)
-      (both _ _ (other_if spot name.QuotedPair (has_quoted_pair bytes) refl)
-      (both _ _ (other_if spot name.ExtendedParameter (has_extended bytes) refl) (other_if spot name.WordParameter (has_word bytes) refl)))
-
-  name_others : (spot : Spot) (line : HeaderLine) (names : List (List ℕ)) → Lacks test (name_findings spot line names)
-  name_others spot line names =
-      both _ _ (other_if spot name.DuplicateParameter (has_repeat none_seen names) refl) (other_if spot name.TwoNames (has_other_name line names) refl)
-
-  pub strict_others : (spot : Spot) (line : HeaderLine) (value : Option (List ℕ)) → Lacks test (strict_findings spot line value)
-  strict_others spot line None = tt
-  strict_others spot line (Some bytes) = both _ _ (value_others spot bytes) (name_others spot line (parameter_names bytes))
 
   pub sender_others : (number : ℕ) (spot : Spot) (line : HeaderLine) → Lacks test (sender_findings number spot line)
   sender_others number spot line = other_if spot name.FromSyntax (number == 0 && is_bad_sender line) refl

@@ -374,7 +374,7 @@ module _ (b : ℕ) (rest : List ℕ) where
   attribute_step h = elim (cases_Bool (is_attribute b)) [
     | inl e ↦
         let more : NameThen rest =
-            if_true (is_attribute b) Attribute (cond (b == asterisk) Star (cond (b == equals_sign) Equals Wrong)) e h in
+        if_true (is_attribute b) Attribute (cond (b == asterisk) Star (cond (b == equals_sign) Equals Wrong)) e h in
         record {
           starred = more.starred;
           others = b ∷ more.others;
@@ -422,7 +422,7 @@ module _ (b : ℕ) (rest : List ℕ) where
   star_step h = elim (cases_Bool (b == asterisk || is_ascii_digit b)) [
     | inl e ↦
         let more : SectionThen rest =
-            if_true (b == asterisk || is_ascii_digit b) Star (cond (b == equals_sign) StarEquals Wrong) e h in
+        if_true (b == asterisk || is_ascii_digit b) Star (cond (b == equals_sign) StarEquals Wrong) e h in
         record {
           others = b ∷ more.others;
           left = more.left;
@@ -432,8 +432,8 @@ module _ (b : ℕ) (rest : List ℕ) where
         }
     | inr e ↦
         let x =
-            only (b == equals_sign) StarEquals
-            (if_false (b == asterisk || is_ascii_digit b) Star (cond (b == equals_sign) StarEquals Wrong) e h) in
+        only (b == equals_sign) StarEquals
+        (if_false (b == asterisk || is_ascii_digit b) Star (cond (b == equals_sign) StarEquals Wrong) e h) in
         record { others = []; left = rest; all = refl; next = x.1; made = ap (λ (y : ℕ). y ∷ rest) (eqb-true b equals_sign x.0) }
   ]
 
@@ -537,10 +537,10 @@ stays test state keeps (b ∷ token) rest h =
     ap (λ (s : ValueState). after_bytes s (token ++ rest)) (keeps b (all_head test b token h))
     ∙ stays test state keeps token rest (all_tail test b token h)
 
-pass : (t : Bool) (so not_so : ValueState) → t ≡ true → cond t so not_so ≡ so
+pub pass : (t : Bool) (so not_so : ValueState) → t ≡ true → cond t so not_so ≡ so
 pass t so not_so e = ap (λ (s : Bool). cond s so not_so) e
 
-miss : (t : Bool) (so not_so : ValueState) → t ≡ false → cond t so not_so ≡ not_so
+pub miss : (t : Bool) (so not_so : ValueState) → t ≡ false → cond t so not_so ≡ not_so
 miss t so not_so e = ap (λ (s : Bool). cond s so not_so) e
 
 -- blanks are no characters of names
@@ -550,11 +550,11 @@ blank_not b h = elim (blanks b h) [
   | inr e ↦ subst (λ (x : ℕ). is_attribute x ≡ false) (sym e) refl
 ]
 
-blank_after : (b : ℕ) → is_blank b ≡ true → after_semicolon b ≡ Blank
+pub blank_after : (b : ℕ) → is_blank b ≡ true → after_semicolon b ≡ Blank
 blank_after b h =
     miss (is_attribute b) Attribute (blank_or b) (blank_not b h) ∙ pass (is_blank b) Blank (feed_or b) h
 
-blank_folds : (b : ℕ) → is_blank b ≡ true → after_byte Fold b ≡ Fold
+pub blank_folds : (b : ℕ) → is_blank b ≡ true → after_byte Fold b ≡ Fold
 blank_folds b h = miss (is_attribute b) Attribute (cond (is_blank b) Fold Wrong) (blank_not b h) ∙ pass (is_blank b) Fold Wrong h
 
 -- a gap and the first character of a name
@@ -586,7 +586,7 @@ first_gap [] rest b = refl
 first_gap (x ∷ xs) rest b = refl
 
 -- the rest of a name
-attribute_keeps : (b : ℕ) → is_attribute b ≡ true → after_byte Attribute b ≡ Attribute
+pub attribute_keeps : (b : ℕ) → is_attribute b ≡ true → after_byte Attribute b ≡ Attribute
 attribute_keeps b h = pass (is_attribute b) Attribute (cond (b == asterisk) Star (cond (b == equals_sign) Equals Wrong)) h
 
 star_keeps : (b : ℕ) → (b == asterisk || is_ascii_digit b) ≡ true → after_byte Star b ≡ Star
@@ -644,13 +644,13 @@ record EndsAfter (rest : List ℕ) : Type 0 where
   extended : Ends Extended rest
   closed : Ends Closed rest
 
-text_keeps : (b : ℕ) → is_attribute b ≡ true → after_byte Text b ≡ Text
+pub text_keeps : (b : ℕ) → is_attribute b ≡ true → after_byte Text b ≡ Text
 text_keeps b h = pass (is_attribute b) Text (after_value b) h
 
 extended_keeps : (b : ℕ) → is_extended b ≡ true → after_byte Extended b ≡ Extended
 extended_keeps b h = pass (is_extended b) Extended (after_value b) h
 
-token_keeps : (b : ℕ) → is_restricted b ≡ true → after_byte Token b ≡ Token
+pub token_keeps : (b : ℕ) → is_restricted b ≡ true → after_byte Token b ≡ Token
 token_keeps b h = pass (is_restricted b) Token (after_value b) h
 
 value_ends : (starred : Bool) (value rest : List ℕ) → IsParameterValue starred value → EndsAfter rest

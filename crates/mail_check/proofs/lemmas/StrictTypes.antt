@@ -121,7 +121,7 @@ split_slash xs p h = elim (cases_lt (first_place (begins (λ b. b == slash)) xs)
   where
     at_first : (xs : List ℕ) → first_place (begins (λ b. b == slash)) xs < length xs
         → xs ≡ take (first_place (begins (λ b. b == slash)) xs) xs
-            ++ (slash ∷ drop (first_place (begins (λ b. b == slash)) xs + 1) xs)
+        ++ (slash ∷ drop (first_place (begins (λ b. b == slash)) xs + 1) xs)
     at_first [] low = absurd (omega (arith, low))
     at_first (b ∷ xs) low = elim (cases_Bool (b == slash)) [
       | inl e ↦
@@ -183,20 +183,19 @@ started : (xs : List ℕ) → begins is_blank xs ≡ false → trimmed xs ≡ xs
 started [] h = refl
 started (b ∷ rest) h = trimmed_here b rest h
 
-type_reads : (value : List ℕ) → IsTypeValue value
-    → is_none (strict (after_main (trimmed value) (byte_place (trimmed value) slash))) ≡ false
-type_reads value (blank_before_type {b = b} {rest = rest} is more) =
-    ap (λ (xs : List ℕ). is_none (strict (after_main xs (byte_place xs slash)))) (trimmed_past b rest is) ∙ type_reads rest more
-type_reads value (type_here {text = text} main is left made) =
+pub type_found : (value main text : List ℕ) → list_any (str_eq_ignore_ascii_case main) main_types ≡ true → IsTokenWithParameters text
+    → value ≡ main ++ (slash ∷ text)
+    → strict (after_main (trimmed value) (byte_place (trimmed value) slash)) ≡ Some text
+type_found value main text is left made =
     let inner = main_inner main is in
-    ap (λ (xs : List ℕ). is_none (strict (after_main (trimmed xs) (byte_place (trimmed xs) slash)))) made
-    ∙ ap (λ (xs : List ℕ). is_none (strict (after_main xs (byte_place xs slash))))
+    ap (λ (xs : List ℕ). strict (after_main (trimmed xs) (byte_place (trimmed xs) slash))) made
+    ∙ ap (λ (xs : List ℕ). strict (after_main xs (byte_place xs slash)))
     (started (main ++ (slash ∷ text)) (no_blank main inner))
-    ∙ ap (λ (o : Option ℕ). is_none (strict (after_main (main ++ (slash ∷ text)) o))) (slash_found main text inner)
-    ∙ ap (λ (t : Bool). is_none (strict (cond t (Some (drop (length main + 1) (main ++ (slash ∷ text)))) None)))
+    ∙ ap (λ (o : Option ℕ). strict (after_main (main ++ (slash ∷ text)) o)) (slash_found main text inner)
+    ∙ ap (λ (t : Bool). strict (cond t (Some (drop (length main + 1) (main ++ (slash ∷ text)))) None))
     (ap is_main_type (front main (slash ∷ text)) ∙ is)
-    ∙ ap (λ (xs : List ℕ). is_none (strict (Some xs))) (past_slash main text)
-    ∙ ap (λ (t : Bool). is_none (cond t (Some text) None)) (of_strict text left)
+    ∙ ap (λ (xs : List ℕ). strict (Some xs)) (past_slash main text)
+    ∙ ap (λ (t : Bool). cond t (Some text) None) (of_strict text left)
   where
     no_blank : (main : List ℕ) → list_all is_inner main ≡ true → begins is_blank (main ++ (slash ∷ text)) ≡ false
     no_blank [] h = refl
@@ -204,12 +203,17 @@ type_reads value (type_here {text = text} main is left made) =
         let both = both_true (is_inner b) (list_all is_inner main) h in
         (neither (is_blank b) (b == slash) (not_true (is_blank b || b == slash) both.0)).0
 
-disposition_reads : (value : List ℕ) → IsDispositionValue value → is_none (strict (Some (trimmed value))) ≡ false
-disposition_reads value (blank_before_disposition {b = b} {rest = rest} is more) =
-    ap (λ (xs : List ℕ). is_none (strict (Some xs))) (trimmed_past b rest is) ∙ disposition_reads rest more
-disposition_reads value (disposition_here is) =
-    ap (λ (xs : List ℕ). is_none (strict (Some xs))) (started value (no_blank value is))
-    ∙ ap (λ (t : Bool). is_none (cond t (Some value) None)) (of_strict value is)
+type_reads : (value : List ℕ) → IsTypeValue value
+    → is_none (strict (after_main (trimmed value) (byte_place (trimmed value) slash))) ≡ false
+type_reads value (blank_before_type {b = b} {rest = rest} is more) =
+    ap (λ (xs : List ℕ). is_none (strict (after_main xs (byte_place xs slash)))) (trimmed_past b rest is) ∙ type_reads rest more
+type_reads value (type_here {text = text} main is left made) =
+    ap (λ (o : Option (List ℕ)). is_none o) (type_found value main text is left made)
+
+pub disposition_found : (value : List ℕ) → IsTokenWithParameters value → strict (Some (trimmed value)) ≡ Some value
+disposition_found value is =
+    ap (λ (xs : List ℕ). strict (Some xs)) (started value (no_blank value is))
+    ∙ ap (λ (t : Bool). cond t (Some value) None) (of_strict value is)
   where
     no_blank : (value : List ℕ) → IsTokenWithParameters value → begins is_blank value ≡ false
     no_blank value is = ap (begins is_blank) is.made ∙ first_no_blank is.first is.begins
@@ -222,6 +226,11 @@ disposition_reads value (disposition_here is) =
             | inr f ↦ let one : false ≡ true = subst (λ (x : ℕ). is_ascii_alphanumeric x ≡ true) f h in absurd (cc)
           ]
         ]
+
+disposition_reads : (value : List ℕ) → IsDispositionValue value → is_none (strict (Some (trimmed value))) ≡ false
+disposition_reads value (blank_before_disposition {b = b} {rest = rest} is more) =
+    ap (λ (xs : List ℕ). is_none (strict (Some xs))) (trimmed_past b rest is) ∙ disposition_reads rest more
+disposition_reads value (disposition_here is) = ap (λ (o : Option (List ℕ)). is_none o) (disposition_found value is)
 
 -- ---- headers
 
@@ -288,7 +297,7 @@ module _ (ctype : ContentType) where
   found_field line h =
       let encoding = encoding_found line (is_composite ctype) h.encoding in
       let type : (is_named (codes "Content-Type") line ≡ true) ⊎ (is_named (codes "Content-Type") line ≡ false) =
-          cases_Bool (is_named (codes "Content-Type") line) in
+      cases_Bool (is_named (codes "Content-Type") line) in
       record {
         syntax = values_found line h.type_value h.disposition_value;
         encoding = encoding.0;

@@ -8,6 +8,7 @@ use Rattle.mail_check.specs.strict.Fields.{HasStrictFields}
 use Rattle.mail_check.specs.strict.Headers.{IsBlock}
 use Rattle.mail_check.specs.strict.Levels.{IsSmall}
 use Rattle.mail_check.specs.strict.LineEnds.{IsText}
+use Rattle.mail_check.specs.strict.PlainParameters.{HasPlainValue}
 
 -- the header block of each message of a mail is one of the grammar
 abbrev pub HasStrictBlocks : Tree → Type 0
@@ -16,6 +17,10 @@ HasStrictBlocks mail = AllByRecursion (λ node. IsBlock node.block) (nodes mail)
 -- so are its headers, by their names and values, and its type
 abbrev pub AreStrictFields : Tree → Type 0
 AreStrictFields mail = AllByRecursion HasStrictFields (nodes mail)
+
+-- so is the value of each of them that is a type or a disposition, and it is plain
+abbrev pub AreStrictParameters : Tree → Type 0
+AreStrictParameters mail = AllByRecursion (λ node. AllByRecursion HasPlainValue node.headers) (nodes mail)
 
 -- so is the text of each multipart
 abbrev pub AreStrictParts : Tree → Type 0
@@ -30,6 +35,7 @@ pub record IsStrictSoFar (bytes : List ℕ) (mail : Tree) : Type 0 where
   pub lines : IsText bytes
   pub blocks : HasStrictBlocks mail
   pub fields : AreStrictFields mail
+  pub parameters : AreStrictParameters mail
   pub parts : AreStrictParts mail
   pub bodies : AreStrictBodies mail
   pub small : IsSmall mail

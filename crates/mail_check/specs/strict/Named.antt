@@ -1,5 +1,5 @@
 -- Lists of findings without some names, and the names that the grammar of strict mails covers so far.
-use Rattle.std.specs.Prelude.{◌≡◌, Bool, true, false, List}
+use Rattle.std.specs.Prelude.{◌≡◌, Bool, true, false, not, ◌||◌, List}
 use Rattle.std.specs.List.{AllByRecursion}
 use Rattle.mail_check.specs.Findings.{Finding}
 use Rattle.mail_check.specs.declared.names.Name.{Name}
@@ -22,80 +22,104 @@ abbrev pub is_mixed_name : Name → Bool
 is_mixed_name name.MixedLineEnds = true
 is_mixed_name _ = false
 
+-- ---- groups of names
+
+-- What a name is of. The cases:
+pub data Group : Type 0 where
+  -- what the bytes of the mail are as lines
+  Lines : Group
+  -- how a header block is written
+  Blocks : Group
+  -- which headers a message has, and what they say of its encoding and its type
+  Fields : Group
+  -- the syntax of types and dispositions
+  Syntax : Group
+  -- the parameters of those that have it
+  Parameters : Group
+  -- how a multipart is split
+  Parts : Group
+  -- how a body is encoded
+  Bodies : Group
+  -- how many messages and levels there are
+  Size : Group
+  -- what is not covered so far
+  Others : Group
+
+-- the group of a name
+abbrev pub group_of : Name → Group
+group_of name.Nul = Lines
+group_of name.LoneCr = Lines
+group_of name.MixedLineEnds = Lines
+group_of name.NoHeaders = Blocks
+group_of name.NoBlankLine = Blocks
+group_of name.BadKey = Blocks
+group_of name.BlankFold = Blocks
+group_of name.CommentFold = Blocks
+group_of name.Header8bit = Blocks
+group_of name.Duplicate = Fields
+group_of name.EncodingSyntax = Fields
+group_of name.EncodingOnComposite = Fields
+group_of name.OtherMessage = Fields
+group_of name.BadBoundary = Fields
+group_of name.TypeSyntax = Syntax
+group_of name.QuotedSpecial = Parameters
+group_of name.QuotedPair = Parameters
+group_of name.ExtendedParameter = Parameters
+group_of name.WordParameter = Parameters
+group_of name.DuplicateParameter = Parameters
+group_of name.Preamble = Parts
+group_of name.NoDelimiter = Parts
+group_of name.DelimiterInside = Parts
+group_of name.DelimiterTail = Parts
+group_of name.NoClose = Parts
+group_of name.LateDelimiter = Parts
+group_of name.Base64Syntax = Bodies
+group_of name.QpSyntax = Bodies
+group_of name.QpBlank = Bodies
+group_of name.Many = Size
+group_of _ = Others
+
+-- two groups are the same
+abbrev pub same_group : Group → Group → Bool
+same_group Lines Lines = true
+same_group Blocks Blocks = true
+same_group Fields Fields = true
+same_group Syntax Syntax = true
+same_group Parameters Parameters = true
+same_group Parts Parts = true
+same_group Bodies Bodies = true
+same_group Size Size = true
+same_group Others Others = true
+same_group _ _ = false
+
 -- a name of what the bytes of the mail are as lines
 abbrev pub is_line_name : Name → Bool
-is_line_name name.Nul = true
-is_line_name name.LoneCr = true
-is_line_name name.MixedLineEnds = true
-is_line_name _ = false
+is_line_name n = same_group Lines (group_of n)
 
 -- a name of how a header block is written
 abbrev pub is_block_name : Name → Bool
-is_block_name name.NoHeaders = true
-is_block_name name.NoBlankLine = true
-is_block_name name.BadKey = true
-is_block_name name.BlankFold = true
-is_block_name name.CommentFold = true
-is_block_name name.Header8bit = true
-is_block_name _ = false
+is_block_name n = same_group Blocks (group_of n)
 
--- a name of which headers a message has, and of what they say of its encoding and its type
+-- a name of which headers a message has, of the syntax of its types and dispositions, and of what they say
 abbrev pub is_field_name : Name → Bool
-is_field_name name.Duplicate = true
-is_field_name name.TypeSyntax = true
-is_field_name name.EncodingSyntax = true
-is_field_name name.EncodingOnComposite = true
-is_field_name name.OtherMessage = true
-is_field_name name.BadBoundary = true
-is_field_name _ = false
+is_field_name n = same_group Fields (group_of n) || same_group Syntax (group_of n)
+
+-- a name of the values of types and dispositions: their syntax, and their parameters
+abbrev pub is_parameter_name : Name → Bool
+is_parameter_name n = same_group Syntax (group_of n) || same_group Parameters (group_of n)
 
 -- a name of how a multipart is split
 abbrev pub is_part_name : Name → Bool
-is_part_name name.Preamble = true
-is_part_name name.NoDelimiter = true
-is_part_name name.DelimiterInside = true
-is_part_name name.DelimiterTail = true
-is_part_name name.NoClose = true
-is_part_name name.LateDelimiter = true
-is_part_name _ = false
+is_part_name n = same_group Parts (group_of n)
 
 -- a name of how a body is encoded
 abbrev pub is_body_name : Name → Bool
-is_body_name name.Base64Syntax = true
-is_body_name name.QpSyntax = true
-is_body_name name.QpBlank = true
-is_body_name _ = false
+is_body_name n = same_group Bodies (group_of n)
 
 -- the name of mails with many messages or levels
 abbrev pub is_many_name : Name → Bool
-is_many_name name.Many = true
-is_many_name _ = false
+is_many_name n = same_group Size (group_of n)
 
 -- a name that is covered so far
 abbrev pub is_covered : Name → Bool
-is_covered name.Nul = true
-is_covered name.LoneCr = true
-is_covered name.MixedLineEnds = true
-is_covered name.Many = true
-is_covered name.NoHeaders = true
-is_covered name.NoBlankLine = true
-is_covered name.BadKey = true
-is_covered name.BlankFold = true
-is_covered name.CommentFold = true
-is_covered name.Header8bit = true
-is_covered name.Duplicate = true
-is_covered name.TypeSyntax = true
-is_covered name.EncodingSyntax = true
-is_covered name.EncodingOnComposite = true
-is_covered name.OtherMessage = true
-is_covered name.BadBoundary = true
-is_covered name.Preamble = true
-is_covered name.NoDelimiter = true
-is_covered name.DelimiterInside = true
-is_covered name.DelimiterTail = true
-is_covered name.NoClose = true
-is_covered name.LateDelimiter = true
-is_covered name.Base64Syntax = true
-is_covered name.QpSyntax = true
-is_covered name.QpBlank = true
-is_covered _ = false
+is_covered n = not (same_group Others (group_of n))

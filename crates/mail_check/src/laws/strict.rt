@@ -12,12 +12,13 @@ ghost use Rattle.mail_check.specs.strict.Headers.{IsBlock};
 ghost use Rattle.mail_check.specs.strict.LineEnds.{HasNoLoneReturn, HasNoNul};
 ghost use Rattle.mail_check.specs.strict.LineEnds.{HasOneLineEnd, IsText};
 ghost use Rattle.mail_check.specs.strict.Levels.{IsSmall};
-ghost use Rattle.mail_check.specs.strict.Mail.{AreStrictBodies, AreStrictFields, AreStrictParts};
+ghost use Rattle.mail_check.specs.strict.Mail.{AreStrictBodies, AreStrictFields};
+ghost use Rattle.mail_check.specs.strict.Mail.{AreStrictParameters, AreStrictParts};
 ghost use Rattle.mail_check.specs.strict.Mail.{HasStrictBlocks, IsStrictSoFar};
 ghost use Rattle.mail_check.specs.strict.Named.{Lacks, is_block_name, is_body_name, is_covered};
 ghost use Rattle.mail_check.specs.strict.Named.{is_field_name, is_line_name, is_lone_cr_name};
 ghost use Rattle.mail_check.specs.strict.Named.{is_many_name, is_mixed_name, is_nul_name};
-ghost use Rattle.mail_check.specs.strict.Named.{is_part_name};
+ghost use Rattle.mail_check.specs.strict.Named.{is_parameter_name, is_part_name};
 
 /// A mail has no finding `nul` exactly if no byte of it is NUL; no `lone-cr` exactly if a LF
 /// follows each CR; and no `mixed-line-ends` exactly if not both line ends are there. It has none
@@ -54,6 +55,18 @@ pub fn fields_are_strict()
     ensures { (known : Charsets) (greatest : ℕ) (bytes : List ℕ) (t : Tree) →
         read_mail_in known greatest bytes ≡ Ok t →
         Lacks is_field_name (findings known t (placements 0 t)) ↔ AreStrictFields t }
+{}
+
+/// A mail that the port reads has no finding `type-syntax`, `quoted-special`, `quoted-pair`,
+/// `extended-parameter`, `word-parameter` and `duplicate-parameter` exactly if the value of each
+/// `Content-Type` and `Content-Disposition` of each of its messages is plain by the grammar: its
+/// parameters have different names without asterisks, each value is a token, or a text in quotes
+/// without backslashes, semicolons, control characters and outer spaces, and `=?` is nowhere.
+#[tactic(auto, using(crate::proofs::lemmas::StrictMessages::parameters_are_of_grammar))]
+pub fn parameters_are_strict()
+    ensures { (known : Charsets) (greatest : ℕ) (bytes : List ℕ) (t : Tree) →
+        read_mail_in known greatest bytes ≡ Ok t →
+        Lacks is_parameter_name (findings known t (placements 0 t)) ↔ AreStrictParameters t }
 {}
 
 /// A mail that the port reads has no finding `preamble`, `no-delimiter`, `delimiter-inside`,
@@ -97,9 +110,9 @@ pub fn strict_blocks_are_read()
         block ++ body ≡ other ++ rest → block ≡ other }
 {}
 
-/// A mail that the port reads has no finding with any of these twenty-five names exactly if
-/// its bytes, its header blocks, its headers, its types, its multiparts, its bodies and the number
-/// of its messages and levels are those of the grammar.
+/// A mail that the port reads has no finding with any of these thirty names exactly if its
+/// bytes, its header blocks, its headers, its types and their parameters, its multiparts, its bodies
+/// and the number of its messages and levels are those of the grammar.
 pub fn strict_so_far()
     ensures { (known : Charsets) (greatest : ℕ) (bytes : List ℕ) (t : Tree) →
         read_mail_in known greatest bytes ≡ Ok t →

@@ -1,0 +1,84 @@
+-- Names of some groups are names of no other.
+use Rattle.std.proofs.Common.{◌≡◌, Bool, true, false, not, List, [], ◌∷◌}
+use Rattle.std.specs.Prelude.{◌&&◌, ◌||◌}
+use Rattle.std.specs.List.{AllByRecursion, list_all}
+use Rattle.mail_check.specs.strict.Named.{Group, Lines, Blocks, Fields, Syntax, Parameters, Parts, Bodies, Size, Others, group_of, is_covered, same_group}
+use Rattle.mail_check.specs.declared.names.Name.{Name}
+use Rattle.mail_check.proofs.lemmas.StrictHeaders.{both_true, not_false, not_true, second_false}
+
+-- the groups of each law
+abbrev pub of_lines : Group → Bool
+of_lines g = same_group Lines g
+
+abbrev pub of_blocks : Group → Bool
+of_blocks g = same_group Blocks g
+
+abbrev pub of_fields : Group → Bool
+of_fields g = same_group Fields g || same_group Syntax g
+
+abbrev pub of_values : Group → Bool
+of_values g = same_group Syntax g || same_group Parameters g
+
+abbrev pub of_parts : Group → Bool
+of_parts g = same_group Parts g
+
+abbrev pub of_bodies : Group → Bool
+of_bodies g = same_group Bodies g
+
+abbrev pub of_size : Group → Bool
+of_size g = same_group Size g
+
+abbrev pub of_others : Group → Bool
+of_others g = same_group Others g
+
+abbrev pub of_covered : Group → Bool
+of_covered g = not (same_group Others g)
+
+-- those of two laws without the group of both
+abbrev pub of_own_fields : Group → Bool
+of_own_fields g = same_group Fields g
+
+abbrev pub of_parameters : Group → Bool
+of_parameters g = same_group Parameters g
+
+abbrev pub groups : List Group
+groups = Lines ∷ Blocks ∷ Fields ∷ Syntax ∷ Parameters ∷ Parts ∷ Bodies ∷ Size ∷ Others ∷ []
+
+each : (test : Group → Bool) (gs : List Group) → list_all test gs ≡ true → AllByRecursion (λ (g : Group). test g ≡ true) gs
+each test [] h = tt
+each test (g ∷ gs) h = let both = both_true (test g) (list_all test gs) h in (both.0, each test gs both.1)
+
+-- what is so of each of them
+decided : (test : Group → Bool) → list_all test groups ≡ true → (g : Group) → test g ≡ true
+decided test h g = at g (each test groups h)
+  where
+    at : (g : Group) → AllByRecursion (λ (g : Group). test g ≡ true) groups → test g ≡ true
+    at Lines all = all.0
+    at Blocks all = all.1.0
+    at Fields all = all.1.1.0
+    at Syntax all = all.1.1.1.0
+    at Parameters all = all.1.1.1.1.0
+    at Parts all = all.1.1.1.1.1.0
+    at Bodies all = all.1.1.1.1.1.1.0
+    at Size all = all.1.1.1.1.1.1.1.0
+    at Others all = all.1.1.1.1.1.1.1.1.0
+
+-- the names of some groups are not those of others
+pub no_other : (some others : Group → Bool) → list_all (λ g. not (some g && others g)) groups ≡ true
+    → (n : Name) → some (group_of n) ≡ true → others (group_of n) ≡ false
+no_other some others apart n h =
+    let g = group_of n in
+    second_false (some g) (others g) h (not_true (some g && others g) (decided (λ g. not (some g && others g)) apart g))
+
+-- the names of some groups are among those of others
+pub among : (some others : Group → Bool) → list_all (λ g. not (some g && not (others g))) groups ≡ true
+    → (n : Name) → some (group_of n) ≡ true → others (group_of n) ≡ true
+among some others within n h =
+    let g = group_of n in
+    not_false (others g) (second_false (some g) (not (others g)) h
+    (not_true (some g && not (others g)) (decided (λ g. not (some g && not (others g))) within g)))
+
+-- or of those that are not covered
+pub uncovered : (some : Group → Bool) → list_all (λ g. not (of_others g && some g)) groups ≡ true
+    → (n : Name) → is_covered n ≡ false → some (group_of n) ≡ false
+uncovered some apart n h = no_other of_others some apart n (not_false (of_others (group_of n)) h)
