@@ -27,3 +27,8 @@ pub mod StrictTypes
 pub mod StrictValues
 pub mod StrictLevels
 pub mod StrictMessages
+pub mod StrictSenders
+pub mod StrictWords
+pub mod StrictJoins
+pub mod StrictSenderNames
+pub mod StrictWorded

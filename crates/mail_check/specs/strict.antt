@@ -7,5 +7,9 @@ pub mod PlainParameters
 pub mod Fields
 pub mod Delimiters
 pub mod Bodies
+pub mod Senders
+pub mod Words
+pub mod SenderNames
+pub mod Worded
 pub mod Levels
 pub mod Mail

@@ -10,6 +10,7 @@ ghost use Rattle.mail_check.specs.Clean.{HasPlainBytes};
 ghost use Rattle.mail_check.specs.Findings.{Spot, byte_findings, findings, message_findings};
 
 pub mod strict;
+pub mod strict_values;
 
 /// There is no finding of the bytes of a mail exactly if these contain no NUL and no CR without a
 /// LF after it, and not both CR LF and a LF without a CR before it.
