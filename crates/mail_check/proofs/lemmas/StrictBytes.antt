@@ -11,7 +11,7 @@ use Rattle.mail_check.specs.strict.Named.{Lacks, is_covered, is_line_name, is_lo
 use Rattle.mail_check.specs.strict.LineEnds.{HasNoLoneReturn, HasNoNul, HasOneLineEnd, IsText}
 use Rattle.mail_check.proofs.lemmas.Clean.{found_nowhere, not_both, not_later, nowhere_found}
 use Rattle.mail_check.proofs.lemmas.StrictLineEnds.{bare_named, feed_named, lone_named, nul_named, text_is_plain}
-use Rattle.mail_check.proofs.lemmas.StrictNamed.{BytesLack, far_free, first_found, found_first, messages_free}
+use Rattle.mail_check.proofs.lemmas.StrictNamed.{BytesLack, far_free, first_found, found_first, messages_free, senders_free}
 use Rattle.mail_check.specs.declared.names.Name.{Name}
 use Rattle.mail_check.specs.declared.names.Name.TheVariants as name
 
@@ -91,10 +91,12 @@ mixed_only _ h = refl
 -- some of them
 module _ (known : Charsets) (test : Name → Bool) (only : (n : Name) → is_line_name n ≡ false → test n ≡ false) where
   bytes_named : (t : Tree) → Lacks test (findings known t (placements 0 t)) → BytesLack test (root t).bytes
-  bytes_named t h = (found_first known test (λ n e. only n (covers n e)) t h).0
+  bytes_named t h = (found_first known test (λ n e. only n (covers n e)) t h).0.bytes
 
   named_bytes : (t : Tree) → BytesLack test (root t).bytes → Lacks test (findings known t (placements 0 t))
-  named_bytes t h = first_found known test (λ n e. only n (covers n e)) t h (messages_free test only (places t (placements 0 t)))
+  named_bytes t h = first_found known test (λ n e. only n (covers n e)) t
+      (record { bytes = h; senders = senders_free test (only name.FromSyntax refl) (root t) })
+      (messages_free test only (places t (placements 0 t)))
       (far_free test (only name.Many refl) 0 (places t (placements 0 t)))
 
 pub nul_strict : (known : Charsets) (t : Tree) → Lacks is_nul_name (findings known t (placements 0 t)) ↔ HasNoNul (root t).bytes

@@ -9,7 +9,7 @@ use Rattle.mailparse.specs.Block.{read_headers}
 use Rattle.mailparse.specs.Body.{BodyKind, in_base64, in_quoted_printable, in_7bit, in_8bit, in_binary}
 use Rattle.mailparse.specs.ContentType.{ContentType}
 use Rattle.mailparse.specs.Header.{Header}
-use Rattle.mailparse.specs.Mail.{Node, Tree, body_kind, read_mail_in, root, trees_within}
+use Rattle.mailparse.specs.Mail.{Node, Tree, tree, body_kind, read_mail_in, root, trees_within}
 use Rattle.mailparse.specs.Placement.{placements}
 use Rattle.mail_data.specs.Files.{is_leaf}
 use Rattle.mail_data.specs.PartPlaces.{Place, places}
@@ -24,9 +24,10 @@ use Rattle.mail_check.specs.strict.Fields.{HasAtMostOne, HasStrictFields, IsBoun
 use Rattle.mail_check.specs.strict.Headers.{IsBlock, is_address_name}
 use Rattle.mail_check.specs.strict.Levels.{IsSmall}
 use Rattle.mail_check.specs.strict.LineEnds.{IsText}
-use Rattle.mail_check.specs.strict.Mail.{AreStrictBodies, AreStrictFields, AreStrictParameters, AreStrictParts, HasStrictBlocks, IsStrictSoFar}
-use Rattle.mail_check.specs.strict.Named.{Group, Lacks, Size, group_of, is_block_name, is_body_name, is_covered, is_field_name, is_line_name, is_many_name, is_parameter_name, is_part_name}
+use Rattle.mail_check.specs.strict.Mail.{AreStrictBodies, AreStrictFields, AreStrictParameters, AreStrictParts, AreStrictSenders, AreStrictWords, HasStrictBlocks, IsStrictSoFar}
+use Rattle.mail_check.specs.strict.Named.{Group, Lacks, Size, group_of, is_block_name, is_body_name, is_covered, is_field_name, is_from_name, is_line_name, is_many_name, is_parameter_name, is_part_name, is_word_name}
 use Rattle.mail_check.specs.strict.PlainParameters.{HasPlainValue}
+use Rattle.mail_check.specs.strict.Worded.{HasSenderValue, HasWordedValue}
 use Rattle.mail_check.specs.Parameters.{is_bad_value, strict_value}
 use Rattle.mail_check.specs.declared.names.Name.{Name}
 use Rattle.mail_check.specs.declared.names.Name.TheVariants as name
@@ -39,14 +40,15 @@ use Rattle.mail_check.proofs.lemmas.StrictBytes.{found_text, text_found}
 use Rattle.mail_check.proofs.lemmas.StrictFields.{most_one, one_most}
 use Rattle.mail_check.proofs.lemmas.StrictTypes.{field_found, found_field}
 use Rattle.mail_check.proofs.lemmas.StrictValues.{found_plain, plain_found}
-use Rattle.mail_check.proofs.lemmas.StrictGroups.{among, groups, no_other, of_blocks, of_bodies, of_covered, of_fields, of_lines, of_others, of_own_fields, of_parameters, of_parts, of_size, of_values, uncovered}
+use Rattle.mail_check.proofs.lemmas.StrictGroups.{among, groups, no_other, of_blocks, of_bodies, of_covered, of_fields, of_lines, of_others, of_own_fields, of_parameters, of_parts, of_senders, of_size, of_values, of_words, uncovered}
 use Rattle.mail_check.proofs.lemmas.StrictDelimiters.{found_parts, parts_found}
 use Rattle.mail_check.proofs.lemmas.StrictParts.{boundary_inner, dash_made, made_of, not_found, opened_of}
 use Rattle.mail_check.proofs.lemmas.StrictLevels.{found_small, small_found}
 use Rattle.mail_check.proofs.lemmas.StrictBodies.{QuotedFree, base64_of, first_none, none_earlier, none_first, not_earlier, of_base64, of_quoted, quoted_of}
 use Rattle.mail_check.proofs.lemmas.StrictKeys.{lines_are_headers, of_line}
-use Rattle.mail_check.proofs.lemmas.StrictNamed.{BlockLacks, BodyLacks, BytesLack, EncodedLacks, FarLacks, FieldsLack, LineLacks, MessageLacks, ParametersLack, PartsLack, TypeLacks, all_free, all_map, block_free, body_free, bytes_free, far_first, far_free, fields_free, first_found, found_first, lacks_some, own_fields_free, parameters_free, parts_free, some_lacks, text_after}
+use Rattle.mail_check.proofs.lemmas.StrictNamed.{BlockLacks, BodyLacks, BytesLack, EncodedLacks, FarLacks, FieldsLack, LineLacks, MailLacks, MessageLacks, ParametersLack, PartsLack, SenderLacks, TypeLacks, all_free, all_map, block_free, body_free, bytes_free, far_first, far_free, fields_free, first_found, found_first, lacks_some, own_fields_free, parameters_free, parts_free, senders_free, some_lacks, text_after, words_free}
 use Rattle.mail_check.proofs.lemmas.StrictReading.{IsRead, all_of_map, all_with, bytes-there, headers-there, map_of_all, parts-there}
+use Rattle.mail_check.proofs.lemmas.StrictWorded.{WordedLacks}
 
 none_some : (o : Option ℕ) → is_some o ≡ false → o ≡ None
 none_some None h = refl
@@ -214,6 +216,47 @@ strict_parameters test node is h =
     (header_lines node)
     (all_of_map of_line HasPlainValue (header_lines node) (subst (AllByRecursion HasPlainValue) (sym (lines_are_headers node is)) h))
 
+-- the senders of one message, if their name is asked for
+senders_strict : (test : Name → Bool) → test name.FromSyntax ≡ true → (node : Node) → IsRead node
+    → AllByRecursion (SenderLacks test 0) (header_lines node) → AllByRecursion HasSenderValue node.headers
+senders_strict test asked node is h =
+    subst (AllByRecursion HasSenderValue) (lines_are_headers node is) (map_of_all of_line HasSenderValue (header_lines node)
+    (all_map (SenderLacks test 0) (λ line. HasSenderValue (of_line line)) (λ line lacks. lacks asked refl) (header_lines node) h))
+
+strict_senders : (test : Name → Bool) (node : Node) → IsRead node → AllByRecursion HasSenderValue node.headers
+    → AllByRecursion (SenderLacks test 0) (header_lines node)
+strict_senders test node is h =
+    all_map (λ line. HasSenderValue (of_line line)) (SenderLacks test 0) (λ line has t e. has) (header_lines node)
+    (all_of_map of_line HasSenderValue (header_lines node) (subst (AllByRecursion HasSenderValue) (sym (lines_are_headers node is)) h))
+
+-- the words of one message, if all names of them are asked for
+module _ (test : Name → Bool) (asked : (n : Name) → is_word_name n ≡ true → test n ≡ true) where
+  worded_line : (line : HeaderLine) → WordedLacks test line → HasWordedValue (of_line line)
+  worded_line line h e = record {
+    words = h.syntax (asked name.WordSyntax refl) e;
+    apart = h.join (asked name.WordJoin refl) e;
+    names = h.address (asked name.NameAddress refl) e;
+  }
+
+  words_strict : (node : Node) → IsRead node → AllByRecursion (WordedLacks test) (header_lines node)
+      → AllByRecursion HasWordedValue node.headers
+  words_strict node is h =
+      subst (AllByRecursion HasWordedValue) (lines_are_headers node is) (map_of_all of_line HasWordedValue (header_lines node)
+      (all_map (WordedLacks test) (λ line. HasWordedValue (of_line line)) worded_line (header_lines node) h))
+
+line_worded : (test : Name → Bool) (line : HeaderLine) → HasWordedValue (of_line line) → WordedLacks test line
+line_worded test line h = record {
+  syntax = λ t e. (h e).words;
+  join = λ t e. (h e).apart;
+  address = λ t e. (h e).names;
+}
+
+strict_words : (test : Name → Bool) (node : Node) → IsRead node → AllByRecursion HasWordedValue node.headers
+    → AllByRecursion (WordedLacks test) (header_lines node)
+strict_words test node is h =
+    all_map (λ line. HasWordedValue (of_line line)) (WordedLacks test) (line_worded test) (header_lines node)
+    (all_of_map of_line HasWordedValue (header_lines node) (subst (AllByRecursion HasWordedValue) (sym (lines_are_headers node is)) h))
+
 -- how one message is split, if all names of that are asked for
 module _ (test : Name → Bool) (asked : (n : Name) → is_part_name n ≡ true → test n ≡ true) where
   text_split : (t : Tree) (text : List ℕ) → IsBoundary 70 text → PartsLack test t (codes "--" ++ text) → IsSplit (codes "--" ++ text) t
@@ -308,6 +351,13 @@ module _ (known : Charsets) (greatest : ℕ) (bytes : List ℕ) (t : Tree) (read
   read_with P Q f h = all_with (λ (t : Tree). IsRead (root t)) (λ (t : Tree). P (root t)) (λ (t : Tree). Q (root t)) (λ t. f (root t)) (trees_within t)
       (headers-there known greatest bytes t read) h
 
+  -- the mail itself was read
+  root_read : IsRead (root t)
+  root_read = of_first t (headers-there known greatest bytes t read)
+    where
+      of_first : (t : Tree) → AllByRecursion (λ (t : Tree). IsRead (root t)) (trees_within t) → IsRead (root t)
+      of_first (tree node parts) all = all.0
+
   module _ (test : Name → Bool) where
     abbrev AllLack : Type 0
     AllLack = AllByRecursion (λ (p : Place). MessageLacks test p.part) (places t (placements 0 t))
@@ -332,6 +382,17 @@ module _ (known : Charsets) (greatest : ℕ) (bytes : List ℕ) (t : Tree) (read
         (all_map (MessageLacks test) (λ (t : Tree). ValuesLack test (root t)) (λ t lacks. (lacks.fields, lacks.parameters)) (trees_within t)
         (of_places (MessageLacks test) h)))
 
+    senders_found : test name.FromSyntax ≡ true → MailLacks test (root t) → AreStrictSenders t
+    senders_found asked h = senders_strict test asked (root t) root_read h.senders
+
+    words_found : ((n : Name) → is_word_name n ≡ true → test n ≡ true) → AllLack → AreStrictWords t
+    words_found asked h =
+        map_of_all root (λ (node : Node). AllByRecursion HasWordedValue node.headers) (trees_within t)
+        (read_with (λ (node : Node). AllByRecursion (WordedLacks test) (header_lines node))
+        (λ (node : Node). AllByRecursion HasWordedValue node.headers) (words_strict test asked)
+        (all_map (MessageLacks test) (λ (t : Tree). AllByRecursion (WordedLacks test) (header_lines (root t))) (λ t lacks. lacks.words)
+        (trees_within t) (of_places (MessageLacks test) h)))
+
     parts_of_all : ((n : Name) → is_part_name n ≡ true → test n ≡ true) → AllLack → AreStrictParts t
     parts_of_all asked h = all_map (MessageLacks test) HasStrictParts (λ t lacks. parts_strict test asked t lacks.parts) (trees_within t) (of_places (MessageLacks test) h)
 
@@ -347,6 +408,9 @@ module _ (known : Charsets) (greatest : ℕ) (bytes : List ℕ) (t : Tree) (read
 
     abbrev AllParameters : Type 0
     AllParameters = AllByRecursion (λ (t : Tree). AllByRecursion (ParametersLack test) (header_lines (root t))) (trees_within t)
+
+    abbrev AllWords : Type 0
+    AllWords = AllByRecursion (λ (t : Tree). AllByRecursion (WordedLacks test) (header_lines (root t))) (trees_within t)
 
     abbrev Splits : Tree → Type 0
     Splits t = (dash : List ℕ) → dash_of (root t).ctype ≡ Some dash → PartsLack test t dash
@@ -379,6 +443,12 @@ module _ (known : Charsets) (greatest : ℕ) (bytes : List ℕ) (t : Tree) (read
         (all_map (λ line. (is_bad_value line ≡ false) × ParametersLack test line) (λ line. test name.TypeSyntax ≡ true → is_bad_value line ≡ false)
         (λ line both e. both.0) (header_lines (root t)) lines)) (trees_within t) (found_plain_lines h)
 
+    found_words : AreStrictWords t → AllWords
+    found_words h =
+        read_with (λ (node : Node). AllByRecursion HasWordedValue node.headers)
+        (λ (node : Node). AllByRecursion (WordedLacks test) (header_lines node)) (strict_words test)
+        (all_of_map root (λ (node : Node). AllByRecursion HasWordedValue node.headers) (trees_within t) h)
+
     found_splits : AreStrictParts t → AllSplit
     found_splits h = all_map HasStrictParts Splits (strict_parts test) (trees_within t) h
 
@@ -388,21 +458,37 @@ module _ (known : Charsets) (greatest : ℕ) (bytes : List ℕ) (t : Tree) (read
     found_bodies : AreStrictBodies t → AllBodies
     found_bodies h = all_map HasStrictBody (BodyLacks test) (strict_body test) (trees_within t) h
 
-    -- all of a message but its header block and its headers
+    -- the values of the headers of a message, and what comes after them
+    abbrev Values : Tree → Type 0
+    Values t =
+        AllByRecursion (ParametersLack test) (header_lines (root t)) × AllByRecursion (WordedLacks test) (header_lines (root t))
+
     abbrev Contents : Tree → Type 0
     Contents t = Splits t × BodyLacks test t
 
-    all_lack : AllBlocks → AllFields → AllParameters → AllSplit → AllBodies → AllLack
-    all_lack blocks fields parameters splits bodies =
+    -- how its headers are written, and what they say
+    abbrev Headers : Tree → Type 0
+    Headers t = BlockLacks test (root t) × FieldsLack test (root t)
+
+    all_lack : AllBlocks → AllFields → AllParameters → AllWords → AllSplit → AllBodies → AllLack
+    all_lack blocks fields parameters words splits bodies =
         to_places (MessageLacks test)
-        (all_with (λ (t : Tree). BlockLacks test (root t) × ValuesLack test (root t)) Contents (MessageLacks test)
-        (λ t both more. record { block = both.0; fields = both.1.0; parameters = both.1.1; parts = more.0; body = more.1 })
-        (trees_within t)
-        (all_with (λ (t : Tree). BlockLacks test (root t)) (λ (t : Tree). ValuesLack test (root t))
-        (λ (t : Tree). BlockLacks test (root t) × ValuesLack test (root t)) (λ t block values. (block, values)) (trees_within t) blocks
-        (all_with (λ (t : Tree). FieldsLack test (root t)) (λ (t : Tree). AllByRecursion (ParametersLack test) (header_lines (root t)))
-        (λ (t : Tree). ValuesLack test (root t)) (λ t fields parameters. (fields, parameters)) (trees_within t) fields parameters))
-        (all_with Splits (BodyLacks test) Contents (λ t parts body. (parts, body)) (trees_within t) splits bodies))
+        (all_with Headers (λ (t : Tree). Values t × Contents t) (MessageLacks test)
+        (λ t headers rest. record {
+          block = headers.0;
+          fields = headers.1;
+          parameters = rest.0.0;
+          words = rest.0.1;
+          parts = rest.1.0;
+          body = rest.1.1;
+        }) (trees_within t)
+        (all_with (λ (t : Tree). BlockLacks test (root t)) (λ (t : Tree). FieldsLack test (root t)) Headers
+        (λ t block fields. (block, fields)) (trees_within t) blocks fields)
+        (all_with Values Contents (λ (t : Tree). Values t × Contents t) (λ t values contents. (values, contents)) (trees_within t)
+        (all_with (λ (t : Tree). AllByRecursion (ParametersLack test) (header_lines (root t)))
+        (λ (t : Tree). AllByRecursion (WordedLacks test) (header_lines (root t))) Values
+        (λ t parameters words. (parameters, words)) (trees_within t) parameters words)
+        (all_with Splits (BodyLacks test) Contents (λ t parts body. (parts, body)) (trees_within t) splits bodies)))
 
   -- what is not asked for, if the names of some groups are
   module _ (some : Group → Bool) where
@@ -422,6 +508,15 @@ module _ (known : Charsets) (greatest : ℕ) (bytes : List ℕ) (t : Tree) (read
         all_free (λ (t : Tree). AllByRecursion (ParametersLack asks) (header_lines (root t)))
         (λ (t : Tree). parameters_free asks (no_other of_parameters some apart) (root t)) (trees_within t)
 
+    no_words : list_all (λ g. not (of_words g && some g)) groups ≡ true → AllWords asks
+    no_words apart =
+        all_free (λ (t : Tree). AllByRecursion (WordedLacks asks) (header_lines (root t)))
+        (λ (t : Tree). words_free asks (no_other of_words some apart) (root t)) (trees_within t)
+
+    no_senders : list_all (λ g. not (of_senders g && some g)) groups ≡ true
+        → AllByRecursion (SenderLacks asks 0) (header_lines (root t))
+    no_senders apart = senders_free asks (no_other of_senders some apart name.FromSyntax refl) (root t)
+
     no_splits : list_all (λ g. not (of_parts g && some g)) groups ≡ true → AllSplit asks
     no_splits apart = all_free (Splits asks) (parts_free asks (no_other of_parts some apart)) (trees_within t)
 
@@ -438,10 +533,12 @@ module _ (known : Charsets) (greatest : ℕ) (bytes : List ℕ) (t : Tree) (read
     NoneFound = Lacks asks (findings known t (placements 0 t))
 
     -- none of these names, if the bytes are not asked for
-    none_found : Uncovered → list_all (λ g. not (of_lines g && some g)) groups ≡ true → AllLack asks
+    none_found : Uncovered → list_all (λ g. not (of_lines g && some g)) groups ≡ true
+        → AllByRecursion (SenderLacks asks 0) (header_lines (root t)) → AllLack asks
         → FarLacks asks 0 (places t (placements 0 t)) → NoneFound
-    none_found covered apart h far =
-        first_found known asks (uncovered some covered) t (bytes_free asks (no_other of_lines some apart) (root t).bytes) h far
+    none_found covered apart senders h far =
+        first_found known asks (uncovered some covered) t
+        (record { bytes = bytes_free asks (no_other of_lines some apart) (root t).bytes; senders = senders }) h far
 
     of_messages : Uncovered → NoneFound → AllLack asks
     of_messages covered h = (found_first known asks (uncovered some covered) t h).1
@@ -449,49 +546,67 @@ module _ (known : Charsets) (greatest : ℕ) (bytes : List ℕ) (t : Tree) (read
   pub blocks_strict : Lacks is_block_name (findings known t (placements 0 t)) ↔ HasStrictBlocks t
   blocks_strict = (
     λ h. blocks_found is_block_name (λ n e. e) (of_messages of_blocks refl h),
-    λ h. none_found of_blocks refl refl
-        (all_lack is_block_name (found_blocks is_block_name h) (no_fields of_blocks refl) (no_parameters of_blocks refl) (no_splits of_blocks refl)
-        (no_bodies of_blocks refl)) (no_far of_blocks refl),
+    λ h. none_found of_blocks refl refl (no_senders of_blocks refl)
+        (all_lack is_block_name (found_blocks is_block_name h) (no_fields of_blocks refl) (no_parameters of_blocks refl)
+        (no_words of_blocks refl) (no_splits of_blocks refl) (no_bodies of_blocks refl)) (no_far of_blocks refl),
   )
 
   pub fields_are_of_grammar : Lacks is_field_name (findings known t (placements 0 t)) ↔ AreStrictFields t
   fields_are_of_grammar = (
     λ h. fields_found is_field_name (λ n e. e) (of_messages of_fields refl h),
-    λ h. none_found of_fields refl refl
-        (all_lack is_field_name (no_blocks of_fields refl) (found_fields is_field_name h) (no_parameters of_fields refl) (no_splits of_fields refl)
-        (no_bodies of_fields refl)) (no_far of_fields refl),
+    λ h. none_found of_fields refl refl (no_senders of_fields refl)
+        (all_lack is_field_name (no_blocks of_fields refl) (found_fields is_field_name h) (no_parameters of_fields refl)
+        (no_words of_fields refl) (no_splits of_fields refl) (no_bodies of_fields refl)) (no_far of_fields refl),
   )
 
   pub parameters_are_of_grammar : Lacks is_parameter_name (findings known t (placements 0 t)) ↔ AreStrictParameters t
   parameters_are_of_grammar = (
     λ h. parameters_found is_parameter_name (λ n e. e) (of_messages of_values refl h),
-    λ h. none_found of_values refl refl
+    λ h. none_found of_values refl refl (no_senders of_values refl)
         (all_lack is_parameter_name (no_blocks of_values refl) (found_syntax is_parameter_name (no_other of_own_fields of_values refl) h)
-        (found_parameters is_parameter_name h) (no_splits of_values refl) (no_bodies of_values refl)) (no_far of_values refl),
+        (found_parameters is_parameter_name h) (no_words of_values refl) (no_splits of_values refl) (no_bodies of_values refl))
+        (no_far of_values refl),
+  )
+
+  pub senders_are_of_grammar : Lacks is_from_name (findings known t (placements 0 t)) ↔ AreStrictSenders t
+  senders_are_of_grammar = (
+    λ h. senders_found is_from_name refl (found_first known is_from_name (uncovered of_senders refl) t h).0,
+    λ h. none_found of_senders refl refl (strict_senders is_from_name (root t) root_read h)
+        (all_lack is_from_name (no_blocks of_senders refl) (no_fields of_senders refl) (no_parameters of_senders refl)
+        (no_words of_senders refl) (no_splits of_senders refl) (no_bodies of_senders refl)) (no_far of_senders refl),
+  )
+
+  pub words_are_of_grammar : Lacks is_word_name (findings known t (placements 0 t)) ↔ AreStrictWords t
+  words_are_of_grammar = (
+    λ h. words_found is_word_name (λ n e. e) (of_messages of_words refl h),
+    λ h. none_found of_words refl refl (no_senders of_words refl)
+        (all_lack is_word_name (no_blocks of_words refl) (no_fields of_words refl) (no_parameters of_words refl)
+        (found_words is_word_name h) (no_splits of_words refl) (no_bodies of_words refl)) (no_far of_words refl),
   )
 
   pub parts_are_of_grammar : Lacks is_part_name (findings known t (placements 0 t)) ↔ AreStrictParts t
   parts_are_of_grammar = (
     λ h. parts_of_all is_part_name (λ n e. e) (of_messages of_parts refl h),
-    λ h. none_found of_parts refl refl
-        (all_lack is_part_name (no_blocks of_parts refl) (no_fields of_parts refl) (no_parameters of_parts refl) (found_splits is_part_name h)
-        (no_bodies of_parts refl)) (no_far of_parts refl),
+    λ h. none_found of_parts refl refl (no_senders of_parts refl)
+        (all_lack is_part_name (no_blocks of_parts refl) (no_fields of_parts refl) (no_parameters of_parts refl)
+        (no_words of_parts refl) (found_splits is_part_name h) (no_bodies of_parts refl)) (no_far of_parts refl),
   )
 
   pub bodies_are_of_grammar : Lacks is_body_name (findings known t (placements 0 t)) ↔ AreStrictBodies t
   bodies_are_of_grammar = (
     λ h. bodies_of_all is_body_name (λ n e. e) (of_messages of_bodies refl h),
-    λ h. none_found of_bodies refl refl
-        (all_lack is_body_name (no_blocks of_bodies refl) (no_fields of_bodies refl) (no_parameters of_bodies refl) (no_splits of_bodies refl)
-        (found_bodies is_body_name h)) (no_far of_bodies refl),
+    λ h. none_found of_bodies refl refl (no_senders of_bodies refl)
+        (all_lack is_body_name (no_blocks of_bodies refl) (no_fields of_bodies refl) (no_parameters of_bodies refl)
+        (no_words of_bodies refl) (no_splits of_bodies refl) (found_bodies is_body_name h)) (no_far of_bodies refl),
   )
 
   pub many_of_grammar : Lacks is_many_name (findings known t (placements 0 t)) ↔ IsSmall t
   many_of_grammar = (
     λ h. small_found is_many_name known greatest bytes t read refl (far_first known is_many_name (uncovered of_size refl) t h),
-    λ h. none_found of_size refl refl
-        (all_lack is_many_name (no_blocks of_size refl) (no_fields of_size refl) (no_parameters of_size refl) (no_splits of_size refl)
-        (no_bodies of_size refl)) (found_small is_many_name known greatest bytes t read h),
+    λ h. none_found of_size refl refl (no_senders of_size refl)
+        (all_lack is_many_name (no_blocks of_size refl) (no_fields of_size refl) (no_parameters of_size refl)
+        (no_words of_size refl) (no_splits of_size refl) (no_bodies of_size refl))
+        (found_small is_many_name known greatest bytes t read h),
   )
 
   line_part : BytesLack is_covered (root t).bytes → BytesLack is_line_name (root t).bytes
@@ -504,10 +619,12 @@ module _ (known : Charsets) (greatest : ℕ) (bytes : List ℕ) (t : Tree) (read
   so_far h =
       let both = found_first known is_covered (λ n e. e) t h in
       record {
-        lines = subst IsText (bytes-there known greatest bytes t read) (text_found (root t).bytes (line_part both.0));
+        lines = subst IsText (bytes-there known greatest bytes t read) (text_found (root t).bytes (line_part both.0.bytes));
         blocks = blocks_found is_covered (among of_blocks of_covered refl) both.1;
         fields = fields_found is_covered (among of_fields of_covered refl) both.1;
         parameters = parameters_found is_covered (among of_values of_covered refl) both.1;
+        senders = senders_found is_covered refl both.0;
+        words = words_found is_covered (among of_words of_covered refl) both.1;
         parts = parts_of_all is_covered (among of_parts of_covered refl) both.1;
         bodies = bodies_of_all is_covered (among of_bodies of_covered refl) both.1;
         small = small_found is_covered known greatest bytes t read refl (far_first known is_covered (λ n e. e) t h);
@@ -515,9 +632,14 @@ module _ (known : Charsets) (greatest : ℕ) (bytes : List ℕ) (t : Tree) (read
 
   from_so_far : IsStrictSoFar bytes t → Lacks is_covered (findings known t (placements 0 t))
   from_so_far h =
-      first_found known is_covered (λ n e. e) t (part_line (found_text (root t).bytes (subst IsText (sym (bytes-there known greatest bytes t read)) h.lines)))
+      first_found known is_covered (λ n e. e) t
+      (record {
+        bytes = part_line (found_text (root t).bytes (subst IsText (sym (bytes-there known greatest bytes t read)) h.lines));
+        senders = strict_senders is_covered (root t) root_read h.senders;
+      })
       (all_lack is_covered (found_blocks is_covered h.blocks) (found_fields is_covered h.fields)
-      (found_parameters is_covered h.parameters) (found_splits is_covered h.parts) (found_bodies is_covered h.bodies))
+      (found_parameters is_covered h.parameters) (found_words is_covered h.words) (found_splits is_covered h.parts)
+      (found_bodies is_covered h.bodies))
       (found_small is_covered known greatest bytes t read h.small)
 
   pub mail_strict : Lacks is_covered (findings known t (placements 0 t)) ↔ IsStrictSoFar bytes t

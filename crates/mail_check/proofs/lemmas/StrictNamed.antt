@@ -23,9 +23,11 @@ use Rattle.mail_check.specs.Lines.{HeaderLine, ends_block, has_blank_fold, has_c
 use Rattle.mail_check.specs.Parameters.{has_extended, has_other_name, has_quoted_pair, has_quoted_special, has_repeat, has_word, is_bad_value, none_seen, parameter_names, strict_value}
 use Rattle.mail_check.specs.Multiparts.{dash_of, is_bad_boundary, is_close, is_inside, is_tailed, late_delimiter}
 use Rattle.mail_check.specs.strict.Named.{Lacks, group_of, is_block_name, is_body_name, is_covered, is_field_name, is_line_name, is_part_name}
-use Rattle.mail_check.proofs.lemmas.StrictGroups.{among, no_other, of_blocks, of_bodies, of_fields, of_lines, of_own_fields, of_parameters, of_parts}
-use Rattle.mail_check.proofs.lemmas.StrictOthers.{each_lacks, false_listed, file_others, lacks_both, lacks_each, lacks_left, lacks_right, listed_false, listed_none, none_listed, other, other_if, sender_others, text_others, truth, worded_others}
+use Rattle.mail_check.specs.strict.Senders.{IsSenderValue}
+use Rattle.mail_check.proofs.lemmas.StrictGroups.{among, no_other, of_blocks, of_bodies, of_fields, of_lines, of_own_fields, of_parameters, of_parts, of_words}
+use Rattle.mail_check.proofs.lemmas.StrictOthers.{each_lacks, false_listed, file_others, lacks_both, lacks_each, lacks_left, lacks_right, listed_false, listed_none, none_listed, other, other_if, text_others, truth}
 use Rattle.mail_check.proofs.lemmas.StrictReading.{all_with}
+use Rattle.mail_check.proofs.lemmas.StrictWorded.{WordedLacks, lack_sender, lack_worded, sender_lacks, worded_lacks}
 use Rattle.mail_check.specs.declared.names.Name.{Name}
 use Rattle.mail_check.specs.declared.names.Name.TheVariants as name
 
@@ -80,6 +82,19 @@ lacks_some test (Some text) f = f text refl
 abbrev pub ParametersLack : (Name → Bool) → HeaderLine → Type 0
 ParametersLack test line = SomeLacks test (strict_value line)
 
+-- nor has it as a sender, after this many messages
+abbrev pub SenderLacks : (Name → Bool) → ℕ → HeaderLine → Type 0
+SenderLacks test number line =
+    test name.FromSyntax ≡ true → (number == 0) ≡ true → is_named (codes "From") line ≡ true → IsSenderValue line.value
+
+-- all of this
+record HeaderLacks (test : Name → Bool) (number : ℕ) (node : Node) (line : HeaderLine) : Type 0 where
+  own : LineLacks test (length node.block) line
+  type : TypeLacks test node.ctype line
+  parameters : ParametersLack test line
+  sender : SenderLacks test number line
+  words : WordedLacks test line
+
 -- nor has a header block
 pub record BlockLacks (test : Name → Bool) (node : Node) : Type 0 where
   pub no_headers : test name.NoHeaders ≡ true → has_none (header_lines node) ≡ false
@@ -122,8 +137,14 @@ pub record MessageLacks (test : Name → Bool) (t : Tree) : Type 0 where
   pub block : BlockLacks test (root t)
   pub fields : FieldsLack test (root t)
   pub parameters : AllByRecursion (ParametersLack test) (header_lines (root t))
+  pub words : AllByRecursion (WordedLacks test) (header_lines (root t))
   pub parts : (dash : List ℕ) → dash_of (root t).ctype ≡ Some dash → PartsLack test t dash
   pub body : BodyLacks test t
+
+-- nor has a whole mail, in what is asked of no part of it
+pub record MailLacks (test : Name → Bool) (node : Node) : Type 0 where
+  pub bytes : BytesLack test node.bytes
+  pub senders : AllByRecursion (SenderLacks test 0) (header_lines node)
 
 -- nor has the number of a message, or its path
 abbrev pub FarLacks : (Name → Bool) → ℕ → List Place → Type 0
@@ -133,6 +154,10 @@ FarLacks test number (place ∷ found) = (test name.Many ≡ true → is_far num
 pub all_map : {X : Type 0} (P Q : X → Type 0) → ((x : X) → P x → Q x) → (xs : List X) → AllByRecursion P xs → AllByRecursion Q xs
 all_map P Q f [] h = tt
 all_map P Q f (x ∷ xs) h = (f x h.0, all_map P Q f xs h.1)
+
+pub all_free : {X : Type 0} (P : X → Type 0) → ((x : X) → P x) → (xs : List X) → AllByRecursion P xs
+all_free P f [] = tt
+all_free P f (x ∷ xs) = (f x, all_free P f xs)
 
 -- the place of a mail itself, and those after it
 abbrev first_place_of : Node → Forest → Place
@@ -266,35 +291,39 @@ module _ (known : Charsets) (test : Name → Bool) (others : (n : Name) → is_c
       (other_if test others spot name.TwoNames (has_other_name line (parameter_names text)) refl))
 
   header_lacks : (number : ℕ) (place : Place) (line : HeaderLine) → Lacks test (header_findings known number place line)
-      → LineLacks test (length (root place.part).block) line × (TypeLacks test (root place.part).ctype line × ParametersLack test line)
+      → HeaderLacks test number (root place.part) line
   header_lacks number place line h =
       let spot = spot_in place line.start (length line.bytes) in
-      let size = length (root place.part).block in
       let ctype = (root place.part).ctype in
-      let later = sender_findings number spot line ++ worded_findings known spot line in
-      let rest = lacks_right test (line_findings spot size line) (parameter_findings spot line ++ (type_findings spot ctype line ++ later)) h in (
-        line_lacks spot size line (lacks_left test (line_findings spot size line) (parameter_findings spot line ++ (type_findings spot ctype line ++ later)) h),
-        (
-          type_lacks spot ctype line (lacks_left test (parameter_findings spot line) (type_findings spot ctype line ++ later) rest)
-              (lacks_left test (type_findings spot ctype line) later
-              (lacks_right test (parameter_findings spot line) (type_findings spot ctype line ++ later) rest)),
-          some_lack spot line (strict_value line)
-              (lacks_right test (listed_if spot name.TypeSyntax (is_bad_value line)) (strict_findings spot line (strict_value line))
-              (lacks_left test (parameter_findings spot line) (type_findings spot ctype line ++ later) rest)),
-        ),
-      )
+      let own = line_findings spot (length (root place.part).block) line in
+      let values = parameter_findings spot line in
+      let types = type_findings spot ctype line in
+      let sender = sender_findings number spot line in
+      let words = worded_findings known spot line in
+      let first = lacks_right test own (values ++ (types ++ (sender ++ words))) h in
+      let second = lacks_right test values (types ++ (sender ++ words)) first in
+      let third = lacks_right test types (sender ++ words) second in
+      let value = lacks_left test values (types ++ (sender ++ words)) first in
+      record {
+        own = line_lacks spot (length (root place.part).block) line (lacks_left test own (values ++ (types ++ (sender ++ words))) h);
+        type = type_lacks spot ctype line value (lacks_left test types (sender ++ words) second);
+        parameters = some_lack spot line (strict_value line)
+            (lacks_right test (listed_if spot name.TypeSyntax (is_bad_value line)) (strict_findings spot line (strict_value line)) value);
+        sender = sender_lacks test number spot line (lacks_left test sender words third);
+        words = worded_lacks test known spot line (lacks_right test sender words third);
+      }
 
-  lack_header : (number : ℕ) (place : Place) (line : HeaderLine) → LineLacks test (length (root place.part).block) line
-      → TypeLacks test (root place.part).ctype line × ParametersLack test line → Lacks test (header_findings known number place line)
-  lack_header number place line h both_lack =
+  lack_header : (number : ℕ) (place : Place) (line : HeaderLine) → HeaderLacks test number (root place.part) line
+      → Lacks test (header_findings known number place line)
+  lack_header number place line h =
       let spot = spot_in place line.start (length line.bytes) in
-      let k = both_lack.0 in
-      both _ _ (lack_line spot (length (root place.part).block) line h)
+      both _ _ (lack_line spot (length (root place.part).block) line h.own)
       (both _ _
-      (both _ _ (false_listed test spot name.TypeSyntax (is_bad_value line) k.syntax)
-      (lack_some spot line (strict_value line) both_lack.1))
-      (both _ _ (lack_type spot (root place.part).ctype line k)
-      (both _ _ (sender_others test others number spot line) (worded_others test others known spot line))))
+      (both _ _ (false_listed test spot name.TypeSyntax (is_bad_value line) h.type.syntax)
+      (lack_some spot line (strict_value line) h.parameters))
+      (both _ _ (lack_type spot (root place.part).ctype line h.type)
+      (both _ _ (lack_sender test number spot line h.sender)
+      (lack_worded test known spot line (others name.WordBytes refl) h.words))))
 
   -- ---- repeated headers
 
@@ -317,9 +346,16 @@ module _ (known : Charsets) (test : Name → Bool) (others : (n : Name) → is_c
 
   -- ---- a message
 
+  -- its headers
+  record HeadersLack (number : ℕ) (node : Node) : Type 0 where
+    block : BlockLacks test node
+    fields : FieldsLack test node
+    parameters : AllByRecursion (ParametersLack test) (header_lines node)
+    senders : AllByRecursion (SenderLacks test number) (header_lines node)
+    words : AllByRecursion (WordedLacks test) (header_lines node)
+
   block_lacks : (number : ℕ) (place : Place) → Lacks test (block_findings known number place (header_lines (root place.part)))
-      → BlockLacks test (root place.part)
-      × (FieldsLack test (root place.part) × AllByRecursion (ParametersLack test) (header_lines (root place.part)))
+      → HeadersLack number (root place.part)
   block_lacks number place h =
       let node = root place.part in
       let lines = header_lines node in
@@ -327,36 +363,56 @@ module _ (known : Charsets) (test : Name → Bool) (others : (n : Name) → is_c
       let headers = flat_map (header_findings known number place) lines in
       let repeats = repeated_findings place lines single_names in
       let rest = lacks_right test none (headers ++ repeats) h in
-      let each = lacks_each test (header_findings known number place) lines (lacks_left test headers repeats rest) in (
-        record {
+      let each = all_map (λ line. Lacks test (header_findings known number place line)) (HeaderLacks test number node)
+      (header_lacks number place) lines
+      (lacks_each test (header_findings known number place) lines (lacks_left test headers repeats rest)) in
+      record {
+        block = record {
           no_headers = listed_false test (spot_in place 0 0) name.NoHeaders (has_none lines) (lacks_left test none (headers ++ repeats) h);
-          lines = all_map (λ line. Lacks test (header_findings known number place line)) (LineLacks test (length node.block))
-              (λ line lacks. (header_lacks number place line lacks).0) lines each;
-        },
-        (
-          record {
-            types = all_map (λ line. Lacks test (header_findings known number place line)) (TypeLacks test node.ctype)
-                (λ line lacks. (header_lacks number place line lacks).1.0) lines each;
-            repeats = λ e. all_map (λ (n : List ℕ). Lacks test (repeated place (second_named n lines))) (λ (n : List ℕ). second_named n lines ≡ None)
-                (λ n lacks. repeated_none place (second_named n lines) lacks e) single_names
-                (lacks_each test (λ (n : List ℕ). repeated place (second_named n lines)) single_names (lacks_right test headers repeats rest));
-          },
-          all_map (λ line. Lacks test (header_findings known number place line)) (ParametersLack test)
-              (λ line lacks. (header_lacks number place line lacks).1.1) lines each,
-        ),
-      )
+          lines = all_map (HeaderLacks test number node) (LineLacks test (length node.block)) (λ line lacks. lacks.own) lines each;
+        };
+        fields = record {
+          types = all_map (HeaderLacks test number node) (TypeLacks test node.ctype) (λ line lacks. lacks.type) lines each;
+          repeats = λ e. all_map (λ (n : List ℕ). Lacks test (repeated place (second_named n lines)))
+              (λ (n : List ℕ). second_named n lines ≡ None)
+              (λ n lacks. repeated_none place (second_named n lines) lacks e) single_names
+              (lacks_each test (λ (n : List ℕ). repeated place (second_named n lines)) single_names (lacks_right test headers repeats rest));
+        };
+        parameters = all_map (HeaderLacks test number node) (ParametersLack test) (λ line lacks. lacks.parameters) lines each;
+        senders = all_map (HeaderLacks test number node) (SenderLacks test number) (λ line lacks. lacks.sender) lines each;
+        words = all_map (HeaderLacks test number node) (WordedLacks test) (λ line lacks. lacks.words) lines each;
+      }
 
-  lack_block : (number : ℕ) (place : Place) → MessageLacks test place.part → Lacks test (block_findings known number place (header_lines (root place.part)))
+  lack_block : (number : ℕ) (place : Place) → HeadersLack number (root place.part)
+      → Lacks test (block_findings known number place (header_lines (root place.part)))
   lack_block number place h =
       let node = root place.part in
       let lines = header_lines node in
       both _ _ (false_listed test (spot_in place 0 0) name.NoHeaders (has_none lines) h.block.no_headers)
       (both _ _ (each_lacks test (header_findings known number place) lines
-      (all_with (LineLacks test (length node.block)) (λ line. TypeLacks test node.ctype line × ParametersLack test line)
-      (λ line. Lacks test (header_findings known number place line)) (lack_header number place) lines h.block.lines
-      (all_with (TypeLacks test node.ctype) (ParametersLack test) (λ line. TypeLacks test node.ctype line × ParametersLack test line)
-      (λ line types parameters. (types, parameters)) lines h.fields.types h.parameters)))
+      (all_map (HeaderLacks test number node) (λ line. Lacks test (header_findings known number place line)) (lack_header number place) lines
+      (all_with Written Values (HeaderLacks test number node)
+      (λ line written values. record {
+        own = written.0;
+        type = written.1;
+        parameters = values.0;
+        sender = values.1.0;
+        words = values.1.1;
+      }) lines
+      (all_with (LineLacks test (length node.block)) (TypeLacks test node.ctype) Written (λ line own type. (own, type)) lines
+      h.block.lines h.fields.types)
+      (all_with (ParametersLack test) Worded Values (λ line parameters words. (parameters, words)) lines h.parameters
+      (all_with (SenderLacks test number) (WordedLacks test) Worded (λ line sender words. (sender, words)) lines h.senders h.words)))))
       (each_lacks test (λ (n : List ℕ). repeated place (second_named n lines)) single_names (repeats_lack place lines single_names h.fields.repeats)))
+    where
+      Written : HeaderLine → Type 0
+      Written line = LineLacks test (length (root place.part).block) line × TypeLacks test (root place.part).ctype line
+
+      Worded : HeaderLine → Type 0
+      Worded line = SenderLacks test number line × WordedLacks test line
+
+      Values : HeaderLine → Type 0
+      Values line = ParametersLack test line × Worded line
 
   -- ---- multiparts
 
@@ -468,7 +524,8 @@ module _ (known : Charsets) (test : Name → Bool) (others : (n : Name) → is_c
       ++ (multipart_findings place (dash_of node.ctype)
       ++ leaf_findings known place)))
 
-  later_lacks : (number : ℕ) (place : Place) → Lacks test (later_findings number place) → MessageLacks test place.part
+  later_lacks : (number : ℕ) (place : Place) → Lacks test (later_findings number place)
+      → MessageLacks test place.part × AllByRecursion (SenderLacks test number) (header_lines (root place.part))
   later_lacks number place h =
       let node = root place.part in
       let far = listed_if (spot_in place 0 (length node.bytes)) name.Many (is_far number place) in
@@ -477,22 +534,32 @@ module _ (known : Charsets) (test : Name → Bool) (others : (n : Name) → is_c
       let multipart = multipart_findings place (dash_of node.ctype) in
       let leaf = leaf_findings known place in
       let later = lacks_right test far (block ++ (files ++ (multipart ++ leaf))) h in
-      let both = block_lacks number place (lacks_left test block (files ++ (multipart ++ leaf)) later) in
-      let last = lacks_right test files (multipart ++ leaf) (lacks_right test block (files ++ (multipart ++ leaf)) later) in
-      record {
-        block = both.0;
-        fields = both.1.0;
-        parameters = both.1.1;
-        parts = multipart_lacks place (dash_of node.ctype) (lacks_left test multipart leaf last);
-        body = body_lacks place (lacks_right test multipart leaf last);
-      }
+      let headers = block_lacks number place (lacks_left test block (files ++ (multipart ++ leaf)) later) in
+      let last = lacks_right test files (multipart ++ leaf) (lacks_right test block (files ++ (multipart ++ leaf)) later) in (
+        record {
+          block = headers.block;
+          fields = headers.fields;
+          parameters = headers.parameters;
+          words = headers.words;
+          parts = multipart_lacks place (dash_of node.ctype) (lacks_left test multipart leaf last);
+          body = body_lacks place (lacks_right test multipart leaf last);
+        },
+        headers.senders,
+      )
 
-  lack_later : (number : ℕ) (place : Place) → MessageLacks test place.part → (test name.Many ≡ true → is_far number place ≡ false)
-      → Lacks test (later_findings number place)
-  lack_later number place h far =
+  lack_later : (number : ℕ) (place : Place) → MessageLacks test place.part
+      → AllByRecursion (SenderLacks test number) (header_lines (root place.part))
+      → (test name.Many ≡ true → is_far number place ≡ false) → Lacks test (later_findings number place)
+  lack_later number place h senders far =
       let node = root place.part in
       both _ _ (false_listed test (spot_in place 0 (length node.bytes)) name.Many (is_far number place) far)
-      (both _ _ (lack_block number place h)
+      (both _ _ (lack_block number place (record {
+        block = h.block;
+        fields = h.fields;
+        parameters = h.parameters;
+        senders = senders;
+        words = h.words;
+      }))
       (both _ _ (file_others test others (spot_in place 0 (length node.block)) (shown_as node) node)
       (both _ _ (lack_multipart place (dash_of node.ctype) h.parts) (lack_body place h.body))))
 
@@ -510,40 +577,54 @@ module _ (known : Charsets) (test : Name → Bool) (others : (n : Name) → is_c
   after_lack number (place ∷ found) h =
       let own = if suc number == 0 then first_findings (spot_in place 0 1) (root place.part).bytes else [] in
       let message = own ++ later_findings (suc number) place in (
-        later_lacks (suc number) place (lacks_right test own (later_findings (suc number) place) (lacks_left test message (findings_from known (suc (suc number)) found) h)),
+        (later_lacks (suc number) place (lacks_right test own (later_findings (suc number) place)
+            (lacks_left test message (findings_from known (suc (suc number)) found) h))).0,
         after_lack (suc number) found (lacks_right test message (findings_from known (suc (suc number)) found) h),
       )
+
+  -- nor are they the senders of the mail itself
+  no_senders : (number : ℕ) (lines : List HeaderLine) → AllByRecursion (SenderLacks test (suc number)) lines
+  no_senders number lines =
+      all_free (SenderLacks test (suc number)) (λ line t e. let no = eqb-suc-zero number in absurd (cc)) lines
 
   lack_after : (number : ℕ) (found : List Place) → parts_lack found → FarLacks test (suc number) found → Lacks test (findings_from known (suc number) found)
   lack_after number [] h far = tt
   lack_after number (place ∷ found) h far =
       let own = if suc number == 0 then first_findings (spot_in place 0 1) (root place.part).bytes else [] in
       both (own ++ later_findings (suc number) place) (findings_from known (suc (suc number)) found)
-      (both own (later_findings (suc number) place) (no_bytes number (first_findings (spot_in place 0 1) (root place.part).bytes)) (lack_later (suc number) place h.0 far.0))
+      (both own (later_findings (suc number) place) (no_bytes number (first_findings (spot_in place 0 1) (root place.part).bytes))
+      (lack_later (suc number) place h.0 (no_senders number (header_lines (root place.part))) far.0))
       (lack_after (suc number) found h.1 far.1)
 
   -- ---- a mail
 
   -- the first message, and those after it
-  mail_lacks : (place : Place) (found : List Place) → Lacks test (findings_from known 0 (place ∷ found)) → BytesLack test (root place.part).bytes × parts_lack (place ∷ found)
+  mail_lacks : (place : Place) (found : List Place) → Lacks test (findings_from known 0 (place ∷ found))
+      → MailLacks test (root place.part) × parts_lack (place ∷ found)
   mail_lacks place found h =
       let bytes = first_findings (spot_in place 0 1) (root place.part).bytes in
       let message = bytes ++ later_findings 0 place in
-      let own = lacks_left test message (findings_from known 1 found) h in (
-        bytes_lack (spot_in place 0 1) (root place.part).bytes (lacks_left test bytes (later_findings 0 place) own),
-        (later_lacks 0 place (lacks_right test bytes (later_findings 0 place) own), after_lack 0 found (lacks_right test message (findings_from known 1 found) h)),
+      let own = lacks_left test message (findings_from known 1 found) h in
+      let first = later_lacks 0 place (lacks_right test bytes (later_findings 0 place) own) in (
+        record {
+          bytes = bytes_lack (spot_in place 0 1) (root place.part).bytes (lacks_left test bytes (later_findings 0 place) own);
+          senders = first.1;
+        },
+        (first.0, after_lack 0 found (lacks_right test message (findings_from known 1 found) h)),
       )
 
-  lack_mail : (place : Place) (found : List Place) → BytesLack test (root place.part).bytes → parts_lack (place ∷ found) → FarLacks test 0 (place ∷ found)
-      → Lacks test (findings_from known 0 (place ∷ found))
-  lack_mail place found bytes parts far =
+  lack_mail : (place : Place) (found : List Place) → MailLacks test (root place.part) → parts_lack (place ∷ found)
+      → FarLacks test 0 (place ∷ found) → Lacks test (findings_from known 0 (place ∷ found))
+  lack_mail place found h parts far =
       let own = first_findings (spot_in place 0 1) (root place.part).bytes in
       both (own ++ later_findings 0 place) (findings_from known 1 found)
-      (both own (later_findings 0 place) (lack_bytes (spot_in place 0 1) (root place.part).bytes bytes) (lack_later 0 place parts.0 far.0))
+      (both own (later_findings 0 place) (lack_bytes (spot_in place 0 1) (root place.part).bytes h.bytes)
+      (lack_later 0 place parts.0 h.senders far.0))
       (lack_after 0 found parts.1 far.1)
 
   -- the mail itself is at the first place
-  pub found_first : (t : Tree) → Lacks test (findings known t (placements 0 t)) → BytesLack test (root t).bytes × parts_lack (places t (placements 0 t))
+  pub found_first : (t : Tree) → Lacks test (findings known t (placements 0 t))
+      → MailLacks test (root t) × parts_lack (places t (placements 0 t))
   unfolding findings
   found_first (tree node parts) h = mail_lacks (first_place_of node parts) (later_places node parts) h
 
@@ -566,7 +647,8 @@ module _ (known : Charsets) (test : Name → Bool) (others : (n : Name) → is_c
   unfolding findings
   far_first t h = far_lacks 0 (places t (placements 0 t)) h
 
-  pub first_found : (t : Tree) → BytesLack test (root t).bytes → parts_lack (places t (placements 0 t)) → FarLacks test 0 (places t (placements 0 t))
+  pub first_found : (t : Tree) → MailLacks test (root t) → parts_lack (places t (placements 0 t))
+      → FarLacks test 0 (places t (placements 0 t))
       → Lacks test (findings known t (placements 0 t))
   unfolding findings
   first_found (tree node parts) h k far = lack_mail (first_place_of node parts) (later_places node parts) h k far
@@ -575,10 +657,6 @@ module _ (known : Charsets) (test : Name → Bool) (others : (n : Name) → is_c
 
 not_asked : (test : Name → Bool) (n : Name) → test n ≡ false → {A : Type 0} → test n ≡ true → A
 not_asked test n other h = absurd (cc)
-
-pub all_free : {X : Type 0} (P : X → Type 0) → ((x : X) → P x) → (xs : List X) → AllByRecursion P xs
-all_free P f [] = tt
-all_free P f (x ∷ xs) = (f x, all_free P f xs)
 
 pub bytes_free : (test : Name → Bool) → ((n : Name) → is_line_name n ≡ true → test n ≡ false) → (bytes : List ℕ) → BytesLack test bytes
 bytes_free test free bytes = record {
@@ -630,6 +708,18 @@ parameters_free test free node =
       repeats = not_asked test name.DuplicateParameter (free name.DuplicateParameter refl);
     })) (header_lines node)
 
+pub senders_free : (test : Name → Bool) → test name.FromSyntax ≡ false → (node : Node)
+    → AllByRecursion (SenderLacks test 0) (header_lines node)
+senders_free test free node = all_free (SenderLacks test 0) (λ line t e. not_asked test name.FromSyntax free t) (header_lines node)
+
+pub words_free : (test : Name → Bool) → ((n : Name) → of_words (group_of n) ≡ true → test n ≡ false) → (node : Node)
+    → AllByRecursion (WordedLacks test) (header_lines node)
+words_free test free node = all_free (WordedLacks test) (λ line. record {
+  syntax = not_asked test name.WordSyntax (free name.WordSyntax refl);
+  join = not_asked test name.WordJoin (free name.WordJoin refl);
+  address = not_asked test name.NameAddress (free name.NameAddress refl);
+}) (header_lines node)
+
 pub parts_free : (test : Name → Bool) → ((n : Name) → is_part_name n ≡ true → test n ≡ false) → (t : Tree) (dash : List ℕ)
     → dash_of (root t).ctype ≡ Some dash → PartsLack test t dash
 parts_free test free t dash e = record {
@@ -662,6 +752,7 @@ module _ (test : Name → Bool) (only : (n : Name) → is_line_name n ≡ false 
     block = block_free test (λ n e. only n (no_other of_blocks of_lines refl n e)) (root t);
     fields = fields_free test (λ n e. only n (no_other of_fields of_lines refl n e)) (root t);
     parameters = parameters_free test (λ n e. only n (no_other of_parameters of_lines refl n e)) (root t);
+    words = words_free test (λ n e. only n (no_other of_words of_lines refl n e)) (root t);
     parts = parts_free test (λ n e. only n (no_other of_parts of_lines refl n e)) t;
     body = body_free test (λ n e. only n (no_other of_bodies of_lines refl n e)) t;
   }

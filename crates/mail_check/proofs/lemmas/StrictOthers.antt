@@ -1,19 +1,15 @@
 -- Lists of findings without some names, and the findings whose names the grammar of strict mails does not cover.
 use Rattle.std.proofs.Common.{◌≡◌, ℕ, Bool, true, false, List, [], ◌∷◌, ◌++◌, length, refl, Option, Some, None, inl, inr}
-use Rattle.std.specs.Prelude.{◌⊎◌, flat_map, ◌&&◌, ◌==◌, if◌then◌else◌}
-use Rattle.std.specs.List.{AllByRecursion, list_any}
+use Rattle.std.specs.Prelude.{◌⊎◌, flat_map}
+use Rattle.std.specs.List.{AllByRecursion}
 use Rattle.mail_codec.specs.Charset.{Charsets}
 use Rattle.mailparse.specs.Disposition.{Disposition}
 use Rattle.mailparse.specs.Mail.{Node}
 use Rattle.mail_data.specs.PartPlaces.{Place}
 use Rattle.mail_check.specs.Findings.{Finding, Spot, file_findings, file_line, listed, listed_if}
-use Rattle.mail_check.specs.Findings.{sender_findings, spot_of_body, text_findings, word_findings, worded_findings}
+use Rattle.mail_check.specs.Findings.{spot_of_body, text_findings}
 use Rattle.mail_check.specs.FileNames.{has_two_names, has_unsafe_name, has_untyped_name}
-use Rattle.mail_check.specs.Lines.{HeaderLine}
-use Rattle.mail_check.specs.Senders.{is_bad_sender}
 use Rattle.mail_check.specs.Texts.{has_bad_text}
-use Rattle.mail_check.specs.WordBytes.{has_bad_octets}
-use Rattle.mail_check.specs.Words.{has_join, is_bad_name, is_bad_piece, is_worded, pieces}
 use Rattle.mail_check.specs.strict.Named.{Lacks, is_covered}
 use Rattle.mail_check.specs.declared.names.Name.{Name}
 use Rattle.mail_check.specs.declared.names.Name.TheVariants as name
@@ -81,26 +77,6 @@ module _ (test : Name → Bool) (others : (n : Name) → is_covered n ≡ false 
 
   both : (xs ys : List Finding) → Lacks test xs → Lacks test ys → Lacks test (xs ++ ys)
   both = lacks_both test
-
-  either : (is : Bool) (xs : List Finding) → Lacks test xs → Lacks test (if is then xs else [])
-  either true xs h = h
-  either false xs h = tt
-
-  each : {X : Type 0} (f : X → List Finding) → ((x : X) → Lacks test (f x)) → (xs : List X) → Lacks test (flat_map f xs)
-  each f h [] = tt
-  each f h (x ∷ xs) = both (f x) (flat_map f xs) (h x) (each f h xs)
-
-  pub sender_others : (number : ℕ) (spot : Spot) (line : HeaderLine) → Lacks test (sender_findings number spot line)
-  sender_others number spot line = other_if spot name.FromSyntax (number == 0 && is_bad_sender line) refl
-
-  word_others : (known : Charsets) (spot : Spot) (line : HeaderLine) (found : List (List ℕ)) → Lacks test (word_findings known spot line found)
-  word_others known spot line found =
-      both _ _ (other_if spot name.WordSyntax (list_any is_bad_piece found) refl)
-      (both _ _ (other_if spot name.WordJoin (has_join [] found) refl)
-      (both _ _ (other_if spot name.WordBytes (list_any (has_bad_octets known) found) refl) (other_if spot name.NameAddress (is_bad_name line found) refl)))
-
-  pub worded_others : (known : Charsets) (spot : Spot) (line : HeaderLine) → Lacks test (worded_findings known spot line)
-  worded_others known spot line = either (is_worded line) _ (word_others known spot line (pieces line.value))
 
   pub file_others : (spot : Spot) (shown : Disposition) (node : Node) → Lacks test (file_findings spot shown node)
   file_others spot shown node =

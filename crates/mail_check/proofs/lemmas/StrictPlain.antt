@@ -560,7 +560,7 @@ module _ (gap others value rest : List ℕ) (first : ℕ) (is_gap : IsGap gap) (
   equals_steps : (step : Step) → has_step step Closed bytes_of ≡ has_step step Equals (value ++ rest)
   equals_steps step =
       let last : (step : Step) → has_step step Attribute (equals_sign ∷ (value ++ rest)) ≡ has_step step Equals (value ++ rest) =
-          each_step _ refl refl in
+      each_step _ refl refl in
       (head_same (equals_sign ∷ (value ++ rest))).steps step ∙ last step
 
   rest_steps : IsPlainValue value → (step : Step) → has_step step Closed bytes_of ≡ has_step step Closed rest

@@ -10,10 +10,10 @@ use Rattle.mail_check.specs.WordBytes.{has_bad_octets}
 use Rattle.mail_check.specs.Words.{has_join, is_bad_name, is_bad_piece, is_worded, pieces}
 use Rattle.mail_check.specs.declared.names.Name.{Name}
 use Rattle.mail_check.specs.declared.names.Name.TheVariants as name
-use Rattle.mail_check.specs.strict.Named.{Lacks}
+use Rattle.mail_check.specs.strict.Named.{Lacks, is_from_name, is_word_name}
 use Rattle.mail_check.specs.strict.SenderNames.{HasPlainNames}
 use Rattle.mail_check.specs.strict.Senders.{IsSenderValue}
-use Rattle.mail_check.specs.strict.Worded.{is_from_name, is_word_name, is_worded_key, IsWordedField}
+use Rattle.mail_check.specs.strict.Worded.{is_worded_key, IsWordedField}
 use Rattle.mail_check.specs.strict.Words.{HasApartWords, HasStrictWords}
 use Rattle.mail_check.proofs.lemmas.StrictHeaders.{cases_Bool, left_false, right_false, second_false}
 use Rattle.mail_check.proofs.lemmas.StrictJoins.{joins_strict}

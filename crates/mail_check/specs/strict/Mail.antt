@@ -1,7 +1,7 @@
 -- Mails that are strict in what the grammar covers so far.
 use Rattle.std.specs.Prelude.{ℕ, List}
 use Rattle.std.specs.List.{AllByRecursion}
-use Rattle.mailparse.specs.Mail.{Tree, nodes, trees_within}
+use Rattle.mailparse.specs.Mail.{Tree, nodes, root, trees_within}
 use Rattle.mail_check.specs.strict.Bodies.{HasStrictBody}
 use Rattle.mail_check.specs.strict.Delimiters.{HasStrictParts}
 use Rattle.mail_check.specs.strict.Fields.{HasStrictFields}
@@ -9,6 +9,7 @@ use Rattle.mail_check.specs.strict.Headers.{IsBlock}
 use Rattle.mail_check.specs.strict.Levels.{IsSmall}
 use Rattle.mail_check.specs.strict.LineEnds.{IsText}
 use Rattle.mail_check.specs.strict.PlainParameters.{HasPlainValue}
+use Rattle.mail_check.specs.strict.Worded.{HasSenderValue, HasWordedValue}
 
 -- the header block of each message of a mail is one of the grammar
 abbrev pub HasStrictBlocks : Tree → Type 0
@@ -21,6 +22,14 @@ AreStrictFields mail = AllByRecursion HasStrictFields (nodes mail)
 -- so is the value of each of them that is a type or a disposition, and it is plain
 abbrev pub AreStrictParameters : Tree → Type 0
 AreStrictParameters mail = AllByRecursion (λ node. AllByRecursion HasPlainValue node.headers) (nodes mail)
+
+-- so is the value of each sender of the mail itself
+abbrev pub AreStrictSenders : Tree → Type 0
+AreStrictSenders mail = AllByRecursion HasSenderValue (root mail).headers
+
+-- so are the words of the subjects and senders of each message
+abbrev pub AreStrictWords : Tree → Type 0
+AreStrictWords mail = AllByRecursion (λ node. AllByRecursion HasWordedValue node.headers) (nodes mail)
 
 -- so is the text of each multipart
 abbrev pub AreStrictParts : Tree → Type 0
@@ -36,6 +45,8 @@ pub record IsStrictSoFar (bytes : List ℕ) (mail : Tree) : Type 0 where
   pub blocks : HasStrictBlocks mail
   pub fields : AreStrictFields mail
   pub parameters : AreStrictParameters mail
+  pub senders : AreStrictSenders mail
+  pub words : AreStrictWords mail
   pub parts : AreStrictParts mail
   pub bodies : AreStrictBodies mail
   pub small : IsSmall mail

@@ -36,6 +36,10 @@ pub data Group : Type 0 where
   Syntax : Group
   -- the parameters of those that have it
   Parameters : Group
+  -- the senders of the mail itself
+  Senders : Group
+  -- the words of subjects and senders
+  Words : Group
   -- how a multipart is split
   Parts : Group
   -- how a body is encoded
@@ -67,6 +71,10 @@ group_of name.QuotedPair = Parameters
 group_of name.ExtendedParameter = Parameters
 group_of name.WordParameter = Parameters
 group_of name.DuplicateParameter = Parameters
+group_of name.FromSyntax = Senders
+group_of name.WordSyntax = Words
+group_of name.WordJoin = Words
+group_of name.NameAddress = Words
 group_of name.Preamble = Parts
 group_of name.NoDelimiter = Parts
 group_of name.DelimiterInside = Parts
@@ -86,6 +94,8 @@ same_group Blocks Blocks = true
 same_group Fields Fields = true
 same_group Syntax Syntax = true
 same_group Parameters Parameters = true
+same_group Senders Senders = true
+same_group Words Words = true
 same_group Parts Parts = true
 same_group Bodies Bodies = true
 same_group Size Size = true
@@ -107,6 +117,14 @@ is_field_name n = same_group Fields (group_of n) || same_group Syntax (group_of 
 -- a name of the values of types and dispositions: their syntax, and their parameters
 abbrev pub is_parameter_name : Name → Bool
 is_parameter_name n = same_group Syntax (group_of n) || same_group Parameters (group_of n)
+
+-- the name of a sender of the mail itself in another form
+abbrev pub is_from_name : Name → Bool
+is_from_name n = same_group Senders (group_of n)
+
+-- a name of how the words of a subject and of senders are written
+abbrev pub is_word_name : Name → Bool
+is_word_name n = same_group Words (group_of n)
 
 -- a name of how a multipart is split
 abbrev pub is_part_name : Name → Bool

@@ -14,11 +14,13 @@ ghost use Rattle.mail_check.specs.strict.LineEnds.{HasOneLineEnd, IsText};
 ghost use Rattle.mail_check.specs.strict.Levels.{IsSmall};
 ghost use Rattle.mail_check.specs.strict.Mail.{AreStrictBodies, AreStrictFields};
 ghost use Rattle.mail_check.specs.strict.Mail.{AreStrictParameters, AreStrictParts};
+ghost use Rattle.mail_check.specs.strict.Mail.{AreStrictSenders, AreStrictWords};
 ghost use Rattle.mail_check.specs.strict.Mail.{HasStrictBlocks, IsStrictSoFar};
 ghost use Rattle.mail_check.specs.strict.Named.{Lacks, is_block_name, is_body_name, is_covered};
-ghost use Rattle.mail_check.specs.strict.Named.{is_field_name, is_line_name, is_lone_cr_name};
-ghost use Rattle.mail_check.specs.strict.Named.{is_many_name, is_mixed_name, is_nul_name};
-ghost use Rattle.mail_check.specs.strict.Named.{is_parameter_name, is_part_name};
+ghost use Rattle.mail_check.specs.strict.Named.{is_field_name, is_from_name, is_line_name};
+ghost use Rattle.mail_check.specs.strict.Named.{is_lone_cr_name, is_many_name, is_mixed_name};
+ghost use Rattle.mail_check.specs.strict.Named.{is_nul_name, is_parameter_name, is_part_name};
+ghost use Rattle.mail_check.specs.strict.Named.{is_word_name};
 
 /// A mail has no finding `nul` exactly if no byte of it is NUL; no `lone-cr` exactly if a LF
 /// follows each CR; and no `mixed-line-ends` exactly if not both line ends are there. It has none
@@ -69,6 +71,27 @@ pub fn parameters_are_strict()
         Lacks is_parameter_name (findings known t (placements 0 t)) ↔ AreStrictParameters t }
 {}
 
+/// A mail that the port reads has no finding `from-syntax` exactly if the value of each `From` of the
+/// mail itself is of the grammar: one address, or words and texts in quotes and an address in angle
+/// brackets.
+#[tactic(auto, using(crate::proofs::lemmas::StrictMessages::senders_are_of_grammar))]
+pub fn senders_of_mails_are_strict()
+    ensures { (known : Charsets) (greatest : ℕ) (bytes : List ℕ) (t : Tree) →
+        read_mail_in known greatest bytes ≡ Ok t →
+        Lacks is_from_name (findings known t (placements 0 t)) ↔ AreStrictSenders t }
+{}
+
+/// A mail that the port reads has no finding `word-syntax`, `word-join` and `name-address` exactly if
+/// each `Subject`, `From` and `Sender` of each of its messages is of the grammar: each piece of its
+/// value is an encoded word or looks like none, a padded word in Base64 is before no word that
+/// continues it, and no name of a sender can be read as an address.
+#[tactic(auto, using(crate::proofs::lemmas::StrictMessages::words_are_of_grammar))]
+pub fn words_of_mails_are_strict()
+    ensures { (known : Charsets) (greatest : ℕ) (bytes : List ℕ) (t : Tree) →
+        read_mail_in known greatest bytes ≡ Ok t →
+        Lacks is_word_name (findings known t (placements 0 t)) ↔ AreStrictWords t }
+{}
+
 /// A mail that the port reads has no finding `preamble`, `no-delimiter`, `delimiter-inside`,
 /// `delimiter-tail`, `no-close` and `late-delimiter` exactly if each of its multiparts with a
 /// boundary has parts, no colon in its preamble, and a text of the grammar after its header block:
@@ -110,9 +133,9 @@ pub fn strict_blocks_are_read()
         block ++ body ≡ other ++ rest → block ≡ other }
 {}
 
-/// A mail that the port reads has no finding with any of these thirty names exactly if its
-/// bytes, its header blocks, its headers, its types and their parameters, its multiparts, its bodies
-/// and the number of its messages and levels are those of the grammar.
+/// A mail that the port reads has no finding with any of these thirty-four names exactly if its
+/// bytes, its header blocks, its headers, its types and their parameters, its senders and words, its
+/// multiparts, its bodies and the number of its messages and levels are those of the grammar.
 pub fn strict_so_far()
     ensures { (known : Charsets) (greatest : ℕ) (bytes : List ℕ) (t : Tree) →
         read_mail_in known greatest bytes ≡ Ok t →

@@ -6,11 +6,10 @@ ghost use Rattle.mail_check.specs.Findings.{Spot, sender_findings, worded_findin
 ghost use Rattle.mail_check.specs.Lines.{HeaderLine, is_named};
 ghost use Rattle.mail_check.specs.Senders.{is_bad_sender, is_plain_sender};
 ghost use Rattle.mail_check.specs.Words.{has_join, is_bad_name, is_bad_piece, is_word, pieces};
-ghost use Rattle.mail_check.specs.strict.Named.{Lacks};
+ghost use Rattle.mail_check.specs.strict.Named.{Lacks, is_from_name, is_word_name};
 ghost use Rattle.mail_check.specs.strict.SenderNames.{HasPlainNames};
 ghost use Rattle.mail_check.specs.strict.Senders.{IsSenderValue};
-ghost use Rattle.mail_check.specs.strict.Worded.{IsWordedField, is_from_name, is_word_name};
-ghost use Rattle.mail_check.specs.strict.Worded.{is_worded_key};
+ghost use Rattle.mail_check.specs.strict.Worded.{IsWordedField, is_worded_key};
 ghost use Rattle.mail_check.specs.strict.Words.{HasApartWords, HasStrictWords, IsWord};
 
 /// A value names one plain sender exactly if it is of the grammar: blanks with at most one fold,
