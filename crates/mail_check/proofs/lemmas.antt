@@ -25,6 +25,7 @@ pub mod StrictParameters
 pub mod StrictPlain
 pub mod StrictTypes
 pub mod StrictValues
+pub mod StrictFileNames
 pub mod StrictLevels
 pub mod StrictMessages
 pub mod StrictSenders

@@ -4,6 +4,7 @@ pub mod LineEnds
 pub mod Headers
 pub mod Parameters
 pub mod PlainParameters
+pub mod FileNames
 pub mod Fields
 pub mod Delimiters
 pub mod Bodies

@@ -2,7 +2,7 @@
 use Rattle.std.proofs.Common.{◌≡◌, Bool, true, false, not, List, [], ◌∷◌}
 use Rattle.std.specs.Prelude.{◌&&◌, ◌||◌}
 use Rattle.std.specs.List.{AllByRecursion, list_all}
-use Rattle.mail_check.specs.strict.Named.{Group, Lines, Blocks, Fields, Syntax, Parameters, Senders, Words, Parts, Bodies, Size, Others, group_of, is_covered, same_group}
+use Rattle.mail_check.specs.strict.Named.{Group, Lines, Blocks, Fields, Syntax, Parameters, Files, Senders, Words, Parts, Bodies, Size, Others, group_of, is_covered, same_group}
 use Rattle.mail_check.specs.declared.names.Name.{Name}
 use Rattle.mail_check.proofs.lemmas.StrictHeaders.{both_true, not_false, not_true, second_false}
 
@@ -18,6 +18,9 @@ of_fields g = same_group Fields g || same_group Syntax g
 
 abbrev pub of_values : Group → Bool
 of_values g = same_group Syntax g || same_group Parameters g
+
+abbrev pub of_named_values : Group → Bool
+of_named_values g = same_group Syntax g || (same_group Parameters g || same_group Files g)
 
 abbrev pub of_senders : Group → Bool
 of_senders g = same_group Senders g
@@ -40,15 +43,18 @@ of_others g = same_group Others g
 abbrev pub of_covered : Group → Bool
 of_covered g = not (same_group Others g)
 
--- those of two laws without the group of both
+-- those of some laws without the groups of others
 abbrev pub of_own_fields : Group → Bool
 of_own_fields g = same_group Fields g
 
 abbrev pub of_parameters : Group → Bool
 of_parameters g = same_group Parameters g
 
+abbrev pub of_files : Group → Bool
+of_files g = same_group Files g
+
 abbrev pub groups : List Group
-groups = Lines ∷ Blocks ∷ Fields ∷ Syntax ∷ Parameters ∷ Senders ∷ Words ∷ Parts ∷ Bodies ∷ Size ∷ Others ∷ []
+groups = Lines ∷ Blocks ∷ Fields ∷ Syntax ∷ Parameters ∷ Files ∷ Senders ∷ Words ∷ Parts ∷ Bodies ∷ Size ∷ Others ∷ []
 
 each : (test : Group → Bool) (gs : List Group) → list_all test gs ≡ true → AllByRecursion (λ (g : Group). test g ≡ true) gs
 each test [] h = tt
@@ -64,12 +70,13 @@ decided test h g = at g (each test groups h)
     at Fields all = all.1.1.0
     at Syntax all = all.1.1.1.0
     at Parameters all = all.1.1.1.1.0
-    at Senders all = all.1.1.1.1.1.0
-    at Words all = all.1.1.1.1.1.1.0
-    at Parts all = all.1.1.1.1.1.1.1.0
-    at Bodies all = all.1.1.1.1.1.1.1.1.0
-    at Size all = all.1.1.1.1.1.1.1.1.1.0
-    at Others all = all.1.1.1.1.1.1.1.1.1.1.0
+    at Files all = all.1.1.1.1.1.0
+    at Senders all = all.1.1.1.1.1.1.0
+    at Words all = all.1.1.1.1.1.1.1.0
+    at Parts all = all.1.1.1.1.1.1.1.1.0
+    at Bodies all = all.1.1.1.1.1.1.1.1.1.0
+    at Size all = all.1.1.1.1.1.1.1.1.1.1.0
+    at Others all = all.1.1.1.1.1.1.1.1.1.1.1.0
 
 -- the names of some groups are not those of others
 pub no_other : (some others : Group → Bool) → list_all (λ g. not (some g && others g)) groups ≡ true

@@ -1,5 +1,5 @@
 -- The messages of a mail without findings of the names that the grammar of strict mails covers.
-use Rattle.std.proofs.Common.{inl, inr, ◌≡◌, ◌∙◌, ◌<◌, ℕ, Bool, true, false, List, [], ◌∷◌, length, take, drop, Ok, ◌++◌, ◌+◌, length-take, refl, sym, ap, subst, Option, Some, None, arith}
+use Rattle.std.proofs.Common.{inl, inr, ◌≡◌, ◌∙◌, ◌<◌, ℕ, Bool, true, false, List, [], ◌∷◌, length, map, take, drop, Ok, ◌++◌, ◌+◌, length-take, refl, sym, ap, subst, Option, Some, None, arith}
 use Rattle.std.specs.Prelude.{◌↔◌, ◌&&◌, ◌==◌, codes, is_some, not}
 use Rattle.std.specs.List.{AllByRecursion, list_all}
 use Rattle.std.proofs.lemmas.List.{take-append-drop}
@@ -9,23 +9,25 @@ use Rattle.mailparse.specs.Block.{read_headers}
 use Rattle.mailparse.specs.Body.{BodyKind, in_base64, in_quoted_printable, in_7bit, in_8bit, in_binary}
 use Rattle.mailparse.specs.ContentType.{ContentType}
 use Rattle.mailparse.specs.Header.{Header}
-use Rattle.mailparse.specs.Mail.{Node, Tree, tree, body_kind, read_mail_in, root, trees_within}
+use Rattle.mailparse.specs.Mail.{Node, Tree, tree, body_kind, read_mail_in, root, shown_as, trees_within}
 use Rattle.mailparse.specs.Placement.{placements}
 use Rattle.mail_data.specs.Files.{is_leaf}
 use Rattle.mail_data.specs.PartPlaces.{Place, places}
 use Rattle.mail_check.specs.Bodies.{is_base64_lines}
 use Rattle.mail_check.specs.Bytes.{first_byte, first_offset, is_bad_escape, is_blank_fold, is_comment_fold, is_control, is_end_blank, is_escaped_end}
+use Rattle.mail_check.specs.FileNames.{lacks_type}
 use Rattle.mail_check.specs.Findings.{findings, has_none}
 use Rattle.mail_check.specs.Lines.{HeaderLine, header_lines, lines_from, second_named}
 use Rattle.mail_check.specs.Multiparts.{dash_of, is_inside, is_tailed}
 use Rattle.mail_check.specs.strict.Bodies.{HasStrictBody, IsEncoded}
 use Rattle.mail_check.specs.strict.Delimiters.{HasStrictParts, IsSplit}
 use Rattle.mail_check.specs.strict.Fields.{HasAtMostOne, HasStrictFields, IsBoundary, IsField, once_names}
+use Rattle.mail_check.specs.strict.FileNames.{HasOwnNames, HasStrictFileName}
 use Rattle.mail_check.specs.strict.Headers.{IsBlock, is_address_name}
 use Rattle.mail_check.specs.strict.Levels.{IsSmall}
 use Rattle.mail_check.specs.strict.LineEnds.{IsText}
-use Rattle.mail_check.specs.strict.Mail.{AreStrictBodies, AreStrictFields, AreStrictParameters, AreStrictParts, AreStrictSenders, AreStrictWords, HasStrictBlocks, IsStrictSoFar}
-use Rattle.mail_check.specs.strict.Named.{Group, Lacks, Size, group_of, is_block_name, is_body_name, is_covered, is_field_name, is_from_name, is_line_name, is_many_name, is_parameter_name, is_part_name, is_word_name}
+use Rattle.mail_check.specs.strict.Mail.{AreStrictBodies, AreStrictFields, AreStrictFileNames, AreStrictParameters, AreStrictParts, AreStrictSenders, AreStrictWords, HasStrictBlocks, IsStrictSoFar}
+use Rattle.mail_check.specs.strict.Named.{Group, Lacks, Size, group_of, is_block_name, is_body_name, is_covered, is_field_name, is_file_name, is_from_name, is_line_name, is_many_name, is_parameter_name, is_part_name, is_word_name}
 use Rattle.mail_check.specs.strict.PlainParameters.{HasPlainValue}
 use Rattle.mail_check.specs.strict.Worded.{HasSenderValue, HasWordedValue}
 use Rattle.mail_check.specs.Parameters.{is_bad_value, strict_value}
@@ -38,15 +40,16 @@ use Rattle.mail_check.proofs.lemmas.StrictHeaders.{cases_Bool, is_not, is_so, le
 use Rattle.mail_check.proofs.lemmas.StrictBlocks.{GoodLine, block_lines, lines_block}
 use Rattle.mail_check.proofs.lemmas.StrictBytes.{found_text, text_found}
 use Rattle.mail_check.proofs.lemmas.StrictFields.{most_one, one_most}
+use Rattle.mail_check.proofs.lemmas.StrictFileNames.{found_names, missing_type, named_some, names_found, names_same, same_names, some_named, type_missing}
 use Rattle.mail_check.proofs.lemmas.StrictTypes.{field_found, found_field}
 use Rattle.mail_check.proofs.lemmas.StrictValues.{found_plain, plain_found}
-use Rattle.mail_check.proofs.lemmas.StrictGroups.{among, groups, no_other, of_blocks, of_bodies, of_covered, of_fields, of_lines, of_others, of_own_fields, of_parameters, of_parts, of_senders, of_size, of_values, of_words, uncovered}
+use Rattle.mail_check.proofs.lemmas.StrictGroups.{among, groups, no_other, of_blocks, of_bodies, of_covered, of_fields, of_files, of_lines, of_named_values, of_others, of_own_fields, of_parameters, of_parts, of_senders, of_size, of_values, of_words, uncovered}
 use Rattle.mail_check.proofs.lemmas.StrictDelimiters.{found_parts, parts_found}
 use Rattle.mail_check.proofs.lemmas.StrictParts.{boundary_inner, dash_made, made_of, not_found, opened_of}
 use Rattle.mail_check.proofs.lemmas.StrictLevels.{found_small, small_found}
 use Rattle.mail_check.proofs.lemmas.StrictBodies.{QuotedFree, base64_of, first_none, none_earlier, none_first, not_earlier, of_base64, of_quoted, quoted_of}
 use Rattle.mail_check.proofs.lemmas.StrictKeys.{lines_are_headers, of_line}
-use Rattle.mail_check.proofs.lemmas.StrictNamed.{BlockLacks, BodyLacks, BytesLack, EncodedLacks, FarLacks, FieldsLack, LineLacks, MailLacks, MessageLacks, ParametersLack, PartsLack, SenderLacks, TypeLacks, all_free, all_map, block_free, body_free, bytes_free, far_first, far_free, fields_free, first_found, found_first, lacks_some, own_fields_free, parameters_free, parts_free, senders_free, some_lacks, text_after, words_free}
+use Rattle.mail_check.proofs.lemmas.StrictNamed.{BlockLacks, BodyLacks, BytesLack, EncodedLacks, FarLacks, FieldsLack, FilesLack, LineLacks, MailLacks, MessageLacks, NamesLack, ParametersLack, PartsLack, SenderLacks, TypeLacks, all_free, all_map, block_free, body_free, bytes_free, far_first, far_free, fields_free, files_free, first_found, found_first, lacks_some, own_fields_free, parameters_free, parts_free, senders_free, some_lacks, text_after, words_free}
 use Rattle.mail_check.proofs.lemmas.StrictReading.{IsRead, all_of_map, all_with, bytes-there, headers-there, map_of_all, parts-there}
 use Rattle.mail_check.proofs.lemmas.StrictWorded.{WordedLacks}
 
@@ -216,6 +219,37 @@ strict_parameters test node is h =
     (header_lines node)
     (all_of_map of_line HasPlainValue (header_lines node) (subst (AllByRecursion HasPlainValue) (sym (lines_are_headers node is)) h))
 
+-- the names of the file of one message, if all names of them are asked for
+module _ (test : Name → Bool) (asked : (n : Name) → of_files (group_of n) ≡ true → test n ≡ true) where
+  files_strict : (node : Node) → IsRead node → FilesLack test node → HasStrictFileName node
+  files_strict node is h =
+      let shown = (shown_as node).params (codes "filename") in
+      record {
+        names = subst (AllByRecursion HasOwnNames) (lines_are_headers node is) (map_of_all of_line HasOwnNames (header_lines node)
+            (all_map (NamesLack test) (λ line. HasOwnNames (of_line line))
+            (λ line lacks. found_names line (λ text e. lacks text e (asked name.TwoNames refl))) (header_lines node) h.names));
+        typed = λ file e some.
+            some_named (codes "Content-Type") node.headers
+            (type_missing shown (lacks_type node) (h.typed (asked name.NoType refl)) file e some);
+        same = same_names shown (node.ctype.params (codes "name")) (h.same (asked name.TwoNames refl));
+      }
+
+-- and if its values are plain
+strict_files : (test : Name → Bool) (node : Node) → IsRead node → AllByRecursion HasPlainValue node.headers × HasStrictFileName node
+    → FilesLack test node
+strict_files test node is h =
+    let same = sym (lines_are_headers node is) in
+    let shown = (shown_as node).params (codes "filename") in
+    record {
+      names =
+          all_with (λ line. HasPlainValue (of_line line)) (λ line. HasOwnNames (of_line line)) (NamesLack test)
+          (λ line plain names text e t. names_found line plain names text e) (header_lines node)
+          (all_of_map of_line HasPlainValue (header_lines node) (subst (AllByRecursion HasPlainValue) same h.0))
+          (all_of_map of_line HasOwnNames (header_lines node) (subst (AllByRecursion HasOwnNames) same h.1.names));
+      typed = λ t. missing_type shown (lacks_type node) (λ file e some. named_some (codes "Content-Type") node.headers (h.1.typed file e some));
+      same = λ t. names_same shown (node.ctype.params (codes "name")) h.1.same;
+    }
+
 -- the senders of one message, if their name is asked for
 senders_strict : (test : Name → Bool) → test name.FromSyntax ≡ true → (node : Node) → IsRead node
     → AllByRecursion (SenderLacks test 0) (header_lines node) → AllByRecursion HasSenderValue node.headers
@@ -382,6 +416,13 @@ module _ (known : Charsets) (greatest : ℕ) (bytes : List ℕ) (t : Tree) (read
         (all_map (MessageLacks test) (λ (t : Tree). ValuesLack test (root t)) (λ t lacks. (lacks.fields, lacks.parameters)) (trees_within t)
         (of_places (MessageLacks test) h)))
 
+    files_found : ((n : Name) → of_files (group_of n) ≡ true → test n ≡ true) → AllLack → AreStrictFileNames t
+    files_found asked h =
+        map_of_all root HasStrictFileName (trees_within t)
+        (read_with (FilesLack test) HasStrictFileName (files_strict test asked)
+        (all_map (MessageLacks test) (λ (t : Tree). FilesLack test (root t)) (λ t lacks. lacks.files) (trees_within t)
+        (of_places (MessageLacks test) h)))
+
     senders_found : test name.FromSyntax ≡ true → MailLacks test (root t) → AreStrictSenders t
     senders_found asked h = senders_strict test asked (root t) root_read h.senders
 
@@ -408,6 +449,9 @@ module _ (known : Charsets) (greatest : ℕ) (bytes : List ℕ) (t : Tree) (read
 
     abbrev AllParameters : Type 0
     AllParameters = AllByRecursion (λ (t : Tree). AllByRecursion (ParametersLack test) (header_lines (root t))) (trees_within t)
+
+    abbrev AllFiles : Type 0
+    AllFiles = AllByRecursion (λ (t : Tree). FilesLack test (root t)) (trees_within t)
 
     abbrev AllWords : Type 0
     AllWords = AllByRecursion (λ (t : Tree). AllByRecursion (WordedLacks test) (header_lines (root t))) (trees_within t)
@@ -443,6 +487,16 @@ module _ (known : Charsets) (greatest : ℕ) (bytes : List ℕ) (t : Tree) (read
         (all_map (λ line. (is_bad_value line ≡ false) × ParametersLack test line) (λ line. test name.TypeSyntax ≡ true → is_bad_value line ≡ false)
         (λ line both e. both.0) (header_lines (root t)) lines)) (trees_within t) (found_plain_lines h)
 
+    found_files : AreStrictParameters t → AreStrictFileNames t → AllFiles
+    found_files plain h =
+        read_with PlainNames (FilesLack test) (strict_files test)
+        (all_of_map root PlainNames (trees_within t)
+        (all_with (λ (node : Node). AllByRecursion HasPlainValue node.headers) HasStrictFileName PlainNames
+        (λ node plain names. (plain, names)) (map root (trees_within t)) plain h))
+      where
+        PlainNames : Node → Type 0
+        PlainNames node = AllByRecursion HasPlainValue node.headers × HasStrictFileName node
+
     found_words : AreStrictWords t → AllWords
     found_words h =
         read_with (λ (node : Node). AllByRecursion HasWordedValue node.headers)
@@ -458,7 +512,7 @@ module _ (known : Charsets) (greatest : ℕ) (bytes : List ℕ) (t : Tree) (read
     found_bodies : AreStrictBodies t → AllBodies
     found_bodies h = all_map HasStrictBody (BodyLacks test) (strict_body test) (trees_within t) h
 
-    -- the values of the headers of a message, and what comes after them
+    -- the values of the headers of a message, the names in them, and what comes after them
     abbrev Values : Tree → Type 0
     Values t =
         AllByRecursion (ParametersLack test) (header_lines (root t)) × AllByRecursion (WordedLacks test) (header_lines (root t))
@@ -466,29 +520,36 @@ module _ (known : Charsets) (greatest : ℕ) (bytes : List ℕ) (t : Tree) (read
     abbrev Contents : Tree → Type 0
     Contents t = Splits t × BodyLacks test t
 
+    abbrev NamedContents : Tree → Type 0
+    NamedContents t = FilesLack test (root t) × Contents t
+
     -- how its headers are written, and what they say
     abbrev Headers : Tree → Type 0
     Headers t = BlockLacks test (root t) × FieldsLack test (root t)
 
-    all_lack : AllBlocks → AllFields → AllParameters → AllWords → AllSplit → AllBodies → AllLack
-    all_lack blocks fields parameters words splits bodies =
+    all_lack : AllBlocks → AllFields → AllParameters → AllFiles → AllWords → AllSplit → AllBodies → AllLack
+    all_lack blocks fields parameters files words splits bodies =
         to_places (MessageLacks test)
-        (all_with Headers (λ (t : Tree). Values t × Contents t) (MessageLacks test)
+        (all_with Headers (λ (t : Tree). Values t × NamedContents t) (MessageLacks test)
         (λ t headers rest. record {
           block = headers.0;
           fields = headers.1;
           parameters = rest.0.0;
           words = rest.0.1;
-          parts = rest.1.0;
-          body = rest.1.1;
+          files = rest.1.0;
+          parts = rest.1.1.0;
+          body = rest.1.1.1;
         }) (trees_within t)
         (all_with (λ (t : Tree). BlockLacks test (root t)) (λ (t : Tree). FieldsLack test (root t)) Headers
         (λ t block fields. (block, fields)) (trees_within t) blocks fields)
-        (all_with Values Contents (λ (t : Tree). Values t × Contents t) (λ t values contents. (values, contents)) (trees_within t)
+        (all_with Values NamedContents (λ (t : Tree). Values t × NamedContents t) (λ t values contents. (values, contents))
+        (trees_within t)
         (all_with (λ (t : Tree). AllByRecursion (ParametersLack test) (header_lines (root t)))
         (λ (t : Tree). AllByRecursion (WordedLacks test) (header_lines (root t))) Values
         (λ t parameters words. (parameters, words)) (trees_within t) parameters words)
-        (all_with Splits (BodyLacks test) Contents (λ t parts body. (parts, body)) (trees_within t) splits bodies)))
+        (all_with (λ (t : Tree). FilesLack test (root t)) Contents NamedContents (λ t files contents. (files, contents))
+        (trees_within t) files
+        (all_with Splits (BodyLacks test) Contents (λ t parts body. (parts, body)) (trees_within t) splits bodies))))
 
   -- what is not asked for, if the names of some groups are
   module _ (some : Group → Bool) where
@@ -507,6 +568,11 @@ module _ (known : Charsets) (greatest : ℕ) (bytes : List ℕ) (t : Tree) (read
     no_parameters apart =
         all_free (λ (t : Tree). AllByRecursion (ParametersLack asks) (header_lines (root t)))
         (λ (t : Tree). parameters_free asks (no_other of_parameters some apart) (root t)) (trees_within t)
+
+    no_files : list_all (λ g. not (of_files g && some g)) groups ≡ true → AllFiles asks
+    no_files apart =
+        all_free (λ (t : Tree). FilesLack asks (root t)) (λ (t : Tree). files_free asks (no_other of_files some apart) (root t))
+        (trees_within t)
 
     no_words : list_all (λ g. not (of_words g && some g)) groups ≡ true → AllWords asks
     no_words apart =
@@ -548,7 +614,7 @@ module _ (known : Charsets) (greatest : ℕ) (bytes : List ℕ) (t : Tree) (read
     λ h. blocks_found is_block_name (λ n e. e) (of_messages of_blocks refl h),
     λ h. none_found of_blocks refl refl (no_senders of_blocks refl)
         (all_lack is_block_name (found_blocks is_block_name h) (no_fields of_blocks refl) (no_parameters of_blocks refl)
-        (no_words of_blocks refl) (no_splits of_blocks refl) (no_bodies of_blocks refl)) (no_far of_blocks refl),
+        (no_files of_blocks refl) (no_words of_blocks refl) (no_splits of_blocks refl) (no_bodies of_blocks refl)) (no_far of_blocks refl),
   )
 
   pub fields_are_of_grammar : Lacks is_field_name (findings known t (placements 0 t)) ↔ AreStrictFields t
@@ -556,7 +622,7 @@ module _ (known : Charsets) (greatest : ℕ) (bytes : List ℕ) (t : Tree) (read
     λ h. fields_found is_field_name (λ n e. e) (of_messages of_fields refl h),
     λ h. none_found of_fields refl refl (no_senders of_fields refl)
         (all_lack is_field_name (no_blocks of_fields refl) (found_fields is_field_name h) (no_parameters of_fields refl)
-        (no_words of_fields refl) (no_splits of_fields refl) (no_bodies of_fields refl)) (no_far of_fields refl),
+        (no_files of_fields refl) (no_words of_fields refl) (no_splits of_fields refl) (no_bodies of_fields refl)) (no_far of_fields refl),
   )
 
   pub parameters_are_of_grammar : Lacks is_parameter_name (findings known t (placements 0 t)) ↔ AreStrictParameters t
@@ -564,8 +630,22 @@ module _ (known : Charsets) (greatest : ℕ) (bytes : List ℕ) (t : Tree) (read
     λ h. parameters_found is_parameter_name (λ n e. e) (of_messages of_values refl h),
     λ h. none_found of_values refl refl (no_senders of_values refl)
         (all_lack is_parameter_name (no_blocks of_values refl) (found_syntax is_parameter_name (no_other of_own_fields of_values refl) h)
-        (found_parameters is_parameter_name h) (no_words of_values refl) (no_splits of_values refl) (no_bodies of_values refl))
+        (found_parameters is_parameter_name h) (no_files of_values refl) (no_words of_values refl) (no_splits of_values refl) (no_bodies of_values refl))
         (no_far of_values refl),
+  )
+
+  pub files_are_of_grammar : Lacks is_file_name (findings known t (placements 0 t)) ↔ (AreStrictParameters t × AreStrictFileNames t)
+  files_are_of_grammar = (
+    λ h.
+        let lacks = of_messages of_named_values refl h in (
+          parameters_found is_file_name (among of_values of_named_values refl) lacks,
+          files_found is_file_name (among of_files of_named_values refl) lacks,
+        ),
+    λ h. none_found of_named_values refl refl (no_senders of_named_values refl)
+        (all_lack is_file_name (no_blocks of_named_values refl)
+        (found_syntax is_file_name (no_other of_own_fields of_named_values refl) h.0) (found_parameters is_file_name h.0)
+        (found_files is_file_name h.0 h.1) (no_words of_named_values refl) (no_splits of_named_values refl)
+        (no_bodies of_named_values refl)) (no_far of_named_values refl),
   )
 
   pub senders_are_of_grammar : Lacks is_from_name (findings known t (placements 0 t)) ↔ AreStrictSenders t
@@ -573,7 +653,7 @@ module _ (known : Charsets) (greatest : ℕ) (bytes : List ℕ) (t : Tree) (read
     λ h. senders_found is_from_name refl (found_first known is_from_name (uncovered of_senders refl) t h).0,
     λ h. none_found of_senders refl refl (strict_senders is_from_name (root t) root_read h)
         (all_lack is_from_name (no_blocks of_senders refl) (no_fields of_senders refl) (no_parameters of_senders refl)
-        (no_words of_senders refl) (no_splits of_senders refl) (no_bodies of_senders refl)) (no_far of_senders refl),
+        (no_files of_senders refl) (no_words of_senders refl) (no_splits of_senders refl) (no_bodies of_senders refl)) (no_far of_senders refl),
   )
 
   pub words_are_of_grammar : Lacks is_word_name (findings known t (placements 0 t)) ↔ AreStrictWords t
@@ -581,7 +661,7 @@ module _ (known : Charsets) (greatest : ℕ) (bytes : List ℕ) (t : Tree) (read
     λ h. words_found is_word_name (λ n e. e) (of_messages of_words refl h),
     λ h. none_found of_words refl refl (no_senders of_words refl)
         (all_lack is_word_name (no_blocks of_words refl) (no_fields of_words refl) (no_parameters of_words refl)
-        (found_words is_word_name h) (no_splits of_words refl) (no_bodies of_words refl)) (no_far of_words refl),
+        (no_files of_words refl) (found_words is_word_name h) (no_splits of_words refl) (no_bodies of_words refl)) (no_far of_words refl),
   )
 
   pub parts_are_of_grammar : Lacks is_part_name (findings known t (placements 0 t)) ↔ AreStrictParts t
@@ -589,7 +669,7 @@ module _ (known : Charsets) (greatest : ℕ) (bytes : List ℕ) (t : Tree) (read
     λ h. parts_of_all is_part_name (λ n e. e) (of_messages of_parts refl h),
     λ h. none_found of_parts refl refl (no_senders of_parts refl)
         (all_lack is_part_name (no_blocks of_parts refl) (no_fields of_parts refl) (no_parameters of_parts refl)
-        (no_words of_parts refl) (found_splits is_part_name h) (no_bodies of_parts refl)) (no_far of_parts refl),
+        (no_files of_parts refl) (no_words of_parts refl) (found_splits is_part_name h) (no_bodies of_parts refl)) (no_far of_parts refl),
   )
 
   pub bodies_are_of_grammar : Lacks is_body_name (findings known t (placements 0 t)) ↔ AreStrictBodies t
@@ -597,7 +677,7 @@ module _ (known : Charsets) (greatest : ℕ) (bytes : List ℕ) (t : Tree) (read
     λ h. bodies_of_all is_body_name (λ n e. e) (of_messages of_bodies refl h),
     λ h. none_found of_bodies refl refl (no_senders of_bodies refl)
         (all_lack is_body_name (no_blocks of_bodies refl) (no_fields of_bodies refl) (no_parameters of_bodies refl)
-        (no_words of_bodies refl) (no_splits of_bodies refl) (found_bodies is_body_name h)) (no_far of_bodies refl),
+        (no_files of_bodies refl) (no_words of_bodies refl) (no_splits of_bodies refl) (found_bodies is_body_name h)) (no_far of_bodies refl),
   )
 
   pub many_of_grammar : Lacks is_many_name (findings known t (placements 0 t)) ↔ IsSmall t
@@ -605,7 +685,7 @@ module _ (known : Charsets) (greatest : ℕ) (bytes : List ℕ) (t : Tree) (read
     λ h. small_found is_many_name known greatest bytes t read refl (far_first known is_many_name (uncovered of_size refl) t h),
     λ h. none_found of_size refl refl (no_senders of_size refl)
         (all_lack is_many_name (no_blocks of_size refl) (no_fields of_size refl) (no_parameters of_size refl)
-        (no_words of_size refl) (no_splits of_size refl) (no_bodies of_size refl))
+        (no_files of_size refl) (no_words of_size refl) (no_splits of_size refl) (no_bodies of_size refl))
         (found_small is_many_name known greatest bytes t read h),
   )
 
@@ -623,6 +703,7 @@ module _ (known : Charsets) (greatest : ℕ) (bytes : List ℕ) (t : Tree) (read
         blocks = blocks_found is_covered (among of_blocks of_covered refl) both.1;
         fields = fields_found is_covered (among of_fields of_covered refl) both.1;
         parameters = parameters_found is_covered (among of_values of_covered refl) both.1;
+        files = files_found is_covered (among of_files of_covered refl) both.1;
         senders = senders_found is_covered refl both.0;
         words = words_found is_covered (among of_words of_covered refl) both.1;
         parts = parts_of_all is_covered (among of_parts of_covered refl) both.1;
@@ -638,7 +719,7 @@ module _ (known : Charsets) (greatest : ℕ) (bytes : List ℕ) (t : Tree) (read
         senders = strict_senders is_covered (root t) root_read h.senders;
       })
       (all_lack is_covered (found_blocks is_covered h.blocks) (found_fields is_covered h.fields)
-      (found_parameters is_covered h.parameters) (found_words is_covered h.words) (found_splits is_covered h.parts)
+      (found_parameters is_covered h.parameters) (found_files is_covered h.parameters h.files) (found_words is_covered h.words) (found_splits is_covered h.parts)
       (found_bodies is_covered h.bodies))
       (found_small is_covered known greatest bytes t read h.small)
 

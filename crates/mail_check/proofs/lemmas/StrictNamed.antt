@@ -8,6 +8,7 @@ use Rattle.mail_codec.specs.Charset.{Charsets}
 use Rattle.mail_codec.specs.Places.{byte_place}
 use Rattle.mailparse.specs.Body.{BodyKind, in_base64, in_quoted_printable, in_7bit, in_8bit, in_binary}
 use Rattle.mailparse.specs.ContentType.{ContentType}
+use Rattle.mailparse.specs.Disposition.{Disposition}
 use Rattle.mailparse.specs.Mail.{Forest, Node, Tree, tree, body_kind, cut_of_as, root, shown_as}
 use Rattle.mailparse.specs.Ranges.{moved}
 use Rattle.mail_data.specs.Files.{is_leaf, parts_with_paths, whole_path}
@@ -17,15 +18,16 @@ use Rattle.mail_check.specs.Bytes.{earlier, first_byte, first_offset, is_bad_esc
 use Rattle.mail_check.specs.HiddenBits.{hidden_bits}
 use Rattle.mail_check.specs.Bodies.{is_base64_lines}
 use Rattle.mail_check.specs.Findings.{Finding, Spot, block_findings, body_findings, byte_findings, encoded_findings, file_findings, findings, findings_from, first_findings, has_none, header_findings, is_far, is_single}
-use Rattle.mail_check.specs.Findings.{leaf_findings, line_findings, listed, listed_if, multipart_findings, parameter_findings, repeated, repeated_findings, sender_findings, spot_in, spot_of_body, strict_findings, text_findings, type_findings, worded_findings}
+use Rattle.mail_check.specs.Findings.{leaf_findings, line_findings, listed, listed_if, multipart_findings, parameter_findings, repeated, repeated_findings, sender_findings, spot_in, spot_of_body, strict_findings, text_findings, type_findings, value_findings, worded_findings}
+use Rattle.mail_check.specs.FileNames.{has_two_names, has_unsafe_name, has_untyped_name}
 use Rattle.mail_check.specs.LineTests.{first_line, is_long_line}
 use Rattle.mail_check.specs.Lines.{HeaderLine, ends_block, has_blank_fold, has_comment_fold, has_high_value, header_lines, is_bad_encoding, is_bad_key, is_composite, is_encoding, is_named, is_other_message, second_named, single_names}
 use Rattle.mail_check.specs.Parameters.{has_extended, has_other_name, has_quoted_pair, has_quoted_special, has_repeat, has_word, is_bad_value, none_seen, parameter_names, strict_value}
 use Rattle.mail_check.specs.Multiparts.{dash_of, is_bad_boundary, is_close, is_inside, is_tailed, late_delimiter}
 use Rattle.mail_check.specs.strict.Named.{Lacks, group_of, is_block_name, is_body_name, is_covered, is_field_name, is_line_name, is_part_name}
 use Rattle.mail_check.specs.strict.Senders.{IsSenderValue}
-use Rattle.mail_check.proofs.lemmas.StrictGroups.{among, no_other, of_blocks, of_bodies, of_fields, of_lines, of_own_fields, of_parameters, of_parts, of_words}
-use Rattle.mail_check.proofs.lemmas.StrictOthers.{each_lacks, false_listed, file_others, lacks_both, lacks_each, lacks_left, lacks_right, listed_false, listed_none, none_listed, other, other_if, text_others, truth}
+use Rattle.mail_check.proofs.lemmas.StrictGroups.{among, no_other, of_blocks, of_bodies, of_fields, of_files, of_lines, of_own_fields, of_parameters, of_parts, of_words}
+use Rattle.mail_check.proofs.lemmas.StrictOthers.{each_lacks, false_listed, lacks_both, lacks_each, lacks_left, lacks_right, listed_false, listed_none, none_listed, other, other_if, text_others, truth}
 use Rattle.mail_check.proofs.lemmas.StrictReading.{all_with}
 use Rattle.mail_check.proofs.lemmas.StrictWorded.{WordedLacks, lack_sender, lack_worded, sender_lacks, worded_lacks}
 use Rattle.mail_check.specs.declared.names.Name.{Name}
@@ -82,6 +84,11 @@ lacks_some test (Some text) f = f text refl
 abbrev pub ParametersLack : (Name → Bool) → HeaderLine → Type 0
 ParametersLack test line = SomeLacks test (strict_value line)
 
+-- nor have the names of its parameters
+abbrev pub NamesLack : (Name → Bool) → HeaderLine → Type 0
+NamesLack test line =
+    (text : List ℕ) → strict_value line ≡ Some text → test name.TwoNames ≡ true → has_other_name line (parameter_names text) ≡ false
+
 -- nor has it as a sender, after this many messages
 abbrev pub SenderLacks : (Name → Bool) → ℕ → HeaderLine → Type 0
 SenderLacks test number line =
@@ -92,6 +99,7 @@ record HeaderLacks (test : Name → Bool) (number : ℕ) (node : Node) (line : H
   own : LineLacks test (length node.block) line
   type : TypeLacks test node.ctype line
   parameters : ParametersLack test line
+  names : NamesLack test line
   sender : SenderLacks test number line
   words : WordedLacks test line
 
@@ -104,6 +112,12 @@ pub record BlockLacks (test : Name → Bool) (node : Node) : Type 0 where
 pub record FieldsLack (test : Name → Bool) (node : Node) : Type 0 where
   pub types : AllByRecursion (TypeLacks test node.ctype) (header_lines node)
   pub repeats : test name.Duplicate ≡ true → AllByRecursion (λ (n : List ℕ). second_named n (header_lines node) ≡ None) single_names
+
+-- nor have the names of its file
+pub record FilesLack (test : Name → Bool) (node : Node) : Type 0 where
+  pub names : AllByRecursion (NamesLack test) (header_lines node)
+  pub typed : test name.NoType ≡ true → has_untyped_name (shown_as node) node ≡ false
+  pub same : test name.TwoNames ≡ true → has_two_names (shown_as node) node.ctype ≡ false
 
 -- the text of a message after its header block
 abbrev pub text_after : Tree → List ℕ
@@ -137,6 +151,7 @@ pub record MessageLacks (test : Name → Bool) (t : Tree) : Type 0 where
   pub block : BlockLacks test (root t)
   pub fields : FieldsLack test (root t)
   pub parameters : AllByRecursion (ParametersLack test) (header_lines (root t))
+  pub files : FilesLack test (root t)
   pub words : AllByRecursion (WordedLacks test) (header_lines (root t))
   pub parts : (dash : List ℕ) → dash_of (root t).ctype ≡ Some dash → PartsLack test t dash
   pub body : BodyLacks test t
@@ -278,17 +293,29 @@ module _ (known : Charsets) (test : Name → Bool) (others : (n : Name) → is_c
             (lacks_left test repeats (listed_if spot name.TwoNames (has_other_name line (parameter_names text))) later);
       }
 
+  names_lack : (spot : Spot) (line : HeaderLine) (value : Option (List ℕ)) → Lacks test (strict_findings spot line value)
+      → (text : List ℕ) → value ≡ Some text → test name.TwoNames ≡ true → has_other_name line (parameter_names text) ≡ false
+  names_lack spot line None h text e t = absurd (cc)
+  names_lack spot line (Some other) h text e t =
+      let same : other ≡ text = cc in
+      let repeats = listed_if spot name.DuplicateParameter (has_repeat none_seen (parameter_names other)) in
+      let names = listed_if spot name.TwoNames (has_other_name line (parameter_names other)) in
+      subst (λ (xs : List ℕ). has_other_name line (parameter_names xs) ≡ false) same
+      (listed_false test spot name.TwoNames (has_other_name line (parameter_names other))
+      (lacks_right test repeats names (lacks_right test (value_findings spot other) (repeats ++ names) h)) t)
+
   lack_some : (spot : Spot) (line : HeaderLine) (value : Option (List ℕ)) → SomeLacks test value
+      → ((text : List ℕ) → value ≡ Some text → test name.TwoNames ≡ true → has_other_name line (parameter_names text) ≡ false)
       → Lacks test (strict_findings spot line value)
-  lack_some spot line None h = tt
-  lack_some spot line (Some text) h =
+  lack_some spot line None h names = tt
+  lack_some spot line (Some text) h names =
       both _ _
       (both _ _ (false_listed test spot name.QuotedSpecial (has_quoted_special text) h.special)
       (both _ _ (false_listed test spot name.QuotedPair (has_quoted_pair text) h.pair)
       (both _ _ (false_listed test spot name.ExtendedParameter (has_extended text) h.extended)
       (false_listed test spot name.WordParameter (has_word text) h.word))))
       (both _ _ (false_listed test spot name.DuplicateParameter (has_repeat none_seen (parameter_names text)) h.repeats)
-      (other_if test others spot name.TwoNames (has_other_name line (parameter_names text)) refl))
+      (false_listed test spot name.TwoNames (has_other_name line (parameter_names text)) (names text refl)))
 
   header_lacks : (number : ℕ) (place : Place) (line : HeaderLine) → Lacks test (header_findings known number place line)
       → HeaderLacks test number (root place.part) line
@@ -309,6 +336,8 @@ module _ (known : Charsets) (test : Name → Bool) (others : (n : Name) → is_c
         type = type_lacks spot ctype line value (lacks_left test types (sender ++ words) second);
         parameters = some_lack spot line (strict_value line)
             (lacks_right test (listed_if spot name.TypeSyntax (is_bad_value line)) (strict_findings spot line (strict_value line)) value);
+        names = names_lack spot line (strict_value line)
+            (lacks_right test (listed_if spot name.TypeSyntax (is_bad_value line)) (strict_findings spot line (strict_value line)) value);
         sender = sender_lacks test number spot line (lacks_left test sender words third);
         words = worded_lacks test known spot line (lacks_right test sender words third);
       }
@@ -320,7 +349,7 @@ module _ (known : Charsets) (test : Name → Bool) (others : (n : Name) → is_c
       both _ _ (lack_line spot (length (root place.part).block) line h.own)
       (both _ _
       (both _ _ (false_listed test spot name.TypeSyntax (is_bad_value line) h.type.syntax)
-      (lack_some spot line (strict_value line) h.parameters))
+      (lack_some spot line (strict_value line) h.parameters h.names))
       (both _ _ (lack_type spot (root place.part).ctype line h.type)
       (both _ _ (lack_sender test number spot line h.sender)
       (lack_worded test known spot line (others name.WordBytes refl) h.words))))
@@ -351,6 +380,7 @@ module _ (known : Charsets) (test : Name → Bool) (others : (n : Name) → is_c
     block : BlockLacks test node
     fields : FieldsLack test node
     parameters : AllByRecursion (ParametersLack test) (header_lines node)
+    names : AllByRecursion (NamesLack test) (header_lines node)
     senders : AllByRecursion (SenderLacks test number) (header_lines node)
     words : AllByRecursion (WordedLacks test) (header_lines node)
 
@@ -379,6 +409,7 @@ module _ (known : Charsets) (test : Name → Bool) (others : (n : Name) → is_c
               (lacks_each test (λ (n : List ℕ). repeated place (second_named n lines)) single_names (lacks_right test headers repeats rest));
         };
         parameters = all_map (HeaderLacks test number node) (ParametersLack test) (λ line lacks. lacks.parameters) lines each;
+        names = all_map (HeaderLacks test number node) (NamesLack test) (λ line lacks. lacks.names) lines each;
         senders = all_map (HeaderLacks test number node) (SenderLacks test number) (λ line lacks. lacks.sender) lines each;
         words = all_map (HeaderLacks test number node) (WordedLacks test) (λ line lacks. lacks.words) lines each;
       }
@@ -395,24 +426,50 @@ module _ (known : Charsets) (test : Name → Bool) (others : (n : Name) → is_c
       (λ line written values. record {
         own = written.0;
         type = written.1;
-        parameters = values.0;
+        parameters = values.0.0;
+        names = values.0.1;
         sender = values.1.0;
         words = values.1.1;
       }) lines
       (all_with (LineLacks test (length node.block)) (TypeLacks test node.ctype) Written (λ line own type. (own, type)) lines
       h.block.lines h.fields.types)
-      (all_with (ParametersLack test) Worded Values (λ line parameters words. (parameters, words)) lines h.parameters
+      (all_with Named Worded Values (λ line named words. (named, words)) lines
+      (all_with (ParametersLack test) (NamesLack test) Named (λ line parameters names. (parameters, names)) lines h.parameters h.names)
       (all_with (SenderLacks test number) (WordedLacks test) Worded (λ line sender words. (sender, words)) lines h.senders h.words)))))
       (each_lacks test (λ (n : List ℕ). repeated place (second_named n lines)) single_names (repeats_lack place lines single_names h.fields.repeats)))
     where
       Written : HeaderLine → Type 0
       Written line = LineLacks test (length (root place.part).block) line × TypeLacks test (root place.part).ctype line
 
+      Named : HeaderLine → Type 0
+      Named line = ParametersLack test line × NamesLack test line
+
       Worded : HeaderLine → Type 0
       Worded line = SenderLacks test number line × WordedLacks test line
 
       Values : HeaderLine → Type 0
-      Values line = ParametersLack test line × Worded line
+      Values line = Named line × Worded line
+
+  -- ---- the name of a file
+
+  files_lack : (spot : Spot) (shown : Disposition) (node : Node) → Lacks test (file_findings spot shown node)
+      → (test name.NoType ≡ true → has_untyped_name shown node ≡ false)
+      × (test name.TwoNames ≡ true → has_two_names shown node.ctype ≡ false)
+  files_lack spot shown node h =
+      let typed = listed_if spot name.NoType (has_untyped_name shown node) in
+      let same = listed_if spot name.TwoNames (has_two_names shown node.ctype) in
+      let unsafe = listed_if spot name.UnsafeName (has_unsafe_name shown node.ctype) in (
+        listed_false test spot name.NoType (has_untyped_name shown node) (lacks_left test typed (same ++ unsafe) h),
+        listed_false test spot name.TwoNames (has_two_names shown node.ctype)
+            (lacks_left test same unsafe (lacks_right test typed (same ++ unsafe) h)),
+      )
+
+  lack_files : (spot : Spot) (shown : Disposition) (node : Node) → (test name.NoType ≡ true → has_untyped_name shown node ≡ false)
+      → (test name.TwoNames ≡ true → has_two_names shown node.ctype ≡ false) → Lacks test (file_findings spot shown node)
+  lack_files spot shown node typed same =
+      both _ _ (false_listed test spot name.NoType (has_untyped_name shown node) typed)
+      (both _ _ (false_listed test spot name.TwoNames (has_two_names shown node.ctype) same)
+      (other_if test others spot name.UnsafeName (has_unsafe_name shown node.ctype) refl))
 
   -- ---- multiparts
 
@@ -535,11 +592,14 @@ module _ (known : Charsets) (test : Name → Bool) (others : (n : Name) → is_c
       let leaf = leaf_findings known place in
       let later = lacks_right test far (block ++ (files ++ (multipart ++ leaf))) h in
       let headers = block_lacks number place (lacks_left test block (files ++ (multipart ++ leaf)) later) in
-      let last = lacks_right test files (multipart ++ leaf) (lacks_right test block (files ++ (multipart ++ leaf)) later) in (
+      let rest = lacks_right test block (files ++ (multipart ++ leaf)) later in
+      let last = lacks_right test files (multipart ++ leaf) rest in
+      let file = files_lack (spot_in place 0 (length node.block)) (shown_as node) node (lacks_left test files (multipart ++ leaf) rest) in (
         record {
           block = headers.block;
           fields = headers.fields;
           parameters = headers.parameters;
+          files = record { names = headers.names; typed = file.0; same = file.1 };
           words = headers.words;
           parts = multipart_lacks place (dash_of node.ctype) (lacks_left test multipart leaf last);
           body = body_lacks place (lacks_right test multipart leaf last);
@@ -557,10 +617,11 @@ module _ (known : Charsets) (test : Name → Bool) (others : (n : Name) → is_c
         block = h.block;
         fields = h.fields;
         parameters = h.parameters;
+        names = h.files.names;
         senders = senders;
         words = h.words;
       }))
-      (both _ _ (file_others test others (spot_in place 0 (length node.block)) (shown_as node) node)
+      (both _ _ (lack_files (spot_in place 0 (length node.block)) (shown_as node) node h.files.typed h.files.same)
       (both _ _ (lack_multipart place (dash_of node.ctype) h.parts) (lack_body place h.body))))
 
   -- ---- messages after the first
@@ -708,6 +769,14 @@ parameters_free test free node =
       repeats = not_asked test name.DuplicateParameter (free name.DuplicateParameter refl);
     })) (header_lines node)
 
+pub files_free : (test : Name → Bool) → ((n : Name) → of_files (group_of n) ≡ true → test n ≡ false) → (node : Node)
+    → FilesLack test node
+files_free test free node = record {
+  names = all_free (NamesLack test) (λ line text e. not_asked test name.TwoNames (free name.TwoNames refl)) (header_lines node);
+  typed = not_asked test name.NoType (free name.NoType refl);
+  same = not_asked test name.TwoNames (free name.TwoNames refl);
+}
+
 pub senders_free : (test : Name → Bool) → test name.FromSyntax ≡ false → (node : Node)
     → AllByRecursion (SenderLacks test 0) (header_lines node)
 senders_free test free node = all_free (SenderLacks test 0) (λ line t e. not_asked test name.FromSyntax free t) (header_lines node)
@@ -752,6 +821,7 @@ module _ (test : Name → Bool) (only : (n : Name) → is_line_name n ≡ false 
     block = block_free test (λ n e. only n (no_other of_blocks of_lines refl n e)) (root t);
     fields = fields_free test (λ n e. only n (no_other of_fields of_lines refl n e)) (root t);
     parameters = parameters_free test (λ n e. only n (no_other of_parameters of_lines refl n e)) (root t);
+    files = files_free test (λ n e. only n (no_other of_files of_lines refl n e)) (root t);
     words = words_free test (λ n e. only n (no_other of_words of_lines refl n e)) (root t);
     parts = parts_free test (λ n e. only n (no_other of_parts of_lines refl n e)) t;
     body = body_free test (λ n e. only n (no_other of_bodies of_lines refl n e)) t;

@@ -3,12 +3,10 @@ use Rattle.std.proofs.Common.{◌≡◌, ℕ, Bool, true, false, List, [], ◌�
 use Rattle.std.specs.Prelude.{◌⊎◌, flat_map}
 use Rattle.std.specs.List.{AllByRecursion}
 use Rattle.mail_codec.specs.Charset.{Charsets}
-use Rattle.mailparse.specs.Disposition.{Disposition}
 use Rattle.mailparse.specs.Mail.{Node}
 use Rattle.mail_data.specs.PartPlaces.{Place}
-use Rattle.mail_check.specs.Findings.{Finding, Spot, file_findings, file_line, listed, listed_if}
+use Rattle.mail_check.specs.Findings.{Finding, Spot, file_line, listed, listed_if}
 use Rattle.mail_check.specs.Findings.{spot_of_body, text_findings}
-use Rattle.mail_check.specs.FileNames.{has_two_names, has_unsafe_name, has_untyped_name}
 use Rattle.mail_check.specs.Texts.{has_bad_text}
 use Rattle.mail_check.specs.strict.Named.{Lacks, is_covered}
 use Rattle.mail_check.specs.declared.names.Name.{Name}
@@ -77,11 +75,6 @@ module _ (test : Name → Bool) (others : (n : Name) → is_covered n ≡ false 
 
   both : (xs ys : List Finding) → Lacks test xs → Lacks test ys → Lacks test (xs ++ ys)
   both = lacks_both test
-
-  pub file_others : (spot : Spot) (shown : Disposition) (node : Node) → Lacks test (file_findings spot shown node)
-  file_others spot shown node =
-      both _ _ (other_if spot name.NoType (has_untyped_name shown node) refl)
-      (both _ _ (other_if spot name.TwoNames (has_two_names shown node.ctype) refl) (other_if spot name.UnsafeName (has_unsafe_name shown node.ctype) refl))
 
   pub text_others : (place : Place) (known : Charsets) (node : Node) (body : List ℕ) → Lacks test (text_findings known place node body)
   text_others place known node body =

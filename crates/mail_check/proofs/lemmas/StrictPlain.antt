@@ -757,6 +757,14 @@ plain_of bytes is h =
       word = word_nowhere bytes h.word;
     }
 
+-- the names of plain parameters
+pub plain_names : (bytes : List ℕ) (is : IsPlain bytes) → parameter_names bytes ≡ is.names
+unfolding parameter_names
+plain_names bytes is =
+    let lacks = from_plain is.names is.rest is.parameters in
+    ap (names_after Start []) is.made
+    ∙ (token_same is.first is.others is.rest is.begins is.characters lacks.are).names ∙ lacks.found
+
 pub of_plain : (bytes : List ℕ) → IsPlain bytes → IsTokenWithParameters bytes × ValueLacks bytes
 unfolding parameter_names
 of_plain bytes is =

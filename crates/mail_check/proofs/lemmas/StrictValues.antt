@@ -5,19 +5,20 @@ use Rattle.std.specs.Prelude.{codes}
 use Rattle.mail_codec.specs.Ascii.{slash}
 use Rattle.mail_codec.specs.Places.{byte_place}
 use Rattle.mail_check.specs.Lines.{HeaderLine}
-use Rattle.mail_check.specs.Parameters.{after_main, is_bad_value, is_disposition, is_type, strict, strict_value}
+use Rattle.mail_check.specs.Parameters.{after_main, is_bad_value, is_disposition, is_type, parameter_names, strict, strict_value}
+use Rattle.mail_check.specs.strict.FileNames.{names_of_disposition, names_of_type}
 use Rattle.mail_check.specs.strict.Parameters.{IsTokenWithParameters, IsTypeValue, blank_before_type, type_here, IsDispositionValue, blank_before_disposition, disposition_here}
 use Rattle.mail_check.specs.strict.PlainParameters.{HasPlainValue, IsPlain, IsPlainDisposition, blank_before_plain_disposition, plain_disposition, IsPlainType, blank_before_plain_type, plain_type}
 use Rattle.mail_check.proofs.lemmas.StrictFields.{apart, trimmed, trimmed_past}
 use Rattle.mail_check.proofs.lemmas.StrictHeaders.{cases_Bool}
 use Rattle.mail_check.proofs.lemmas.StrictKeys.{of_line}
-use Rattle.mail_check.proofs.lemmas.StrictPlain.{ValueLacks, of_plain, plain_of}
+use Rattle.mail_check.proofs.lemmas.StrictPlain.{ValueLacks, of_plain, plain_names, plain_of}
 use Rattle.mail_check.proofs.lemmas.StrictTypes.{disposition_found, found_values, type_found, values_found}
 
-abbrev type_of : List ℕ → Option (List ℕ)
+abbrev pub type_of : List ℕ → Option (List ℕ)
 type_of value = strict (after_main (trimmed value) (byte_place (trimmed value) slash))
 
-abbrev disposition_of : List ℕ → Option (List ℕ)
+abbrev pub disposition_of : List ℕ → Option (List ℕ)
 disposition_of value = strict (Some (trimmed value))
 
 -- ---- values with the syntax that all programs know
@@ -63,55 +64,71 @@ disposition_text value (disposition_here is) = record {
 
 -- ---- plain values
 
--- the text of a plain value
-record PlainText (found : Option (List ℕ)) (IsValue : Type 0) : Type 0 where
-  text : List ℕ
-  same : found ≡ Some text
-  lacks : ValueLacks text
-  is : IsValue
+-- the text of a plain value, and the names of its parameters
+pub record PlainText (found : Option (List ℕ)) (names : List (List ℕ)) (IsValue : Type 0) : Type 0 where
+  pub text : List ℕ
+  pub same : found ≡ Some text
+  pub named : parameter_names text ≡ names
+  pub lacks : ValueLacks text
+  pub is : IsValue
 
-plain_type_text : (value : List ℕ) → IsPlainType value → PlainText (type_of value) (IsTypeValue value)
+pub plain_type_text : (value : List ℕ) (is : IsPlainType value) → PlainText (type_of value) (names_of_type is) (IsTypeValue value)
 plain_type_text value (blank_before_plain_type {b = b} {rest = rest} is more) =
     let inner = plain_type_text rest more in
     record {
       text = inner.text;
       same = ap (λ (xs : List ℕ). strict (after_main xs (byte_place xs slash))) (trimmed_past b rest is) ∙ inner.same;
+      named = inner.named;
       lacks = inner.lacks;
       is = blank_before_type is inner.is;
     }
 plain_type_text value (plain_type {text = text} main is left made) =
     let both = of_plain text left in
-    record { text = text; same = type_found value main text is both.0 made; lacks = both.1; is = type_here main is both.0 made }
+    record {
+      text = text;
+      same = type_found value main text is both.0 made;
+      named = plain_names text left;
+      lacks = both.1;
+      is = type_here main is both.0 made;
+    }
 
-plain_disposition_text : (value : List ℕ) → IsPlainDisposition value → PlainText (disposition_of value) (IsDispositionValue value)
+pub plain_disposition_text : (value : List ℕ) (is : IsPlainDisposition value)
+    → PlainText (disposition_of value) (names_of_disposition is) (IsDispositionValue value)
 plain_disposition_text value (blank_before_plain_disposition {b = b} {rest = rest} is more) =
     let inner = plain_disposition_text rest more in
     record {
       text = inner.text;
       same = ap (λ (xs : List ℕ). strict (Some xs)) (trimmed_past b rest is) ∙ inner.same;
+      named = inner.named;
       lacks = inner.lacks;
       is = blank_before_disposition is inner.is;
     }
 plain_disposition_text value (plain_disposition is) =
     let both = of_plain value is in
-    record { text = value; same = disposition_found value both.0; lacks = both.1; is = disposition_here both.0 }
+    record {
+      text = value;
+      same = disposition_found value both.0;
+      named = plain_names value is;
+      lacks = both.1;
+      is = disposition_here both.0;
+    }
 
 -- ---- headers
 
 module _ (line : HeaderLine) where
-  of_type : is_type line ≡ true → strict_value line ≡ type_of line.value
+  pub of_type : is_type line ≡ true → strict_value line ≡ type_of line.value
   of_type e =
       ap (λ (t : Bool). strict (cond t (after_main (trimmed line.value) (byte_place (trimmed line.value) slash))
       (cond (is_disposition line) (Some (trimmed line.value)) None))) e
 
-  of_other : is_type line ≡ false → (t : Bool) → is_disposition line ≡ t
+  pub of_other : is_type line ≡ false → (t : Bool) → is_disposition line ≡ t
       → strict_value line ≡ strict (cond t (Some (trimmed line.value)) None)
   of_other e t f =
       ap (λ (s : Bool). strict (cond s (after_main (trimmed line.value) (byte_place (trimmed line.value) slash))
       (cond (is_disposition line) (Some (trimmed line.value)) None))) e
       ∙ ap (λ (s : Bool). strict (cond s (Some (trimmed line.value)) None)) f
 
-  no_type : is_disposition line ≡ true → is_type line ≡ false
+  pub no_type : is_disposition line ≡ true → is_type line ≡ false
   no_type e = apart line.key (codes "Content-Disposition") (codes "Content-Type") e refl
 
   pub found_plain : is_bad_value line ≡ false → ((text : List ℕ) → strict_value line ≡ Some text → ValueLacks text)
@@ -127,8 +144,8 @@ module _ (line : HeaderLine) where
             inner.plain (plain_of inner.text inner.is (lacks inner.text (of_other (no_type e) true e ∙ inner.same)));
       }
 
-  lacks_of : {found : Option (List ℕ)} {IsValue : Type 0} (text : List ℕ) → PlainText found IsValue → found ≡ Some text
-      → ValueLacks text
+  lacks_of : {found : Option (List ℕ)} {names : List (List ℕ)} {IsValue : Type 0} (text : List ℕ)
+      → PlainText found names IsValue → found ≡ Some text → ValueLacks text
   lacks_of text h e =
       let both : Some h.text ≡ Some text = sym h.same ∙ e in
       let same : h.text ≡ text = cc in

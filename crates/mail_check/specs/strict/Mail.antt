@@ -5,6 +5,7 @@ use Rattle.mailparse.specs.Mail.{Tree, nodes, root, trees_within}
 use Rattle.mail_check.specs.strict.Bodies.{HasStrictBody}
 use Rattle.mail_check.specs.strict.Delimiters.{HasStrictParts}
 use Rattle.mail_check.specs.strict.Fields.{HasStrictFields}
+use Rattle.mail_check.specs.strict.FileNames.{HasStrictFileName}
 use Rattle.mail_check.specs.strict.Headers.{IsBlock}
 use Rattle.mail_check.specs.strict.Levels.{IsSmall}
 use Rattle.mail_check.specs.strict.LineEnds.{IsText}
@@ -22,6 +23,10 @@ AreStrictFields mail = AllByRecursion HasStrictFields (nodes mail)
 -- so is the value of each of them that is a type or a disposition, and it is plain
 abbrev pub AreStrictParameters : Tree → Type 0
 AreStrictParameters mail = AllByRecursion (λ node. AllByRecursion HasPlainValue node.headers) (nodes mail)
+
+-- so are the names of the file of each message
+abbrev pub AreStrictFileNames : Tree → Type 0
+AreStrictFileNames mail = AllByRecursion HasStrictFileName (nodes mail)
 
 -- so is the value of each sender of the mail itself
 abbrev pub AreStrictSenders : Tree → Type 0
@@ -45,6 +50,7 @@ pub record IsStrictSoFar (bytes : List ℕ) (mail : Tree) : Type 0 where
   pub blocks : HasStrictBlocks mail
   pub fields : AreStrictFields mail
   pub parameters : AreStrictParameters mail
+  pub files : AreStrictFileNames mail
   pub senders : AreStrictSenders mail
   pub words : AreStrictWords mail
   pub parts : AreStrictParts mail

@@ -36,6 +36,8 @@ pub data Group : Type 0 where
   Syntax : Group
   -- the parameters of those that have it
   Parameters : Group
+  -- the names of files
+  Files : Group
   -- the senders of the mail itself
   Senders : Group
   -- the words of subjects and senders
@@ -71,6 +73,8 @@ group_of name.QuotedPair = Parameters
 group_of name.ExtendedParameter = Parameters
 group_of name.WordParameter = Parameters
 group_of name.DuplicateParameter = Parameters
+group_of name.NoType = Files
+group_of name.TwoNames = Files
 group_of name.FromSyntax = Senders
 group_of name.WordSyntax = Words
 group_of name.WordJoin = Words
@@ -94,6 +98,7 @@ same_group Blocks Blocks = true
 same_group Fields Fields = true
 same_group Syntax Syntax = true
 same_group Parameters Parameters = true
+same_group Files Files = true
 same_group Senders Senders = true
 same_group Words Words = true
 same_group Parts Parts = true
@@ -117,6 +122,10 @@ is_field_name n = same_group Fields (group_of n) || same_group Syntax (group_of 
 -- a name of the values of types and dispositions: their syntax, and their parameters
 abbrev pub is_parameter_name : Name → Bool
 is_parameter_name n = same_group Syntax (group_of n) || same_group Parameters (group_of n)
+
+-- a name of these values, and of the names of files in them
+abbrev pub is_file_name : Name → Bool
+is_file_name n = same_group Syntax (group_of n) || (same_group Parameters (group_of n) || same_group Files (group_of n))
 
 -- the name of a sender of the mail itself in another form
 abbrev pub is_from_name : Name → Bool

@@ -13,14 +13,14 @@ ghost use Rattle.mail_check.specs.strict.LineEnds.{HasNoLoneReturn, HasNoNul};
 ghost use Rattle.mail_check.specs.strict.LineEnds.{HasOneLineEnd, IsText};
 ghost use Rattle.mail_check.specs.strict.Levels.{IsSmall};
 ghost use Rattle.mail_check.specs.strict.Mail.{AreStrictBodies, AreStrictFields};
-ghost use Rattle.mail_check.specs.strict.Mail.{AreStrictParameters, AreStrictParts};
-ghost use Rattle.mail_check.specs.strict.Mail.{AreStrictSenders, AreStrictWords};
+ghost use Rattle.mail_check.specs.strict.Mail.{AreStrictFileNames, AreStrictParameters};
+ghost use Rattle.mail_check.specs.strict.Mail.{AreStrictParts, AreStrictSenders, AreStrictWords};
 ghost use Rattle.mail_check.specs.strict.Mail.{HasStrictBlocks, IsStrictSoFar};
 ghost use Rattle.mail_check.specs.strict.Named.{Lacks, is_block_name, is_body_name, is_covered};
-ghost use Rattle.mail_check.specs.strict.Named.{is_field_name, is_from_name, is_line_name};
-ghost use Rattle.mail_check.specs.strict.Named.{is_lone_cr_name, is_many_name, is_mixed_name};
-ghost use Rattle.mail_check.specs.strict.Named.{is_nul_name, is_parameter_name, is_part_name};
-ghost use Rattle.mail_check.specs.strict.Named.{is_word_name};
+ghost use Rattle.mail_check.specs.strict.Named.{is_field_name, is_file_name, is_from_name};
+ghost use Rattle.mail_check.specs.strict.Named.{is_line_name, is_lone_cr_name, is_many_name};
+ghost use Rattle.mail_check.specs.strict.Named.{is_mixed_name, is_nul_name, is_parameter_name};
+ghost use Rattle.mail_check.specs.strict.Named.{is_part_name, is_word_name};
 
 /// A mail has no finding `nul` exactly if no byte of it is NUL; no `lone-cr` exactly if a LF
 /// follows each CR; and no `mixed-line-ends` exactly if not both line ends are there. It has none
@@ -69,6 +69,18 @@ pub fn parameters_are_strict()
     ensures { (known : Charsets) (greatest : ℕ) (bytes : List ℕ) (t : Tree) →
         read_mail_in known greatest bytes ≡ Ok t →
         Lacks is_parameter_name (findings known t (placements 0 t)) ↔ AreStrictParameters t }
+{}
+
+/// A mail that the port reads has no finding `no-type`, `two-names` or one of the six names of
+/// `parameters_are_strict` exactly if the values of types and dispositions are plain, no type has a
+/// parameter `filename`, no disposition a parameter `name`, and each message whose disposition has a
+/// `filename` that is not blank has a `Content-Type`, and no other `name` in its type.
+#[tactic(auto, using(crate::proofs::lemmas::StrictMessages::files_are_of_grammar))]
+pub fn file_names_are_strict()
+    ensures { (known : Charsets) (greatest : ℕ) (bytes : List ℕ) (t : Tree) →
+        read_mail_in known greatest bytes ≡ Ok t →
+        Lacks is_file_name (findings known t (placements 0 t)) ↔
+        (AreStrictParameters t × AreStrictFileNames t) }
 {}
 
 /// A mail that the port reads has no finding `from-syntax` exactly if the value of each `From` of the
@@ -133,9 +145,10 @@ pub fn strict_blocks_are_read()
         block ++ body ≡ other ++ rest → block ≡ other }
 {}
 
-/// A mail that the port reads has no finding with any of these thirty-four names exactly if its
-/// bytes, its header blocks, its headers, its types and their parameters, its senders and words, its
-/// multiparts, its bodies and the number of its messages and levels are those of the grammar.
+/// A mail that the port reads has no finding with any of these thirty-six names exactly if its
+/// bytes, its header blocks, its headers, its types, their parameters and its file names, its senders
+/// and words, its multiparts, its bodies and the number of its messages and levels are those of the
+/// grammar.
 pub fn strict_so_far()
     ensures { (known : Charsets) (greatest : ℕ) (bytes : List ℕ) (t : Tree) →
         read_mail_in known greatest bytes ≡ Ok t →
