@@ -32,4 +32,7 @@ pub mod StrictSenders
 pub mod StrictWords
 pub mod StrictJoins
 pub mod StrictSenderNames
+pub mod StrictCharsets
+pub mod StrictTexts
+pub mod StrictWordBytes
 pub mod StrictWorded

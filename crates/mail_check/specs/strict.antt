@@ -11,6 +11,9 @@ pub mod Bodies
 pub mod Senders
 pub mod Words
 pub mod SenderNames
+pub mod Charsets
+pub mod Texts
+pub mod WordBytes
 pub mod Worded
 pub mod Levels
 pub mod Mail

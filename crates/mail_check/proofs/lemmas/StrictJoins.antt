@@ -43,7 +43,7 @@ label_apart b h = elim (cases_Bool (b == question_mark)) [
       absurd (cc)
 ]
 
-label_at : (charset rest : List ℕ) → list_all is_label_byte charset ≡ true
+pub label_at : (charset rest : List ℕ) → list_all is_label_byte charset ≡ true
     → first_place (begins (λ b. b == question_mark)) (charset ++ (question_mark ∷ rest)) ≡ length charset
 label_at [] rest all = refl
 label_at (b ∷ charset) rest all =

@@ -75,7 +75,7 @@ none_early value (the_at_sign rest all made) = ap has_early_at made ∙ early_he
 -- ---- the bytes of words
 
 -- the encoded text of a word
-text_at : (charset : List ℕ) (b : ℕ) (text : List ℕ) → list_all is_label_byte charset ≡ true
+pub text_at : (charset : List ℕ) (b : ℕ) (text : List ℕ) → list_all is_label_byte charset ≡ true
     → word_text (word charset (encoded b text ++ closing)) ≡ text
 text_at charset b text all =
     ap (λ (xs : List ℕ). take (length (drop 3 xs) - 2) (drop 3 xs)) (after_at charset (encoded b text ++ closing) all)
@@ -106,7 +106,7 @@ q_octets charset b text all e =
     ∙ q_at b (text ++ closing) e)
     ∙ ap (λ (xs : List ℕ). quoted_printable (spaced xs ++ codes "=")) (text_at charset b text all)
 
-octets_are : (piece : List ℕ) (is : IsWord piece) (octets : List ℕ) → AreOctets is.text octets → octets_of piece ≡ octets
+pub octets_are : (piece : List ℕ) (is : IsWord piece) (octets : List ℕ) → AreOctets is.text octets → octets_of piece ≡ octets
 octets_are piece is octets (octets_in_base64 {b = b} text e same made) =
     ap octets_of (is.made ∙ ap (λ (xs : List ℕ). word (is.first ∷ is.others) (xs ++ closing)) made)
     ∙ base64_octets (is.first ∷ is.others) b text is.characters e ∙ sym same
@@ -114,7 +114,7 @@ octets_are piece is octets (octets_in_q {b = b} text e same made) =
     ap octets_of (is.made ∙ ap (λ (xs : List ℕ). word (is.first ∷ is.others) (xs ++ closing)) made)
     ∙ q_octets (is.first ∷ is.others) b text is.characters e ∙ sym same
 
-are_octets : (piece : List ℕ) (is : IsWord piece) → AreOctets is.text (octets_of piece)
+pub are_octets : (piece : List ℕ) (is : IsWord piece) → AreOctets is.text (octets_of piece)
 are_octets piece is = by_text is.encoded
   where
     by_text : IsEncodedText is.text → AreOctets is.text (octets_of piece)

@@ -2,13 +2,21 @@
 ghost use Rattle.std.specs.Prelude.{◌≡◌, ◌↔◌, ◌==◌, [], ℕ, List, codes, false, true};
 ghost use Rattle.std.specs.List.{list_any};
 ghost use Rattle.mail_codec.specs.Charset.{Charsets};
+ghost use Rattle.mailparse.specs.Mail.{Node};
+ghost use Rattle.mail_data.specs.lenient.Content.{message_content};
+ghost use Rattle.mail_check.specs.Charsets.{is_lacking};
 ghost use Rattle.mail_check.specs.Findings.{Spot, sender_findings, worded_findings};
-ghost use Rattle.mail_check.specs.Lines.{HeaderLine, is_named};
+ghost use Rattle.mail_check.specs.Lines.{HeaderLine, begins_type, is_named};
 ghost use Rattle.mail_check.specs.Senders.{is_bad_sender, is_plain_sender};
+ghost use Rattle.mail_check.specs.Texts.{has_bad_text};
+ghost use Rattle.mail_check.specs.WordBytes.{has_bad_octets};
 ghost use Rattle.mail_check.specs.Words.{has_join, is_bad_name, is_bad_piece, is_word, pieces};
+ghost use Rattle.mail_check.specs.strict.Charsets.{IsInCharset};
 ghost use Rattle.mail_check.specs.strict.Named.{Lacks, is_from_name, is_word_name};
 ghost use Rattle.mail_check.specs.strict.SenderNames.{HasPlainNames};
 ghost use Rattle.mail_check.specs.strict.Senders.{IsSenderValue};
+ghost use Rattle.mail_check.specs.strict.Texts.{IsReadableText};
+ghost use Rattle.mail_check.specs.strict.WordBytes.{HasReadableWords};
 ghost use Rattle.mail_check.specs.strict.Worded.{IsWordedField, is_worded_key};
 ghost use Rattle.mail_check.specs.strict.Words.{HasApartWords, HasStrictWords, IsWord};
 
@@ -45,6 +53,27 @@ pub fn words_are_apart()
 pub fn names_are_strict()
     ensures { (line : HeaderLine) →
         (is_bad_name line (pieces line.value) ≡ false) ↔ HasPlainNames line.key line.value }
+{}
+
+/// A value has no `word-bytes` exactly if the bytes of each encoded word in it are of the grammar.
+/// There is one at least, they are text in the charset of the word, begin with no byte order mark,
+/// and none is a control character. In Base64 each bit of the last letter makes a byte or is 0.
+#[tactic(auto, using(crate::proofs::lemmas::StrictWordBytes::word_bytes_strict))]
+pub fn word_bytes_are_strict()
+    ensures { (known : Charsets) (value : List ℕ) →
+        (list_any (has_bad_octets known) (pieces value) ≡ false) ↔ HasReadableWords known value }
+{}
+
+/// Bytes are text in the charset of a label exactly if they are by one of the cases of the grammar.
+/// A message has no `charset` exactly if its type does not begin with `text/`, or if the bytes of
+/// its body have no NUL, begin with no byte order mark, and are text in its charset.
+pub fn texts_are_strict()
+    ensures charset { (known : Charsets) (label octets : List ℕ) →
+        (is_lacking known label octets ≡ false) ↔ IsInCharset known label octets }
+    ensures text { (known : Charsets) (node : Node) →
+        (has_bad_text known node ≡ false) ↔
+        (begins_type (codes "text/") node.ctype ≡ true →
+        IsReadableText known node.ctype.charset (message_content node).bytes) }
 {}
 
 /// A header of the mail itself has no finding `from-syntax` exactly if it is no `From` or its value
