@@ -7,7 +7,7 @@ use Rattle.mailparse.specs.Placement.{placements}
 use Rattle.mail_data.specs.PartPlaces.{places}
 use Rattle.mail_check.specs.Bytes.{first_offset, is_bare_line_feed, is_lone_return, is_nul, is_return_feed, mixed_line_end}
 use Rattle.mail_check.specs.Findings.{findings}
-use Rattle.mail_check.specs.strict.Named.{Lacks, is_covered, is_line_name, is_lone_cr_name, is_mixed_name, is_nul_name}
+use Rattle.mail_check.specs.strict.Named.{Lacks, is_core, is_line_name, is_lone_cr_name, is_mixed_name, is_nul_name}
 use Rattle.mail_check.specs.strict.LineEnds.{HasNoLoneReturn, HasNoNul, HasOneLineEnd, IsText}
 use Rattle.mail_check.proofs.lemmas.Clean.{found_nowhere, not_both, not_later, nowhere_found}
 use Rattle.mail_check.proofs.lemmas.StrictLineEnds.{bare_named, feed_named, lone_named, nul_named, text_is_plain}
@@ -69,8 +69,8 @@ found_text bytes h =
 
 -- ---- of a mail
 
--- names of lines are covered
-covers : (n : Name) → is_covered n ≡ false → is_line_name n ≡ false
+-- names of lines are no notes
+covers : (n : Name) → is_core n ≡ false → is_line_name n ≡ false
 covers name.Nul h = absurd (cc)
 covers name.LoneCr h = absurd (cc)
 covers name.MixedLineEnds h = absurd (cc)
@@ -96,7 +96,7 @@ module _ (known : Charsets) (test : Name → Bool) (only : (n : Name) → is_lin
   named_bytes : (t : Tree) → BytesLack test (root t).bytes → Lacks test (findings known t (placements 0 t))
   named_bytes t h = first_found known test (λ n e. only n (covers n e)) t
       (record { bytes = h; senders = senders_free test (only name.FromSyntax refl) (root t) })
-      (messages_free test only (places t (placements 0 t)))
+      (messages_free known test only (places t (placements 0 t)))
       (far_free test (only name.Many refl) 0 (places t (placements 0 t)))
 
 pub nul_strict : (known : Charsets) (t : Tree) → Lacks is_nul_name (findings known t (placements 0 t)) ↔ HasNoNul (root t).bytes

@@ -1,4 +1,4 @@
--- The messages of a mail without findings of the names that the grammar of strict mails covers.
+-- The messages of a mail without findings of some names are those of the grammar of strict mails.
 use Rattle.std.proofs.Common.{inl, inr, ◌≡◌, ◌∙◌, ◌<◌, ℕ, Bool, true, false, List, [], ◌∷◌, length, map, take, drop, Ok, ◌++◌, ◌+◌, length-take, refl, sym, ap, subst, Option, Some, None, arith}
 use Rattle.std.specs.Prelude.{◌↔◌, ◌&&◌, ◌==◌, codes, is_some, not}
 use Rattle.std.specs.List.{AllByRecursion, list_all}
@@ -26,9 +26,10 @@ use Rattle.mail_check.specs.strict.FileNames.{HasOwnNames, HasStrictFileName}
 use Rattle.mail_check.specs.strict.Headers.{IsBlock, is_address_name}
 use Rattle.mail_check.specs.strict.Levels.{IsSmall}
 use Rattle.mail_check.specs.strict.LineEnds.{IsText}
-use Rattle.mail_check.specs.strict.Mail.{AreStrictBodies, AreStrictFields, AreStrictFileNames, AreStrictParameters, AreStrictParts, AreStrictSenders, AreStrictWords, HasStrictBlocks, IsStrictSoFar}
-use Rattle.mail_check.specs.strict.Named.{Group, Lacks, Size, group_of, is_block_name, is_body_name, is_covered, is_field_name, is_file_name, is_from_name, is_line_name, is_many_name, is_parameter_name, is_part_name, is_word_name}
+use Rattle.mail_check.specs.strict.Mail.{AreStrictBodies, AreStrictFields, AreStrictFileNames, AreStrictParameters, AreStrictParts, AreStrictSenders, AreStrictTexts, AreStrictWords, HasStrictBlocks, IsStrict}
+use Rattle.mail_check.specs.strict.Named.{Group, Lacks, Size, group_of, is_block_name, is_body_name, is_core, is_field_name, is_file_name, is_from_name, is_line_name, is_many_name, is_parameter_name, is_part_name, is_text_name, is_word_name}
 use Rattle.mail_check.specs.strict.PlainParameters.{HasPlainValue}
+use Rattle.mail_check.specs.strict.Texts.{HasStrictText}
 use Rattle.mail_check.specs.strict.Worded.{HasSenderValue, HasWordedValue}
 use Rattle.mail_check.specs.Parameters.{is_bad_value, strict_value}
 use Rattle.mail_check.specs.declared.names.Name.{Name}
@@ -43,14 +44,16 @@ use Rattle.mail_check.proofs.lemmas.StrictFields.{most_one, one_most}
 use Rattle.mail_check.proofs.lemmas.StrictFileNames.{found_names, missing_type, named_some, names_found, names_same, same_names, some_named, type_missing}
 use Rattle.mail_check.proofs.lemmas.StrictTypes.{field_found, found_field}
 use Rattle.mail_check.proofs.lemmas.StrictValues.{found_plain, plain_found}
-use Rattle.mail_check.proofs.lemmas.StrictGroups.{among, groups, no_other, of_blocks, of_bodies, of_covered, of_fields, of_files, of_lines, of_named_values, of_others, of_own_fields, of_parameters, of_parts, of_senders, of_size, of_values, of_words, uncovered}
+use Rattle.mail_check.proofs.lemmas.StrictGroups.{among, among_core, groups, no_other, of_blocks, of_bodies, of_fields, of_files, of_lines, of_named_values, of_notes, of_own_fields, of_parameters}
+use Rattle.mail_check.proofs.lemmas.StrictGroups.{of_parts, of_senders, of_size, of_texts, of_values, of_words, uncovered}
 use Rattle.mail_check.proofs.lemmas.StrictDelimiters.{found_parts, parts_found}
 use Rattle.mail_check.proofs.lemmas.StrictParts.{boundary_inner, dash_made, made_of, not_found, opened_of}
 use Rattle.mail_check.proofs.lemmas.StrictLevels.{found_small, small_found}
 use Rattle.mail_check.proofs.lemmas.StrictBodies.{QuotedFree, base64_of, first_none, none_earlier, none_first, not_earlier, of_base64, of_quoted, quoted_of}
 use Rattle.mail_check.proofs.lemmas.StrictKeys.{lines_are_headers, of_line}
-use Rattle.mail_check.proofs.lemmas.StrictNamed.{BlockLacks, BodyLacks, BytesLack, EncodedLacks, FarLacks, FieldsLack, FilesLack, LineLacks, MailLacks, MessageLacks, NamesLack, ParametersLack, PartsLack, SenderLacks, TypeLacks, all_free, all_map, block_free, body_free, bytes_free, far_first, far_free, fields_free, files_free, first_found, found_first, lacks_some, own_fields_free, parameters_free, parts_free, senders_free, some_lacks, text_after, words_free}
+use Rattle.mail_check.proofs.lemmas.StrictNamed.{BlockLacks, BodyLacks, BytesLack, CharsetLacks, EncodedLacks, FarLacks, FieldsLack, FilesLack, LineLacks, MailLacks, MessageLacks, NamesLack, ParametersLack, PartsLack, SenderLacks, TypeLacks, all_free, all_map, block_free, body_free, bytes_free, far_first, far_free, fields_free, files_free, first_found, found_first, lacks_some, own_fields_free, parameters_free, parts_free, senders_free, some_lacks, text_after, text_free, words_free}
 use Rattle.mail_check.proofs.lemmas.StrictReading.{IsRead, all_of_map, all_with, bytes-there, headers-there, map_of_all, parts-there}
+use Rattle.mail_check.proofs.lemmas.StrictTexts.{text_strict}
 use Rattle.mail_check.proofs.lemmas.StrictWorded.{WordedLacks}
 
 none_some : (o : Option ℕ) → is_some o ≡ false → o ≡ None
@@ -264,32 +267,34 @@ strict_senders test node is h =
     (all_of_map of_line HasSenderValue (header_lines node) (subst (AllByRecursion HasSenderValue) (sym (lines_are_headers node is)) h))
 
 -- the words of one message, if all names of them are asked for
-module _ (test : Name → Bool) (asked : (n : Name) → is_word_name n ≡ true → test n ≡ true) where
-  worded_line : (line : HeaderLine) → WordedLacks test line → HasWordedValue (of_line line)
+module _ (known : Charsets) (test : Name → Bool) (asked : (n : Name) → is_word_name n ≡ true → test n ≡ true) where
+  worded_line : (line : HeaderLine) → WordedLacks known test line → HasWordedValue known (of_line line)
   worded_line line h e = record {
     words = h.syntax (asked name.WordSyntax refl) e;
     apart = h.join (asked name.WordJoin refl) e;
+    readable = h.bytes (asked name.WordBytes refl) e;
     names = h.address (asked name.NameAddress refl) e;
   }
 
-  words_strict : (node : Node) → IsRead node → AllByRecursion (WordedLacks test) (header_lines node)
-      → AllByRecursion HasWordedValue node.headers
+  words_strict : (node : Node) → IsRead node → AllByRecursion (WordedLacks known test) (header_lines node)
+      → AllByRecursion (HasWordedValue known) node.headers
   words_strict node is h =
-      subst (AllByRecursion HasWordedValue) (lines_are_headers node is) (map_of_all of_line HasWordedValue (header_lines node)
-      (all_map (WordedLacks test) (λ line. HasWordedValue (of_line line)) worded_line (header_lines node) h))
+      subst (AllByRecursion (HasWordedValue known)) (lines_are_headers node is) (map_of_all of_line (HasWordedValue known) (header_lines node)
+      (all_map (WordedLacks known test) (λ line. HasWordedValue known (of_line line)) worded_line (header_lines node) h))
 
-line_worded : (test : Name → Bool) (line : HeaderLine) → HasWordedValue (of_line line) → WordedLacks test line
-line_worded test line h = record {
+line_worded : (known : Charsets) (test : Name → Bool) (line : HeaderLine) → HasWordedValue known (of_line line) → WordedLacks known test line
+line_worded known test line h = record {
   syntax = λ t e. (h e).words;
   join = λ t e. (h e).apart;
+  bytes = λ t e. (h e).readable;
   address = λ t e. (h e).names;
 }
 
-strict_words : (test : Name → Bool) (node : Node) → IsRead node → AllByRecursion HasWordedValue node.headers
-    → AllByRecursion (WordedLacks test) (header_lines node)
-strict_words test node is h =
-    all_map (λ line. HasWordedValue (of_line line)) (WordedLacks test) (line_worded test) (header_lines node)
-    (all_of_map of_line HasWordedValue (header_lines node) (subst (AllByRecursion HasWordedValue) (sym (lines_are_headers node is)) h))
+strict_words : (known : Charsets) (test : Name → Bool) (node : Node) → IsRead node → AllByRecursion (HasWordedValue known) node.headers
+    → AllByRecursion (WordedLacks known test) (header_lines node)
+strict_words known test node is h =
+    all_map (λ line. HasWordedValue known (of_line line)) (WordedLacks known test) (line_worded known test) (header_lines node)
+    (all_of_map of_line (HasWordedValue known) (header_lines node) (subst (AllByRecursion (HasWordedValue known)) (sym (lines_are_headers node is)) h))
 
 -- how one message is split, if all names of that are asked for
 module _ (test : Name → Bool) (asked : (n : Name) → is_part_name n ≡ true → test n ≡ true) where
@@ -368,6 +373,14 @@ strict_encoded test in_binary body h = tt
 strict_body : (test : Name → Bool) (t : Tree) → HasStrictBody t → BodyLacks test t
 strict_body test t h = record { encoded = λ e. strict_encoded test (body_kind (root t)) (root t).body (h.encoded e) }
 
+-- the text of one message, if its name is asked for
+text_of_message : (known : Charsets) (test : Name → Bool) → test name.Charset ≡ true → (t : Tree) → CharsetLacks known test t
+    → HasStrictText known t
+text_of_message known test asked t h = record { readable = λ e text. (text_strict known (root t)).0 (h asked e) text }
+
+message_of_text : (known : Charsets) (test : Name → Bool) (t : Tree) → HasStrictText known t → CharsetLacks known test t
+message_of_text known test t h s e = (text_strict known (root t)).1 (λ text. h.readable e text)
+
 -- ---- a whole mail
 
 module _ (known : Charsets) (greatest : ℕ) (bytes : List ℕ) (t : Tree) (read : read_mail_in known greatest bytes ≡ Ok t) where
@@ -394,51 +407,56 @@ module _ (known : Charsets) (greatest : ℕ) (bytes : List ℕ) (t : Tree) (read
 
   module _ (test : Name → Bool) where
     abbrev AllLack : Type 0
-    AllLack = AllByRecursion (λ (p : Place). MessageLacks test p.part) (places t (placements 0 t))
+    AllLack = AllByRecursion (λ (p : Place). MessageLacks known test p.part) (places t (placements 0 t))
 
     -- from findings to the grammar
     blocks_found : ((n : Name) → is_block_name n ≡ true → test n ≡ true) → AllLack → HasStrictBlocks t
     blocks_found asked h =
         map_of_all root (λ (node : Node). IsBlock node.block) (trees_within t)
         (read_with (BlockLacks test) (λ (node : Node). IsBlock node.block) (block_strict test asked)
-        (all_map (MessageLacks test) (λ (t : Tree). BlockLacks test (root t)) (λ t lacks. lacks.block) (trees_within t) (of_places (MessageLacks test) h)))
+        (all_map (MessageLacks known test) (λ (t : Tree). BlockLacks test (root t)) (λ t lacks. lacks.block) (trees_within t) (of_places (MessageLacks known test) h)))
 
     fields_found : ((n : Name) → is_field_name n ≡ true → test n ≡ true) → AllLack → AreStrictFields t
     fields_found asked h =
         map_of_all root HasStrictFields (trees_within t)
         (read_with (FieldsLack test) HasStrictFields (fields_strict test asked)
-        (all_map (MessageLacks test) (λ (t : Tree). FieldsLack test (root t)) (λ t lacks. lacks.fields) (trees_within t) (of_places (MessageLacks test) h)))
+        (all_map (MessageLacks known test) (λ (t : Tree). FieldsLack test (root t)) (λ t lacks. lacks.fields) (trees_within t) (of_places (MessageLacks known test) h)))
 
     parameters_found : ((n : Name) → is_parameter_name n ≡ true → test n ≡ true) → AllLack → AreStrictParameters t
     parameters_found asked h =
         map_of_all root (λ (node : Node). AllByRecursion HasPlainValue node.headers) (trees_within t)
         (read_with (ValuesLack test) (λ (node : Node). AllByRecursion HasPlainValue node.headers) (parameters_strict test asked)
-        (all_map (MessageLacks test) (λ (t : Tree). ValuesLack test (root t)) (λ t lacks. (lacks.fields, lacks.parameters)) (trees_within t)
-        (of_places (MessageLacks test) h)))
+        (all_map (MessageLacks known test) (λ (t : Tree). ValuesLack test (root t)) (λ t lacks. (lacks.fields, lacks.parameters)) (trees_within t)
+        (of_places (MessageLacks known test) h)))
 
     files_found : ((n : Name) → of_files (group_of n) ≡ true → test n ≡ true) → AllLack → AreStrictFileNames t
     files_found asked h =
         map_of_all root HasStrictFileName (trees_within t)
         (read_with (FilesLack test) HasStrictFileName (files_strict test asked)
-        (all_map (MessageLacks test) (λ (t : Tree). FilesLack test (root t)) (λ t lacks. lacks.files) (trees_within t)
-        (of_places (MessageLacks test) h)))
+        (all_map (MessageLacks known test) (λ (t : Tree). FilesLack test (root t)) (λ t lacks. lacks.files) (trees_within t)
+        (of_places (MessageLacks known test) h)))
 
     senders_found : test name.FromSyntax ≡ true → MailLacks test (root t) → AreStrictSenders t
     senders_found asked h = senders_strict test asked (root t) root_read h.senders
 
-    words_found : ((n : Name) → is_word_name n ≡ true → test n ≡ true) → AllLack → AreStrictWords t
+    words_found : ((n : Name) → is_word_name n ≡ true → test n ≡ true) → AllLack → AreStrictWords known t
     words_found asked h =
-        map_of_all root (λ (node : Node). AllByRecursion HasWordedValue node.headers) (trees_within t)
-        (read_with (λ (node : Node). AllByRecursion (WordedLacks test) (header_lines node))
-        (λ (node : Node). AllByRecursion HasWordedValue node.headers) (words_strict test asked)
-        (all_map (MessageLacks test) (λ (t : Tree). AllByRecursion (WordedLacks test) (header_lines (root t))) (λ t lacks. lacks.words)
-        (trees_within t) (of_places (MessageLacks test) h)))
+        map_of_all root (λ (node : Node). AllByRecursion (HasWordedValue known) node.headers) (trees_within t)
+        (read_with (λ (node : Node). AllByRecursion (WordedLacks known test) (header_lines node))
+        (λ (node : Node). AllByRecursion (HasWordedValue known) node.headers) (words_strict known test asked)
+        (all_map (MessageLacks known test) (λ (t : Tree). AllByRecursion (WordedLacks known test) (header_lines (root t))) (λ t lacks. lacks.words)
+        (trees_within t) (of_places (MessageLacks known test) h)))
 
     parts_of_all : ((n : Name) → is_part_name n ≡ true → test n ≡ true) → AllLack → AreStrictParts t
-    parts_of_all asked h = all_map (MessageLacks test) HasStrictParts (λ t lacks. parts_strict test asked t lacks.parts) (trees_within t) (of_places (MessageLacks test) h)
+    parts_of_all asked h = all_map (MessageLacks known test) HasStrictParts (λ t lacks. parts_strict test asked t lacks.parts) (trees_within t) (of_places (MessageLacks known test) h)
 
     bodies_of_all : ((n : Name) → is_body_name n ≡ true → test n ≡ true) → AllLack → AreStrictBodies t
-    bodies_of_all asked h = all_map (MessageLacks test) HasStrictBody (λ t lacks. body_strict test asked t lacks.body) (trees_within t) (of_places (MessageLacks test) h)
+    bodies_of_all asked h = all_map (MessageLacks known test) HasStrictBody (λ t lacks. body_strict test asked t lacks.body) (trees_within t) (of_places (MessageLacks known test) h)
+
+    texts_of_all : test name.Charset ≡ true → AllLack → AreStrictTexts known t
+    texts_of_all asked h =
+        all_map (MessageLacks known test) (HasStrictText known) (λ t lacks. text_of_message known test asked t lacks.text) (trees_within t)
+        (of_places (MessageLacks known test) h)
 
     -- and back
     abbrev AllBlocks : Type 0
@@ -454,7 +472,7 @@ module _ (known : Charsets) (greatest : ℕ) (bytes : List ℕ) (t : Tree) (read
     AllFiles = AllByRecursion (λ (t : Tree). FilesLack test (root t)) (trees_within t)
 
     abbrev AllWords : Type 0
-    AllWords = AllByRecursion (λ (t : Tree). AllByRecursion (WordedLacks test) (header_lines (root t))) (trees_within t)
+    AllWords = AllByRecursion (λ (t : Tree). AllByRecursion (WordedLacks known test) (header_lines (root t))) (trees_within t)
 
     abbrev Splits : Tree → Type 0
     Splits t = (dash : List ℕ) → dash_of (root t).ctype ≡ Some dash → PartsLack test t dash
@@ -497,11 +515,11 @@ module _ (known : Charsets) (greatest : ℕ) (bytes : List ℕ) (t : Tree) (read
         PlainNames : Node → Type 0
         PlainNames node = AllByRecursion HasPlainValue node.headers × HasStrictFileName node
 
-    found_words : AreStrictWords t → AllWords
+    found_words : AreStrictWords known t → AllWords
     found_words h =
-        read_with (λ (node : Node). AllByRecursion HasWordedValue node.headers)
-        (λ (node : Node). AllByRecursion (WordedLacks test) (header_lines node)) (strict_words test)
-        (all_of_map root (λ (node : Node). AllByRecursion HasWordedValue node.headers) (trees_within t) h)
+        read_with (λ (node : Node). AllByRecursion (HasWordedValue known) node.headers)
+        (λ (node : Node). AllByRecursion (WordedLacks known test) (header_lines node)) (strict_words known test)
+        (all_of_map root (λ (node : Node). AllByRecursion (HasWordedValue known) node.headers) (trees_within t) h)
 
     found_splits : AreStrictParts t → AllSplit
     found_splits h = all_map HasStrictParts Splits (strict_parts test) (trees_within t) h
@@ -512,13 +530,22 @@ module _ (known : Charsets) (greatest : ℕ) (bytes : List ℕ) (t : Tree) (read
     found_bodies : AreStrictBodies t → AllBodies
     found_bodies h = all_map HasStrictBody (BodyLacks test) (strict_body test) (trees_within t) h
 
+    abbrev AllTexts : Type 0
+    AllTexts = AllByRecursion (CharsetLacks known test) (trees_within t)
+
+    found_texts : AreStrictTexts known t → AllTexts
+    found_texts h = all_map (HasStrictText known) (CharsetLacks known test) (message_of_text known test) (trees_within t) h
+
     -- the values of the headers of a message, the names in them, and what comes after them
     abbrev Values : Tree → Type 0
     Values t =
-        AllByRecursion (ParametersLack test) (header_lines (root t)) × AllByRecursion (WordedLacks test) (header_lines (root t))
+        AllByRecursion (ParametersLack test) (header_lines (root t)) × AllByRecursion (WordedLacks known test) (header_lines (root t))
+
+    abbrev Bodies : Tree → Type 0
+    Bodies t = BodyLacks test t × CharsetLacks known test t
 
     abbrev Contents : Tree → Type 0
-    Contents t = Splits t × BodyLacks test t
+    Contents t = Splits t × Bodies t
 
     abbrev NamedContents : Tree → Type 0
     NamedContents t = FilesLack test (root t) × Contents t
@@ -527,10 +554,10 @@ module _ (known : Charsets) (greatest : ℕ) (bytes : List ℕ) (t : Tree) (read
     abbrev Headers : Tree → Type 0
     Headers t = BlockLacks test (root t) × FieldsLack test (root t)
 
-    all_lack : AllBlocks → AllFields → AllParameters → AllFiles → AllWords → AllSplit → AllBodies → AllLack
-    all_lack blocks fields parameters files words splits bodies =
-        to_places (MessageLacks test)
-        (all_with Headers (λ (t : Tree). Values t × NamedContents t) (MessageLacks test)
+    all_lack : AllBlocks → AllFields → AllParameters → AllFiles → AllWords → AllSplit → AllBodies → AllTexts → AllLack
+    all_lack blocks fields parameters files words splits bodies texts =
+        to_places (MessageLacks known test)
+        (all_with Headers (λ (t : Tree). Values t × NamedContents t) (MessageLacks known test)
         (λ t headers rest. record {
           block = headers.0;
           fields = headers.1;
@@ -538,18 +565,20 @@ module _ (known : Charsets) (greatest : ℕ) (bytes : List ℕ) (t : Tree) (read
           words = rest.0.1;
           files = rest.1.0;
           parts = rest.1.1.0;
-          body = rest.1.1.1;
+          body = rest.1.1.1.0;
+          text = rest.1.1.1.1;
         }) (trees_within t)
         (all_with (λ (t : Tree). BlockLacks test (root t)) (λ (t : Tree). FieldsLack test (root t)) Headers
         (λ t block fields. (block, fields)) (trees_within t) blocks fields)
         (all_with Values NamedContents (λ (t : Tree). Values t × NamedContents t) (λ t values contents. (values, contents))
         (trees_within t)
         (all_with (λ (t : Tree). AllByRecursion (ParametersLack test) (header_lines (root t)))
-        (λ (t : Tree). AllByRecursion (WordedLacks test) (header_lines (root t))) Values
+        (λ (t : Tree). AllByRecursion (WordedLacks known test) (header_lines (root t))) Values
         (λ t parameters words. (parameters, words)) (trees_within t) parameters words)
         (all_with (λ (t : Tree). FilesLack test (root t)) Contents NamedContents (λ t files contents. (files, contents))
         (trees_within t) files
-        (all_with Splits (BodyLacks test) Contents (λ t parts body. (parts, body)) (trees_within t) splits bodies))))
+        (all_with Splits Bodies Contents (λ t parts body. (parts, body)) (trees_within t) splits
+        (all_with (BodyLacks test) (CharsetLacks known test) Bodies (λ t body text. (body, text)) (trees_within t) bodies texts)))))
 
   -- what is not asked for, if the names of some groups are
   module _ (some : Group → Bool) where
@@ -576,8 +605,8 @@ module _ (known : Charsets) (greatest : ℕ) (bytes : List ℕ) (t : Tree) (read
 
     no_words : list_all (λ g. not (of_words g && some g)) groups ≡ true → AllWords asks
     no_words apart =
-        all_free (λ (t : Tree). AllByRecursion (WordedLacks asks) (header_lines (root t)))
-        (λ (t : Tree). words_free asks (no_other of_words some apart) (root t)) (trees_within t)
+        all_free (λ (t : Tree). AllByRecursion (WordedLacks known asks) (header_lines (root t)))
+        (λ (t : Tree). words_free known asks (no_other of_words some apart) (root t)) (trees_within t)
 
     no_senders : list_all (λ g. not (of_senders g && some g)) groups ≡ true
         → AllByRecursion (SenderLacks asks 0) (header_lines (root t))
@@ -589,11 +618,14 @@ module _ (known : Charsets) (greatest : ℕ) (bytes : List ℕ) (t : Tree) (read
     no_bodies : list_all (λ g. not (of_bodies g && some g)) groups ≡ true → AllBodies asks
     no_bodies apart = all_free (BodyLacks asks) (body_free asks (no_other of_bodies some apart)) (trees_within t)
 
+    no_texts : list_all (λ g. not (of_texts g && some g)) groups ≡ true → AllTexts asks
+    no_texts apart = all_free (CharsetLacks known asks) (text_free known asks (no_other of_texts some apart)) (trees_within t)
+
     no_far : some Size ≡ false → FarLacks asks 0 (places t (placements 0 t))
     no_far apart = far_free asks apart 0 (places t (placements 0 t))
 
     abbrev Uncovered : Type 0
-    Uncovered = list_all (λ g. not (of_others g && some g)) groups ≡ true
+    Uncovered = list_all (λ g. not (of_notes g && some g)) groups ≡ true
 
     abbrev NoneFound : Type 0
     NoneFound = Lacks asks (findings known t (placements 0 t))
@@ -614,7 +646,7 @@ module _ (known : Charsets) (greatest : ℕ) (bytes : List ℕ) (t : Tree) (read
     λ h. blocks_found is_block_name (λ n e. e) (of_messages of_blocks refl h),
     λ h. none_found of_blocks refl refl (no_senders of_blocks refl)
         (all_lack is_block_name (found_blocks is_block_name h) (no_fields of_blocks refl) (no_parameters of_blocks refl)
-        (no_files of_blocks refl) (no_words of_blocks refl) (no_splits of_blocks refl) (no_bodies of_blocks refl)) (no_far of_blocks refl),
+        (no_files of_blocks refl) (no_words of_blocks refl) (no_splits of_blocks refl) (no_bodies of_blocks refl) (no_texts of_blocks refl)) (no_far of_blocks refl),
   )
 
   pub fields_are_of_grammar : Lacks is_field_name (findings known t (placements 0 t)) ↔ AreStrictFields t
@@ -622,7 +654,7 @@ module _ (known : Charsets) (greatest : ℕ) (bytes : List ℕ) (t : Tree) (read
     λ h. fields_found is_field_name (λ n e. e) (of_messages of_fields refl h),
     λ h. none_found of_fields refl refl (no_senders of_fields refl)
         (all_lack is_field_name (no_blocks of_fields refl) (found_fields is_field_name h) (no_parameters of_fields refl)
-        (no_files of_fields refl) (no_words of_fields refl) (no_splits of_fields refl) (no_bodies of_fields refl)) (no_far of_fields refl),
+        (no_files of_fields refl) (no_words of_fields refl) (no_splits of_fields refl) (no_bodies of_fields refl) (no_texts of_fields refl)) (no_far of_fields refl),
   )
 
   pub parameters_are_of_grammar : Lacks is_parameter_name (findings known t (placements 0 t)) ↔ AreStrictParameters t
@@ -630,7 +662,7 @@ module _ (known : Charsets) (greatest : ℕ) (bytes : List ℕ) (t : Tree) (read
     λ h. parameters_found is_parameter_name (λ n e. e) (of_messages of_values refl h),
     λ h. none_found of_values refl refl (no_senders of_values refl)
         (all_lack is_parameter_name (no_blocks of_values refl) (found_syntax is_parameter_name (no_other of_own_fields of_values refl) h)
-        (found_parameters is_parameter_name h) (no_files of_values refl) (no_words of_values refl) (no_splits of_values refl) (no_bodies of_values refl))
+        (found_parameters is_parameter_name h) (no_files of_values refl) (no_words of_values refl) (no_splits of_values refl) (no_bodies of_values refl) (no_texts of_values refl))
         (no_far of_values refl),
   )
 
@@ -645,7 +677,7 @@ module _ (known : Charsets) (greatest : ℕ) (bytes : List ℕ) (t : Tree) (read
         (all_lack is_file_name (no_blocks of_named_values refl)
         (found_syntax is_file_name (no_other of_own_fields of_named_values refl) h.0) (found_parameters is_file_name h.0)
         (found_files is_file_name h.0 h.1) (no_words of_named_values refl) (no_splits of_named_values refl)
-        (no_bodies of_named_values refl)) (no_far of_named_values refl),
+        (no_bodies of_named_values refl) (no_texts of_named_values refl)) (no_far of_named_values refl),
   )
 
   pub senders_are_of_grammar : Lacks is_from_name (findings known t (placements 0 t)) ↔ AreStrictSenders t
@@ -653,15 +685,15 @@ module _ (known : Charsets) (greatest : ℕ) (bytes : List ℕ) (t : Tree) (read
     λ h. senders_found is_from_name refl (found_first known is_from_name (uncovered of_senders refl) t h).0,
     λ h. none_found of_senders refl refl (strict_senders is_from_name (root t) root_read h)
         (all_lack is_from_name (no_blocks of_senders refl) (no_fields of_senders refl) (no_parameters of_senders refl)
-        (no_files of_senders refl) (no_words of_senders refl) (no_splits of_senders refl) (no_bodies of_senders refl)) (no_far of_senders refl),
+        (no_files of_senders refl) (no_words of_senders refl) (no_splits of_senders refl) (no_bodies of_senders refl) (no_texts of_senders refl)) (no_far of_senders refl),
   )
 
-  pub words_are_of_grammar : Lacks is_word_name (findings known t (placements 0 t)) ↔ AreStrictWords t
+  pub words_are_of_grammar : Lacks is_word_name (findings known t (placements 0 t)) ↔ AreStrictWords known t
   words_are_of_grammar = (
     λ h. words_found is_word_name (λ n e. e) (of_messages of_words refl h),
     λ h. none_found of_words refl refl (no_senders of_words refl)
         (all_lack is_word_name (no_blocks of_words refl) (no_fields of_words refl) (no_parameters of_words refl)
-        (no_files of_words refl) (found_words is_word_name h) (no_splits of_words refl) (no_bodies of_words refl)) (no_far of_words refl),
+        (no_files of_words refl) (found_words is_word_name h) (no_splits of_words refl) (no_bodies of_words refl) (no_texts of_words refl)) (no_far of_words refl),
   )
 
   pub parts_are_of_grammar : Lacks is_part_name (findings known t (placements 0 t)) ↔ AreStrictParts t
@@ -669,7 +701,7 @@ module _ (known : Charsets) (greatest : ℕ) (bytes : List ℕ) (t : Tree) (read
     λ h. parts_of_all is_part_name (λ n e. e) (of_messages of_parts refl h),
     λ h. none_found of_parts refl refl (no_senders of_parts refl)
         (all_lack is_part_name (no_blocks of_parts refl) (no_fields of_parts refl) (no_parameters of_parts refl)
-        (no_files of_parts refl) (no_words of_parts refl) (found_splits is_part_name h) (no_bodies of_parts refl)) (no_far of_parts refl),
+        (no_files of_parts refl) (no_words of_parts refl) (found_splits is_part_name h) (no_bodies of_parts refl) (no_texts of_parts refl)) (no_far of_parts refl),
   )
 
   pub bodies_are_of_grammar : Lacks is_body_name (findings known t (placements 0 t)) ↔ AreStrictBodies t
@@ -677,7 +709,16 @@ module _ (known : Charsets) (greatest : ℕ) (bytes : List ℕ) (t : Tree) (read
     λ h. bodies_of_all is_body_name (λ n e. e) (of_messages of_bodies refl h),
     λ h. none_found of_bodies refl refl (no_senders of_bodies refl)
         (all_lack is_body_name (no_blocks of_bodies refl) (no_fields of_bodies refl) (no_parameters of_bodies refl)
-        (no_files of_bodies refl) (no_words of_bodies refl) (no_splits of_bodies refl) (found_bodies is_body_name h)) (no_far of_bodies refl),
+        (no_files of_bodies refl) (no_words of_bodies refl) (no_splits of_bodies refl) (found_bodies is_body_name h) (no_texts of_bodies refl)) (no_far of_bodies refl),
+  )
+
+  pub texts_are_of_grammar : Lacks is_text_name (findings known t (placements 0 t)) ↔ AreStrictTexts known t
+  texts_are_of_grammar = (
+    λ h. texts_of_all is_text_name refl (of_messages of_texts refl h),
+    λ h. none_found of_texts refl refl (no_senders of_texts refl)
+        (all_lack is_text_name (no_blocks of_texts refl) (no_fields of_texts refl) (no_parameters of_texts refl)
+        (no_files of_texts refl) (no_words of_texts refl) (no_splits of_texts refl) (no_bodies of_texts refl)
+        (found_texts is_text_name h)) (no_far of_texts refl),
   )
 
   pub many_of_grammar : Lacks is_many_name (findings known t (placements 0 t)) ↔ IsSmall t
@@ -685,43 +726,44 @@ module _ (known : Charsets) (greatest : ℕ) (bytes : List ℕ) (t : Tree) (read
     λ h. small_found is_many_name known greatest bytes t read refl (far_first known is_many_name (uncovered of_size refl) t h),
     λ h. none_found of_size refl refl (no_senders of_size refl)
         (all_lack is_many_name (no_blocks of_size refl) (no_fields of_size refl) (no_parameters of_size refl)
-        (no_files of_size refl) (no_words of_size refl) (no_splits of_size refl) (no_bodies of_size refl))
+        (no_files of_size refl) (no_words of_size refl) (no_splits of_size refl) (no_bodies of_size refl) (no_texts of_size refl))
         (found_small is_many_name known greatest bytes t read h),
   )
 
-  line_part : BytesLack is_covered (root t).bytes → BytesLack is_line_name (root t).bytes
+  line_part : BytesLack is_core (root t).bytes → BytesLack is_line_name (root t).bytes
   line_part h = record { nul = λ e. h.nul refl; lone_cr = λ e. h.lone_cr refl; mixed = λ e. h.mixed refl }
 
-  part_line : BytesLack is_line_name (root t).bytes → BytesLack is_covered (root t).bytes
+  part_line : BytesLack is_line_name (root t).bytes → BytesLack is_core (root t).bytes
   part_line h = record { nul = λ e. h.nul refl; lone_cr = λ e. h.lone_cr refl; mixed = λ e. h.mixed refl }
 
-  so_far : Lacks is_covered (findings known t (placements 0 t)) → IsStrictSoFar bytes t
-  so_far h =
-      let both = found_first known is_covered (λ n e. e) t h in
+  clean_strict : Lacks is_core (findings known t (placements 0 t)) → IsStrict known bytes t
+  clean_strict h =
+      let both = found_first known is_core (λ n e. e) t h in
       record {
         lines = subst IsText (bytes-there known greatest bytes t read) (text_found (root t).bytes (line_part both.0.bytes));
-        blocks = blocks_found is_covered (among of_blocks of_covered refl) both.1;
-        fields = fields_found is_covered (among of_fields of_covered refl) both.1;
-        parameters = parameters_found is_covered (among of_values of_covered refl) both.1;
-        files = files_found is_covered (among of_files of_covered refl) both.1;
-        senders = senders_found is_covered refl both.0;
-        words = words_found is_covered (among of_words of_covered refl) both.1;
-        parts = parts_of_all is_covered (among of_parts of_covered refl) both.1;
-        bodies = bodies_of_all is_covered (among of_bodies of_covered refl) both.1;
-        small = small_found is_covered known greatest bytes t read refl (far_first known is_covered (λ n e. e) t h);
+        blocks = blocks_found is_core (among_core of_blocks refl) both.1;
+        fields = fields_found is_core (among_core of_fields refl) both.1;
+        parameters = parameters_found is_core (among_core of_values refl) both.1;
+        files = files_found is_core (among_core of_files refl) both.1;
+        senders = senders_found is_core refl both.0;
+        words = words_found is_core (among_core of_words refl) both.1;
+        parts = parts_of_all is_core (among_core of_parts refl) both.1;
+        bodies = bodies_of_all is_core (among_core of_bodies refl) both.1;
+        texts = texts_of_all is_core refl both.1;
+        small = small_found is_core known greatest bytes t read refl (far_first known is_core (λ n e. e) t h);
       }
 
-  from_so_far : IsStrictSoFar bytes t → Lacks is_covered (findings known t (placements 0 t))
-  from_so_far h =
-      first_found known is_covered (λ n e. e) t
+  strict_clean : IsStrict known bytes t → Lacks is_core (findings known t (placements 0 t))
+  strict_clean h =
+      first_found known is_core (λ n e. e) t
       (record {
         bytes = part_line (found_text (root t).bytes (subst IsText (sym (bytes-there known greatest bytes t read)) h.lines));
-        senders = strict_senders is_covered (root t) root_read h.senders;
+        senders = strict_senders is_core (root t) root_read h.senders;
       })
-      (all_lack is_covered (found_blocks is_covered h.blocks) (found_fields is_covered h.fields)
-      (found_parameters is_covered h.parameters) (found_files is_covered h.parameters h.files) (found_words is_covered h.words) (found_splits is_covered h.parts)
-      (found_bodies is_covered h.bodies))
-      (found_small is_covered known greatest bytes t read h.small)
+      (all_lack is_core (found_blocks is_core h.blocks) (found_fields is_core h.fields)
+      (found_parameters is_core h.parameters) (found_files is_core h.parameters h.files) (found_words is_core h.words)
+      (found_splits is_core h.parts) (found_bodies is_core h.bodies) (found_texts is_core h.texts))
+      (found_small is_core known greatest bytes t read h.small)
 
-  pub mail_strict : Lacks is_covered (findings known t (placements 0 t)) ↔ IsStrictSoFar bytes t
-  mail_strict = (so_far, from_so_far)
+  pub mail_strict : Lacks is_core (findings known t (placements 0 t)) ↔ IsStrict known bytes t
+  mail_strict = (clean_strict, strict_clean)

@@ -1,4 +1,4 @@
--- What it means that the findings of a mail lack some names that the grammar of strict mails covers.
+-- What it means that the findings of a mail lack some names.
 use Rattle.std.proofs.Common.{◌≡◌, ℕ, suc, ◌+◌, Bool, true, false, List, [], ◌∷◌, ◌++◌, length, drop, refl, sym, subst, Option, Some, None, inl, inr}
 use Rattle.std.specs.Prelude.{flat_map, is_none, not, ◌&&◌, ◌==◌, ⊤, codes, if◌then◌else◌}
 use Rattle.std.specs.List.{AllByRecursion}
@@ -18,16 +18,17 @@ use Rattle.mail_check.specs.Bytes.{earlier, first_byte, first_offset, is_bad_esc
 use Rattle.mail_check.specs.HiddenBits.{hidden_bits}
 use Rattle.mail_check.specs.Bodies.{is_base64_lines}
 use Rattle.mail_check.specs.Findings.{Finding, Spot, block_findings, body_findings, byte_findings, encoded_findings, file_findings, findings, findings_from, first_findings, has_none, header_findings, is_far, is_single}
-use Rattle.mail_check.specs.Findings.{leaf_findings, line_findings, listed, listed_if, multipart_findings, parameter_findings, repeated, repeated_findings, sender_findings, spot_in, spot_of_body, strict_findings, text_findings, type_findings, value_findings, worded_findings}
+use Rattle.mail_check.specs.Findings.{leaf_findings, line_findings, listed, listed_if, multipart_findings, parameter_findings, repeated, repeated_findings, sender_findings, spot_in, file_line, spot_of_body, strict_findings, text_findings, type_findings, value_findings, worded_findings}
 use Rattle.mail_check.specs.FileNames.{has_two_names, has_unsafe_name, has_untyped_name}
+use Rattle.mail_check.specs.Texts.{has_bad_text}
 use Rattle.mail_check.specs.LineTests.{first_line, is_long_line}
 use Rattle.mail_check.specs.Lines.{HeaderLine, ends_block, has_blank_fold, has_comment_fold, has_high_value, header_lines, is_bad_encoding, is_bad_key, is_composite, is_encoding, is_named, is_other_message, second_named, single_names}
 use Rattle.mail_check.specs.Parameters.{has_extended, has_other_name, has_quoted_pair, has_quoted_special, has_repeat, has_word, is_bad_value, none_seen, parameter_names, strict_value}
 use Rattle.mail_check.specs.Multiparts.{dash_of, is_bad_boundary, is_close, is_inside, is_tailed, late_delimiter}
-use Rattle.mail_check.specs.strict.Named.{Lacks, group_of, is_block_name, is_body_name, is_covered, is_field_name, is_line_name, is_part_name}
+use Rattle.mail_check.specs.strict.Named.{Lacks, group_of, is_block_name, is_body_name, is_core, is_field_name, is_line_name, is_part_name, is_text_name}
 use Rattle.mail_check.specs.strict.Senders.{IsSenderValue}
-use Rattle.mail_check.proofs.lemmas.StrictGroups.{among, no_other, of_blocks, of_bodies, of_fields, of_files, of_lines, of_own_fields, of_parameters, of_parts, of_words}
-use Rattle.mail_check.proofs.lemmas.StrictOthers.{each_lacks, false_listed, lacks_both, lacks_each, lacks_left, lacks_right, listed_false, listed_none, none_listed, other, other_if, text_others, truth}
+use Rattle.mail_check.proofs.lemmas.StrictGroups.{among, no_other, of_blocks, of_bodies, of_fields, of_files, of_lines, of_own_fields, of_parameters, of_parts, of_texts, of_words}
+use Rattle.mail_check.proofs.lemmas.StrictOthers.{each_lacks, false_listed, lacks_both, lacks_each, lacks_left, lacks_right, listed_false, listed_none, none_listed, other, other_if, truth}
 use Rattle.mail_check.proofs.lemmas.StrictReading.{all_with}
 use Rattle.mail_check.proofs.lemmas.StrictWorded.{WordedLacks, lack_sender, lack_worded, sender_lacks, worded_lacks}
 use Rattle.mail_check.specs.declared.names.Name.{Name}
@@ -95,13 +96,13 @@ SenderLacks test number line =
     test name.FromSyntax ≡ true → (number == 0) ≡ true → is_named (codes "From") line ≡ true → IsSenderValue line.value
 
 -- all of this
-record HeaderLacks (test : Name → Bool) (number : ℕ) (node : Node) (line : HeaderLine) : Type 0 where
+record HeaderLacks (known : Charsets) (test : Name → Bool) (number : ℕ) (node : Node) (line : HeaderLine) : Type 0 where
   own : LineLacks test (length node.block) line
   type : TypeLacks test node.ctype line
   parameters : ParametersLack test line
   names : NamesLack test line
   sender : SenderLacks test number line
-  words : WordedLacks test line
+  words : WordedLacks known test line
 
 -- nor has a header block
 pub record BlockLacks (test : Name → Bool) (node : Node) : Type 0 where
@@ -146,15 +147,20 @@ EncodedLacks test in_binary body = ⊤
 pub record BodyLacks (test : Name → Bool) (t : Tree) : Type 0 where
   pub encoded : is_single t ≡ true → EncodedLacks test (body_kind (root t)) (root t).body
 
+-- nor has its text, under the charsets that are known
+abbrev pub CharsetLacks : Charsets → (Name → Bool) → Tree → Type 0
+CharsetLacks known test t = test name.Charset ≡ true → is_single t ≡ true → has_bad_text known (root t) ≡ false
+
 -- nor has a message
-pub record MessageLacks (test : Name → Bool) (t : Tree) : Type 0 where
+pub record MessageLacks (known : Charsets) (test : Name → Bool) (t : Tree) : Type 0 where
   pub block : BlockLacks test (root t)
   pub fields : FieldsLack test (root t)
   pub parameters : AllByRecursion (ParametersLack test) (header_lines (root t))
   pub files : FilesLack test (root t)
-  pub words : AllByRecursion (WordedLacks test) (header_lines (root t))
+  pub words : AllByRecursion (WordedLacks known test) (header_lines (root t))
   pub parts : (dash : List ℕ) → dash_of (root t).ctype ≡ Some dash → PartsLack test t dash
   pub body : BodyLacks test t
+  pub text : CharsetLacks known test t
 
 -- nor has a whole mail, in what is asked of no part of it
 pub record MailLacks (test : Name → Bool) (node : Node) : Type 0 where
@@ -190,7 +196,7 @@ later_places node parts =
     placed (parts_with_paths (whole_path (tree node parts)) 1 parts)
     (placements_in_as false 0 (cut_of_as false node.ctype node.bytes (length node.block)).parts parts)
 
-module _ (known : Charsets) (test : Name → Bool) (others : (n : Name) → is_covered n ≡ false → test n ≡ false) where
+module _ (known : Charsets) (test : Name → Bool) (others : (n : Name) → is_core n ≡ false → test n ≡ false) where
   both : (xs ys : List Finding) → Lacks test xs → Lacks test ys → Lacks test (xs ++ ys)
   both = lacks_both test
 
@@ -318,7 +324,7 @@ module _ (known : Charsets) (test : Name → Bool) (others : (n : Name) → is_c
       (false_listed test spot name.TwoNames (has_other_name line (parameter_names text)) (names text refl)))
 
   header_lacks : (number : ℕ) (place : Place) (line : HeaderLine) → Lacks test (header_findings known number place line)
-      → HeaderLacks test number (root place.part) line
+      → HeaderLacks known test number (root place.part) line
   header_lacks number place line h =
       let spot = spot_in place line.start (length line.bytes) in
       let ctype = (root place.part).ctype in
@@ -339,10 +345,10 @@ module _ (known : Charsets) (test : Name → Bool) (others : (n : Name) → is_c
         names = names_lack spot line (strict_value line)
             (lacks_right test (listed_if spot name.TypeSyntax (is_bad_value line)) (strict_findings spot line (strict_value line)) value);
         sender = sender_lacks test number spot line (lacks_left test sender words third);
-        words = worded_lacks test known spot line (lacks_right test sender words third);
+        words = worded_lacks known test spot line (lacks_right test sender words third);
       }
 
-  lack_header : (number : ℕ) (place : Place) (line : HeaderLine) → HeaderLacks test number (root place.part) line
+  lack_header : (number : ℕ) (place : Place) (line : HeaderLine) → HeaderLacks known test number (root place.part) line
       → Lacks test (header_findings known number place line)
   lack_header number place line h =
       let spot = spot_in place line.start (length line.bytes) in
@@ -352,7 +358,7 @@ module _ (known : Charsets) (test : Name → Bool) (others : (n : Name) → is_c
       (lack_some spot line (strict_value line) h.parameters h.names))
       (both _ _ (lack_type spot (root place.part).ctype line h.type)
       (both _ _ (lack_sender test number spot line h.sender)
-      (lack_worded test known spot line (others name.WordBytes refl) h.words))))
+      (lack_worded known test spot line h.words))))
 
   -- ---- repeated headers
 
@@ -382,7 +388,7 @@ module _ (known : Charsets) (test : Name → Bool) (others : (n : Name) → is_c
     parameters : AllByRecursion (ParametersLack test) (header_lines node)
     names : AllByRecursion (NamesLack test) (header_lines node)
     senders : AllByRecursion (SenderLacks test number) (header_lines node)
-    words : AllByRecursion (WordedLacks test) (header_lines node)
+    words : AllByRecursion (WordedLacks known test) (header_lines node)
 
   block_lacks : (number : ℕ) (place : Place) → Lacks test (block_findings known number place (header_lines (root place.part)))
       → HeadersLack number (root place.part)
@@ -393,25 +399,25 @@ module _ (known : Charsets) (test : Name → Bool) (others : (n : Name) → is_c
       let headers = flat_map (header_findings known number place) lines in
       let repeats = repeated_findings place lines single_names in
       let rest = lacks_right test none (headers ++ repeats) h in
-      let each = all_map (λ line. Lacks test (header_findings known number place line)) (HeaderLacks test number node)
+      let each = all_map (λ line. Lacks test (header_findings known number place line)) (HeaderLacks known test number node)
       (header_lacks number place) lines
       (lacks_each test (header_findings known number place) lines (lacks_left test headers repeats rest)) in
       record {
         block = record {
           no_headers = listed_false test (spot_in place 0 0) name.NoHeaders (has_none lines) (lacks_left test none (headers ++ repeats) h);
-          lines = all_map (HeaderLacks test number node) (LineLacks test (length node.block)) (λ line lacks. lacks.own) lines each;
+          lines = all_map (HeaderLacks known test number node) (LineLacks test (length node.block)) (λ line lacks. lacks.own) lines each;
         };
         fields = record {
-          types = all_map (HeaderLacks test number node) (TypeLacks test node.ctype) (λ line lacks. lacks.type) lines each;
+          types = all_map (HeaderLacks known test number node) (TypeLacks test node.ctype) (λ line lacks. lacks.type) lines each;
           repeats = λ e. all_map (λ (n : List ℕ). Lacks test (repeated place (second_named n lines)))
               (λ (n : List ℕ). second_named n lines ≡ None)
               (λ n lacks. repeated_none place (second_named n lines) lacks e) single_names
               (lacks_each test (λ (n : List ℕ). repeated place (second_named n lines)) single_names (lacks_right test headers repeats rest));
         };
-        parameters = all_map (HeaderLacks test number node) (ParametersLack test) (λ line lacks. lacks.parameters) lines each;
-        names = all_map (HeaderLacks test number node) (NamesLack test) (λ line lacks. lacks.names) lines each;
-        senders = all_map (HeaderLacks test number node) (SenderLacks test number) (λ line lacks. lacks.sender) lines each;
-        words = all_map (HeaderLacks test number node) (WordedLacks test) (λ line lacks. lacks.words) lines each;
+        parameters = all_map (HeaderLacks known test number node) (ParametersLack test) (λ line lacks. lacks.parameters) lines each;
+        names = all_map (HeaderLacks known test number node) (NamesLack test) (λ line lacks. lacks.names) lines each;
+        senders = all_map (HeaderLacks known test number node) (SenderLacks test number) (λ line lacks. lacks.sender) lines each;
+        words = all_map (HeaderLacks known test number node) (WordedLacks known test) (λ line lacks. lacks.words) lines each;
       }
 
   lack_block : (number : ℕ) (place : Place) → HeadersLack number (root place.part)
@@ -421,8 +427,8 @@ module _ (known : Charsets) (test : Name → Bool) (others : (n : Name) → is_c
       let lines = header_lines node in
       both _ _ (false_listed test (spot_in place 0 0) name.NoHeaders (has_none lines) h.block.no_headers)
       (both _ _ (each_lacks test (header_findings known number place) lines
-      (all_map (HeaderLacks test number node) (λ line. Lacks test (header_findings known number place line)) (lack_header number place) lines
-      (all_with Written Values (HeaderLacks test number node)
+      (all_map (HeaderLacks known test number node) (λ line. Lacks test (header_findings known number place line)) (lack_header number place) lines
+      (all_with Written Values (HeaderLacks known test number node)
       (λ line written values. record {
         own = written.0;
         type = written.1;
@@ -435,7 +441,7 @@ module _ (known : Charsets) (test : Name → Bool) (others : (n : Name) → is_c
       h.block.lines h.fields.types)
       (all_with Named Worded Values (λ line named words. (named, words)) lines
       (all_with (ParametersLack test) (NamesLack test) Named (λ line parameters names. (parameters, names)) lines h.parameters h.names)
-      (all_with (SenderLacks test number) (WordedLacks test) Worded (λ line sender words. (sender, words)) lines h.senders h.words)))))
+      (all_with (SenderLacks test number) (WordedLacks known test) Worded (λ line sender words. (sender, words)) lines h.senders h.words)))))
       (each_lacks test (λ (n : List ℕ). repeated place (second_named n lines)) single_names (repeats_lack place lines single_names h.fields.repeats)))
     where
       Written : HeaderLine → Type 0
@@ -445,7 +451,7 @@ module _ (known : Charsets) (test : Name → Bool) (others : (n : Name) → is_c
       Named line = ParametersLack test line × NamesLack test line
 
       Worded : HeaderLine → Type 0
-      Worded line = SenderLacks test number line × WordedLacks test line
+      Worded line = SenderLacks test number line × WordedLacks known test line
 
       Values : HeaderLine → Type 0
       Values line = Named line × Worded line
@@ -561,13 +567,26 @@ module _ (known : Charsets) (test : Name → Bool) (others : (n : Name) → is_c
             (subst (λ (t : Bool). Lacks test (if t then found else [])) e h));
       }
 
-  lack_body : (place : Place) → BodyLacks test place.part → Lacks test (leaf_findings known place)
-  lack_body place h =
+  charset_lacks : (place : Place) → Lacks test (leaf_findings known place) → CharsetLacks known test place.part
+  charset_lacks place h t e =
+      let node = root place.part in
+      let found = body_findings known place node in
+      let files = listed (spot_of_body place 1) name.Uuencode (file_line node.ctype node.body) in
+      let texts = listed_if (spot_of_body place (length node.body)) name.Charset (has_bad_text known node) in
+      listed_false test (spot_of_body place (length node.body)) name.Charset (has_bad_text known node)
+      (lacks_right test files texts
+      (lacks_right test (encoded_findings place (body_kind node) node.body) (files ++ texts)
+      (subst (λ (t : Bool). Lacks test (if t then found else [])) e h))) t
+
+  lack_body : (place : Place) → BodyLacks test place.part → CharsetLacks known test place.part → Lacks test (leaf_findings known place)
+  lack_body place h text =
       let node = root place.part in
       let found = body_findings known place node in
       elim (truth (is_single place.part)) [
         | inl e ↦ subst (λ (t : Bool). Lacks test (if t then found else [])) (sym e)
-            (both _ _ (lack_encoded place (body_kind node) node.body (h.encoded e)) (text_others test others place known node node.body))
+            (both _ _ (lack_encoded place (body_kind node) node.body (h.encoded e))
+            (both _ _ (other test others (spot_of_body place 1) name.Uuencode (file_line node.ctype node.body) refl)
+            (false_listed test (spot_of_body place (length node.body)) name.Charset (has_bad_text known node) (λ t. text t e))))
         | inr e ↦ subst (λ (t : Bool). Lacks test (if t then found else [])) (sym e) tt
       ]
 
@@ -582,7 +601,7 @@ module _ (known : Charsets) (test : Name → Bool) (others : (n : Name) → is_c
       ++ leaf_findings known place)))
 
   later_lacks : (number : ℕ) (place : Place) → Lacks test (later_findings number place)
-      → MessageLacks test place.part × AllByRecursion (SenderLacks test number) (header_lines (root place.part))
+      → MessageLacks known test place.part × AllByRecursion (SenderLacks test number) (header_lines (root place.part))
   later_lacks number place h =
       let node = root place.part in
       let far = listed_if (spot_in place 0 (length node.bytes)) name.Many (is_far number place) in
@@ -603,11 +622,12 @@ module _ (known : Charsets) (test : Name → Bool) (others : (n : Name) → is_c
           words = headers.words;
           parts = multipart_lacks place (dash_of node.ctype) (lacks_left test multipart leaf last);
           body = body_lacks place (lacks_right test multipart leaf last);
+          text = charset_lacks place (lacks_right test multipart leaf last);
         },
         headers.senders,
       )
 
-  lack_later : (number : ℕ) (place : Place) → MessageLacks test place.part
+  lack_later : (number : ℕ) (place : Place) → MessageLacks known test place.part
       → AllByRecursion (SenderLacks test number) (header_lines (root place.part))
       → (test name.Many ≡ true → is_far number place ≡ false) → Lacks test (later_findings number place)
   lack_later number place h senders far =
@@ -622,12 +642,12 @@ module _ (known : Charsets) (test : Name → Bool) (others : (n : Name) → is_c
         words = h.words;
       }))
       (both _ _ (lack_files (spot_in place 0 (length node.block)) (shown_as node) node h.files.typed h.files.same)
-      (both _ _ (lack_multipart place (dash_of node.ctype) h.parts) (lack_body place h.body))))
+      (both _ _ (lack_multipart place (dash_of node.ctype) h.parts) (lack_body place h.body h.text))))
 
   -- ---- messages after the first
 
   abbrev parts_lack : List Place → Type 0
-  parts_lack found = AllByRecursion (λ (place : Place). MessageLacks test place.part) found
+  parts_lack found = AllByRecursion (λ (place : Place). MessageLacks known test place.part) found
 
   -- no bytes are searched for them
   no_bytes : (number : ℕ) (xs : List Finding) → Lacks test (if suc number == 0 then xs else [])
@@ -781,11 +801,12 @@ pub senders_free : (test : Name → Bool) → test name.FromSyntax ≡ false →
     → AllByRecursion (SenderLacks test 0) (header_lines node)
 senders_free test free node = all_free (SenderLacks test 0) (λ line t e. not_asked test name.FromSyntax free t) (header_lines node)
 
-pub words_free : (test : Name → Bool) → ((n : Name) → of_words (group_of n) ≡ true → test n ≡ false) → (node : Node)
-    → AllByRecursion (WordedLacks test) (header_lines node)
-words_free test free node = all_free (WordedLacks test) (λ line. record {
+pub words_free : (known : Charsets) (test : Name → Bool) → ((n : Name) → of_words (group_of n) ≡ true → test n ≡ false) → (node : Node)
+    → AllByRecursion (WordedLacks known test) (header_lines node)
+words_free known test free node = all_free (WordedLacks known test) (λ line. record {
   syntax = not_asked test name.WordSyntax (free name.WordSyntax refl);
   join = not_asked test name.WordJoin (free name.WordJoin refl);
+  bytes = not_asked test name.WordBytes (free name.WordBytes refl);
   address = not_asked test name.NameAddress (free name.NameAddress refl);
 }) (header_lines node)
 
@@ -810,22 +831,27 @@ body_free test free t = record { encoded = λ e. by_kind (body_kind (root t)) }
     by_kind in_8bit = tt
     by_kind in_binary = tt
 
+pub text_free : (known : Charsets) (test : Name → Bool) → ((n : Name) → is_text_name n ≡ true → test n ≡ false) → (t : Tree)
+    → CharsetLacks known test t
+text_free known test free t = not_asked test name.Charset (free name.Charset refl)
+
 pub far_free : (test : Name → Bool) → test name.Many ≡ false → (number : ℕ) (found : List Place) → FarLacks test number found
 far_free test free number [] = tt
 far_free test free number (place ∷ found) = (not_asked test name.Many free, far_free test free (suc number) found)
 
 -- if only names of lines are asked for, nothing is asked of a message
-module _ (test : Name → Bool) (only : (n : Name) → is_line_name n ≡ false → test n ≡ false) where
-  message_free : (t : Tree) → MessageLacks test t
+module _ (known : Charsets) (test : Name → Bool) (only : (n : Name) → is_line_name n ≡ false → test n ≡ false) where
+  message_free : (t : Tree) → MessageLacks known test t
   message_free t = record {
     block = block_free test (λ n e. only n (no_other of_blocks of_lines refl n e)) (root t);
     fields = fields_free test (λ n e. only n (no_other of_fields of_lines refl n e)) (root t);
     parameters = parameters_free test (λ n e. only n (no_other of_parameters of_lines refl n e)) (root t);
     files = files_free test (λ n e. only n (no_other of_files of_lines refl n e)) (root t);
-    words = words_free test (λ n e. only n (no_other of_words of_lines refl n e)) (root t);
+    words = words_free known test (λ n e. only n (no_other of_words of_lines refl n e)) (root t);
     parts = parts_free test (λ n e. only n (no_other of_parts of_lines refl n e)) t;
     body = body_free test (λ n e. only n (no_other of_bodies of_lines refl n e)) t;
+    text = text_free known test (λ n e. only n (no_other of_texts of_lines refl n e)) t;
   }
 
-  pub messages_free : (found : List Place) → AllByRecursion (λ (place : Place). MessageLacks test place.part) found
-  messages_free found = all_free (λ (place : Place). MessageLacks test place.part) (λ place. message_free place.part) found
+  pub messages_free : (found : List Place) → AllByRecursion (λ (place : Place). MessageLacks known test place.part) found
+  messages_free found = all_free (λ (place : Place). MessageLacks known test place.part) (λ place. message_free place.part) found

@@ -1,16 +1,10 @@
--- Lists of findings without some names, and the findings whose names the grammar of strict mails does not cover.
-use Rattle.std.proofs.Common.{◌≡◌, ℕ, Bool, true, false, List, [], ◌∷◌, ◌++◌, length, refl, Option, Some, None, inl, inr}
+-- Lists of findings without some names, and those whose names are notes.
+use Rattle.std.proofs.Common.{◌≡◌, ℕ, Bool, true, false, List, [], ◌∷◌, ◌++◌, refl, Option, Some, None, inl, inr}
 use Rattle.std.specs.Prelude.{◌⊎◌, flat_map}
 use Rattle.std.specs.List.{AllByRecursion}
-use Rattle.mail_codec.specs.Charset.{Charsets}
-use Rattle.mailparse.specs.Mail.{Node}
-use Rattle.mail_data.specs.PartPlaces.{Place}
-use Rattle.mail_check.specs.Findings.{Finding, Spot, file_line, listed, listed_if}
-use Rattle.mail_check.specs.Findings.{spot_of_body, text_findings}
-use Rattle.mail_check.specs.Texts.{has_bad_text}
-use Rattle.mail_check.specs.strict.Named.{Lacks, is_covered}
+use Rattle.mail_check.specs.Findings.{Finding, Spot, listed, listed_if}
+use Rattle.mail_check.specs.strict.Named.{Lacks, is_core}
 use Rattle.mail_check.specs.declared.names.Name.{Name}
-use Rattle.mail_check.specs.declared.names.Name.TheVariants as name
 
 pub truth : (t : Bool) → (t ≡ true) ⊎ (t ≡ false)
 truth true = inl refl
@@ -62,21 +56,13 @@ module _ (test : Name → Bool) where
     | inr e ↦ (e, tt)
   ]
 
--- ---- findings with other names
+-- ---- notes
 
-module _ (test : Name → Bool) (others : (n : Name) → is_covered n ≡ false → test n ≡ false) where
-  pub other : (spot : Spot) (n : Name) (offset : Option ℕ) → is_covered n ≡ false → Lacks test (listed spot n offset)
+module _ (test : Name → Bool) (others : (n : Name) → is_core n ≡ false → test n ≡ false) where
+  pub other : (spot : Spot) (n : Name) (offset : Option ℕ) → is_core n ≡ false → Lacks test (listed spot n offset)
   other spot n None e = tt
   other spot n (Some p) e = (others n e, tt)
 
-  pub other_if : (spot : Spot) (n : Name) (is : Bool) → is_covered n ≡ false → Lacks test (listed_if spot n is)
+  pub other_if : (spot : Spot) (n : Name) (is : Bool) → is_core n ≡ false → Lacks test (listed_if spot n is)
   other_if spot n false e = tt
   other_if spot n true e = (others n e, tt)
-
-  both : (xs ys : List Finding) → Lacks test xs → Lacks test ys → Lacks test (xs ++ ys)
-  both = lacks_both test
-
-  pub text_others : (place : Place) (known : Charsets) (node : Node) (body : List ℕ) → Lacks test (text_findings known place node body)
-  text_others place known node body =
-      both _ _ (other (spot_of_body place 1) name.Uuencode (file_line node.ctype body) refl)
-      (other_if (spot_of_body place (length body)) name.Charset (has_bad_text known node) refl)

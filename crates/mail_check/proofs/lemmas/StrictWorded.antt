@@ -14,12 +14,14 @@ use Rattle.mail_check.specs.strict.Named.{Lacks, is_from_name, is_word_name}
 use Rattle.mail_check.specs.strict.SenderNames.{HasPlainNames}
 use Rattle.mail_check.specs.strict.Senders.{IsSenderValue}
 use Rattle.mail_check.specs.strict.Worded.{is_worded_key, IsWordedField}
+use Rattle.mail_check.specs.strict.WordBytes.{HasReadableWords}
 use Rattle.mail_check.specs.strict.Words.{HasApartWords, HasStrictWords}
 use Rattle.mail_check.proofs.lemmas.StrictHeaders.{cases_Bool, left_false, right_false, second_false}
 use Rattle.mail_check.proofs.lemmas.StrictJoins.{joins_strict}
 use Rattle.mail_check.proofs.lemmas.StrictOthers.{false_listed, lacks_both, lacks_left, lacks_right, listed_false}
 use Rattle.mail_check.proofs.lemmas.StrictSenderNames.{names_strict}
 use Rattle.mail_check.proofs.lemmas.StrictSenders.{sender_header}
+use Rattle.mail_check.proofs.lemmas.StrictWordBytes.{word_bytes_strict}
 use Rattle.mail_check.proofs.lemmas.StrictWords.{words_strict}
 
 module _ (test : Name → Bool) where
@@ -43,21 +45,28 @@ module _ (test : Name → Bool) where
         | inr e ↦ left_false (number == 0) (is_bad_sender line) e
       ]
 
+-- its words, under the charsets that are known
+module _ (known : Charsets) (test : Name → Bool) where
   -- what is so of a subject or of senders
   pub record WordedLacks (line : HeaderLine) : Type 0 where
     pub syntax : test name.WordSyntax ≡ true → is_worded line ≡ true → HasStrictWords line.value
     pub join : test name.WordJoin ≡ true → is_worded line ≡ true → HasApartWords line.value
+    pub bytes : test name.WordBytes ≡ true → is_worded line ≡ true → HasReadableWords known line.value
     pub address : test name.NameAddress ≡ true → is_worded line ≡ true → HasPlainNames line.key line.value
 
-  pub worded_lacks : (known : Charsets) (spot : Spot) (line : HeaderLine) → Lacks test (worded_findings known spot line)
+  pub worded_lacks : (spot : Spot) (line : HeaderLine) → Lacks test (worded_findings known spot line)
       → WordedLacks line
-  worded_lacks known spot line h = record {
+  worded_lacks spot line h = record {
     syntax = λ t e.
         (words_strict line.value).0 (listed_false test spot name.WordSyntax (list_any is_bad_piece (pieces line.value))
         (lacks_left test syntax (join ++ (bytes ++ address)) (all e)) t);
     join = λ t e.
         (joins_strict line.value).0 (listed_false test spot name.WordJoin (has_join [] (pieces line.value))
         (lacks_left test join (bytes ++ address) (lacks_right test syntax (join ++ (bytes ++ address)) (all e))) t);
+    bytes = λ t e.
+        (word_bytes_strict known line.value).0 (listed_false test spot name.WordBytes (list_any (has_bad_octets known) (pieces line.value))
+        (lacks_left test bytes address (lacks_right test join (bytes ++ address)
+        (lacks_right test syntax (join ++ (bytes ++ address)) (all e)))) t);
     address = λ t e.
         (names_strict line).0 (listed_false test spot name.NameAddress (is_bad_name line (pieces line.value))
         (lacks_right test bytes address (lacks_right test join (bytes ++ address)
@@ -79,14 +88,9 @@ module _ (test : Name → Bool) where
       all : is_worded line ≡ true → Lacks test (word_findings known spot line (pieces line.value))
       all e = subst (λ (t : Bool). Lacks test (cond t (word_findings known spot line (pieces line.value)) [])) e h
 
-  -- if the bytes of words are not among the names
-  pub lack_worded : (known : Charsets) (spot : Spot) (line : HeaderLine) → test name.WordBytes ≡ false → WordedLacks line
-      → Lacks test (worded_findings known spot line)
-  lack_worded known spot line no_bytes h = by_worded (is_worded line) refl
+  pub lack_worded : (spot : Spot) (line : HeaderLine) → WordedLacks line → Lacks test (worded_findings known spot line)
+  lack_worded spot line h = by_worded (is_worded line) refl
     where
-      by_bytes : test name.WordBytes ≡ true → list_any (has_bad_octets known) (pieces line.value) ≡ false
-      by_bytes t = absurd (cc)
-
       by_worded : (t : Bool) → is_worded line ≡ t → Lacks test (cond t (word_findings known spot line (pieces line.value)) [])
       by_worded false e = tt
       by_worded true e =
@@ -95,7 +99,8 @@ module _ (test : Name → Bool) where
           (lacks_both test _ _ (false_listed test spot name.WordJoin (has_join [] (pieces line.value))
           (λ t. (joins_strict line.value).1 (h.join t e)))
           (lacks_both test _ _
-          (false_listed test spot name.WordBytes (list_any (has_bad_octets known) (pieces line.value)) by_bytes)
+          (false_listed test spot name.WordBytes (list_any (has_bad_octets known) (pieces line.value))
+          (λ t. (word_bytes_strict known line.value).1 (h.bytes t e)))
           (false_listed test spot name.NameAddress (is_bad_name line (pieces line.value))
           (λ t. (names_strict line).1 (h.address t e)))))
 
@@ -109,14 +114,20 @@ sender_names number spot line = (
 )
 
 pub worded_names : (known : Charsets) (spot : Spot) (line : HeaderLine) → Lacks is_word_name (worded_findings known spot line)
-    ↔ (is_worded_key line.key ≡ true → IsWordedField line.key line.value)
+    ↔ (is_worded_key line.key ≡ true → IsWordedField known line.key line.value)
 worded_names known spot line = (
   λ h e.
-      let found = worded_lacks is_word_name known spot line h in
-      record { words = found.syntax refl e; apart = found.join refl e; names = found.address refl e },
-  λ f. lack_worded is_word_name known spot line refl (record {
+      let found = worded_lacks known is_word_name spot line h in
+      record {
+        words = found.syntax refl e;
+        apart = found.join refl e;
+        readable = found.bytes refl e;
+        names = found.address refl e;
+      },
+  λ f. lack_worded known is_word_name spot line (record {
     syntax = λ t e. (f e).words;
     join = λ t e. (f e).apart;
+    bytes = λ t e. (f e).readable;
     address = λ t e. (f e).names;
   }),
 )

@@ -1,6 +1,7 @@
--- Mails that are strict in what the grammar covers so far.
+-- Strict mails: those that have no findings but notes.
 use Rattle.std.specs.Prelude.{ℕ, List}
 use Rattle.std.specs.List.{AllByRecursion}
+use Rattle.mail_codec.specs.Charset.{Charsets}
 use Rattle.mailparse.specs.Mail.{Tree, nodes, root, trees_within}
 use Rattle.mail_check.specs.strict.Bodies.{HasStrictBody}
 use Rattle.mail_check.specs.strict.Delimiters.{HasStrictParts}
@@ -10,6 +11,7 @@ use Rattle.mail_check.specs.strict.Headers.{IsBlock}
 use Rattle.mail_check.specs.strict.Levels.{IsSmall}
 use Rattle.mail_check.specs.strict.LineEnds.{IsText}
 use Rattle.mail_check.specs.strict.PlainParameters.{HasPlainValue}
+use Rattle.mail_check.specs.strict.Texts.{HasStrictText}
 use Rattle.mail_check.specs.strict.Worded.{HasSenderValue, HasWordedValue}
 
 -- the header block of each message of a mail is one of the grammar
@@ -32,9 +34,9 @@ AreStrictFileNames mail = AllByRecursion HasStrictFileName (nodes mail)
 abbrev pub AreStrictSenders : Tree → Type 0
 AreStrictSenders mail = AllByRecursion HasSenderValue (root mail).headers
 
--- so are the words of the subjects and senders of each message
-abbrev pub AreStrictWords : Tree → Type 0
-AreStrictWords mail = AllByRecursion (λ node. AllByRecursion HasWordedValue node.headers) (nodes mail)
+-- so are the words of the subjects and senders of each message, under the charsets that are known
+abbrev pub AreStrictWords : Charsets → Tree → Type 0
+AreStrictWords known mail = AllByRecursion (λ node. AllByRecursion (HasWordedValue known) node.headers) (nodes mail)
 
 -- so is the text of each multipart
 abbrev pub AreStrictParts : Tree → Type 0
@@ -44,15 +46,20 @@ AreStrictParts mail = AllByRecursion HasStrictParts (trees_within mail)
 abbrev pub AreStrictBodies : Tree → Type 0
 AreStrictBodies mail = AllByRecursion HasStrictBody (trees_within mail)
 
+-- so is each text, under the charsets that are known
+abbrev pub AreStrictTexts : Charsets → Tree → Type 0
+AreStrictTexts known mail = AllByRecursion (HasStrictText known) (trees_within mail)
+
 -- and so are the lines of the bytes of the mail
-pub record IsStrictSoFar (bytes : List ℕ) (mail : Tree) : Type 0 where
+pub record IsStrict (known : Charsets) (bytes : List ℕ) (mail : Tree) : Type 0 where
   pub lines : IsText bytes
   pub blocks : HasStrictBlocks mail
   pub fields : AreStrictFields mail
   pub parameters : AreStrictParameters mail
   pub files : AreStrictFileNames mail
   pub senders : AreStrictSenders mail
-  pub words : AreStrictWords mail
+  pub words : AreStrictWords known mail
   pub parts : AreStrictParts mail
   pub bodies : AreStrictBodies mail
+  pub texts : AreStrictTexts known mail
   pub small : IsSmall mail

@@ -1,7 +1,10 @@
--- Lists of findings without some names, and the names that the grammar of strict mails covers so far.
+-- Lists of findings without some names, and the groups of names that the grammar of strict mails covers.
 use Rattle.std.specs.Prelude.{◌≡◌, Bool, true, false, not, ◌||◌, List}
 use Rattle.std.specs.List.{AllByRecursion}
 use Rattle.mail_check.specs.Findings.{Finding}
+use Rattle.mail_check.specs.Names.{class_of}
+use Rattle.mail_check.specs.declared.names.Class.{Class}
+use Rattle.mail_check.specs.declared.names.Class.TheVariants as class
 use Rattle.mail_check.specs.declared.names.Name.{Name}
 use Rattle.mail_check.specs.declared.names.Name.TheVariants as name
 
@@ -46,10 +49,14 @@ pub data Group : Type 0 where
   Parts : Group
   -- how a body is encoded
   Bodies : Group
+  -- the bytes of texts
+  Texts : Group
   -- how many messages and levels there are
   Size : Group
-  -- what is not covered so far
-  Others : Group
+  -- whether the mails inside are read, which no finding of a mail and its parts says
+  Inside : Group
+  -- the notes, which are not covered
+  Notes : Group
 
 -- the group of a name
 abbrev pub group_of : Name → Group
@@ -78,6 +85,7 @@ group_of name.TwoNames = Files
 group_of name.FromSyntax = Senders
 group_of name.WordSyntax = Words
 group_of name.WordJoin = Words
+group_of name.WordBytes = Words
 group_of name.NameAddress = Words
 group_of name.Preamble = Parts
 group_of name.NoDelimiter = Parts
@@ -88,8 +96,14 @@ group_of name.LateDelimiter = Parts
 group_of name.Base64Syntax = Bodies
 group_of name.QpSyntax = Bodies
 group_of name.QpBlank = Bodies
+group_of name.Charset = Texts
 group_of name.Many = Size
-group_of _ = Others
+group_of name.Refused = Inside
+group_of name.LongLine = Notes
+group_of name.UnsafeName = Notes
+group_of name.Base64Bits = Notes
+group_of name.EightBitBody = Notes
+group_of name.Uuencode = Notes
 
 -- two groups are the same
 abbrev pub same_group : Group → Group → Bool
@@ -103,8 +117,10 @@ same_group Senders Senders = true
 same_group Words Words = true
 same_group Parts Parts = true
 same_group Bodies Bodies = true
+same_group Texts Texts = true
 same_group Size Size = true
-same_group Others Others = true
+same_group Inside Inside = true
+same_group Notes Notes = true
 same_group _ _ = false
 
 -- a name of what the bytes of the mail are as lines
@@ -143,10 +159,19 @@ is_part_name n = same_group Parts (group_of n)
 abbrev pub is_body_name : Name → Bool
 is_body_name n = same_group Bodies (group_of n)
 
+-- the name of texts that are read in several ways
+abbrev pub is_text_name : Name → Bool
+is_text_name n = same_group Texts (group_of n)
+
 -- the name of mails with many messages or levels
 abbrev pub is_many_name : Name → Bool
 is_many_name n = same_group Size (group_of n)
 
--- a name that is covered so far
-abbrev pub is_covered : Name → Bool
-is_covered n = not (same_group Others (group_of n))
+-- the class of the names that are not covered
+abbrev pub is_note : Class → Bool
+is_note class.Note = true
+is_note _ = false
+
+-- a name that is no note
+abbrev pub is_core : Name → Bool
+is_core n = not (is_note (class_of n))

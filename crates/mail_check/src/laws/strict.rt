@@ -1,4 +1,4 @@
-//! Mails without some findings are exactly those of a grammar of bytes, whatever charsets are
+//! Mails without findings but notes are exactly those of a grammar of bytes, whatever charsets are
 //! known.
 //!
 //! The findings are those of a mail and its parts, without those of the mails inside it.
@@ -14,13 +14,13 @@ ghost use Rattle.mail_check.specs.strict.LineEnds.{HasOneLineEnd, IsText};
 ghost use Rattle.mail_check.specs.strict.Levels.{IsSmall};
 ghost use Rattle.mail_check.specs.strict.Mail.{AreStrictBodies, AreStrictFields};
 ghost use Rattle.mail_check.specs.strict.Mail.{AreStrictFileNames, AreStrictParameters};
-ghost use Rattle.mail_check.specs.strict.Mail.{AreStrictParts, AreStrictSenders, AreStrictWords};
-ghost use Rattle.mail_check.specs.strict.Mail.{HasStrictBlocks, IsStrictSoFar};
-ghost use Rattle.mail_check.specs.strict.Named.{Lacks, is_block_name, is_body_name, is_covered};
+ghost use Rattle.mail_check.specs.strict.Mail.{AreStrictParts, AreStrictSenders, AreStrictTexts};
+ghost use Rattle.mail_check.specs.strict.Mail.{AreStrictWords, HasStrictBlocks, IsStrict};
+ghost use Rattle.mail_check.specs.strict.Named.{Lacks, is_block_name, is_body_name, is_core};
 ghost use Rattle.mail_check.specs.strict.Named.{is_field_name, is_file_name, is_from_name};
 ghost use Rattle.mail_check.specs.strict.Named.{is_line_name, is_lone_cr_name, is_many_name};
 ghost use Rattle.mail_check.specs.strict.Named.{is_mixed_name, is_nul_name, is_parameter_name};
-ghost use Rattle.mail_check.specs.strict.Named.{is_part_name, is_word_name};
+ghost use Rattle.mail_check.specs.strict.Named.{is_part_name, is_text_name, is_word_name};
 
 /// A mail has no finding `nul` exactly if no byte of it is NUL; no `lone-cr` exactly if a LF
 /// follows each CR; and no `mixed-line-ends` exactly if not both line ends are there. It has none
@@ -93,15 +93,16 @@ pub fn senders_of_mails_are_strict()
         Lacks is_from_name (findings known t (placements 0 t)) ↔ AreStrictSenders t }
 {}
 
-/// A mail that the port reads has no finding `word-syntax`, `word-join` and `name-address` exactly if
-/// each `Subject`, `From` and `Sender` of each of its messages is of the grammar: each piece of its
-/// value is an encoded word or looks like none, a padded word in Base64 is before no word that
-/// continues it, and no name of a sender can be read as an address.
+/// A mail that the port reads has no finding `word-syntax`, `word-join`, `word-bytes` and
+/// `name-address` exactly if each `Subject`, `From` and `Sender` of each of its messages is of the
+/// grammar: each piece of its value is an encoded word or looks like none, a padded word in Base64 is
+/// before no word that continues it, the bytes of each word are text in its charset, and no name of a
+/// sender can be read as an address.
 #[tactic(auto, using(crate::proofs::lemmas::StrictMessages::words_are_of_grammar))]
 pub fn words_of_mails_are_strict()
     ensures { (known : Charsets) (greatest : ℕ) (bytes : List ℕ) (t : Tree) →
         read_mail_in known greatest bytes ≡ Ok t →
-        Lacks is_word_name (findings known t (placements 0 t)) ↔ AreStrictWords t }
+        Lacks is_word_name (findings known t (placements 0 t)) ↔ AreStrictWords known t }
 {}
 
 /// A mail that the port reads has no finding `preamble`, `no-delimiter`, `delimiter-inside`,
@@ -126,6 +127,16 @@ pub fn bodies_are_strict()
         Lacks is_body_name (findings known t (placements 0 t)) ↔ AreStrictBodies t }
 {}
 
+/// A mail that the port reads has no finding `charset` exactly if the body of each of its messages
+/// without parts whose type begins with `text/` is of the grammar: without the transfer encoding, its
+/// bytes have no NUL, begin with no byte order mark, and are text in its charset.
+#[tactic(auto, using(crate::proofs::lemmas::StrictMessages::texts_are_of_grammar))]
+pub fn texts_of_mails_are_strict()
+    ensures { (known : Charsets) (greatest : ℕ) (bytes : List ℕ) (t : Tree) →
+        read_mail_in known greatest bytes ≡ Ok t →
+        Lacks is_text_name (findings known t (placements 0 t)) ↔ AreStrictTexts known t }
+{}
+
 /// A mail that the port reads has no finding `many` exactly if it has at most 10 levels, and at most
 /// 100 messages, itself and its parts.
 #[tactic(auto, using(crate::proofs::lemmas::StrictMessages::many_of_grammar))]
@@ -145,12 +156,12 @@ pub fn strict_blocks_are_read()
         block ++ body ≡ other ++ rest → block ≡ other }
 {}
 
-/// A mail that the port reads has no finding with any of these thirty-six names exactly if its
-/// bytes, its header blocks, its headers, its types, their parameters and its file names, its senders
-/// and words, its multiparts, its bodies and the number of its messages and levels are those of the
+/// A mail that the port reads has no finding but notes exactly if it is strict: its bytes, its header
+/// blocks, its headers, its types, their parameters and its file names, its senders and words, its
+/// multiparts, its bodies, its texts and the number of its messages and levels are those of the
 /// grammar.
-pub fn strict_so_far()
+pub fn clean_mails_are_strict()
     ensures { (known : Charsets) (greatest : ℕ) (bytes : List ℕ) (t : Tree) →
         read_mail_in known greatest bytes ≡ Ok t →
-        Lacks is_covered (findings known t (placements 0 t)) ↔ IsStrictSoFar bytes t }
+        Lacks is_core (findings known t (placements 0 t)) ↔ IsStrict known bytes t }
 {}

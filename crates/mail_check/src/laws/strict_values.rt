@@ -77,13 +77,14 @@ pub fn texts_are_strict()
 {}
 
 /// A header of the mail itself has no finding `from-syntax` exactly if it is no `From` or its value
-/// is of the grammar. A header of a message has no finding `word-syntax`, `word-join` and
-/// `name-address` exactly if it is no `Subject`, `From` or `Sender` or is of the grammar.
+/// is of the grammar. A header of a message has no finding `word-syntax`, `word-join`,
+/// `word-bytes` and `name-address` exactly if it is no `Subject`, `From` or `Sender` or is of the
+/// grammar.
 pub fn worded_headers_are_strict()
     ensures sender { (number : ℕ) (spot : Spot) (line : HeaderLine) →
         Lacks is_from_name (sender_findings number spot line) ↔
         ((number == 0) ≡ true → is_named (codes "From") line ≡ true → IsSenderValue line.value) }
     ensures worded { (known : Charsets) (spot : Spot) (line : HeaderLine) →
         Lacks is_word_name (worded_findings known spot line) ↔
-        (is_worded_key line.key ≡ true → IsWordedField line.key line.value) }
+        (is_worded_key line.key ≡ true → IsWordedField known line.key line.value) }
 {}

@@ -1,5 +1,5 @@
 use Rattle.mail_check.proofs.lemmas.StrictMessages.{mail_strict}
-use Rattle.mail_check.proofs.laws.strict.strict_so_far.Goals as goal
+use Rattle.mail_check.proofs.laws.strict.clean_mails_are_strict.Goals as goal
 
 pub returns : goal.returns
 returns c = mail_strict
