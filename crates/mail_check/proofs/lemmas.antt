@@ -28,6 +28,8 @@ pub mod StrictValues
 pub mod StrictFileNames
 pub mod StrictLevels
 pub mod StrictMessages
+pub mod StrictMails
+pub mod StrictInside
 pub mod StrictSenders
 pub mod StrictWords
 pub mod StrictJoins

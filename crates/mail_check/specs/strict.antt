@@ -17,3 +17,4 @@ pub mod WordBytes
 pub mod Worded
 pub mod Levels
 pub mod Mail
+pub mod Inside

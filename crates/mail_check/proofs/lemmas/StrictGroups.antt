@@ -2,7 +2,8 @@
 use Rattle.std.proofs.Common.{◌≡◌, ◌∙◌, refl, sym, Bool, true, false, not, List, [], ◌∷◌}
 use Rattle.std.specs.Prelude.{◌&&◌, ◌||◌}
 use Rattle.std.specs.List.{AllByRecursion, list_all}
-use Rattle.mail_check.specs.strict.Named.{Group, Lines, Blocks, Fields, Syntax, Parameters, Files, Senders, Words, Parts, Bodies, Texts, Size, Inside, Notes, group_of, is_core, same_group}
+use Rattle.mail_check.specs.strict.Named.{Group, Lines, Blocks, Fields, Syntax, Parameters, Files, Senders, Words, Parts}
+use Rattle.mail_check.specs.strict.Named.{Bodies, Texts, Size, Inside, Notes, group_of, is_core, same_group}
 use Rattle.mail_check.specs.declared.names.Name.{Name}
 use Rattle.mail_check.specs.declared.names.Name.TheVariants as name
 use Rattle.mail_check.proofs.lemmas.StrictHeaders.{both_true, not_false, not_true, second_false}
@@ -58,7 +59,8 @@ abbrev pub of_files : Group → Bool
 of_files g = same_group Files g
 
 abbrev pub groups : List Group
-groups = Lines ∷ Blocks ∷ Fields ∷ Syntax ∷ Parameters ∷ Files ∷ Senders ∷ Words ∷ Parts ∷ Bodies ∷ Texts ∷ Size ∷ Inside ∷ Notes ∷ []
+groups =
+    Lines ∷ Blocks ∷ Fields ∷ Syntax ∷ Parameters ∷ Files ∷ Senders ∷ Words ∷ Parts ∷ Bodies ∷ Texts ∷ Size ∷ Inside ∷ Notes ∷ []
 
 each : (test : Group → Bool) (gs : List Group) → list_all test gs ≡ true → AllByRecursion (λ (g : Group). test g ≡ true) gs
 each test [] h = tt

@@ -17,7 +17,7 @@ use Rattle.mail_check.specs.declared.names.Name.TheVariants as name
 use Rattle.mail_check.specs.strict.Levels.{HasLevels, HaveLevels, IsSmall}
 use Rattle.mail_check.proofs.lemmas.StrictHeaders.{cases_Bool, neither, nor}
 use Rattle.mail_check.proofs.lemmas.StrictNamed.{FarLacks}
-use Rattle.mail_check.proofs.lemmas.StrictReading.{all_joined, all_of_map, map_of_all, parts-there, whole-counted}
+use Rattle.mail_check.proofs.lemmas.StrictReading.{all_joined, all_of_map, map_of_all, mail-there, paths-counted}
 
 -- ---- dots in paths
 
@@ -192,12 +192,22 @@ module _ (test : Name → Bool) where
   near_far number (p ∷ found) low h =
       (λ e. nor (number == 100) (dot_count p.path == 9) (ne_eqb number 100 (λ same. omega (arith, same, low))) h.0, near_far (suc number) found (omega (arith, low)) h.1)
 
+  -- of messages whose paths have other numbers of numbers than ten, and that are at most 100
+  pub near_few : test name.Many ≡ true → (found : List Place) → FarLacks test 0 found
+      → AllByRecursion (λ (p : Place). IsNear p.path) found × (length found ≤ 100)
+  near_few asked found h = (far_paths asked 0 found h, let most = far_count asked 0 found (omega arith) h in omega (arith, most))
+
+  pub few_near : (found : List Place) → AllByRecursion (λ (p : Place). IsNear p.path) found → length found ≤ 100
+      → FarLacks test 0 found
+  few_near found near few = near_far 0 found (omega (arith, few)) near
+
   module _ (known : Charsets) (greatest : ℕ) (bytes : List ℕ) (t : Tree) (read : read_mail_in known greatest bytes ≡ Ok t) where
     same_paths : map (λ (p : Place). p.path) (places t (placements 0 t)) ≡ map (λ (m : List ℕ × Tree). m.0) (with_paths (whole_path t) t)
-    same_paths = paths-placed (with_paths (whole_path t) t) (placements 0 t) (whole-counted known greatest bytes t read)
+    same_paths = paths-placed (with_paths (whole_path t) t) (placements 0 t) (paths-counted known greatest bytes t read (whole_path t))
 
     same_count : length (places t (placements 0 t)) ≡ length (trees_within t)
-    same_count = sym (length-map (places t (placements 0 t)) (λ (p : Place). p.part)) ∙ ap length (parts-there known greatest bytes t read)
+    same_count =
+        sym (length-map (places t (placements 0 t)) (λ (p : Place). p.part)) ∙ ap length (mail-there known greatest bytes t read).parts
 
     pub small_found : test name.Many ≡ true → FarLacks test 0 (places t (placements 0 t)) → IsSmall t
     small_found asked h = record {

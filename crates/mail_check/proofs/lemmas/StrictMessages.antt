@@ -1,5 +1,5 @@
 -- The messages of a mail without findings of some names are those of the grammar of strict mails.
-use Rattle.std.proofs.Common.{inl, inr, ◌≡◌, ◌∙◌, ◌<◌, ℕ, Bool, true, false, List, [], ◌∷◌, length, map, take, drop, Ok, ◌++◌, ◌+◌, length-take, refl, sym, ap, subst, Option, Some, None, arith}
+use Rattle.std.proofs.Common.{inl, inr, ◌≡◌, ◌∙◌, ◌<◌, ℕ, Bool, true, false, List, [], ◌∷◌, length, map, take, drop, ◌++◌, ◌+◌, length-take, refl, sym, ap, subst, Option, Some, None, arith}
 use Rattle.std.specs.Prelude.{◌↔◌, ◌&&◌, ◌==◌, codes, is_some, not}
 use Rattle.std.specs.List.{AllByRecursion, list_all}
 use Rattle.std.proofs.lemmas.List.{take-append-drop}
@@ -9,14 +9,14 @@ use Rattle.mailparse.specs.Block.{read_headers}
 use Rattle.mailparse.specs.Body.{BodyKind, in_base64, in_quoted_printable, in_7bit, in_8bit, in_binary}
 use Rattle.mailparse.specs.ContentType.{ContentType}
 use Rattle.mailparse.specs.Header.{Header}
-use Rattle.mailparse.specs.Mail.{Node, Tree, tree, body_kind, read_mail_in, root, shown_as, trees_within}
-use Rattle.mailparse.specs.Placement.{placements}
+use Rattle.mailparse.specs.Mail.{Node, Tree, tree, body_kind, root, shown_as, trees_within}
 use Rattle.mail_data.specs.Files.{is_leaf}
-use Rattle.mail_data.specs.PartPlaces.{Place, places}
+use Rattle.mail_data.specs.PartPlaces.{Place}
 use Rattle.mail_check.specs.Bodies.{is_base64_lines}
-use Rattle.mail_check.specs.Bytes.{first_byte, first_offset, is_bad_escape, is_blank_fold, is_comment_fold, is_control, is_end_blank, is_escaped_end}
+use Rattle.mail_check.specs.Bytes.{first_byte, first_offset, is_bad_escape, is_blank_fold, is_comment_fold, is_control}
+use Rattle.mail_check.specs.Bytes.{is_end_blank, is_escaped_end}
 use Rattle.mail_check.specs.FileNames.{lacks_type}
-use Rattle.mail_check.specs.Findings.{findings, has_none}
+use Rattle.mail_check.specs.Findings.{findings_from, has_none}
 use Rattle.mail_check.specs.Lines.{HeaderLine, header_lines, lines_from, second_named}
 use Rattle.mail_check.specs.Multiparts.{dash_of, is_inside, is_tailed}
 use Rattle.mail_check.specs.strict.Bodies.{HasStrictBody, IsEncoded}
@@ -24,10 +24,13 @@ use Rattle.mail_check.specs.strict.Delimiters.{HasStrictParts, IsSplit}
 use Rattle.mail_check.specs.strict.Fields.{HasAtMostOne, HasStrictFields, IsBoundary, IsField, once_names}
 use Rattle.mail_check.specs.strict.FileNames.{HasOwnNames, HasStrictFileName}
 use Rattle.mail_check.specs.strict.Headers.{IsBlock, is_address_name}
-use Rattle.mail_check.specs.strict.Levels.{IsSmall}
 use Rattle.mail_check.specs.strict.LineEnds.{IsText}
-use Rattle.mail_check.specs.strict.Mail.{AreStrictBodies, AreStrictFields, AreStrictFileNames, AreStrictParameters, AreStrictParts, AreStrictSenders, AreStrictTexts, AreStrictWords, HasStrictBlocks, IsStrict}
-use Rattle.mail_check.specs.strict.Named.{Group, Lacks, Size, group_of, is_block_name, is_body_name, is_core, is_field_name, is_file_name, is_from_name, is_line_name, is_many_name, is_parameter_name, is_part_name, is_text_name, is_word_name}
+use Rattle.mail_check.specs.strict.Mail.{AreStrictBodies, AreStrictFields, AreStrictFileNames, AreStrictParameters}
+use Rattle.mail_check.specs.strict.Mail.{AreStrictParts, AreStrictSenders, AreStrictTexts, AreStrictWords, HasStrictBlocks}
+use Rattle.mail_check.specs.strict.Mail.{HasStrictMessages}
+use Rattle.mail_check.specs.strict.Named.{Group, Lacks, Size, group_of, is_block_name, is_body_name, is_core, is_field_name}
+use Rattle.mail_check.specs.strict.Named.{is_file_name, is_from_name, is_line_name, is_many_name, is_parameter_name}
+use Rattle.mail_check.specs.strict.Named.{is_part_name, is_text_name, is_word_name}
 use Rattle.mail_check.specs.strict.PlainParameters.{HasPlainValue}
 use Rattle.mail_check.specs.strict.Texts.{HasStrictText}
 use Rattle.mail_check.specs.strict.Worded.{HasSenderValue, HasWordedValue}
@@ -41,18 +44,25 @@ use Rattle.mail_check.proofs.lemmas.StrictHeaders.{cases_Bool, is_not, is_so, le
 use Rattle.mail_check.proofs.lemmas.StrictBlocks.{GoodLine, block_lines, lines_block}
 use Rattle.mail_check.proofs.lemmas.StrictBytes.{found_text, text_found}
 use Rattle.mail_check.proofs.lemmas.StrictFields.{most_one, one_most}
-use Rattle.mail_check.proofs.lemmas.StrictFileNames.{found_names, missing_type, named_some, names_found, names_same, same_names, some_named, type_missing}
+use Rattle.mail_check.proofs.lemmas.StrictFileNames.{found_names, missing_type, named_some, names_found, names_same, same_names}
+use Rattle.mail_check.proofs.lemmas.StrictFileNames.{some_named, type_missing}
 use Rattle.mail_check.proofs.lemmas.StrictTypes.{field_found, found_field}
 use Rattle.mail_check.proofs.lemmas.StrictValues.{found_plain, plain_found}
-use Rattle.mail_check.proofs.lemmas.StrictGroups.{among, among_core, groups, no_other, of_blocks, of_bodies, of_fields, of_files, of_lines, of_named_values, of_notes, of_own_fields, of_parameters}
+use Rattle.mail_check.proofs.lemmas.StrictGroups.{among, among_core, groups, no_other, of_blocks, of_bodies, of_fields}
+use Rattle.mail_check.proofs.lemmas.StrictGroups.{of_files, of_lines, of_named_values, of_notes, of_own_fields, of_parameters}
 use Rattle.mail_check.proofs.lemmas.StrictGroups.{of_parts, of_senders, of_size, of_texts, of_values, of_words, uncovered}
 use Rattle.mail_check.proofs.lemmas.StrictDelimiters.{found_parts, parts_found}
 use Rattle.mail_check.proofs.lemmas.StrictParts.{boundary_inner, dash_made, made_of, not_found, opened_of}
-use Rattle.mail_check.proofs.lemmas.StrictLevels.{found_small, small_found}
-use Rattle.mail_check.proofs.lemmas.StrictBodies.{QuotedFree, base64_of, first_none, none_earlier, none_first, not_earlier, of_base64, of_quoted, quoted_of}
+use Rattle.mail_check.proofs.lemmas.StrictBodies.{QuotedFree, base64_of, first_none, none_earlier, none_first, not_earlier}
+use Rattle.mail_check.proofs.lemmas.StrictBodies.{of_base64, of_quoted, quoted_of}
 use Rattle.mail_check.proofs.lemmas.StrictKeys.{lines_are_headers, of_line}
-use Rattle.mail_check.proofs.lemmas.StrictNamed.{BlockLacks, BodyLacks, BytesLack, CharsetLacks, EncodedLacks, FarLacks, FieldsLack, FilesLack, LineLacks, MailLacks, MessageLacks, NamesLack, ParametersLack, PartsLack, SenderLacks, TypeLacks, all_free, all_map, block_free, body_free, bytes_free, far_first, far_free, fields_free, files_free, first_found, found_first, lacks_some, own_fields_free, parameters_free, parts_free, senders_free, some_lacks, text_after, text_free, words_free}
-use Rattle.mail_check.proofs.lemmas.StrictReading.{IsRead, all_of_map, all_with, bytes-there, headers-there, map_of_all, parts-there}
+use Rattle.mail_check.proofs.lemmas.StrictNamed.{BlockLacks, BodyLacks, BytesLack, CharsetLacks, EncodedLacks, FarLacks}
+use Rattle.mail_check.proofs.lemmas.StrictNamed.{FieldsLack, FilesLack, LineLacks, MailLacks, MessageLacks, NamesLack}
+use Rattle.mail_check.proofs.lemmas.StrictNamed.{ParametersLack, PartsLack, SenderLacks, TypeLacks, all_found, all_free}
+use Rattle.mail_check.proofs.lemmas.StrictNamed.{all_map, block_free, body_free, bytes_free, far_free, far_lacks, fields_free}
+use Rattle.mail_check.proofs.lemmas.StrictNamed.{files_free, found_all, lacks_some, own_fields_free, parameters_free}
+use Rattle.mail_check.proofs.lemmas.StrictNamed.{parts_free, senders_free, some_lacks, text_after, text_free, words_free}
+use Rattle.mail_check.proofs.lemmas.StrictReading.{AreThere, IsRead, all_of_map, all_with, map_of_all}
 use Rattle.mail_check.proofs.lemmas.StrictTexts.{text_strict}
 use Rattle.mail_check.proofs.lemmas.StrictWorded.{WordedLacks}
 
@@ -220,7 +230,8 @@ strict_parameters : (test : Name → Bool) (node : Node) → IsRead node → All
 strict_parameters test node is h =
     all_map (λ line. HasPlainValue (of_line line)) (λ line. (is_bad_value line ≡ false) × ParametersLack test line) (line_plain test)
     (header_lines node)
-    (all_of_map of_line HasPlainValue (header_lines node) (subst (AllByRecursion HasPlainValue) (sym (lines_are_headers node is)) h))
+    (all_of_map of_line HasPlainValue (header_lines node)
+    (subst (AllByRecursion HasPlainValue) (sym (lines_are_headers node is)) h))
 
 -- the names of the file of one message, if all names of them are asked for
 module _ (test : Name → Bool) (asked : (n : Name) → of_files (group_of n) ≡ true → test n ≡ true) where
@@ -264,7 +275,8 @@ strict_senders : (test : Name → Bool) (node : Node) → IsRead node → AllByR
     → AllByRecursion (SenderLacks test 0) (header_lines node)
 strict_senders test node is h =
     all_map (λ line. HasSenderValue (of_line line)) (SenderLacks test 0) (λ line has t e. has) (header_lines node)
-    (all_of_map of_line HasSenderValue (header_lines node) (subst (AllByRecursion HasSenderValue) (sym (lines_are_headers node is)) h))
+    (all_of_map of_line HasSenderValue (header_lines node)
+    (subst (AllByRecursion HasSenderValue) (sym (lines_are_headers node is)) h))
 
 -- the words of one message, if all names of them are asked for
 module _ (known : Charsets) (test : Name → Bool) (asked : (n : Name) → is_word_name n ≡ true → test n ≡ true) where
@@ -279,10 +291,12 @@ module _ (known : Charsets) (test : Name → Bool) (asked : (n : Name) → is_wo
   words_strict : (node : Node) → IsRead node → AllByRecursion (WordedLacks known test) (header_lines node)
       → AllByRecursion (HasWordedValue known) node.headers
   words_strict node is h =
-      subst (AllByRecursion (HasWordedValue known)) (lines_are_headers node is) (map_of_all of_line (HasWordedValue known) (header_lines node)
+      subst (AllByRecursion (HasWordedValue known)) (lines_are_headers node is)
+      (map_of_all of_line (HasWordedValue known) (header_lines node)
       (all_map (WordedLacks known test) (λ line. HasWordedValue known (of_line line)) worded_line (header_lines node) h))
 
-line_worded : (known : Charsets) (test : Name → Bool) (line : HeaderLine) → HasWordedValue known (of_line line) → WordedLacks known test line
+line_worded : (known : Charsets) (test : Name → Bool) (line : HeaderLine) → HasWordedValue known (of_line line)
+    → WordedLacks known test line
 line_worded known test line h = record {
   syntax = λ t e. (h e).words;
   join = λ t e. (h e).apart;
@@ -290,11 +304,13 @@ line_worded known test line h = record {
   address = λ t e. (h e).names;
 }
 
-strict_words : (known : Charsets) (test : Name → Bool) (node : Node) → IsRead node → AllByRecursion (HasWordedValue known) node.headers
+strict_words : (known : Charsets) (test : Name → Bool) (node : Node) → IsRead node
+    → AllByRecursion (HasWordedValue known) node.headers
     → AllByRecursion (WordedLacks known test) (header_lines node)
 strict_words known test node is h =
     all_map (λ line. HasWordedValue known (of_line line)) (WordedLacks known test) (line_worded known test) (header_lines node)
-    (all_of_map of_line (HasWordedValue known) (header_lines node) (subst (AllByRecursion (HasWordedValue known)) (sym (lines_are_headers node is)) h))
+    (all_of_map of_line (HasWordedValue known) (header_lines node)
+    (subst (AllByRecursion (HasWordedValue known)) (sym (lines_are_headers node is)) h))
 
 -- how one message is split, if all names of that are asked for
 module _ (test : Name → Bool) (asked : (n : Name) → is_part_name n ≡ true → test n ≡ true) where
@@ -383,50 +399,53 @@ message_of_text known test t h s e = (text_strict known (root t)).1 (λ text. h.
 
 -- ---- a whole mail
 
-module _ (known : Charsets) (greatest : ℕ) (bytes : List ℕ) (t : Tree) (read : read_mail_in known greatest bytes ≡ Ok t) where
+module _ (known : Charsets) (bytes : List ℕ) (t : Tree) (found : List Place) (are : AreThere bytes t found) where
   -- what is so of the messages at all places is so of all messages
   module _ (P : Tree → Type 0) where
-    of_places : AllByRecursion (λ (p : Place). P p.part) (places t (placements 0 t)) → AllByRecursion P (trees_within t)
-    of_places h = subst (AllByRecursion P) (parts-there known greatest bytes t read) (map_of_all (λ (p : Place). p.part) P (places t (placements 0 t)) h)
+    of_places : AllByRecursion (λ (p : Place). P p.part) found → AllByRecursion P (trees_within t)
+    of_places h = subst (AllByRecursion P) are.parts (map_of_all (λ (p : Place). p.part) P found h)
 
-    to_places : AllByRecursion P (trees_within t) → AllByRecursion (λ (p : Place). P p.part) (places t (placements 0 t))
-    to_places h = all_of_map (λ (p : Place). p.part) P (places t (placements 0 t)) (subst (AllByRecursion P) (sym (parts-there known greatest bytes t read)) h)
+    to_places : AllByRecursion P (trees_within t) → AllByRecursion (λ (p : Place). P p.part) found
+    to_places h = all_of_map (λ (p : Place). p.part) P found (subst (AllByRecursion P) (sym are.parts) h)
 
   -- what is so of all messages that were read and have something else
   read_with : (P Q : Node → Type 0) → ((node : Node) → IsRead node → P node → Q node) → AllByRecursion (λ (t : Tree). P (root t)) (trees_within t)
       → AllByRecursion (λ (t : Tree). Q (root t)) (trees_within t)
   read_with P Q f h = all_with (λ (t : Tree). IsRead (root t)) (λ (t : Tree). P (root t)) (λ (t : Tree). Q (root t)) (λ t. f (root t)) (trees_within t)
-      (headers-there known greatest bytes t read) h
+      are.each h
 
   -- the mail itself was read
   root_read : IsRead (root t)
-  root_read = of_first t (headers-there known greatest bytes t read)
+  root_read = of_first t are.each
     where
       of_first : (t : Tree) → AllByRecursion (λ (t : Tree). IsRead (root t)) (trees_within t) → IsRead (root t)
       of_first (tree node parts) all = all.0
 
   module _ (test : Name → Bool) where
     abbrev AllLack : Type 0
-    AllLack = AllByRecursion (λ (p : Place). MessageLacks known test p.part) (places t (placements 0 t))
+    AllLack = AllByRecursion (λ (p : Place). MessageLacks known test p.part) found
 
     -- from findings to the grammar
     blocks_found : ((n : Name) → is_block_name n ≡ true → test n ≡ true) → AllLack → HasStrictBlocks t
     blocks_found asked h =
         map_of_all root (λ (node : Node). IsBlock node.block) (trees_within t)
         (read_with (BlockLacks test) (λ (node : Node). IsBlock node.block) (block_strict test asked)
-        (all_map (MessageLacks known test) (λ (t : Tree). BlockLacks test (root t)) (λ t lacks. lacks.block) (trees_within t) (of_places (MessageLacks known test) h)))
+        (all_map (MessageLacks known test) (λ (t : Tree). BlockLacks test (root t)) (λ t lacks. lacks.block)
+        (trees_within t) (of_places (MessageLacks known test) h)))
 
     fields_found : ((n : Name) → is_field_name n ≡ true → test n ≡ true) → AllLack → AreStrictFields t
     fields_found asked h =
         map_of_all root HasStrictFields (trees_within t)
         (read_with (FieldsLack test) HasStrictFields (fields_strict test asked)
-        (all_map (MessageLacks known test) (λ (t : Tree). FieldsLack test (root t)) (λ t lacks. lacks.fields) (trees_within t) (of_places (MessageLacks known test) h)))
+        (all_map (MessageLacks known test) (λ (t : Tree). FieldsLack test (root t)) (λ t lacks. lacks.fields)
+        (trees_within t) (of_places (MessageLacks known test) h)))
 
     parameters_found : ((n : Name) → is_parameter_name n ≡ true → test n ≡ true) → AllLack → AreStrictParameters t
     parameters_found asked h =
         map_of_all root (λ (node : Node). AllByRecursion HasPlainValue node.headers) (trees_within t)
         (read_with (ValuesLack test) (λ (node : Node). AllByRecursion HasPlainValue node.headers) (parameters_strict test asked)
-        (all_map (MessageLacks known test) (λ (t : Tree). ValuesLack test (root t)) (λ t lacks. (lacks.fields, lacks.parameters)) (trees_within t)
+        (all_map (MessageLacks known test) (λ (t : Tree). ValuesLack test (root t))
+        (λ t lacks. (lacks.fields, lacks.parameters)) (trees_within t)
         (of_places (MessageLacks known test) h)))
 
     files_found : ((n : Name) → of_files (group_of n) ≡ true → test n ≡ true) → AllLack → AreStrictFileNames t
@@ -444,18 +463,24 @@ module _ (known : Charsets) (greatest : ℕ) (bytes : List ℕ) (t : Tree) (read
         map_of_all root (λ (node : Node). AllByRecursion (HasWordedValue known) node.headers) (trees_within t)
         (read_with (λ (node : Node). AllByRecursion (WordedLacks known test) (header_lines node))
         (λ (node : Node). AllByRecursion (HasWordedValue known) node.headers) (words_strict known test asked)
-        (all_map (MessageLacks known test) (λ (t : Tree). AllByRecursion (WordedLacks known test) (header_lines (root t))) (λ t lacks. lacks.words)
+        (all_map (MessageLacks known test) (λ (t : Tree). AllByRecursion (WordedLacks known test) (header_lines (root t)))
+        (λ t lacks. lacks.words)
         (trees_within t) (of_places (MessageLacks known test) h)))
 
     parts_of_all : ((n : Name) → is_part_name n ≡ true → test n ≡ true) → AllLack → AreStrictParts t
-    parts_of_all asked h = all_map (MessageLacks known test) HasStrictParts (λ t lacks. parts_strict test asked t lacks.parts) (trees_within t) (of_places (MessageLacks known test) h)
+    parts_of_all asked h =
+        all_map (MessageLacks known test) HasStrictParts (λ t lacks. parts_strict test asked t lacks.parts)
+        (trees_within t) (of_places (MessageLacks known test) h)
 
     bodies_of_all : ((n : Name) → is_body_name n ≡ true → test n ≡ true) → AllLack → AreStrictBodies t
-    bodies_of_all asked h = all_map (MessageLacks known test) HasStrictBody (λ t lacks. body_strict test asked t lacks.body) (trees_within t) (of_places (MessageLacks known test) h)
+    bodies_of_all asked h =
+        all_map (MessageLacks known test) HasStrictBody (λ t lacks. body_strict test asked t lacks.body)
+        (trees_within t) (of_places (MessageLacks known test) h)
 
     texts_of_all : test name.Charset ≡ true → AllLack → AreStrictTexts known t
     texts_of_all asked h =
-        all_map (MessageLacks known test) (HasStrictText known) (λ t lacks. text_of_message known test asked t lacks.text) (trees_within t)
+        all_map (MessageLacks known test) (HasStrictText known) (λ t lacks. text_of_message known test asked t lacks.text)
+        (trees_within t)
         (of_places (MessageLacks known test) h)
 
     -- and back
@@ -621,52 +646,55 @@ module _ (known : Charsets) (greatest : ℕ) (bytes : List ℕ) (t : Tree) (read
     no_texts : list_all (λ g. not (of_texts g && some g)) groups ≡ true → AllTexts asks
     no_texts apart = all_free (CharsetLacks known asks) (text_free known asks (no_other of_texts some apart)) (trees_within t)
 
-    no_far : some Size ≡ false → FarLacks asks 0 (places t (placements 0 t))
-    no_far apart = far_free asks apart 0 (places t (placements 0 t))
+    no_far : some Size ≡ false → FarLacks asks 0 found
+    no_far apart = far_free asks apart 0 found
 
     abbrev Uncovered : Type 0
     Uncovered = list_all (λ g. not (of_notes g && some g)) groups ≡ true
 
     abbrev NoneFound : Type 0
-    NoneFound = Lacks asks (findings known t (placements 0 t))
+    NoneFound = Lacks asks (findings_from known 0 found)
 
     -- none of these names, if the bytes are not asked for
     none_found : Uncovered → list_all (λ g. not (of_lines g && some g)) groups ≡ true
         → AllByRecursion (SenderLacks asks 0) (header_lines (root t)) → AllLack asks
-        → FarLacks asks 0 (places t (placements 0 t)) → NoneFound
+        → FarLacks asks 0 found → NoneFound
     none_found covered apart senders h far =
-        first_found known asks (uncovered some covered) t
+        all_found known asks (uncovered some covered) t found are.parts
         (record { bytes = bytes_free asks (no_other of_lines some apart) (root t).bytes; senders = senders }) h far
 
     of_messages : Uncovered → NoneFound → AllLack asks
-    of_messages covered h = (found_first known asks (uncovered some covered) t h).1
+    of_messages covered h = (found_all known asks (uncovered some covered) t found are.parts h).1
 
-  pub blocks_strict : Lacks is_block_name (findings known t (placements 0 t)) ↔ HasStrictBlocks t
+  pub blocks_strict : Lacks is_block_name (findings_from known 0 found) ↔ HasStrictBlocks t
   blocks_strict = (
     λ h. blocks_found is_block_name (λ n e. e) (of_messages of_blocks refl h),
     λ h. none_found of_blocks refl refl (no_senders of_blocks refl)
         (all_lack is_block_name (found_blocks is_block_name h) (no_fields of_blocks refl) (no_parameters of_blocks refl)
-        (no_files of_blocks refl) (no_words of_blocks refl) (no_splits of_blocks refl) (no_bodies of_blocks refl) (no_texts of_blocks refl)) (no_far of_blocks refl),
+        (no_files of_blocks refl) (no_words of_blocks refl) (no_splits of_blocks refl)
+        (no_bodies of_blocks refl) (no_texts of_blocks refl)) (no_far of_blocks refl),
   )
 
-  pub fields_are_of_grammar : Lacks is_field_name (findings known t (placements 0 t)) ↔ AreStrictFields t
+  pub fields_are_of_grammar : Lacks is_field_name (findings_from known 0 found) ↔ AreStrictFields t
   fields_are_of_grammar = (
     λ h. fields_found is_field_name (λ n e. e) (of_messages of_fields refl h),
     λ h. none_found of_fields refl refl (no_senders of_fields refl)
         (all_lack is_field_name (no_blocks of_fields refl) (found_fields is_field_name h) (no_parameters of_fields refl)
-        (no_files of_fields refl) (no_words of_fields refl) (no_splits of_fields refl) (no_bodies of_fields refl) (no_texts of_fields refl)) (no_far of_fields refl),
+        (no_files of_fields refl) (no_words of_fields refl) (no_splits of_fields refl)
+        (no_bodies of_fields refl) (no_texts of_fields refl)) (no_far of_fields refl),
   )
 
-  pub parameters_are_of_grammar : Lacks is_parameter_name (findings known t (placements 0 t)) ↔ AreStrictParameters t
+  pub parameters_are_of_grammar : Lacks is_parameter_name (findings_from known 0 found) ↔ AreStrictParameters t
   parameters_are_of_grammar = (
     λ h. parameters_found is_parameter_name (λ n e. e) (of_messages of_values refl h),
     λ h. none_found of_values refl refl (no_senders of_values refl)
         (all_lack is_parameter_name (no_blocks of_values refl) (found_syntax is_parameter_name (no_other of_own_fields of_values refl) h)
-        (found_parameters is_parameter_name h) (no_files of_values refl) (no_words of_values refl) (no_splits of_values refl) (no_bodies of_values refl) (no_texts of_values refl))
+        (found_parameters is_parameter_name h) (no_files of_values refl) (no_words of_values refl) (no_splits of_values refl)
+        (no_bodies of_values refl) (no_texts of_values refl))
         (no_far of_values refl),
   )
 
-  pub files_are_of_grammar : Lacks is_file_name (findings known t (placements 0 t)) ↔ (AreStrictParameters t × AreStrictFileNames t)
+  pub files_are_of_grammar : Lacks is_file_name (findings_from known 0 found) ↔ (AreStrictParameters t × AreStrictFileNames t)
   files_are_of_grammar = (
     λ h.
         let lacks = of_messages of_named_values refl h in (
@@ -680,39 +708,43 @@ module _ (known : Charsets) (greatest : ℕ) (bytes : List ℕ) (t : Tree) (read
         (no_bodies of_named_values refl) (no_texts of_named_values refl)) (no_far of_named_values refl),
   )
 
-  pub senders_are_of_grammar : Lacks is_from_name (findings known t (placements 0 t)) ↔ AreStrictSenders t
+  pub senders_are_of_grammar : Lacks is_from_name (findings_from known 0 found) ↔ AreStrictSenders t
   senders_are_of_grammar = (
-    λ h. senders_found is_from_name refl (found_first known is_from_name (uncovered of_senders refl) t h).0,
+    λ h. senders_found is_from_name refl (found_all known is_from_name (uncovered of_senders refl) t found are.parts h).0,
     λ h. none_found of_senders refl refl (strict_senders is_from_name (root t) root_read h)
         (all_lack is_from_name (no_blocks of_senders refl) (no_fields of_senders refl) (no_parameters of_senders refl)
-        (no_files of_senders refl) (no_words of_senders refl) (no_splits of_senders refl) (no_bodies of_senders refl) (no_texts of_senders refl)) (no_far of_senders refl),
+        (no_files of_senders refl) (no_words of_senders refl) (no_splits of_senders refl)
+        (no_bodies of_senders refl) (no_texts of_senders refl)) (no_far of_senders refl),
   )
 
-  pub words_are_of_grammar : Lacks is_word_name (findings known t (placements 0 t)) ↔ AreStrictWords known t
+  pub words_are_of_grammar : Lacks is_word_name (findings_from known 0 found) ↔ AreStrictWords known t
   words_are_of_grammar = (
     λ h. words_found is_word_name (λ n e. e) (of_messages of_words refl h),
     λ h. none_found of_words refl refl (no_senders of_words refl)
         (all_lack is_word_name (no_blocks of_words refl) (no_fields of_words refl) (no_parameters of_words refl)
-        (no_files of_words refl) (found_words is_word_name h) (no_splits of_words refl) (no_bodies of_words refl) (no_texts of_words refl)) (no_far of_words refl),
+        (no_files of_words refl) (found_words is_word_name h) (no_splits of_words refl)
+        (no_bodies of_words refl) (no_texts of_words refl)) (no_far of_words refl),
   )
 
-  pub parts_are_of_grammar : Lacks is_part_name (findings known t (placements 0 t)) ↔ AreStrictParts t
+  pub parts_are_of_grammar : Lacks is_part_name (findings_from known 0 found) ↔ AreStrictParts t
   parts_are_of_grammar = (
     λ h. parts_of_all is_part_name (λ n e. e) (of_messages of_parts refl h),
     λ h. none_found of_parts refl refl (no_senders of_parts refl)
         (all_lack is_part_name (no_blocks of_parts refl) (no_fields of_parts refl) (no_parameters of_parts refl)
-        (no_files of_parts refl) (no_words of_parts refl) (found_splits is_part_name h) (no_bodies of_parts refl) (no_texts of_parts refl)) (no_far of_parts refl),
+        (no_files of_parts refl) (no_words of_parts refl) (found_splits is_part_name h)
+        (no_bodies of_parts refl) (no_texts of_parts refl)) (no_far of_parts refl),
   )
 
-  pub bodies_are_of_grammar : Lacks is_body_name (findings known t (placements 0 t)) ↔ AreStrictBodies t
+  pub bodies_are_of_grammar : Lacks is_body_name (findings_from known 0 found) ↔ AreStrictBodies t
   bodies_are_of_grammar = (
     λ h. bodies_of_all is_body_name (λ n e. e) (of_messages of_bodies refl h),
     λ h. none_found of_bodies refl refl (no_senders of_bodies refl)
         (all_lack is_body_name (no_blocks of_bodies refl) (no_fields of_bodies refl) (no_parameters of_bodies refl)
-        (no_files of_bodies refl) (no_words of_bodies refl) (no_splits of_bodies refl) (found_bodies is_body_name h) (no_texts of_bodies refl)) (no_far of_bodies refl),
+        (no_files of_bodies refl) (no_words of_bodies refl) (no_splits of_bodies refl) (found_bodies is_body_name h)
+        (no_texts of_bodies refl)) (no_far of_bodies refl),
   )
 
-  pub texts_are_of_grammar : Lacks is_text_name (findings known t (placements 0 t)) ↔ AreStrictTexts known t
+  pub texts_are_of_grammar : Lacks is_text_name (findings_from known 0 found) ↔ AreStrictTexts known t
   texts_are_of_grammar = (
     λ h. texts_of_all is_text_name refl (of_messages of_texts refl h),
     λ h. none_found of_texts refl refl (no_senders of_texts refl)
@@ -721,13 +753,13 @@ module _ (known : Charsets) (greatest : ℕ) (bytes : List ℕ) (t : Tree) (read
         (found_texts is_text_name h)) (no_far of_texts refl),
   )
 
-  pub many_of_grammar : Lacks is_many_name (findings known t (placements 0 t)) ↔ IsSmall t
+  pub many_of_grammar : Lacks is_many_name (findings_from known 0 found) ↔ FarLacks is_many_name 0 found
   many_of_grammar = (
-    λ h. small_found is_many_name known greatest bytes t read refl (far_first known is_many_name (uncovered of_size refl) t h),
+    λ h. far_lacks known is_many_name (uncovered of_size refl) 0 found h,
     λ h. none_found of_size refl refl (no_senders of_size refl)
         (all_lack is_many_name (no_blocks of_size refl) (no_fields of_size refl) (no_parameters of_size refl)
-        (no_files of_size refl) (no_words of_size refl) (no_splits of_size refl) (no_bodies of_size refl) (no_texts of_size refl))
-        (found_small is_many_name known greatest bytes t read h),
+        (no_files of_size refl) (no_words of_size refl) (no_splits of_size refl)
+        (no_bodies of_size refl) (no_texts of_size refl)) h,
   )
 
   line_part : BytesLack is_core (root t).bytes → BytesLack is_line_name (root t).bytes
@@ -736,34 +768,34 @@ module _ (known : Charsets) (greatest : ℕ) (bytes : List ℕ) (t : Tree) (read
   part_line : BytesLack is_line_name (root t).bytes → BytesLack is_core (root t).bytes
   part_line h = record { nul = λ e. h.nul refl; lone_cr = λ e. h.lone_cr refl; mixed = λ e. h.mixed refl }
 
-  clean_strict : Lacks is_core (findings known t (placements 0 t)) → IsStrict known bytes t
+  clean_strict : Lacks is_core (findings_from known 0 found) → HasStrictMessages known bytes t × FarLacks is_core 0 found
   clean_strict h =
-      let both = found_first known is_core (λ n e. e) t h in
-      record {
-        lines = subst IsText (bytes-there known greatest bytes t read) (text_found (root t).bytes (line_part both.0.bytes));
-        blocks = blocks_found is_core (among_core of_blocks refl) both.1;
-        fields = fields_found is_core (among_core of_fields refl) both.1;
-        parameters = parameters_found is_core (among_core of_values refl) both.1;
-        files = files_found is_core (among_core of_files refl) both.1;
-        senders = senders_found is_core refl both.0;
-        words = words_found is_core (among_core of_words refl) both.1;
-        parts = parts_of_all is_core (among_core of_parts refl) both.1;
-        bodies = bodies_of_all is_core (among_core of_bodies refl) both.1;
-        texts = texts_of_all is_core refl both.1;
-        small = small_found is_core known greatest bytes t read refl (far_first known is_core (λ n e. e) t h);
-      }
+      let both = found_all known is_core (λ n e. e) t found are.parts h in (
+        record {
+          lines = subst IsText are.whole (text_found (root t).bytes (line_part both.0.bytes));
+          blocks = blocks_found is_core (among_core of_blocks refl) both.1;
+          fields = fields_found is_core (among_core of_fields refl) both.1;
+          parameters = parameters_found is_core (among_core of_values refl) both.1;
+          files = files_found is_core (among_core of_files refl) both.1;
+          senders = senders_found is_core refl both.0;
+          words = words_found is_core (among_core of_words refl) both.1;
+          parts = parts_of_all is_core (among_core of_parts refl) both.1;
+          bodies = bodies_of_all is_core (among_core of_bodies refl) both.1;
+          texts = texts_of_all is_core refl both.1;
+        },
+        far_lacks known is_core (λ n e. e) 0 found h,
+      )
 
-  strict_clean : IsStrict known bytes t → Lacks is_core (findings known t (placements 0 t))
-  strict_clean h =
-      first_found known is_core (λ n e. e) t
+  strict_clean : HasStrictMessages known bytes t → FarLacks is_core 0 found → Lacks is_core (findings_from known 0 found)
+  strict_clean h far =
+      all_found known is_core (λ n e. e) t found are.parts
       (record {
-        bytes = part_line (found_text (root t).bytes (subst IsText (sym (bytes-there known greatest bytes t read)) h.lines));
+        bytes = part_line (found_text (root t).bytes (subst IsText (sym are.whole) h.lines));
         senders = strict_senders is_core (root t) root_read h.senders;
       })
       (all_lack is_core (found_blocks is_core h.blocks) (found_fields is_core h.fields)
       (found_parameters is_core h.parameters) (found_files is_core h.parameters h.files) (found_words is_core h.words)
-      (found_splits is_core h.parts) (found_bodies is_core h.bodies) (found_texts is_core h.texts))
-      (found_small is_core known greatest bytes t read h.small)
+      (found_splits is_core h.parts) (found_bodies is_core h.bodies) (found_texts is_core h.texts)) far
 
-  pub mail_strict : Lacks is_core (findings known t (placements 0 t)) ↔ IsStrict known bytes t
-  mail_strict = (clean_strict, strict_clean)
+  pub messages_strict : Lacks is_core (findings_from known 0 found) ↔ (HasStrictMessages known bytes t × FarLacks is_core 0 found)
+  messages_strict = (clean_strict, λ both. strict_clean both.0 both.1)

@@ -1,5 +1,5 @@
 -- What it means that the findings of a mail lack some names.
-use Rattle.std.proofs.Common.{◌≡◌, ℕ, suc, ◌+◌, Bool, true, false, List, [], ◌∷◌, ◌++◌, length, drop, refl, sym, subst, Option, Some, None, inl, inr}
+use Rattle.std.proofs.Common.{◌≡◌, ℕ, suc, ◌+◌, Bool, true, false, List, [], ◌∷◌, ◌++◌, length, map, drop, refl, sym, subst, Option, Some, None, inl, inr}
 use Rattle.std.specs.Prelude.{flat_map, is_none, not, ◌&&◌, ◌==◌, ⊤, codes, if◌then◌else◌}
 use Rattle.std.specs.List.{AllByRecursion}
 use Rattle.std.proofs.Math.Dec.{eqb-suc-zero}
@@ -9,7 +9,7 @@ use Rattle.mail_codec.specs.Places.{byte_place}
 use Rattle.mailparse.specs.Body.{BodyKind, in_base64, in_quoted_printable, in_7bit, in_8bit, in_binary}
 use Rattle.mailparse.specs.ContentType.{ContentType}
 use Rattle.mailparse.specs.Disposition.{Disposition}
-use Rattle.mailparse.specs.Mail.{Forest, Node, Tree, tree, body_kind, cut_of_as, root, shown_as}
+use Rattle.mailparse.specs.Mail.{Forest, Node, Tree, tree, body_kind, cut_of_as, root, shown_as, trees_within}
 use Rattle.mailparse.specs.Ranges.{moved}
 use Rattle.mail_data.specs.Files.{is_leaf, parts_with_paths, whole_path}
 use Rattle.mailparse.specs.Placement.{placements, placements_in_as}
@@ -427,7 +427,8 @@ module _ (known : Charsets) (test : Name → Bool) (others : (n : Name) → is_c
       let lines = header_lines node in
       both _ _ (false_listed test (spot_in place 0 0) name.NoHeaders (has_none lines) h.block.no_headers)
       (both _ _ (each_lacks test (header_findings known number place) lines
-      (all_map (HeaderLacks known test number node) (λ line. Lacks test (header_findings known number place line)) (lack_header number place) lines
+      (all_map (HeaderLacks known test number node) (λ line. Lacks test (header_findings known number place line))
+      (lack_header number place) lines
       (all_with Written Values (HeaderLacks known test number node)
       (λ line written values. record {
         own = written.0;
@@ -441,7 +442,8 @@ module _ (known : Charsets) (test : Name → Bool) (others : (n : Name) → is_c
       h.block.lines h.fields.types)
       (all_with Named Worded Values (λ line named words. (named, words)) lines
       (all_with (ParametersLack test) (NamesLack test) Named (λ line parameters names. (parameters, names)) lines h.parameters h.names)
-      (all_with (SenderLacks test number) (WordedLacks known test) Worded (λ line sender words. (sender, words)) lines h.senders h.words)))))
+      (all_with (SenderLacks test number) (WordedLacks known test) Worded (λ line sender words. (sender, words)) lines
+      h.senders h.words)))))
       (each_lacks test (λ (n : List ℕ). repeated place (second_named n lines)) single_names (repeats_lack place lines single_names h.fields.repeats)))
     where
       Written : HeaderLine → Type 0
@@ -578,7 +580,8 @@ module _ (known : Charsets) (test : Name → Bool) (others : (n : Name) → is_c
       (lacks_right test (encoded_findings place (body_kind node) node.body) (files ++ texts)
       (subst (λ (t : Bool). Lacks test (if t then found else [])) e h))) t
 
-  lack_body : (place : Place) → BodyLacks test place.part → CharsetLacks known test place.part → Lacks test (leaf_findings known place)
+  lack_body : (place : Place) → BodyLacks test place.part → CharsetLacks known test place.part
+      → Lacks test (leaf_findings known place)
   lack_body place h text =
       let node = root place.part in
       let found = body_findings known place node in
@@ -709,7 +712,7 @@ module _ (known : Charsets) (test : Name → Bool) (others : (n : Name) → is_c
   unfolding findings
   found_first (tree node parts) h = mail_lacks (first_place_of node parts) (later_places node parts) h
 
-  far_lacks : (number : ℕ) (found : List Place) → Lacks test (findings_from known number found) → FarLacks test number found
+  pub far_lacks : (number : ℕ) (found : List Place) → Lacks test (findings_from known number found) → FarLacks test number found
   far_lacks number [] h = tt
   far_lacks number (place ∷ found) h =
       let node = root place.part in
@@ -724,15 +727,29 @@ module _ (known : Charsets) (test : Name → Bool) (others : (n : Name) → is_c
         far_lacks (suc number) found (lacks_right test message (findings_from known (suc number) found) h),
       )
 
-  pub far_first : (t : Tree) → Lacks test (findings known t (placements 0 t)) → FarLacks test 0 (places t (placements 0 t))
-  unfolding findings
-  far_first t h = far_lacks 0 (places t (placements 0 t)) h
-
   pub first_found : (t : Tree) → MailLacks test (root t) → parts_lack (places t (placements 0 t))
       → FarLacks test 0 (places t (placements 0 t))
       → Lacks test (findings known t (placements 0 t))
   unfolding findings
   first_found (tree node parts) h k far = lack_mail (first_place_of node parts) (later_places node parts) h k far
+
+  -- messages that are a mail and its parts
+  pub found_all : (t : Tree) (found : List Place) → map (λ (p : Place). p.part) found ≡ trees_within t
+      → Lacks test (findings_from known 0 found) → MailLacks test (root t) × parts_lack found
+  found_all (tree node parts) [] e h = absurd (cc)
+  found_all (tree node parts) (place ∷ found) e h =
+      let same : place.part ≡ tree node parts = cc in
+      let both = mail_lacks place found h in (
+        subst (λ (t : Tree). MailLacks test (root t)) same both.0,
+        both.1,
+      )
+
+  pub all_found : (t : Tree) (found : List Place) → map (λ (p : Place). p.part) found ≡ trees_within t → MailLacks test (root t)
+      → parts_lack found → FarLacks test 0 found → Lacks test (findings_from known 0 found)
+  all_found (tree node parts) [] e h k far = absurd (cc)
+  all_found (tree node parts) (place ∷ found) e h k far =
+      let same : tree node parts ≡ place.part = cc in
+      lack_mail place found (subst (λ (t : Tree). MailLacks test (root t)) same h) k far
 
 -- ---- names that are not asked for
 
@@ -801,8 +818,8 @@ pub senders_free : (test : Name → Bool) → test name.FromSyntax ≡ false →
     → AllByRecursion (SenderLacks test 0) (header_lines node)
 senders_free test free node = all_free (SenderLacks test 0) (λ line t e. not_asked test name.FromSyntax free t) (header_lines node)
 
-pub words_free : (known : Charsets) (test : Name → Bool) → ((n : Name) → of_words (group_of n) ≡ true → test n ≡ false) → (node : Node)
-    → AllByRecursion (WordedLacks known test) (header_lines node)
+pub words_free : (known : Charsets) (test : Name → Bool) → ((n : Name) → of_words (group_of n) ≡ true → test n ≡ false)
+    → (node : Node) → AllByRecursion (WordedLacks known test) (header_lines node)
 words_free known test free node = all_free (WordedLacks known test) (λ line. record {
   syntax = not_asked test name.WordSyntax (free name.WordSyntax refl);
   join = not_asked test name.WordJoin (free name.WordJoin refl);

@@ -133,23 +133,28 @@ parts-placed (m ∷ messages) [] e = absurd (omega (arith, e))
 parts-placed (m ∷ messages) (p ∷ found) e = ap (λ (ts : List Tree). m.1 ∷ ts) (parts-placed messages found (omega (arith, e)))
 
 -- each message of a mail that was read has a placement
-pub whole-counted : (known : Charsets) (greatest : ℕ) (bytes : List ℕ) (t : Tree) → read_mail_in known greatest bytes ≡ Ok t
-    → length (placements 0 t) ≡ length (with_paths (whole_path t) t)
-whole-counted known greatest bytes t e =
-    let messages = with_paths (whole_path t) t in
+pub paths-counted : (known : Charsets) (greatest : ℕ) (bytes : List ℕ) (t : Tree) → read_mail_in known greatest bytes ≡ Ok t
+    → (path : List ℕ) → length (placements 0 t) ≡ length (with_paths path t)
+paths-counted known greatest bytes t e path =
+    let messages = with_paths path t in
     let counted : length messages ≡ length (trees_within t) =
-    sym (length-map messages (λ (m : List ℕ × Tree). m.1)) ∙ ap length (trees-paths (whole_path t) t) in
+    sym (length-map messages (λ (m : List ℕ × Tree). m.1)) ∙ ap length (trees-paths path t) in
     (mail-read known greatest bytes t e).count 0 ∙ sym counted
 
--- the messages at the places of a mail that was read are the mail and its parts
-pub parts-there : (known : Charsets) (greatest : ℕ) (bytes : List ℕ) (t : Tree) → read_mail_in known greatest bytes ≡ Ok t
-    → map (λ (p : Place). p.part) (places t (placements 0 t)) ≡ trees_within t
-parts-there known greatest bytes t e =
-    parts-placed (with_paths (whole_path t) t) (placements 0 t) (whole-counted known greatest bytes t e) ∙ trees-paths (whole_path t) t
+-- the messages at these places are a mail that was read, and its parts
+pub record AreThere (bytes : List ℕ) (t : Tree) (found : List Place) : Type 0 where
+  pub parts : map (λ (p : Place). p.part) found ≡ trees_within t
+  pub whole : (root t).bytes ≡ bytes
+  pub each : AllByRecursion (λ (t : Tree). IsRead (root t)) (trees_within t)
 
-pub bytes-there : (known : Charsets) (greatest : ℕ) (bytes : List ℕ) (t : Tree) → read_mail_in known greatest bytes ≡ Ok t → (root t).bytes ≡ bytes
-bytes-there known greatest bytes t e = (mail-read known greatest bytes t e).whole
+pub placed-there : (known : Charsets) (greatest : ℕ) (bytes : List ℕ) (t : Tree) → read_mail_in known greatest bytes ≡ Ok t
+    → (path : List ℕ) → AreThere bytes t (placed (with_paths path t) (placements 0 t))
+placed-there known greatest bytes t e path = record {
+  parts = parts-placed (with_paths path t) (placements 0 t) (paths-counted known greatest bytes t e path) ∙ trees-paths path t;
+  whole = (mail-read known greatest bytes t e).whole;
+  each = (mail-read known greatest bytes t e).each;
+}
 
-pub headers-there : (known : Charsets) (greatest : ℕ) (bytes : List ℕ) (t : Tree) → read_mail_in known greatest bytes ≡ Ok t
-    → AllByRecursion (λ (t : Tree). IsRead (root t)) (trees_within t)
-headers-there known greatest bytes t e = (mail-read known greatest bytes t e).each
+pub mail-there : (known : Charsets) (greatest : ℕ) (bytes : List ℕ) (t : Tree) → read_mail_in known greatest bytes ≡ Ok t
+    → AreThere bytes t (places t (placements 0 t))
+mail-there known greatest bytes t e = placed-there known greatest bytes t e (whole_path t)

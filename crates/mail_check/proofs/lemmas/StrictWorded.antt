@@ -64,7 +64,8 @@ module _ (known : Charsets) (test : Name → Bool) where
         (joins_strict line.value).0 (listed_false test spot name.WordJoin (has_join [] (pieces line.value))
         (lacks_left test join (bytes ++ address) (lacks_right test syntax (join ++ (bytes ++ address)) (all e))) t);
     bytes = λ t e.
-        (word_bytes_strict known line.value).0 (listed_false test spot name.WordBytes (list_any (has_bad_octets known) (pieces line.value))
+        (word_bytes_strict known line.value).0
+        (listed_false test spot name.WordBytes (list_any (has_bad_octets known) (pieces line.value))
         (lacks_left test bytes address (lacks_right test join (bytes ++ address)
         (lacks_right test syntax (join ++ (bytes ++ address)) (all e)))) t);
     address = λ t e.

@@ -51,7 +51,7 @@ abbrev pub AreStrictTexts : Charsets → Tree → Type 0
 AreStrictTexts known mail = AllByRecursion (HasStrictText known) (trees_within mail)
 
 -- and so are the lines of the bytes of the mail
-pub record IsStrict (known : Charsets) (bytes : List ℕ) (mail : Tree) : Type 0 where
+pub record HasStrictMessages (known : Charsets) (bytes : List ℕ) (mail : Tree) : Type 0 where
   pub lines : IsText bytes
   pub blocks : HasStrictBlocks mail
   pub fields : AreStrictFields mail
@@ -62,4 +62,8 @@ pub record IsStrict (known : Charsets) (bytes : List ℕ) (mail : Tree) : Type 0
   pub parts : AreStrictParts mail
   pub bodies : AreStrictBodies mail
   pub texts : AreStrictTexts known mail
+
+-- and it has few levels and messages
+pub record IsStrict (known : Charsets) (bytes : List ℕ) (mail : Tree) : Type 0 where
+  pub messages : HasStrictMessages known bytes mail
   pub small : IsSmall mail

@@ -8,9 +8,11 @@ ghost use Rattle.mailparse.specs.Block.{read_headers};
 ghost use Rattle.mailparse.specs.Mail.{Tree, read_mail_in, root};
 ghost use Rattle.mailparse.specs.Placement.{placements};
 ghost use Rattle.mail_check.specs.Findings.{findings};
+ghost use Rattle.mail_check.specs.Inside.{all_findings};
 ghost use Rattle.mail_check.specs.strict.Headers.{IsBlock};
 ghost use Rattle.mail_check.specs.strict.LineEnds.{HasNoLoneReturn, HasNoNul};
 ghost use Rattle.mail_check.specs.strict.LineEnds.{HasOneLineEnd, IsText};
+ghost use Rattle.mail_check.specs.strict.Inside.{IsStrictWithin};
 ghost use Rattle.mail_check.specs.strict.Levels.{IsSmall};
 ghost use Rattle.mail_check.specs.strict.Mail.{AreStrictBodies, AreStrictFields};
 ghost use Rattle.mail_check.specs.strict.Mail.{AreStrictFileNames, AreStrictParameters};
@@ -41,7 +43,7 @@ pub fn lines_are_strict()
 /// `blank-fold`, `comment-fold` and `header-8bit` exactly if the header block of each of its
 /// messages is one of the grammar: a header or more, each a name, a colon and lines of ASCII, and
 /// then an empty line.
-#[tactic(auto, using(crate::proofs::lemmas::StrictMessages::blocks_strict))]
+#[tactic(auto, using(crate::proofs::lemmas::StrictMails::blocks_strict))]
 pub fn blocks_are_strict()
     ensures { (known : Charsets) (greatest : ℕ) (bytes : List ℕ) (t : Tree) →
         read_mail_in known greatest bytes ≡ Ok t →
@@ -52,7 +54,7 @@ pub fn blocks_are_strict()
 /// `encoding-on-composite`, `other-message` and `bad-boundary` exactly if in each of its messages
 /// no header is repeated that may occur once, and the values of its headers of types, dispositions
 /// and transfer encodings, and its type itself, are of the grammar.
-#[tactic(auto, using(crate::proofs::lemmas::StrictMessages::fields_are_of_grammar))]
+#[tactic(auto, using(crate::proofs::lemmas::StrictMails::fields_are_of_grammar))]
 pub fn fields_are_strict()
     ensures { (known : Charsets) (greatest : ℕ) (bytes : List ℕ) (t : Tree) →
         read_mail_in known greatest bytes ≡ Ok t →
@@ -64,7 +66,7 @@ pub fn fields_are_strict()
 /// `Content-Type` and `Content-Disposition` of each of its messages is plain by the grammar: its
 /// parameters have different names without asterisks, each value is a token, or a text in quotes
 /// without backslashes, semicolons, control characters and outer spaces, and `=?` is nowhere.
-#[tactic(auto, using(crate::proofs::lemmas::StrictMessages::parameters_are_of_grammar))]
+#[tactic(auto, using(crate::proofs::lemmas::StrictMails::parameters_are_of_grammar))]
 pub fn parameters_are_strict()
     ensures { (known : Charsets) (greatest : ℕ) (bytes : List ℕ) (t : Tree) →
         read_mail_in known greatest bytes ≡ Ok t →
@@ -75,7 +77,7 @@ pub fn parameters_are_strict()
 /// `parameters_are_strict` exactly if the values of types and dispositions are plain, no type has a
 /// parameter `filename`, no disposition a parameter `name`, and each message whose disposition has a
 /// `filename` that is not blank has a `Content-Type`, and no other `name` in its type.
-#[tactic(auto, using(crate::proofs::lemmas::StrictMessages::files_are_of_grammar))]
+#[tactic(auto, using(crate::proofs::lemmas::StrictMails::files_are_of_grammar))]
 pub fn file_names_are_strict()
     ensures { (known : Charsets) (greatest : ℕ) (bytes : List ℕ) (t : Tree) →
         read_mail_in known greatest bytes ≡ Ok t →
@@ -86,7 +88,7 @@ pub fn file_names_are_strict()
 /// A mail that the port reads has no finding `from-syntax` exactly if the value of each `From` of the
 /// mail itself is of the grammar: one address, or words and texts in quotes and an address in angle
 /// brackets.
-#[tactic(auto, using(crate::proofs::lemmas::StrictMessages::senders_are_of_grammar))]
+#[tactic(auto, using(crate::proofs::lemmas::StrictMails::senders_are_of_grammar))]
 pub fn senders_of_mails_are_strict()
     ensures { (known : Charsets) (greatest : ℕ) (bytes : List ℕ) (t : Tree) →
         read_mail_in known greatest bytes ≡ Ok t →
@@ -98,7 +100,7 @@ pub fn senders_of_mails_are_strict()
 /// grammar: each piece of its value is an encoded word or looks like none, a padded word in Base64 is
 /// before no word that continues it, the bytes of each word are text in its charset, and no name of a
 /// sender can be read as an address.
-#[tactic(auto, using(crate::proofs::lemmas::StrictMessages::words_are_of_grammar))]
+#[tactic(auto, using(crate::proofs::lemmas::StrictMails::words_are_of_grammar))]
 pub fn words_of_mails_are_strict()
     ensures { (known : Charsets) (greatest : ℕ) (bytes : List ℕ) (t : Tree) →
         read_mail_in known greatest bytes ≡ Ok t →
@@ -110,7 +112,7 @@ pub fn words_of_mails_are_strict()
 /// boundary has parts, no colon in its preamble, and a text of the grammar after its header block:
 /// a preamble, parts with a delimiter before each, one close-delimiter and an epilogue, and the
 /// dash-boundary occurs nowhere else.
-#[tactic(auto, using(crate::proofs::lemmas::StrictMessages::parts_are_of_grammar))]
+#[tactic(auto, using(crate::proofs::lemmas::StrictMails::parts_are_of_grammar))]
 pub fn parts_are_strict()
     ensures { (known : Charsets) (greatest : ℕ) (bytes : List ℕ) (t : Tree) →
         read_mail_in known greatest bytes ≡ Ok t →
@@ -120,7 +122,7 @@ pub fn parts_are_strict()
 /// A mail that the port reads has no finding `base64-syntax`, `qp-syntax` and `qp-blank` exactly if
 /// the body of each of its messages without parts that is no multipart is of the grammar, if it is
 /// encoded.
-#[tactic(auto, using(crate::proofs::lemmas::StrictMessages::bodies_are_of_grammar))]
+#[tactic(auto, using(crate::proofs::lemmas::StrictMails::bodies_are_of_grammar))]
 pub fn bodies_are_strict()
     ensures { (known : Charsets) (greatest : ℕ) (bytes : List ℕ) (t : Tree) →
         read_mail_in known greatest bytes ≡ Ok t →
@@ -130,7 +132,7 @@ pub fn bodies_are_strict()
 /// A mail that the port reads has no finding `charset` exactly if the body of each of its messages
 /// without parts whose type begins with `text/` is of the grammar: without the transfer encoding, its
 /// bytes have no NUL, begin with no byte order mark, and are text in its charset.
-#[tactic(auto, using(crate::proofs::lemmas::StrictMessages::texts_are_of_grammar))]
+#[tactic(auto, using(crate::proofs::lemmas::StrictMails::texts_are_of_grammar))]
 pub fn texts_of_mails_are_strict()
     ensures { (known : Charsets) (greatest : ℕ) (bytes : List ℕ) (t : Tree) →
         read_mail_in known greatest bytes ≡ Ok t →
@@ -139,7 +141,7 @@ pub fn texts_of_mails_are_strict()
 
 /// A mail that the port reads has no finding `many` exactly if it has at most 10 levels, and at most
 /// 100 messages, itself and its parts.
-#[tactic(auto, using(crate::proofs::lemmas::StrictMessages::many_of_grammar))]
+#[tactic(auto, using(crate::proofs::lemmas::StrictMails::many_of_grammar))]
 pub fn small_mails_are_strict()
     ensures { (known : Charsets) (greatest : ℕ) (bytes : List ℕ) (t : Tree) →
         read_mail_in known greatest bytes ≡ Ok t →
@@ -156,12 +158,21 @@ pub fn strict_blocks_are_read()
         block ++ body ≡ other ++ rest → block ≡ other }
 {}
 
-/// A mail that the port reads has no finding but notes exactly if it is strict: its bytes, its header
-/// blocks, its headers, its types, their parameters and its file names, its senders and words, its
-/// multiparts, its bodies, its texts and the number of its messages and levels are those of the
-/// grammar.
+/// Without the mails inside it, a mail that the port reads has no finding but notes exactly if it is
+/// strict: its bytes, its header blocks, its headers, its types, their parameters and its file names,
+/// its senders and words, its multiparts, its bodies, its texts and the number of its messages and
+/// levels are those of the grammar.
 pub fn clean_mails_are_strict()
     ensures { (known : Charsets) (greatest : ℕ) (bytes : List ℕ) (t : Tree) →
         read_mail_in known greatest bytes ≡ Ok t →
         Lacks is_core (findings known t (placements 0 t)) ↔ IsStrict known bytes t }
+{}
+
+/// With the mails inside it, a mail that the port reads has no finding but notes exactly if it is
+/// strict, and each mail inside it is read and strict by the same rules. But the levels of a mail
+/// inside are those of the paths of its messages, none of which has ten numbers.
+pub fn clean_mails_are_strict_inside()
+    ensures { (known : Charsets) (greatest : ℕ) (bytes : List ℕ) (t : Tree) →
+        read_mail_in known greatest bytes ≡ Ok t →
+        Lacks is_core (all_findings known t (placements 0 t)) ↔ IsStrictWithin known bytes t }
 {}
