@@ -1,9 +1,14 @@
 -- The names of the file of a message: when they are those of strict messages.
-use Rattle.std.proofs.Common.{◌≡◌, ◌∙◌, ℕ, Bool, true, false, not, cond, List, [], ◌∷◌, Option, Some, None, refl, sym, ap, subst, inl, inr}
-use Rattle.std.specs.Prelude.{◌&&◌, find, is_none, is_some, codes}
-use Rattle.std.specs.List.{list_any}
-use Rattle.std.specs.Str.{bytes_eq, trim}
+use Rattle.std.proofs.Common.{◌≡◌, ◌∙◌, ◌++◌, ◌+◌, ◌/◌, ◌≤◌, ℕ, Bool, true, false, not, cond, List, [], ◌∷◌, Option, Some, None, refl, sym, ap, subst, inl, inr, arith}
+use Rattle.std.specs.Prelude.{◌&&◌, encode_utf8, encode_utf8_all, find, is_none, is_some, nat_eq, nat_lt, codes}
+use Rattle.std.specs.Char.{to_ascii_lowercase}
+use Rattle.std.specs.List.{list_all, list_any}
+use Rattle.std.specs.Str.{bytes_eq, str_eq_ignore_ascii_case, str_to_ascii_lowercase, trim}
+use Rattle.std.proofs.Math.Utf8.{encode, next}
+use Rattle.std.proofs.lemmas.Bool.{cases_lt, cond_both, eqb-true, le-ltb}
+use Rattle.std.proofs.lemmas.Str.{encode_ascii}
 use Rattle.std.proofs.lemmas.Slice.Eq.{bytes_eq-Decides}
+use Rattle.mail_codec.specs.Latin1.{latin1_text}
 use Rattle.mail_codec.specs.Places.{is_empty}
 use Rattle.mailparse.specs.Header.{Header}
 use Rattle.mailparse.specs.Map.{has_key}
@@ -14,7 +19,7 @@ use Rattle.mail_check.specs.Parameters.{has_other_name, is_among, is_disposition
 use Rattle.mail_check.specs.strict.FileNames.{HasOwnNames, HasSome, first_has, later_has}
 use Rattle.mail_check.specs.strict.PlainParameters.{HasPlainValue}
 use Rattle.mail_check.proofs.lemmas.StrictFields.{apart}
-use Rattle.mail_check.proofs.lemmas.StrictHeaders.{cases_Bool, is_not, left_false, neither, nor, not_false, right_false, second_false}
+use Rattle.mail_check.proofs.lemmas.StrictHeaders.{all_head, all_tail, cases_Bool, is_not, left_false, neither, nor, not_false, right_false, second_false}
 use Rattle.mail_check.proofs.lemmas.StrictKeys.{of_line}
 use Rattle.mail_check.proofs.lemmas.StrictValues.{PlainText, no_type, of_other, of_type, plain_disposition_text, plain_type_text}
 
@@ -78,11 +83,70 @@ module _ (line : HeaderLine) where
 
 -- ---- headers with a name
 
-module _ (name : List ℕ) where
+abbrev are_ascii : List ℕ → Bool
+are_ascii xs = list_all (λ x. nat_lt x 128) xs
+
+-- a text that begins with another byte than one of ASCII
+begins_high : (x : ℕ) (xs name : List ℕ) → 128 ≤ x → are_ascii name ≡ true
+    → bytes_eq (str_to_ascii_lowercase (x ∷ xs)) name ≡ false
+begins_high x xs [] high all = refl
+begins_high x xs (n ∷ name) high all =
+    left_false (nat_eq (to_ascii_lowercase x) n) (bytes_eq (str_to_ascii_lowercase xs) name)
+    (ap (λ (y : ℕ). nat_eq y n) same ∙ differs)
+  where
+    same : to_ascii_lowercase x ≡ x
+    same = let e = le-ltb x 65 (omega (arith, high)) in let f = le-ltb x 91 (omega (arith, high)) in rw (e, f) refl
+
+    differs : nat_eq x n ≡ false
+    differs = elim (cases_Bool (nat_eq x n)) [
+      | inr e ↦ e
+      | inl e ↦
+          let is = eqb-true x n e in
+          let low : nat_lt n 128 ≡ true = all_head (λ x. nat_lt x 128) n name all in
+          let none = le-ltb n 128 (omega (arith, is, high)) in
+          absurd (cc)
+    ]
+
+encoded_high : (b : ℕ) (xs name : List ℕ) → 128 ≤ b → are_ascii name ≡ true
+    → bytes_eq (str_to_ascii_lowercase (encode_utf8 b ++ xs)) name ≡ false
+unfolding encode
+encoded_high b xs name high all =
+    cond_both (nat_lt b 128) _ _ differs (λ e. let no = le-ltb b 128 high in absurd (cc))
+    (λ e. cond_both (nat_lt b 2048) _ _ differs (λ e. begins_high (192 + b / 64) (next b ∷ xs) name (omega arith) all)
+    (λ e. cond_both (nat_lt b 65536) _ _ differs
+    (λ e. begins_high (224 + b / 4096) (next (b / 64) ∷ (next b ∷ xs)) name (omega arith) all)
+    (λ e. begins_high (240 + b / 262144) (next (b / 4096) ∷ (next (b / 64) ∷ (next b ∷ xs))) name (omega arith) all)))
+  where
+    differs : List ℕ → Type 0
+    differs made = bytes_eq (str_to_ascii_lowercase (made ++ xs)) name ≡ false
+
+-- the text of a key has a name in ASCII exactly if its bytes have
+same_key : (key name : List ℕ) → are_ascii name ≡ true
+    → bytes_eq (str_to_ascii_lowercase (latin1_text key)) name ≡ bytes_eq (str_to_ascii_lowercase key) name
+same_key [] name all = refl
+same_key (b ∷ key) name all = elim (cases_lt b 128) [
+  | inl low ↦
+      ap (λ (xs : List ℕ). bytes_eq (str_to_ascii_lowercase (xs ++ encode_utf8_all key)) name) (encode_ascii b low)
+      ∙ by_name name all (λ name all. same_key key name all)
+  | inr high ↦ encoded_high b (encode_utf8_all key) name high all ∙ sym (begins_high b key name high all)
+]
+  where
+    by_name : (name : List ℕ) → are_ascii name ≡ true
+        → ((name : List ℕ) → are_ascii name ≡ true
+        → bytes_eq (str_to_ascii_lowercase (latin1_text key)) name ≡ bytes_eq (str_to_ascii_lowercase key) name)
+        → bytes_eq (str_to_ascii_lowercase (b ∷ latin1_text key)) name ≡ bytes_eq (str_to_ascii_lowercase (b ∷ key)) name
+    by_name [] all ih = refl
+    by_name (n ∷ name) all ih =
+        ap (λ (t : Bool). nat_eq (to_ascii_lowercase b) n && t) (ih name (all_tail (λ x. nat_lt x 128) n name all))
+
+module _ (name : List ℕ) (ascii : are_ascii (str_to_ascii_lowercase name) ≡ true) where
+  same_name : (header : Header) → has_key name header ≡ str_eq_ignore_ascii_case header.key name
+  same_name header = same_key header.key (str_to_ascii_lowercase name) ascii
+
   pub some_named : (headers : List Header) → is_none (find (has_key name) headers) ≡ false → HasSome name headers
   some_named [] h = absurd (cc)
   some_named (header ∷ headers) h = elim (cases_Bool (has_key name header)) [
-    | inl e ↦ first_has e
+    | inl e ↦ first_has (sym (same_name header) ∙ e)
     | inr e ↦
         later_has (some_named headers
         (sym (ap (λ (t : Bool). is_none (cond t (Some header) (find (has_key name) headers))) e) ∙ h))
@@ -90,7 +154,7 @@ module _ (name : List ℕ) where
 
   pub named_some : (headers : List Header) → HasSome name headers → is_none (find (has_key name) headers) ≡ false
   named_some headers (first_has {header = header} {headers = others} e) =
-      ap (λ (t : Bool). is_none (cond t (Some header) (find (has_key name) others))) e
+      ap (λ (t : Bool). is_none (cond t (Some header) (find (has_key name) others))) (same_name header ∙ e)
   named_some headers (later_has {header = header} {headers = others} more) = elim (cases_Bool (has_key name header)) [
     | inl e ↦ ap (λ (t : Bool). is_none (cond t (Some header) (find (has_key name) others))) e
     | inr e ↦ ap (λ (t : Bool). is_none (cond t (Some header) (find (has_key name) others))) e ∙ named_some others more

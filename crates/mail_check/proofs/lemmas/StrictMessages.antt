@@ -243,7 +243,7 @@ module _ (test : Name → Bool) (asked : (n : Name) → of_files (group_of n) �
             (all_map (NamesLack test) (λ line. HasOwnNames (of_line line))
             (λ line lacks. found_names line (λ text e. lacks text e (asked name.TwoNames refl))) (header_lines node) h.names));
         typed = λ file e some.
-            some_named (codes "Content-Type") node.headers
+            some_named (codes "Content-Type") refl node.headers
             (type_missing shown (lacks_type node) (h.typed (asked name.NoType refl)) file e some);
         same = same_names shown (node.ctype.params (codes "name")) (h.same (asked name.TwoNames refl));
       }
@@ -260,7 +260,7 @@ strict_files test node is h =
           (λ line plain names text e t. names_found line plain names text e) (header_lines node)
           (all_of_map of_line HasPlainValue (header_lines node) (subst (AllByRecursion HasPlainValue) same h.0))
           (all_of_map of_line HasOwnNames (header_lines node) (subst (AllByRecursion HasOwnNames) same h.1.names));
-      typed = λ t. missing_type shown (lacks_type node) (λ file e some. named_some (codes "Content-Type") node.headers (h.1.typed file e some));
+      typed = λ t. missing_type shown (lacks_type node) (λ file e some. named_some (codes "Content-Type") refl node.headers (h.1.typed file e some));
       same = λ t. names_same shown (node.ctype.params (codes "name")) h.1.same;
     }
 

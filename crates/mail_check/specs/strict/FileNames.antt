@@ -6,7 +6,6 @@ use Rattle.std.specs.Str.{bytes_eq, str_eq_ignore_ascii_case, trim}
 use Rattle.mail_codec.specs.Places.{is_empty}
 use Rattle.mailparse.specs.Header.{Header}
 use Rattle.mailparse.specs.Mail.{Node, shown_as}
-use Rattle.mailparse.specs.Map.{has_key}
 use Rattle.mail_check.specs.strict.PlainParameters.{IsPlainDisposition, blank_before_plain_disposition, plain_disposition, IsPlainType, blank_before_plain_type, plain_type}
 
 -- ---- the names of parameters
@@ -32,11 +31,12 @@ pub record HasOwnNames (header : Header) : Type 0 where
 -- A header has this name, ignoring ASCII case. The cases:
 pub data HasSome (name : List ℕ) : List Header → Type 0 where
   -- the first one
-  first_has : {header : Header} {headers : List Header} → has_key name header ≡ true → HasSome name (header ∷ headers)
+  first_has : {header : Header} {headers : List Header} → str_eq_ignore_ascii_case header.key name ≡ true
+      → HasSome name (header ∷ headers)
   -- a later one
   later_has : {header : Header} {headers : List Header} → HasSome name headers → HasSome name (header ∷ headers)
 
--- a message that names a file in its disposition has a type, and its type names no other file
+-- a message that names a file in its disposition has a type, unless that name is blank, and its type names no other file
 pub record HasStrictFileName (node : Node) : Type 0 where
   pub names : AllByRecursion HasOwnNames node.headers
   pub typed : (file : List ℕ) → (shown_as node).params (codes "filename") ≡ Some file → is_empty (trim file) ≡ false

@@ -27,7 +27,7 @@ is_mixed_name _ = false
 
 -- ---- groups of names
 
--- What a name is of. The cases:
+-- What a name is about. The cases:
 pub data Group : Type 0 where
   -- what the bytes of the mail are as lines
   Lines : Group

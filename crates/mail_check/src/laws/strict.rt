@@ -76,7 +76,7 @@ pub fn parameters_are_strict()
 /// A mail that the port reads has no finding `no-type`, `two-names` or one of the six names of
 /// `parameters_are_strict` exactly if the values of types and dispositions are plain, no type has a
 /// parameter `filename`, no disposition a parameter `name`, and each message whose disposition has a
-/// `filename` that is not blank has a `Content-Type`, and no other `name` in its type.
+/// `filename` has no other `name` in its type, and a `Content-Type` if that `filename` is not blank.
 #[tactic(auto, using(crate::proofs::lemmas::StrictMails::files_are_of_grammar))]
 pub fn file_names_are_strict()
     ensures { (known : Charsets) (greatest : ℕ) (bytes : List ℕ) (t : Tree) →
