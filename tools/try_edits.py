@@ -32,7 +32,9 @@ TOP = Path(__file__).resolve().parent.parent
 ENTRY = re.compile(r"(?:file: (\S+)\n)?name: (\w+)\nfunction: (.+)((?:\nold: .+\nnew:.*)+)")
 TOLD = re.compile(r"^(fn|impl|struct|enum|trait) (\S+): (proved|not proved|no proof|could not tell)\b(.*)", re.M)
 # what is said of a function that waits for the proof of another
-WAITS = re.compile(r"[:;] it (?:[^;]*?, which (?:is|are) not proved|waits for the proof of [^;]*)")
+WAITS = re.compile(
+    r"(?:[:;] in `[^`]+`, of this cycle of calls)?[:;] it (?:[^;]*?, which (?:is|are) not proved|waits for the proof of [^;]*)"
+)
 ERROR = re.compile(r"^(?:\./)?(\S+?)/([^/\s]+:\d+:\d+): error: (.*)", re.M)
 FOLLOWS = re.compile(r"depends? on `[^`]+`, which was (?:rejected|not admitted)")
 # the texts of errors in proofs that only name something that an edit removed
@@ -235,6 +237,7 @@ def self_test():
     said += "fn low::b: not proved; it calls `low::a`, which is not proved\nfn low::c: not proved\nonly=4 proved=1\n"
     said += "fn low::f: not proved\n"
     said += "fn low::e: no proof: it calls `low::a` and `low::b`, which are not proved\n"
+    said += "fn low::g: no proof: in `low::h`, of this cycle of calls: it calls `low::a`, which is not proved\n"
     edits = [one._replace(name=it, functions=(f"low::{it}",)) for it in "abcd"]
     assert [it[:7] for it in judge(edits, said).values()] == ["refused", "refused", "its pro", "NOT REF"]
     for told in (judge(edits[1:], said), judge(edits, said + "src/lib.rt:1:2: error: no\n")):
