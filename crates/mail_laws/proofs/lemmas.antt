@@ -28,3 +28,9 @@ pub mod RenderTypes
 pub mod RenderReadings
 pub mod Limits
 pub mod InnerMails
+pub mod HeaderLines
+pub mod WholeLines
+pub mod FlatTypes
+pub mod FlatPairs
+pub mod FoldedTypes
+pub mod CleanMails
