@@ -1,17 +1,20 @@
 -- The parameters of a plain type without folds have no asterisks in their names, and its name is of two words.
-use Rattle.std.proofs.Common.{◌≡◌, ◌∙◌, ◌<◌, ◌≤◌, ◌+◌, ℕ, zero, suc, Bool, true, false, not, cond, List, [], ◌∷◌, ◌++◌, length, take, drop, map, Option, Some, None, refl, sym, ap, subst, inl, inr, arith, append_assoc, get_or}
-use Rattle.std.specs.Prelude.{◌⊎◌, ◌&&◌, ◌||◌, ◌==◌, nat_lt, codes, option_to_list, is_some}
+use Rattle.std.proofs.Common.{◌≡◌, ◌∙◌, ◌<◌, ◌≤◌, ◌+◌, ℕ, zero, suc, Bool, true, false, not, cond, List, [], ◌∷◌, ◌++◌, length}
+use Rattle.std.proofs.Common.{take, drop, Option, Some, None, refl, sym, ap, subst, inl, inr, arith, append_assoc, get_or}
+use Rattle.std.specs.Prelude.{◌&&◌, ◌||◌, ◌==◌, nat_lt, option_to_list, is_some}
 use Rattle.std.specs.Char.{is_whitespace, to_ascii_lowercase}
 use Rattle.std.specs.List.{after_first, before_first, list_all, list_any, position_or_len, prefix_len}
 use Rattle.std.specs.Option.{option_map_or}
-use Rattle.std.specs.Str.{IsAscii, bytes_eq, chars, drop_trailing_whitespace, encode_utf8_all, skip_leading_whitespace, str_to_ascii_lowercase, trim, trim_end, trim_start}
+use Rattle.std.specs.Str.{IsAscii, bytes_eq, chars, drop_trailing_whitespace, encode_utf8_all, skip_leading_whitespace}
+use Rattle.std.specs.Str.{str_to_ascii_lowercase, trim, trim_end, trim_start}
 use Rattle.std.proofs.lemmas.Bool.{cases_lt, cond-false, cond-true, false≢true, le-ltb, lt-ltb, ltb-true, ne_eqb}
 use Rattle.std.proofs.lemmas.List.{append-nil, map-append}
 use Rattle.std.proofs.lemmas.Slice.Eq.{bytes_eq-Decides}
 use Rattle.std.proofs.lemmas.Str.{chars-IsAscii, encodes-IsAscii}
 use Rattle.std.proofs.lemmas.Str.Ascii.{IsAscii-from_all}
-use Rattle.mail_codec.specs.Ascii.{asterisk, backslash, carriage_return, equals_sign, is_blank, line_feed, quote, semicolon, slash}
-use Rattle.mail_codec.specs.Places.{begins, either_place, first_place, is_empty}
+use Rattle.mail_codec.specs.Ascii.{asterisk, backslash, carriage_return, equals_sign, is_blank, line_feed, quote, semicolon}
+use Rattle.mail_codec.specs.Ascii.{slash}
+use Rattle.mail_codec.specs.Places.{begins, either_place, first_place}
 use Rattle.mail_codec.specs.Charset.{Charsets}
 use Rattle.mail_codec.proofs.lemmas.Places.{first_place-past}
 use Rattle.mailparse.specs.ContentType.{ContentType, content_type_in}
@@ -25,9 +28,10 @@ use Rattle.mail_data.specs.lenient.Manner.{has_broken_boundary, is_slash, lenien
 use Rattle.mail_check.specs.strict.Fields.{HasBoundary, of_multipart, of_other}
 use Rattle.mail_check.specs.strict.Parameters.{is_name_character, is_token_character}
 use Rattle.mail_check.specs.strict.PlainParameters.{is_plain_byte, IsPlainValue, plain_token, empty_quotes, plain_quotes}
-use Rattle.mail_laws.proofs.lemmas.FlatTypes.{AreFlat, no_flat, flat_semicolon, flat_parameter, IsFlat, differs, flat_complete, none_below, plain_all, visible}
+use Rattle.mail_laws.proofs.lemmas.FlatTypes.{AreFlat, no_flat, flat_semicolon, flat_parameter, IsFlat, differs, flat_complete}
+use Rattle.mail_laws.proofs.lemmas.FlatTypes.{plain_all, visible}
 use Rattle.mail_check.proofs.lemmas.StrictDelimiters.{is_inner}
-use Rattle.mail_check.proofs.lemmas.StrictHeaders.{all_head, all_tail, are_true, both_true, cases_Bool, is_not, not_true}
+use Rattle.mail_check.proofs.lemmas.StrictHeaders.{all_head, all_tail, are_true, both_true, is_not, not_true}
 use Rattle.mail_check.proofs.lemmas.StrictParts.{boundary_inner}
 
 -- ---- tests of all bytes
@@ -44,33 +48,41 @@ pub all_back : (test : ℕ → Bool) (xs ys : List ℕ) → list_all test (xs ++
 all_back test [] ys h = h
 all_back test (b ∷ xs) ys h = all_back test xs ys (all_tail test b (xs ++ ys) h)
 
-pub all_both : (test : ℕ → Bool) (xs ys : List ℕ) → list_all test xs ≡ true → list_all test ys ≡ true → list_all test (xs ++ ys) ≡ true
+pub all_both : (test : ℕ → Bool) (xs ys : List ℕ) → list_all test xs ≡ true → list_all test ys ≡ true
+    → list_all test (xs ++ ys) ≡ true
 all_both test [] ys h k = k
-all_both test (b ∷ xs) ys h k = are_true (test b) (list_all test (xs ++ ys)) (all_head test b xs h) (all_both test xs ys (all_tail test b xs h) k)
+all_both test (b ∷ xs) ys h k =
+    are_true (test b) (list_all test (xs ++ ys)) (all_head test b xs h) (all_both test xs ys (all_tail test b xs h) k)
 
-all_weaker : (test other : ℕ → Bool) → ((b : ℕ) → test b ≡ true → other b ≡ true) → (xs : List ℕ) → list_all test xs ≡ true → list_all other xs ≡ true
+all_weaker : (test other : ℕ → Bool) → ((b : ℕ) → test b ≡ true → other b ≡ true) → (xs : List ℕ) → list_all test xs ≡ true
+    → list_all other xs ≡ true
 all_weaker test other f [] h = refl
-all_weaker test other f (b ∷ xs) h = are_true (other b) (list_all other xs) (f b (all_head test b xs h)) (all_weaker test other f xs (all_tail test b xs h))
+all_weaker test other f (b ∷ xs) h =
+    are_true (other b) (list_all other xs) (f b (all_head test b xs h)) (all_weaker test other f xs (all_tail test b xs h))
 
 all_with : (test second other : ℕ → Bool) → ((b : ℕ) → test b ≡ true → second b ≡ true → other b ≡ true) → (xs : List ℕ)
     → list_all test xs ≡ true → list_all second xs ≡ true → list_all other xs ≡ true
 all_with test second other f [] h k = refl
 all_with test second other f (b ∷ xs) h k =
-    are_true (other b) (list_all other xs) (f b (all_head test b xs h) (all_head second b xs k)) (all_with test second other f xs (all_tail test b xs h) (all_tail second b xs k))
+    are_true (other b) (list_all other xs) (f b (all_head test b xs h) (all_head second b xs k))
+    (all_with test second other f xs (all_tail test b xs h) (all_tail second b xs k))
 
 all_skip : (test : ℕ → Bool) (xs : List ℕ) → list_all test xs ≡ true → list_all test (skip_leading_whitespace xs) ≡ true
 all_skip test [] h = refl
 all_skip test (b ∷ xs) h = by_white (is_whitespace b) (all_skip test xs (all_tail test b xs h))
   where
-    by_white : (t : Bool) → list_all test (skip_leading_whitespace xs) ≡ true → list_all test (cond t (skip_leading_whitespace xs) (b ∷ xs)) ≡ true
+    by_white : (t : Bool) → list_all test (skip_leading_whitespace xs) ≡ true
+        → list_all test (cond t (skip_leading_whitespace xs) (b ∷ xs)) ≡ true
     by_white true more = more
     by_white false more = h
 
 all_trailing : (test : ℕ → Bool) (xs : List ℕ) → list_all test xs ≡ true → list_all test (drop_trailing_whitespace xs) ≡ true
 all_trailing test [] h = refl
-all_trailing test (b ∷ xs) h = by_white (is_whitespace b && (length (drop_trailing_whitespace xs) == 0)) (all_trailing test xs (all_tail test b xs h))
+all_trailing test (b ∷ xs) h =
+    by_white (is_whitespace b && (length (drop_trailing_whitespace xs) == 0)) (all_trailing test xs (all_tail test b xs h))
   where
-    by_white : (t : Bool) → list_all test (drop_trailing_whitespace xs) ≡ true → list_all test (cond t [] (b ∷ drop_trailing_whitespace xs)) ≡ true
+    by_white : (t : Bool) → list_all test (drop_trailing_whitespace xs) ≡ true
+        → list_all test (cond t [] (b ∷ drop_trailing_whitespace xs)) ≡ true
     by_white true more = refl
     by_white false more = are_true (test b) (list_all test (drop_trailing_whitespace xs)) (all_head test b xs h) more
 
@@ -89,10 +101,12 @@ unfolding trim_start trim_end
 trim_low xs h =
     let skipped = all_skip is_low xs h in
     let left : List ℕ = skip_leading_whitespace xs in
-    ap (λ (cs : List ℕ). encode_utf8_all (drop_trailing_whitespace (chars (encode_utf8_all (skip_leading_whitespace cs))))) (chars-IsAscii xs (low_ascii xs h))
+    ap (λ (cs : List ℕ). encode_utf8_all (drop_trailing_whitespace (chars (encode_utf8_all (skip_leading_whitespace cs)))))
+    (chars-IsAscii xs (low_ascii xs h))
     ∙ ap (λ (cs : List ℕ). encode_utf8_all (drop_trailing_whitespace (chars cs))) (encodes-IsAscii left (low_ascii left skipped))
     ∙ ap (λ (cs : List ℕ). encode_utf8_all (drop_trailing_whitespace cs)) (chars-IsAscii left (low_ascii left skipped))
-    ∙ encodes-IsAscii (drop_trailing_whitespace left) (low_ascii (drop_trailing_whitespace left) (all_trailing is_low left skipped))
+    ∙ encodes-IsAscii (drop_trailing_whitespace left)
+    (low_ascii (drop_trailing_whitespace left) (all_trailing is_low left skipped))
 
 -- a visible character of ASCII that is no slash
 abbrev is_solid : ℕ → Bool
@@ -120,13 +134,17 @@ abbrev is_seen : ℕ → Bool
 is_seen b = not (is_whitespace b) && is_low b
 
 trim_seen : (xs : List ℕ) → list_all is_seen xs ≡ true → trim xs ≡ xs
-trim_seen xs h = trim_low xs (all_weaker is_seen is_low (λ b is. (both_true (not (is_whitespace b)) (is_low b) is).1) xs h) ∙ ap drop_trailing_whitespace (first xs h) ∙ last xs h
+trim_seen xs h =
+    trim_low xs (all_weaker is_seen is_low (λ b is. (both_true (not (is_whitespace b)) (is_low b) is).1) xs h)
+    ∙ ap drop_trailing_whitespace (first xs h) ∙ last xs h
   where
     unwhite : (b : ℕ) → is_seen b ≡ true → is_whitespace b ≡ false
     unwhite b is = not_true (is_whitespace b) (both_true (not (is_whitespace b)) (is_low b) is).0
+
     first : (xs : List ℕ) → list_all is_seen xs ≡ true → skip_leading_whitespace xs ≡ xs
     first [] h = refl
     first (b ∷ xs) h = cond-false (is_whitespace b) (skip_leading_whitespace xs) (b ∷ xs) (unwhite b (all_head is_seen b xs h))
+
     last : (xs : List ℕ) → list_all is_seen xs ≡ true → drop_trailing_whitespace xs ≡ xs
     last [] h = refl
     last (b ∷ xs) h =
@@ -145,7 +163,8 @@ token_solid b h low =
     let first = visible is_token_character refl b h in
     let last = ltb-true b 128 low in
     are_true (nat_lt 32 b) (nat_lt b 127 && not (b == slash)) (lt-ltb 32 b (omega (arith, first)))
-    (are_true (nat_lt b 127) (not (b == slash)) (below last (differs is_token_character 127 refl b h)) (is_not (b == slash) (differs is_token_character slash refl b h)))
+    (are_true (nat_lt b 127) (not (b == slash)) (below last (differs is_token_character 127 refl b h))
+    (is_not (b == slash) (differs is_token_character slash refl b h)))
   where
     below : b < 128 → (b == 127) ≡ false → nat_lt b 127 ≡ true
     below last other = elim (cases_lt b 127) [
@@ -155,23 +174,28 @@ token_solid b h low =
 
 -- ---- lower case
 
-lower_keeps : (test : ℕ → Bool) → ((n : ℕ) → 97 ≤ n → n ≤ 122 → test n ≡ true) → (b : ℕ) → test b ≡ true → test (to_ascii_lowercase b) ≡ true
+lower_keeps : (test : ℕ → Bool) → ((n : ℕ) → 97 ≤ n → n ≤ 122 → test n ≡ true) → (b : ℕ) → test b ≡ true
+    → test (to_ascii_lowercase b) ≡ true
 lower_keeps test f b h = elim (cases_lt b 65) [
   | inl l ↦ ap test (cond-true (nat_lt b 65) b _ (lt-ltb b 65 l)) ∙ h
   | inr g ↦ elim (cases_lt b 91) [
-    | inl l ↦ ap test (cond-false (nat_lt b 65) b _ (le-ltb b 65 g) ∙ cond-true (nat_lt b 91) (b + 32) b (lt-ltb b 91 l)) ∙ f (b + 32) (omega (arith, g)) (omega (arith, l))
+    | inl l ↦ ap test (cond-false (nat_lt b 65) b _ (le-ltb b 65 g) ∙ cond-true (nat_lt b 91) (b + 32) b (lt-ltb b 91 l))
+        ∙ f (b + 32) (omega (arith, g)) (omega (arith, l))
     | inr k ↦ ap test (cond-false (nat_lt b 65) b _ (le-ltb b 65 g) ∙ cond-false (nat_lt b 91) (b + 32) b (le-ltb b 91 k)) ∙ h
   ]
 ]
 
-all_lower : (test : ℕ → Bool) → ((n : ℕ) → 97 ≤ n → n ≤ 122 → test n ≡ true) → (xs : List ℕ) → list_all test xs ≡ true → list_all test (str_to_ascii_lowercase xs) ≡ true
+all_lower : (test : ℕ → Bool) → ((n : ℕ) → 97 ≤ n → n ≤ 122 → test n ≡ true) → (xs : List ℕ) → list_all test xs ≡ true
+    → list_all test (str_to_ascii_lowercase xs) ≡ true
 all_lower test f [] h = refl
 all_lower test f (b ∷ xs) h =
-    are_true (test (to_ascii_lowercase b)) (list_all test (str_to_ascii_lowercase xs)) (lower_keeps test f b (all_head test b xs h)) (all_lower test f xs (all_tail test b xs h))
+    are_true (test (to_ascii_lowercase b)) (list_all test (str_to_ascii_lowercase xs))
+    (lower_keeps test f b (all_head test b xs h)) (all_lower test f xs (all_tail test b xs h))
 
 -- ---- what is before and after the first byte of a kind
 
-before_at : (test : ℕ → Bool) (run : List ℕ) (c : ℕ) (rest : List ℕ) → list_all (λ b. not (test b)) run ≡ true → test c ≡ true → position_or_len test (run ++ c ∷ rest) ≡ length run
+before_at : (test : ℕ → Bool) (run : List ℕ) (c : ℕ) (rest : List ℕ) → list_all (λ b. not (test b)) run ≡ true → test c ≡ true
+    → position_or_len test (run ++ c ∷ rest) ≡ length run
 before_at test [] c rest all is = ap (λ (t : Bool). cond (not t) (1 + prefix_len (λ b. not (test b)) rest) 0) is
 before_at test (b ∷ run) c rest all is =
     cond-true (not (test b)) (1 + position_or_len test (run ++ c ∷ rest)) 0 (all_head (λ b. not (test b)) b run all)
@@ -185,12 +209,16 @@ dropped : (run : List ℕ) (c : ℕ) (rest : List ℕ) → drop (suc (length run
 dropped [] c rest = refl
 dropped (b ∷ run) c rest = dropped run c rest
 
-before_is : (test : ℕ → Bool) (run : List ℕ) (c : ℕ) (rest : List ℕ) → list_all (λ b. not (test b)) run ≡ true → test c ≡ true → before_first test (run ++ c ∷ rest) ≡ run
-before_is test run c rest all is = ap (λ (n : ℕ). take n (run ++ c ∷ rest)) (before_at test run c rest all is) ∙ taken run (c ∷ rest)
+before_is : (test : ℕ → Bool) (run : List ℕ) (c : ℕ) (rest : List ℕ) → list_all (λ b. not (test b)) run ≡ true → test c ≡ true
+    → before_first test (run ++ c ∷ rest) ≡ run
+before_is test run c rest all is =
+    ap (λ (n : ℕ). take n (run ++ c ∷ rest)) (before_at test run c rest all is) ∙ taken run (c ∷ rest)
 
-after_is : (test : ℕ → Bool) (run : List ℕ) (c : ℕ) (rest : List ℕ) → list_all (λ b. not (test b)) run ≡ true → test c ≡ true → after_first test (run ++ c ∷ rest) ≡ rest
+after_is : (test : ℕ → Bool) (run : List ℕ) (c : ℕ) (rest : List ℕ) → list_all (λ b. not (test b)) run ≡ true → test c ≡ true
+    → after_first test (run ++ c ∷ rest) ≡ rest
 after_is test run c rest all is =
-    ap (λ (n : ℕ). drop n (run ++ c ∷ rest)) {x = position_or_len test (run ++ c ∷ rest) + 1} {y = suc (length run)} (let at = before_at test run c rest all is in omega (arith, at))
+    ap (λ (n : ℕ). drop n (run ++ c ∷ rest)) {x = position_or_len test (run ++ c ∷ rest) + 1} {y = suc (length run)}
+    (let at = before_at test run c rest all is in omega (arith, at))
     ∙ dropped run c rest
 
 any_at : (test : ℕ → Bool) (run : List ℕ) (c : ℕ) (rest : List ℕ) → test c ≡ true → list_any test (run ++ c ∷ rest) ≡ true
@@ -204,31 +232,42 @@ any_at test (b ∷ run) c rest is = or_true (test b) (list_any test (run ++ c �
 none_any : (test : ℕ → Bool) (xs : List ℕ) → list_all (λ b. not (test b)) xs ≡ true → list_any test xs ≡ false
 none_any test [] h = refl
 none_any test (b ∷ xs) h =
-    ap (λ (t : Bool). t || list_any test xs) (not_true (test b) (all_head (λ b. not (test b)) b xs h)) ∙ none_any test xs (all_tail (λ b. not (test b)) b xs h)
+    ap (λ (t : Bool). t || list_any test xs) (not_true (test b) (all_head (λ b. not (test b)) b xs h))
+    ∙ none_any test xs (all_tail (λ b. not (test b)) b xs h)
 
 -- ---- segments
 
-run_segments : (state : QuoteState) (test : ℕ → Bool) → ((b : ℕ) → test b ≡ true → (ends state b ≡ false) × (after state b ≡ state)) → (run rest part : List ℕ) (parts : List (List ℕ))
-    → list_all test run ≡ true → segments_from state rest ≡ part ∷ parts → segments_from state (run ++ rest) ≡ (run ++ part) ∷ parts
+run_segments : (state : QuoteState) (test : ℕ → Bool)
+    → ((b : ℕ) → test b ≡ true → (ends state b ≡ false) × (after state b ≡ state))
+    → (run rest part : List ℕ) (parts : List (List ℕ))
+    → list_all test run ≡ true → segments_from state rest ≡ part ∷ parts
+    → segments_from state (run ++ rest) ≡ (run ++ part) ∷ parts
 run_segments state test f [] rest part parts all e = e
 run_segments state test f (b ∷ run) rest part parts all e =
     let here = f b (all_head test b run all) in
-    cond-false (ends state b) ([] ∷ segments_from outside (run ++ rest)) (with_front (b ∷ []) (segments_from (after state b) (run ++ rest))) here.0
+    cond-false (ends state b) ([] ∷ segments_from outside (run ++ rest))
+    (with_front (b ∷ []) (segments_from (after state b) (run ++ rest))) here.0
     ∙ ap (λ (s : QuoteState). with_front (b ∷ []) (segments_from s (run ++ rest))) here.1
     ∙ ap (with_front (b ∷ [])) (run_segments state test f run rest part parts (all_tail test b run all) e)
 
-stays_outside : (test : ℕ → Bool) → test semicolon ≡ false → test quote ≡ false → (b : ℕ) → test b ≡ true → (ends outside b ≡ false) × (after outside b ≡ outside)
+stays_outside : (test : ℕ → Bool) → test semicolon ≡ false → test quote ≡ false → (b : ℕ) → test b ≡ true
+    → (ends outside b ≡ false) × (after outside b ≡ outside)
 stays_outside test e f b is = (differs test semicolon e b is, cond-false (b == quote) quoted outside (differs test quote f b is))
 
 stays_quoted : (b : ℕ) → is_plain_byte b ≡ true → (ends quoted b ≡ false) × (after quoted b ≡ quoted)
-stays_quoted b is = (refl, cond-false (b == quote) outside _ (differs is_plain_byte quote refl b is) ∙ cond-false (b == backslash) _ quoted (differs is_plain_byte backslash refl b is))
+stays_quoted b is = (
+  refl,
+  cond-false (b == quote) outside _ (differs is_plain_byte quote refl b is)
+      ∙ cond-false (b == backslash) _ quoted (differs is_plain_byte backslash refl b is),
+)
 
 -- a segment that goes on after a value
 record GoesOn (value rest : List ℕ) (parts : List (List ℕ)) : Type 0 where
   part : List ℕ
   is : segments_from outside (value ++ rest) ≡ part ∷ parts
 
-value_segment : (value rest : List ℕ) (parts : List (List ℕ)) → IsPlainValue value → segments_from outside rest ≡ [] ∷ parts → GoesOn value rest parts
+value_segment : (value rest : List ℕ) (parts : List (List ℕ)) → IsPlainValue value → segments_from outside rest ≡ [] ∷ parts
+    → GoesOn value rest parts
 value_segment value rest parts (plain_token {first = first} {others = others} all) e = record {
   part = (first ∷ others) ++ [];
   is = run_segments outside is_name_character (stays_outside is_name_character refl refl) (first ∷ others) rest [] parts all e;
@@ -241,7 +280,9 @@ value_segment value rest parts (plain_quotes {first = first} {others = others} o
   part = quote ∷ ((first ∷ others) ++ (quote ∷ []));
   is = ap (λ (xs : List ℕ). segments_from outside (xs ++ rest)) made
       ∙ ap (λ (xs : List ℕ). with_front (quote ∷ []) (segments_from quoted xs)) (append_assoc (first ∷ others) (quote ∷ []) rest)
-      ∙ ap (with_front (quote ∷ [])) (run_segments quoted is_plain_byte stays_quoted (first ∷ others) (quote ∷ rest) (quote ∷ []) parts (plain_all (first ∷ others) is) (ap (with_front (quote ∷ [])) e));
+      ∙ ap (with_front (quote ∷ []))
+      (run_segments quoted is_plain_byte stays_quoted (first ∷ others) (quote ∷ rest) (quote ∷ []) parts
+      (plain_all (first ∷ others) is) (ap (with_front (quote ∷ [])) e));
 }
 
 -- ---- names without asterisks
@@ -249,23 +290,34 @@ value_segment value rest parts (plain_quotes {first = first} {others = others} o
 abbrev is_starless : ℕ → Bool
 is_starless b = not (is_star b)
 
-free_key : (run rest : List ℕ) → list_all (λ b. not (is_equals b)) run ≡ true → list_all is_starless run ≡ true → list_all is_low run ≡ true
+free_key : (run rest : List ℕ) → list_all (λ b. not (is_equals b)) run ≡ true → list_all is_starless run ≡ true
+    → list_all is_low run ≡ true
     → list_any is_star (str_to_ascii_lowercase (trim (before_first is_equals (run ++ equals_sign ∷ rest)))) ≡ false
 free_key run rest equals stars low =
-    ap (λ (xs : List ℕ). list_any is_star (str_to_ascii_lowercase (trim xs))) (before_is is_equals run equals_sign rest equals refl)
+    ap (λ (xs : List ℕ). list_any is_star (str_to_ascii_lowercase (trim xs)))
+    (before_is is_equals run equals_sign rest equals refl)
     ∙ ap (λ (xs : List ℕ). list_any is_star (str_to_ascii_lowercase xs)) (trim_low run low)
     ∙ none_any is_star (str_to_ascii_lowercase (drop_trailing_whitespace (skip_leading_whitespace run)))
-    (all_lower is_starless (λ n least most. is_not (n == asterisk) (ne_eqb n asterisk (λ e. absurd (omega (arith, least, e))))) (drop_trailing_whitespace (skip_leading_whitespace run))
+    (all_lower is_starless (λ n least most. is_not (n == asterisk) (ne_eqb n asterisk (λ e. absurd (omega (arith, least, e)))))
+    (drop_trailing_whitespace (skip_leading_whitespace run))
     (all_trailing is_starless (skip_leading_whitespace run) (all_skip is_starless run stars)))
 
-free_pairs : (segment : List ℕ) (parts : List (List ℕ)) → list_any is_star (str_to_ascii_lowercase (trim (before_first is_equals segment))) ≡ false
+free_pairs : (segment : List ℕ) (parts : List (List ℕ))
+    → list_any is_star (str_to_ascii_lowercase (trim (before_first is_equals segment))) ≡ false
     → is_star_free (pairs_in parts) ≡ true → is_star_free (pairs_in (segment ∷ parts)) ≡ true
 unfolding pair_of
 free_pairs segment parts free more = by_equals (nat_lt (position_or_len is_equals segment) (length segment))
   where
     by_equals : (t : Bool)
-        → is_star_free (option_to_list (cond t (Some (str_to_ascii_lowercase (trim (before_first is_equals segment)), unescape (trim (after_first is_equals segment)))) None) ++ pairs_in parts) ≡ true
-    by_equals true = are_true (not (list_any is_star (str_to_ascii_lowercase (trim (before_first is_equals segment))))) (is_star_free (pairs_in parts)) (is_not _ free) more
+        → is_star_free (option_to_list
+        (cond t (Some (
+          str_to_ascii_lowercase (trim (before_first is_equals segment)),
+          unescape
+              (trim (after_first is_equals segment)),
+        )) None) ++ pairs_in parts) ≡ true
+    by_equals true =
+        are_true (not (list_any is_star (str_to_ascii_lowercase (trim (before_first is_equals segment)))))
+        (is_star_free (pairs_in parts)) (is_not _ free) more
     by_equals false = more
 
 -- the segments of parameters
@@ -288,7 +340,8 @@ flat_segments : (bytes : List ℕ) → list_all is_low bytes ≡ true → AreFla
 flat_segments bytes low no_flat = record { parts = []; is = refl; free = refl }
 flat_segments bytes low flat_semicolon = record { parts = [] ∷ []; is = refl; free = empty_segment }
 flat_segments bytes low (flat_parameter {value = value} gap name rest blanks names is more made) =
-    let low_here : list_all is_low (semicolon ∷ (gap ++ (name ++ (equals_sign ∷ (value ++ rest))))) ≡ true = subst (λ (xs : List ℕ). list_all is_low xs ≡ true) made low in
+    let low_here : list_all is_low (semicolon ∷ (gap ++ (name ++ (equals_sign ∷ (value ++ rest))))) ≡ true =
+    subst (λ (xs : List ℕ). list_all is_low xs ≡ true) made low in
     let low_gap = all_front is_low gap (name ++ (equals_sign ∷ (value ++ rest))) low_here in
     let low_more = all_back is_low gap (name ++ (equals_sign ∷ (value ++ rest))) low_here in
     let low_name = all_front is_low name (equals_sign ∷ (value ++ rest)) low_more in
@@ -297,44 +350,55 @@ flat_segments bytes low (flat_parameter {value = value} gap name rest blanks nam
     let left = flat_segments rest low_rest more in
     let on = value_segment value rest left.parts is left.is in
     let run : List ℕ = gap ++ name in
-    let whole : gap ++ (name ++ (equals_sign ∷ on.part)) ≡ run ++ (equals_sign ∷ on.part) = sym (append_assoc gap name (equals_sign ∷ on.part)) in
+    let whole : gap ++ (name ++ (equals_sign ∷ on.part)) ≡ run ++ (equals_sign ∷ on.part) =
+    sym (append_assoc gap name (equals_sign ∷ on.part)) in
     record {
       parts = (gap ++ (name ++ (equals_sign ∷ on.part))) ∷ left.parts;
       is = ap (segments_from outside) made ∙ ap (λ (ps : List (List ℕ)). [] ∷ ps)
-          (run_segments outside is_blank (stays_outside is_blank refl refl) gap (name ++ (equals_sign ∷ (value ++ rest))) (name ++ (equals_sign ∷ on.part)) left.parts blanks
-          (run_segments outside is_name_character (stays_outside is_name_character refl refl) name (equals_sign ∷ (value ++ rest)) (equals_sign ∷ on.part) left.parts names
+          (run_segments outside is_blank (stays_outside is_blank refl refl) gap (name ++ (equals_sign ∷ (value ++ rest)))
+          (name ++ (equals_sign ∷ on.part)) left.parts blanks
+          (run_segments outside is_name_character (stays_outside is_name_character refl refl) name (equals_sign ∷ (value ++ rest))
+          (equals_sign ∷ on.part) left.parts names
           (ap (with_front (equals_sign ∷ [])) on.is)));
       free = free_pairs (gap ++ (name ++ (equals_sign ∷ on.part))) left.parts
           (ap (λ (xs : List ℕ). list_any is_star (str_to_ascii_lowercase (trim (before_first is_equals xs)))) whole
           ∙ free_key run on.part
-          (all_both (λ b. not (is_equals b)) gap name (all_weaker is_blank _ (not_equals is_blank refl) gap blanks) (all_weaker is_name_character _ (not_equals is_name_character refl) name names))
-          (all_both is_starless gap name (all_weaker is_blank _ (not_star is_blank refl) gap blanks) (all_weaker is_name_character _ (not_star is_name_character refl) name names))
+          (all_both (λ b. not (is_equals b)) gap name (all_weaker is_blank _ (not_equals is_blank refl) gap blanks)
+          (all_weaker is_name_character _ (not_equals is_name_character refl) name names))
+          (all_both is_starless gap name (all_weaker is_blank _ (not_star is_blank refl) gap blanks)
+          (all_weaker is_name_character _ (not_star is_name_character refl) name names))
           (all_both is_low gap name low_gap low_name)) left.free;
     }
 
 -- ---- the type
 
 -- the name of two words
-name_stays : (first second : ℕ) (main subtype : List ℕ) → list_all is_solid (first ∷ main) ≡ true → list_all is_solid (second ∷ subtype) ≡ true
+name_stays : (first second : ℕ) (main subtype : List ℕ) → list_all is_solid (first ∷ main) ≡ true
+    → list_all is_solid (second ∷ subtype) ≡ true
     → lenient_name ((first ∷ main) ++ (slash ∷ (second ∷ subtype))) ≡ (first ∷ main) ++ (slash ∷ (second ∷ subtype))
 unfolding lenient_name
 name_stays first second main subtype one two =
     let name : List ℕ = (first ∷ main) ++ (slash ∷ (second ∷ subtype)) in
     let free = all_weaker is_solid (λ b. not (is_slash b)) solid_no_slash (first ∷ main) one in
-    cond-true (list_any is_slash name) (name_of_two (trim (before_first is_slash name)) (trim (after_first is_slash name))) _ (any_at is_slash (first ∷ main) slash (second ∷ subtype) refl)
-    ∙ ap (λ (xs : List ℕ). name_of_two (trim xs) (trim (after_first is_slash name))) (before_is is_slash (first ∷ main) slash (second ∷ subtype) free refl)
-    ∙ ap (λ (xs : List ℕ). name_of_two (trim (first ∷ main)) (trim xs)) (after_is is_slash (first ∷ main) slash (second ∷ subtype) free refl)
+    cond-true (list_any is_slash name) (name_of_two (trim (before_first is_slash name)) (trim (after_first is_slash name))) _
+    (any_at is_slash (first ∷ main) slash (second ∷ subtype) refl)
+    ∙ ap (λ (xs : List ℕ). name_of_two (trim xs) (trim (after_first is_slash name)))
+    (before_is is_slash (first ∷ main) slash (second ∷ subtype) free refl)
+    ∙ ap (λ (xs : List ℕ). name_of_two (trim (first ∷ main)) (trim xs))
+    (after_is is_slash (first ∷ main) slash (second ∷ subtype) free refl)
     ∙ ap (λ (xs : List ℕ). name_of_two xs (trim (second ∷ subtype))) (trim_solid (first ∷ main) one)
     ∙ ap (name_of_two (first ∷ main)) (trim_solid (second ∷ subtype) two)
 
 letter_solid : (n : ℕ) → 97 ≤ n → n ≤ 122 → is_solid n ≡ true
 letter_solid n least most =
     are_true (nat_lt 32 n) (nat_lt n 127 && not (n == slash)) (lt-ltb 32 n (omega (arith, least)))
-    (are_true (nat_lt n 127) (not (n == slash)) (lt-ltb n 127 (omega (arith, most))) (is_not (n == slash) (ne_eqb n slash (λ e. absurd (omega (arith, least, e))))))
+    (are_true (nat_lt n 127) (not (n == slash)) (lt-ltb n 127 (omega (arith, most)))
+    (is_not (n == slash) (ne_eqb n slash (λ e. absurd (omega (arith, least, e))))))
 
 -- a boundary without line ends
 whole_boundary : (ctype : ContentType) → HasBoundary ctype → has_broken_boundary ctype.params ≡ false
-whole_boundary ctype (of_other e none) = ap (λ (o : Option (List ℕ)). option_map_or (λ text. is_some (either_place text carriage_return line_feed)) o false) none
+whole_boundary ctype (of_other e none) =
+    ap (λ (o : Option (List ℕ)). option_map_or (λ text. is_some (either_place text carriage_return line_feed)) o false) none
 whole_boundary ctype (of_multipart {text = text} e found is) =
     let past = unfound text (boundary_inner 70 text is) in
     ap (λ (o : Option (List ℕ)). option_map_or (λ text. is_some (either_place text carriage_return line_feed)) o false) found
@@ -342,10 +406,12 @@ whole_boundary ctype (of_multipart {text = text} e found is) =
     (Some (first_place (begins (λ b. b == carriage_return || b == line_feed)) text)) None
     (le-ltb (first_place (begins (λ b. b == carriage_return || b == line_feed)) text) (length text) (omega (arith, past))))
   where
-    unfound : (xs : List ℕ) → list_all is_inner xs ≡ true → first_place (begins (λ b. b == carriage_return || b == line_feed)) xs ≡ length xs
+    unfound : (xs : List ℕ) → list_all is_inner xs ≡ true
+        → first_place (begins (λ b. b == carriage_return || b == line_feed)) xs ≡ length xs
     unfound [] all = refl
     unfound (b ∷ xs) all =
-        first_place-past (begins (λ b. b == carriage_return || b == line_feed)) b xs (not_true (b == carriage_return || b == line_feed) (all_head is_inner b xs all))
+        first_place-past (begins (λ b. b == carriage_return || b == line_feed)) b xs
+        (not_true (b == carriage_return || b == line_feed) (all_head is_inner b xs all))
         ∙ ap suc (unfound xs (all_tail is_inner b xs all))
 
 -- such a type needs no lenient reading
@@ -381,14 +447,18 @@ module _ (known : Charsets) (bytes : List ℕ) (low : list_all is_low bytes ≡ 
   unfolding segments one two
   all_segments =
       ap (segments_from outside) is.made
-      ∙ run_segments outside is_token_character (stays_outside is_token_character refl refl) one (slash ∷ (two ++ is.rest)) (slash ∷ (two ++ [])) segmented.parts is.is_main
-      (ap (with_front (slash ∷ [])) (run_segments outside is_token_character (stays_outside is_token_character refl refl) two is.rest [] segmented.parts is.is_subtype segmented.is))
+      ∙ run_segments outside is_token_character (stays_outside is_token_character refl refl) one (slash ∷ (two ++ is.rest))
+      (slash ∷ (two ++ [])) segmented.parts is.is_main
+      (ap (with_front (slash ∷ []))
+      (run_segments outside is_token_character
+      (stays_outside is_token_character refl refl) two is.rest [] segmented.parts is.is_subtype segmented.is))
       ∙ ap (λ (xs : List ℕ). (one ++ (slash ∷ xs)) ∷ segmented.parts) (append-nil two)
 
   value_is : value_of bytes ≡ one ++ (slash ∷ two)
   value_is =
       value_of-first bytes (one ++ (slash ∷ two)) segmented.parts all_segments
-      ∙ trim_seen (one ++ (slash ∷ two)) (all_both is_seen one (slash ∷ two) (all_weaker is_solid is_seen solid_seen one solid_one)
+      ∙ trim_seen (one ++ (slash ∷ two))
+      (all_both is_seen one (slash ∷ two) (all_weaker is_solid is_seen solid_seen one solid_one)
       (are_true (is_seen slash) (list_all is_seen two) refl (all_weaker is_solid is_seen solid_seen two solid_two)))
 
   free_here : is_star_free (pairs_of bytes) ≡ true
@@ -399,16 +469,21 @@ module _ (known : Charsets) (bytes : List ℕ) (low : list_all is_low bytes ≡ 
   unfolding one two
   name_is =
       let lower : str_to_ascii_lowercase (value_of bytes) ≡ str_to_ascii_lowercase one ++ (slash ∷ str_to_ascii_lowercase two) =
-          ap str_to_ascii_lowercase value_is ∙ map-append to_ascii_lowercase one (slash ∷ two) in
+      ap str_to_ascii_lowercase value_is ∙ map-append to_ascii_lowercase one (slash ∷ two) in
       subst (λ (xs : List ℕ). lenient_name xs ≡ xs) (sym lower)
-      (name_stays (to_ascii_lowercase is.first) (to_ascii_lowercase is.second) (str_to_ascii_lowercase is.main) (str_to_ascii_lowercase is.subtype)
+      (name_stays (to_ascii_lowercase is.first) (to_ascii_lowercase is.second) (str_to_ascii_lowercase is.main)
+      (str_to_ascii_lowercase is.subtype)
       (all_lower is_solid letter_solid one solid_one) (all_lower is_solid letter_solid two solid_two))
 
   pub flat_strict : HasBoundary (content_type_in known bytes) → is_strict known bytes ≡ true
   unfolding content_type_in
   flat_strict boundary =
-      are_true (is_complete bytes) (is_star_free (pairs_of bytes) && is_named (content_type_in known bytes)) (flat_complete bytes (low_ascii bytes low) is)
+      are_true (is_complete bytes) (is_star_free (pairs_of bytes) && is_named (content_type_in known bytes))
+      (flat_complete bytes (low_ascii bytes low) is)
       (are_true (is_star_free (pairs_of bytes)) (is_named (content_type_in known bytes)) free_here
-      (are_true (bytes_eq (lenient_name (content_type_in known bytes).mimetype) (content_type_in known bytes).mimetype) (not (has_broken_boundary (content_type_in known bytes).params))
-      ((bytes_eq-Decides (lenient_name (str_to_ascii_lowercase (value_of bytes))) (str_to_ascii_lowercase (value_of bytes))).1 name_is)
-      (is_not (has_broken_boundary (content_type_in known bytes).params) (whole_boundary (content_type_in known bytes) boundary))))
+      (are_true (bytes_eq (lenient_name (content_type_in known bytes).mimetype) (content_type_in known bytes).mimetype)
+      (not (has_broken_boundary (content_type_in known bytes).params))
+      ((bytes_eq-Decides (lenient_name (str_to_ascii_lowercase (value_of bytes)))
+      (str_to_ascii_lowercase (value_of bytes))).1 name_is)
+      (is_not (has_broken_boundary (content_type_in known bytes).params)
+      (whole_boundary (content_type_in known bytes) boundary))))

@@ -1,21 +1,24 @@
 -- Plain types without folds lack nothing, and have no comments.
-use Rattle.std.proofs.Common.{◌≡◌, ◌∙◌, ◌<◌, ◌≤◌, ◌-◌, ℕ, zero, suc, Bool, true, false, not, cond, leb, List, [], ◌∷◌, ◌++◌, length, refl, sym, ap, subst, inl, inr, arith, append_assoc, ⊎_elim}
-use Rattle.std.specs.Prelude.{◌⊎◌, ◌&&◌, ◌||◌, ◌==◌, nat_lt, codes}
-use Rattle.std.specs.Char.{is_ascii_alphanumeric, is_ascii_whitespace}
+use Rattle.std.proofs.Common.{◌≡◌, ◌∙◌, ◌<◌, ◌≤◌, ◌-◌, ℕ, zero, suc, Bool, true, false, not, cond, leb, List, [], ◌∷◌, ◌++◌}
+use Rattle.std.proofs.Common.{refl, sym, ap, subst, inl, inr, arith, append_assoc}
+use Rattle.std.specs.Prelude.{◌&&◌, ◌||◌, ◌==◌}
+use Rattle.std.specs.Char.{is_ascii_whitespace}
 use Rattle.std.specs.Int.{is_in_range}
 use Rattle.std.specs.List.{list_all}
-use Rattle.std.specs.Str.{IsAscii, bytes_eq, chars, encode_utf8_all}
-use Rattle.std.proofs.lemmas.Bool.{and_parts, cases_lt, cond-false, cond-true, eqb-true, false≢true, leb-true, or_cases}
+use Rattle.std.specs.Str.{IsAscii, chars, encode_utf8_all}
+use Rattle.std.proofs.lemmas.Bool.{cases_lt, cond-false, eqb-true, false≢true, leb-true, or_cases}
 use Rattle.std.proofs.lemmas.Slice.Eq.{bytes_eq-Decides}
 use Rattle.std.proofs.lemmas.Str.{IsUtf8-from_ascii, chars-IsAscii, encodes-IsAscii}
-use Rattle.mail_codec.specs.Ascii.{asterisk, backslash, closing_parenthesis, equals_sign, is_blank, opening_parenthesis, quote, semicolon, slash, space}
-use Rattle.mail_codec.specs.Places.{is_empty}
+use Rattle.mail_codec.specs.Ascii.{asterisk, backslash, closing_parenthesis, equals_sign, is_blank, opening_parenthesis, quote}
+use Rattle.mail_codec.specs.Ascii.{semicolon, slash, space}
 use Rattle.mail_data.specs.lenient.Agreement.{is_complete}
 use Rattle.mail_data.specs.lenient.Comments.{depth_beside, outside_comments, quotes_next, string_after, without_comments}
-use Rattle.mail_data.specs.lenient.Repairs.{after, after_name, after_quoted, after_text, after_value, in_value, lacks_nothing, may_follow, missing_at_end, repaired}
+use Rattle.mail_data.specs.lenient.Repairs.{after_name, after_quoted, after_text, after_value, lacks_nothing}
+use Rattle.mail_data.specs.lenient.Repairs.{repaired}
 use Rattle.mail_data.proofs.lemmas.lenient.Repairs.{whole-text}
 use Rattle.mail_check.specs.strict.Parameters.{is_name_character, is_token_character}
-use Rattle.mail_check.specs.strict.PlainParameters.{is_plain_byte, IsPlainText, last_byte, more_bytes, IsPlainValue, plain_token, empty_quotes, plain_quotes}
+use Rattle.mail_check.specs.strict.PlainParameters.{is_plain_byte, IsPlainText, last_byte, more_bytes, IsPlainValue, plain_token}
+use Rattle.mail_check.specs.strict.PlainParameters.{empty_quotes, plain_quotes}
 use Rattle.mail_check.proofs.lemmas.StrictHeaders.{all_head, all_tail, are_true, both_true, cases_Bool}
 
 -- ---- bytes that pass a test
@@ -74,7 +77,8 @@ no_white test h b is = elim (cases_Bool (is_ascii_whitespace b)) [
 pub data AreFlat : List ℕ → Type 0 where
   no_flat : AreFlat []
   flat_semicolon : AreFlat (semicolon ∷ [])
-  flat_parameter : {value bytes : List ℕ} (gap name rest : List ℕ) → list_all is_blank gap ≡ true → list_all is_name_character name ≡ true
+  flat_parameter : {value bytes : List ℕ} (gap name rest : List ℕ) → list_all is_blank gap ≡ true
+      → list_all is_name_character name ≡ true
       → IsPlainValue value → AreFlat rest → bytes ≡ semicolon ∷ (gap ++ (name ++ (equals_sign ∷ (value ++ rest)))) → AreFlat bytes
 
 -- a type without folds
@@ -91,11 +95,13 @@ pub record IsFlat (bytes : List ℕ) : Type 0 where
 
 pub plain_all : (text : List ℕ) → IsPlainText text → list_all is_plain_byte text ≡ true
 plain_all text (last_byte {b = b} is other) = are_true (is_plain_byte b) true is refl
-plain_all text (more_bytes {b = b} {rest = rest} is more) = are_true (is_plain_byte b) (list_all is_plain_byte rest) is (plain_all rest more)
+plain_all text (more_bytes {b = b} {rest = rest} is more) =
+    are_true (is_plain_byte b) (list_all is_plain_byte rest) is (plain_all rest more)
 
 -- ---- nothing is missing
 
--- nothing is missing in bytes that follow those of a name, an equals sign, a word, a slash, a token, the front of a text in quotes,
+-- nothing is missing in bytes that follow those of a name, an equals sign, a word, a slash, a token, the front of a text in
+-- quotes,
 -- and a whole one
 abbrev past_name : List ℕ → Bool
 past_name xs = lacks_nothing (after_name 120) xs
@@ -118,17 +124,20 @@ past_opening xs = lacks_nothing (after_quoted 120) xs
 abbrev past_quotes : List ℕ → Bool
 past_quotes xs = lacks_nothing (after_quoted quote) xs
 
-run_lacks : (lacks : List ℕ → Bool) (test : ℕ → Bool) → ((b : ℕ) (rest : List ℕ) → test b ≡ true → lacks (b ∷ rest) ≡ lacks rest) → (run rest : List ℕ)
+run_lacks : (lacks : List ℕ → Bool) (test : ℕ → Bool) → ((b : ℕ) (rest : List ℕ) → test b ≡ true → lacks (b ∷ rest) ≡ lacks rest)
+    → (run rest : List ℕ)
     → list_all test run ≡ true → lacks (run ++ rest) ≡ lacks rest
 run_lacks lacks test f [] rest all = refl
 run_lacks lacks test f (b ∷ run) rest all =
     f b (run ++ rest) (all_head test b run all) ∙ run_lacks lacks test f run rest (all_tail test b run all)
 
-in_name : (test : ℕ → Bool) → test equals_sign ≡ false → test asterisk ≡ false → test quote ≡ false → (b : ℕ) (rest : List ℕ) → test b ≡ true
+in_name : (test : ℕ → Bool) → test equals_sign ≡ false → test asterisk ≡ false → test quote ≡ false → (b : ℕ) (rest : List ℕ)
+    → test b ≡ true
     → past_name (b ∷ rest) ≡ past_name rest
 in_name test e f g b rest is =
     ap (λ p. lacks_nothing p rest)
-    (cond-false (b == equals_sign) (after_name equals_sign) _ (differs test equals_sign e b is) ∙ cond-false (b == asterisk) (after_name asterisk) _ (differs test asterisk f b is)
+    (cond-false (b == equals_sign) (after_name equals_sign) _ (differs test equals_sign e b is)
+    ∙ cond-false (b == asterisk) (after_name asterisk) _ (differs test asterisk f b is)
     ∙ cond-false (b == quote) (after_name quote) (after_name 120) (differs test quote g b is))
 
 text_byte : (b : ℕ) → is_name_character b ≡ true → after_text b ≡ after_text 120
@@ -151,7 +160,8 @@ record Ends (lacks : List ℕ → Bool) : Type 0 where
   nothing : lacks [] ≡ true
   more : (rest : List ℕ) → lacks (semicolon ∷ rest) ≡ past_name rest
 
-value_lacks : (value rest : List ℕ) → IsPlainValue value → ((lacks : List ℕ → Bool) → Ends lacks → lacks rest ≡ true) → past_equals (value ++ rest) ≡ true
+value_lacks : (value rest : List ℕ) → IsPlainValue value → ((lacks : List ℕ → Bool) → Ends lacks → lacks rest ≡ true)
+    → past_equals (value ++ rest) ≡ true
 value_lacks value rest (plain_token {first = first} {others = others} all) more =
     let head = all_head is_name_character first others all in
     ap (λ p. lacks_nothing p (others ++ rest))
@@ -185,13 +195,16 @@ word_byte b is =
 
 in_word : (b : ℕ) (rest : List ℕ) → is_token_character b ≡ true → past_word (b ∷ rest) ≡ past_word rest
 in_word b rest is =
-    ap (λ p. lacks_nothing p rest) (cond-false (is_ascii_whitespace b) _ (after_value b) (no_white is_token_character refl b is) ∙ word_byte b is)
+    ap (λ p. lacks_nothing p rest)
+    (cond-false (is_ascii_whitespace b) _ (after_value b) (no_white is_token_character refl b is) ∙ word_byte b is)
 
 first_word : (b : ℕ) (rest : List ℕ) → is_token_character b ≡ true → past_slash (b ∷ rest) ≡ past_word rest
 first_word b rest is =
-    ap (λ p. lacks_nothing p rest) (cond-false (is_ascii_whitespace b) _ (after_value b) (no_white is_token_character refl b is) ∙ word_byte b is)
+    ap (λ p. lacks_nothing p rest)
+    (cond-false (is_ascii_whitespace b) _ (after_value b) (no_white is_token_character refl b is) ∙ word_byte b is)
 
-word_lacks : (b : ℕ) (more rest : List ℕ) → list_all is_token_character (b ∷ more) ≡ true → past_slash ((b ∷ more) ++ rest) ≡ past_word rest
+word_lacks : (b : ℕ) (more rest : List ℕ) → list_all is_token_character (b ∷ more) ≡ true
+    → past_slash ((b ∷ more) ++ rest) ≡ past_word rest
 word_lacks b more rest all =
     first_word b (more ++ rest) (all_head is_token_character b more all)
     ∙ run_lacks past_word is_token_character in_word more rest (all_tail is_token_character b more all)
@@ -199,46 +212,62 @@ word_lacks b more rest all =
 type_lacks : (bytes : List ℕ) → IsFlat bytes → past_slash bytes ≡ true
 type_lacks bytes is =
     ap past_slash is.made ∙ word_lacks is.first is.main (slash ∷ ((is.second ∷ is.subtype) ++ is.rest)) is.is_main
-    ∙ word_lacks is.second is.subtype is.rest is.is_subtype ∙ flat_lacks is.rest is.parameters past_word (record { nothing = refl; more = λ rest. refl })
+    ∙ word_lacks is.second is.subtype is.rest is.is_subtype
+    ∙ flat_lacks is.rest is.parameters past_word (record { nothing = refl; more = λ rest. refl })
 
 -- ---- there are no comments
 
-one_kept : (within next : Bool) (b : ℕ) (cs : List ℕ) → depth_beside within false 0 b ≡ 0 → quotes_next false b ≡ false → string_after within false 0 b ≡ next
+one_kept : (within next : Bool) (b : ℕ) (cs : List ℕ) → depth_beside within false 0 b ≡ 0 → quotes_next false b ≡ false
+    → string_after within false 0 b ≡ next
     → outside_comments within false 0 (b ∷ cs) ≡ b ∷ outside_comments next false 0 cs
 one_kept within next b cs depth quotes string =
-    ap (λ (d : ℕ). cond ((0 == 0) && (d == 0)) (b ∷ []) [] ++ outside_comments (string_after within false 0 b) (quotes_next false b) d cs) depth
+    ap (λ (d : ℕ). cond ((0 == 0) && (d == 0)) (b ∷ []) [] ++ outside_comments (string_after within false 0 b)
+    (quotes_next false b) d cs) depth
     ∙ ap (λ (q : Bool). b ∷ outside_comments (string_after within false 0 b) q 0 cs) quotes
     ∙ ap (λ (s : Bool). b ∷ outside_comments s false 0 cs) string
 
-run_kept : (within : Bool) (test : ℕ → Bool) → ((b : ℕ) → test b ≡ true → (depth_beside within false 0 b ≡ 0) × (quotes_next false b ≡ false) × (string_after within false 0 b ≡ within))
-    → (run rest : List ℕ) → list_all test run ≡ true → outside_comments within false 0 rest ≡ rest → outside_comments within false 0 (run ++ rest) ≡ run ++ rest
+run_kept : (within : Bool) (test : ℕ → Bool)
+    → ((b : ℕ) → test b ≡ true
+    → (depth_beside within false 0 b ≡ 0) × (quotes_next false b ≡ false) × (string_after within false 0 b ≡ within))
+    → (run rest : List ℕ) → list_all test run ≡ true → outside_comments within false 0 rest ≡ rest
+    → outside_comments within false 0 (run ++ rest) ≡ run ++ rest
 run_kept within test f [] rest all more = more
 run_kept within test f (b ∷ run) rest all more =
     let here = f b (all_head test b run all) in
-    one_kept within within b (run ++ rest) here.0 here.1 here.2 ∙ ap (λ (xs : List ℕ). b ∷ xs) (run_kept within test f run rest (all_tail test b run all) more)
+    one_kept within within b (run ++ rest) here.0 here.1 here.2
+    ∙ ap (λ (xs : List ℕ). b ∷ xs) (run_kept within test f run rest (all_tail test b run all) more)
 
 none_less : (t : Bool) → cond t (0 - 1) 0 ≡ 0
 none_less true = refl
 none_less false = refl
 
-bare : (test : ℕ → Bool) → test opening_parenthesis ≡ false → test backslash ≡ false → test quote ≡ false → (b : ℕ) → test b ≡ true
+bare : (test : ℕ → Bool) → test opening_parenthesis ≡ false → test backslash ≡ false → test quote ≡ false → (b : ℕ)
+    → test b ≡ true
     → (depth_beside false false 0 b ≡ 0) × (quotes_next false b ≡ false) × (string_after false false 0 b ≡ false)
-bare test e f g b is =
-    (cond-false (b == opening_parenthesis) 1 _ (differs test opening_parenthesis e b is) ∙ none_less (b == closing_parenthesis), differs test backslash f b is,
-    cond-false (b == quote) true false (differs test quote g b is))
+bare test e f g b is = (
+  cond-false (b == opening_parenthesis) 1 _ (differs test opening_parenthesis e b is)
+      ∙ none_less (b == closing_parenthesis),
+  differs test backslash f b is,
+  cond-false (b == quote) true false (differs test quote g b is),
+)
 
-quoted_byte : (b : ℕ) → is_plain_byte b ≡ true → (depth_beside true false 0 b ≡ 0) × (quotes_next false b ≡ false) × (string_after true false 0 b ≡ true)
-quoted_byte b is = (refl, differs is_plain_byte backslash refl b is, cond-false (b == quote) false true (differs is_plain_byte quote refl b is))
+quoted_byte : (b : ℕ) → is_plain_byte b ≡ true
+    → (depth_beside true false 0 b ≡ 0) × (quotes_next false b ≡ false) × (string_after true false 0 b ≡ true)
+quoted_byte b is =
+    (refl, differs is_plain_byte backslash refl b is, cond-false (b == quote) false true (differs is_plain_byte quote refl b is))
 
-value_kept : (value rest : List ℕ) → IsPlainValue value → outside_comments false false 0 rest ≡ rest → outside_comments false false 0 (value ++ rest) ≡ value ++ rest
+value_kept : (value rest : List ℕ) → IsPlainValue value → outside_comments false false 0 rest ≡ rest
+    → outside_comments false false 0 (value ++ rest) ≡ value ++ rest
 value_kept value rest (plain_token {first = first} {others = others} all) more =
     run_kept false is_name_character (bare is_name_character refl refl refl) (first ∷ others) rest all more
 value_kept value rest empty_quotes more =
-    one_kept false true quote (quote ∷ rest) refl refl refl ∙ ap (λ (xs : List ℕ). quote ∷ xs) (one_kept true false quote rest refl refl refl ∙ ap (λ (xs : List ℕ). quote ∷ xs) more)
+    one_kept false true quote (quote ∷ rest) refl refl refl
+    ∙ ap (λ (xs : List ℕ). quote ∷ xs) (one_kept true false quote rest refl refl refl ∙ ap (λ (xs : List ℕ). quote ∷ xs) more)
 value_kept value rest (plain_quotes {first = first} {others = others} other is made) more =
     subst (λ (xs : List ℕ). outside_comments false false 0 (xs ++ rest) ≡ xs ++ rest) (sym made)
     (one_kept false true quote (((first ∷ others) ++ (quote ∷ [])) ++ rest) refl refl refl
-    ∙ ap (λ (xs : List ℕ). quote ∷ xs) (subst (λ (xs : List ℕ). outside_comments true false 0 xs ≡ xs) (sym (append_assoc (first ∷ others) (quote ∷ []) rest))
+    ∙ ap (λ (xs : List ℕ). quote ∷ xs)
+    (subst (λ (xs : List ℕ). outside_comments true false 0 xs ≡ xs) (sym (append_assoc (first ∷ others) (quote ∷ []) rest))
     (run_kept true is_plain_byte quoted_byte (first ∷ others) (quote ∷ rest) (plain_all (first ∷ others) is)
     (one_kept true false quote rest refl refl refl ∙ ap (λ (xs : List ℕ). quote ∷ xs) more))))
 
@@ -248,16 +277,20 @@ flat_kept rest flat_semicolon = refl
 flat_kept bytes (flat_parameter {value = value} gap name rest blanks names is more made) =
     subst (λ (xs : List ℕ). outside_comments false false 0 xs ≡ xs) (sym made)
     (one_kept false false semicolon (gap ++ (name ++ (equals_sign ∷ (value ++ rest)))) refl refl refl
-    ∙ ap (λ (xs : List ℕ). semicolon ∷ xs) (run_kept false is_blank (bare is_blank refl refl refl) gap (name ++ (equals_sign ∷ (value ++ rest))) blanks
+    ∙ ap (λ (xs : List ℕ). semicolon ∷ xs)
+    (run_kept false is_blank (bare is_blank refl refl refl) gap (name ++ (equals_sign ∷ (value ++ rest))) blanks
     (run_kept false is_name_character (bare is_name_character refl refl refl) name (equals_sign ∷ (value ++ rest)) names
-    (one_kept false false equals_sign (value ++ rest) refl refl refl ∙ ap (λ (xs : List ℕ). equals_sign ∷ xs) (value_kept value rest is (flat_kept rest more))))))
+    (one_kept false false equals_sign (value ++ rest) refl refl refl
+    ∙ ap (λ (xs : List ℕ). equals_sign ∷ xs) (value_kept value rest is (flat_kept rest more))))))
 
 type_kept : (bytes : List ℕ) → IsFlat bytes → outside_comments false false 0 bytes ≡ bytes
 type_kept bytes is =
     subst (λ (xs : List ℕ). outside_comments false false 0 xs ≡ xs) (sym is.made)
-    (run_kept false is_token_character (bare is_token_character refl refl refl) (is.first ∷ is.main) (slash ∷ ((is.second ∷ is.subtype) ++ is.rest)) is.is_main
+    (run_kept false is_token_character (bare is_token_character refl refl refl) (is.first ∷ is.main)
+    (slash ∷ ((is.second ∷ is.subtype) ++ is.rest)) is.is_main
     (one_kept false false slash ((is.second ∷ is.subtype) ++ is.rest) refl refl refl
-    ∙ ap (λ (xs : List ℕ). slash ∷ xs) (run_kept false is_token_character (bare is_token_character refl refl refl) (is.second ∷ is.subtype) is.rest is.is_subtype
+    ∙ ap (λ (xs : List ℕ). slash ∷ xs)
+    (run_kept false is_token_character (bare is_token_character refl refl refl) (is.second ∷ is.subtype) is.rest is.is_subtype
     (flat_kept is.rest is.parameters))))
 
 -- ---- both
@@ -267,6 +300,7 @@ unfolding without_comments
 flat_complete bytes ascii is =
     let read : chars bytes ≡ bytes = chars-IsAscii bytes ascii in
     let kept : without_comments bytes ≡ bytes =
-        ap (λ (cs : List ℕ). encode_utf8_all (outside_comments false false 0 cs)) read ∙ ap encode_utf8_all (type_kept bytes is) ∙ encodes-IsAscii bytes ascii in
+    ap (λ (cs : List ℕ). encode_utf8_all (outside_comments false false 0 cs)) read ∙ ap encode_utf8_all (type_kept bytes is)
+    ∙ encodes-IsAscii bytes ascii in
     let whole = whole-text bytes (IsUtf8-from_ascii bytes ascii) (ap past_slash read ∙ type_lacks bytes is) in
     (bytes_eq-Decides (repaired (without_comments bytes)) bytes).1 (ap repaired kept ∙ sym whole)

@@ -1,15 +1,18 @@
 -- A plain type is shown as one without folds, which needs no lenient reading.
-use Rattle.std.proofs.Common.{◌≡◌, ◌∙◌, ◌<◌, ◌≤◌, ◌+◌, ◌-◌, ℕ, zero, suc, Bool, true, false, not, cond, leb, List, [], ◌∷◌, ◌++◌, length, take, drop, map, Option, Some, None, refl, sym, ap, subst, inl, inr, arith, append_assoc, length-append}
+use Rattle.std.proofs.Common.{◌≡◌, ◌∙◌, ◌<◌, ◌+◌, ◌-◌, ℕ, zero, suc, Bool, true, false, not, leb, List, [], ◌∷◌, ◌++◌}
+use Rattle.std.proofs.Common.{length, take, drop, Some, None, refl, sym, ap, subst, inl, inr, arith, append_assoc}
+use Rattle.std.proofs.Common.{length-append}
 use Rattle.std.specs.Prelude.{◌⊎◌, ◌&&◌, ◌||◌, ◌==◌, nat_lt, codes, is_some, slice_index}
-use Rattle.std.specs.Char.{is_ascii_alphanumeric, is_whitespace, to_ascii_lowercase}
+use Rattle.std.specs.Char.{is_whitespace, to_ascii_lowercase}
 use Rattle.std.specs.List.{list_all, list_any}
-use Rattle.std.specs.Str.{bytes_eq, chars, encode_utf8_all, skip_leading_whitespace, str_eq_ignore_ascii_case, str_to_ascii_lowercase, trim_start}
+use Rattle.std.specs.Str.{encode_utf8_all, skip_leading_whitespace, str_eq_ignore_ascii_case}
+use Rattle.std.specs.Str.{str_to_ascii_lowercase, trim_start}
 use Rattle.std.specs.Str.Lines.{lines, strip_carriage_return}
-use Rattle.std.proofs.lemmas.Bool.{cases_lt, cond-false, cond-true, eqb-true, false≢true, le-leb, le-ltb, lt-ltb, ltb-true, or_cases}
-use Rattle.std.proofs.lemmas.List.{append-nil}
+use Rattle.std.proofs.lemmas.Bool.{cases_lt, cond-false, cond-true, eqb-true, false≢true, le-leb, le-ltb, lt-ltb, ltb-true}
+use Rattle.std.proofs.lemmas.Bool.{or_cases}
 use Rattle.std.proofs.lemmas.Slice.Eq.{bytes_eq-Decides}
 use Rattle.std.proofs.lemmas.Str.{IsUtf8-from_ascii, chars-IsAscii, encodes-IsAscii}
-use Rattle.mail_codec.specs.Ascii.{asterisk, carriage_return, equals_sign, is_blank, line_feed, semicolon, slash, space, tab}
+use Rattle.mail_codec.specs.Ascii.{carriage_return, equals_sign, is_blank, line_feed, semicolon, slash, space, tab}
 use Rattle.mail_codec.specs.Places.{begins, byte_place, first_place, has_prefix, is_empty, place}
 use Rattle.mail_codec.specs.Charset.{Charsets}
 use Rattle.mail_codec.proofs.lemmas.Places.{first_place-here, first_place-past}
@@ -22,30 +25,39 @@ use Rattle.mailparse.proofs.lemmas.ValuePlain.{graphic_no_whitespace, unfolded_v
 use Rattle.mail_data.specs.lenient.Agreement.{is_strict}
 use Rattle.mail_check.specs.strict.Fields.{HasBoundary}
 use Rattle.mail_check.specs.strict.LineEnds.{IsLineEnd}
-use Rattle.mail_check.specs.strict.Parameters.{IsGap, no_gap, gap_blank, gap_fold, is_name_character, is_token_character, main_types}
-use Rattle.mail_check.specs.strict.PlainParameters.{is_plain_byte, IsPlainValue, plain_token, empty_quotes, plain_quotes, ArePlain, no_plain, plain_semicolon, plain_parameter, HasNoWord, no_word, no_word_here, IsPlainType, blank_before_plain_type, plain_type}
+use Rattle.mail_check.specs.strict.Parameters.{IsGap, no_gap, gap_blank, gap_fold, is_name_character, is_token_character}
+use Rattle.mail_check.specs.strict.Parameters.{main_types}
+use Rattle.mail_check.specs.strict.PlainParameters.{is_plain_byte, IsPlainValue, plain_token, empty_quotes, plain_quotes}
+use Rattle.mail_check.specs.strict.PlainParameters.{ArePlain, no_plain, plain_semicolon, plain_parameter, HasNoWord, no_word}
+use Rattle.mail_check.specs.strict.PlainParameters.{no_word_here, IsPlainType, blank_before_plain_type, plain_type}
 use Rattle.mail_check.proofs.lemmas.StrictDelimiters.{is_inner}
-use Rattle.mail_check.proofs.lemmas.StrictHeaders.{all_head, all_tail, are_true, both_true, cases_Bool, eq_flip, is_not, neither, nor, not_true, right_false}
+use Rattle.mail_check.proofs.lemmas.StrictHeaders.{all_head, all_tail, are_true, both_true, eq_flip, is_not, neither}
+use Rattle.mail_check.proofs.lemmas.StrictHeaders.{nor, not_true, right_false}
 use Rattle.mail_laws.proofs.lemmas.FlatPairs.{all_back, all_both, all_front, flat_strict, is_low, low_ascii}
-use Rattle.mail_laws.proofs.lemmas.FlatTypes.{AreFlat, no_flat, flat_semicolon, flat_parameter, IsFlat, differs, none_below, plain_all, visible}
+use Rattle.mail_laws.proofs.lemmas.FlatTypes.{AreFlat, no_flat, flat_semicolon, flat_parameter, IsFlat, differs, none_below}
+use Rattle.mail_laws.proofs.lemmas.FlatTypes.{plain_all, visible}
 
 -- ---- bytes of no line end
 
 inner_of : (test : ℕ → Bool) → test carriage_return ≡ false → test line_feed ≡ false → (b : ℕ) → test b ≡ true → is_inner b ≡ true
 inner_of test e f b is =
-    is_not (b == carriage_return || b == line_feed) (nor (b == carriage_return) (b == line_feed) (differs test carriage_return e b is) (differs test line_feed f b is))
+    is_not (b == carriage_return || b == line_feed)
+    (nor (b == carriage_return) (b == line_feed) (differs test carriage_return e b is) (differs test line_feed f b is))
 
-all_inner : (test : ℕ → Bool) → test carriage_return ≡ false → test line_feed ≡ false → (xs : List ℕ) → list_all test xs ≡ true → list_all is_inner xs ≡ true
+all_inner : (test : ℕ → Bool) → test carriage_return ≡ false → test line_feed ≡ false → (xs : List ℕ) → list_all test xs ≡ true
+    → list_all is_inner xs ≡ true
 all_inner test e f [] h = refl
 all_inner test e f (b ∷ xs) h =
-    are_true (is_inner b) (list_all is_inner xs) (inner_of test e f b (all_head test b xs h)) (all_inner test e f xs (all_tail test b xs h))
+    are_true (is_inner b) (list_all is_inner xs) (inner_of test e f b (all_head test b xs h))
+    (all_inner test e f xs (all_tail test b xs h))
 
 value_inner : (value : List ℕ) → IsPlainValue value → list_all is_inner value ≡ true
 value_inner value (plain_token {first = first} {others = others} all) = all_inner is_name_character refl refl (first ∷ others) all
 value_inner value empty_quotes = refl
 value_inner value (plain_quotes {first = first} {others = others} other is made) =
     subst (λ (xs : List ℕ). list_all is_inner xs ≡ true) (sym made)
-    (all_both is_inner (first ∷ others) (34 ∷ []) (all_inner is_plain_byte refl refl (first ∷ others) (plain_all (first ∷ others) is)) refl)
+    (all_both is_inner (first ∷ others) (34 ∷ [])
+    (all_inner is_plain_byte refl refl (first ∷ others) (plain_all (first ∷ others) is)) refl)
 
 abbrev is_unfed : ℕ → Bool
 is_unfed b = not (b == line_feed)
@@ -54,31 +66,40 @@ inner_unfed : (xs : List ℕ) → list_all is_inner xs ≡ true → list_all is_
 inner_unfed [] h = refl
 inner_unfed (b ∷ xs) h =
     are_true (is_unfed b) (list_all is_unfed xs)
-    (is_not (b == line_feed) (neither (b == carriage_return) (b == line_feed) (not_true (b == carriage_return || b == line_feed) (all_head is_inner b xs h))).1)
+    (is_not (b == line_feed)
+    (neither (b == carriage_return) (b == line_feed)
+    (not_true (b == carriage_return || b == line_feed) (all_head is_inner b xs h))).1)
     (inner_unfed xs (all_tail is_inner b xs h))
 
 -- ---- lines
 
-feed_first : (run rest : List ℕ) → list_all is_unfed run ≡ true → first_place (begins (λ b. b == line_feed)) (run ++ line_feed ∷ rest) ≡ length run
+feed_first : (run rest : List ℕ) → list_all is_unfed run ≡ true
+    → first_place (begins (λ b. b == line_feed)) (run ++ line_feed ∷ rest) ≡ length run
 feed_first [] rest all = first_place-here (begins (λ b. b == line_feed)) (line_feed ∷ rest) refl
 feed_first (b ∷ run) rest all =
-    first_place-past (begins (λ b. b == line_feed)) b (run ++ line_feed ∷ rest) (not_true (b == line_feed) (all_head is_unfed b run all))
+    first_place-past (begins (λ b. b == line_feed)) b (run ++ line_feed ∷ rest)
+    (not_true (b == line_feed) (all_head is_unfed b run all))
     ∙ ap suc (feed_first run rest (all_tail is_unfed b run all))
 
 feed_none : (run : List ℕ) → list_all is_unfed run ≡ true → first_place (begins (λ b. b == line_feed)) run ≡ length run
 feed_none [] all = refl
 feed_none (b ∷ run) all =
-    first_place-past (begins (λ b. b == line_feed)) b run (not_true (b == line_feed) (all_head is_unfed b run all)) ∙ ap suc (feed_none run (all_tail is_unfed b run all))
+    first_place-past (begins (λ b. b == line_feed)) b run (not_true (b == line_feed) (all_head is_unfed b run all))
+    ∙ ap suc (feed_none run (all_tail is_unfed b run all))
 
 place_past : (test : List ℕ → Bool) (xs : List ℕ) → first_place test xs ≡ length xs → None ≡ place test xs
-place_past test xs e = sym (cond-false (nat_lt (first_place test xs) (length xs)) (Some (first_place test xs)) None (le-ltb (first_place test xs) (length xs) (omega (arith, e))))
+place_past test xs e =
+    sym (cond-false (nat_lt (first_place test xs) (length xs)) (Some (first_place test xs)) None
+    (le-ltb (first_place test xs) (length xs) (omega (arith, e))))
 
-feed_place : (run rest : List ℕ) → list_all is_unfed run ≡ true → Some (length run) ≡ byte_place (run ++ line_feed ∷ rest) line_feed
+feed_place : (run rest : List ℕ) → list_all is_unfed run ≡ true
+    → Some (length run) ≡ byte_place (run ++ line_feed ∷ rest) line_feed
 feed_place run rest all =
     let p = first_place (begins (λ b. b == line_feed)) (run ++ line_feed ∷ rest) in
     let e = feed_first run rest all in
     let size = length-append run (line_feed ∷ rest) in
-    sym (cond-true (nat_lt p (length (run ++ line_feed ∷ rest))) (Some p) None (lt-ltb p (length (run ++ line_feed ∷ rest)) (omega (arith, e, size))) ∙ ap (λ (n : ℕ). Some n) e)
+    sym (cond-true (nat_lt p (length (run ++ line_feed ∷ rest))) (Some p) None
+    (lt-ltb p (length (run ++ line_feed ∷ rest)) (omega (arith, e, size))) ∙ ap (λ (n : ℕ). Some n) e)
 
 taken : (run rest : List ℕ) → take (length run) (run ++ rest) ≡ run
 taken [] rest = refl
@@ -88,20 +109,26 @@ dropped : (run : List ℕ) (c : ℕ) (rest : List ℕ) → drop (suc (length run
 dropped [] c rest = refl
 dropped (b ∷ run) c rest = dropped run c rest
 
-cut_at : (run rest : List ℕ) → list_all is_unfed run ≡ true → lines (run ++ line_feed ∷ rest) ≡ strip_carriage_return run ∷ lines rest
+cut_at : (run rest : List ℕ) → list_all is_unfed run ≡ true
+    → lines (run ++ line_feed ∷ rest) ≡ strip_carriage_return run ∷ lines rest
 cut_at run rest all =
     lines_cut (run ++ line_feed ∷ rest) (length run) (feed_place run rest all)
-    ∙ ap (λ (xs : List ℕ). strip_carriage_return xs ∷ lines (drop (length run + 1) (run ++ line_feed ∷ rest))) (taken run (line_feed ∷ rest))
+    ∙ ap (λ (xs : List ℕ). strip_carriage_return xs ∷ lines (drop (length run + 1) (run ++ line_feed ∷ rest)))
+    (taken run (line_feed ∷ rest))
     ∙ ap (λ (xs : List ℕ). strip_carriage_return run ∷ lines xs)
-    (ap (λ (n : ℕ). drop n (run ++ line_feed ∷ rest)) {x = length run + 1} {y = suc (length run)} (omega arith) ∙ dropped run line_feed rest)
+    (ap (λ (n : ℕ). drop n (run ++ line_feed ∷ rest)) {x = length run + 1} {y = suc (length run)} (omega arith)
+    ∙ dropped run line_feed rest)
 
 no_return : (run : List ℕ) → list_all is_inner run ≡ true → (i : ℕ) → (slice_index run i == carriage_return) ≡ false
 no_return [] all i = refl
-no_return (b ∷ run) all zero = (neither (b == carriage_return) (b == line_feed) (not_true (b == carriage_return || b == line_feed) (all_head is_inner b run all))).0
+no_return (b ∷ run) all zero =
+    (neither (b == carriage_return) (b == line_feed)
+    (not_true (b == carriage_return || b == line_feed) (all_head is_inner b run all))).0
 no_return (b ∷ run) all (suc i) = no_return run (all_tail is_inner b run all) i
 
 strip_none : (run : List ℕ) → list_all is_inner run ≡ true → strip_carriage_return run ≡ run
-strip_none run all = cond-false (slice_index run (length run - 1) == 13) (take (length run - 1) run) run (no_return run all (length run - 1))
+strip_none run all =
+    cond-false (slice_index run (length run - 1) == 13) (take (length run - 1) run) run (no_return run all (length run - 1))
 
 last_at : (run : List ℕ) (c : ℕ) → slice_index (run ++ c ∷ []) (length run) ≡ c
 last_at [] c = refl
@@ -116,9 +143,11 @@ strip_one run =
     (ap (λ (n : ℕ). slice_index whole n == 13) at ∙ ap (λ (c : ℕ). c == 13) (last_at run carriage_return))
     ∙ ap (λ (n : ℕ). take n whole) at ∙ taken run (carriage_return ∷ [])
 
-cut_line : (run line rest : List ℕ) → list_all is_inner run ≡ true → IsLineEnd line → lines (run ++ (line ++ rest)) ≡ run ∷ lines rest
+cut_line : (run line rest : List ℕ) → list_all is_inner run ≡ true → IsLineEnd line
+    → lines (run ++ (line ++ rest)) ≡ run ∷ lines rest
 cut_line run line rest all (inl e) =
-    ap (λ (xs : List ℕ). lines (run ++ (xs ++ rest))) e ∙ cut_at run rest (inner_unfed run all) ∙ ap (λ (xs : List ℕ). xs ∷ lines rest) (strip_none run all)
+    ap (λ (xs : List ℕ). lines (run ++ (xs ++ rest))) e ∙ cut_at run rest (inner_unfed run all)
+    ∙ ap (λ (xs : List ℕ). xs ∷ lines rest) (strip_none run all)
 cut_line run line rest all (inr e) =
     ap (λ (xs : List ℕ). lines (run ++ (xs ++ rest))) e
     ∙ ap lines (sym (append_assoc run (carriage_return ∷ []) (line_feed ∷ rest)))
@@ -128,7 +157,8 @@ cut_line run line rest all (inr e) =
 joined_cut : (run line rest : List ℕ) → list_all is_inner run ≡ true → IsLineEnd line → 0 < length rest
     → joined_text (run ++ (line ++ rest)) ≡ (trim_start run ++ space ∷ []) ++ joined_text rest
 joined_cut run line rest all is some =
-    sym (joined_more (run ++ (line ++ rest)) run rest [] (joined_text (run ++ (line ++ rest))) (trim_start run) (trim_start run ++ space ∷ []) (cut_line run line rest all is) some refl refl refl)
+    sym (joined_more (run ++ (line ++ rest)) run rest [] (joined_text (run ++ (line ++ rest))) (trim_start run)
+    (trim_start run ++ space ∷ []) (cut_line run line rest all is) some refl refl refl)
 
 -- ---- blanks at the front
 
@@ -138,17 +168,21 @@ blank_white b h = elim (or_cases (b == space) (b == tab) h) [
   | inr e ↦ ap is_whitespace (eqb-true b tab e)
 ]
 
-skip_blanks : (blanks : List ℕ) (b : ℕ) (run : List ℕ) → list_all is_blank blanks ≡ true → is_whitespace b ≡ false → skip_leading_whitespace (blanks ++ b ∷ run) ≡ b ∷ run
+skip_blanks : (blanks : List ℕ) (b : ℕ) (run : List ℕ) → list_all is_blank blanks ≡ true → is_whitespace b ≡ false
+    → skip_leading_whitespace (blanks ++ b ∷ run) ≡ b ∷ run
 skip_blanks [] b run all black = cond-false (is_whitespace b) (skip_leading_whitespace run) (b ∷ run) black
 skip_blanks (c ∷ blanks) b run all black =
-    cond-true (is_whitespace c) (skip_leading_whitespace (blanks ++ b ∷ run)) (c ∷ (blanks ++ b ∷ run)) (blank_white c (all_head is_blank c blanks all))
+    cond-true (is_whitespace c) (skip_leading_whitespace (blanks ++ b ∷ run)) (c ∷ (blanks ++ b ∷ run))
+    (blank_white c (all_head is_blank c blanks all))
     ∙ skip_blanks blanks b run (all_tail is_blank c blanks all) black
 
-trim_front : (blanks : List ℕ) (b : ℕ) (run : List ℕ) → list_all is_blank blanks ≡ true → is_whitespace b ≡ false → list_all is_low (blanks ++ b ∷ run) ≡ true
+trim_front : (blanks : List ℕ) (b : ℕ) (run : List ℕ) → list_all is_blank blanks ≡ true → is_whitespace b ≡ false
+    → list_all is_low (blanks ++ b ∷ run) ≡ true
     → trim_start (blanks ++ b ∷ run) ≡ b ∷ run
 unfolding trim_start
 trim_front blanks b run all black low =
-    ap (λ (cs : List ℕ). encode_utf8_all (skip_leading_whitespace cs)) (chars-IsAscii (blanks ++ b ∷ run) (low_ascii (blanks ++ b ∷ run) low))
+    ap (λ (cs : List ℕ). encode_utf8_all (skip_leading_whitespace cs))
+    (chars-IsAscii (blanks ++ b ∷ run) (low_ascii (blanks ++ b ∷ run) low))
     ∙ ap encode_utf8_all (skip_blanks blanks b run all black)
     ∙ encodes-IsAscii (b ∷ run) (low_ascii (b ∷ run) (all_back is_low blanks (b ∷ run) low))
 
@@ -164,18 +198,21 @@ word_back (b ∷ xs) ys (no_word_here e more) = word_back xs ys more
 word_front : (xs ys : List ℕ) → list_all (λ b. not (equals_sign == b)) xs ≡ true → HasNoWord ys → HasNoWord (xs ++ ys)
 word_front [] ys all h = h
 word_front (b ∷ xs) ys all h =
-    no_word_here (ap (λ (t : Bool). t && has_prefix (codes "?") (xs ++ ys)) (not_true (equals_sign == b) (all_head (λ b. not (equals_sign == b)) b xs all)))
+    no_word_here (ap (λ (t : Bool). t && has_prefix (codes "?") (xs ++ ys))
+    (not_true (equals_sign == b) (all_head (λ b. not (equals_sign == b)) b xs all)))
     (word_front xs ys (all_tail (λ b. not (equals_sign == b)) b xs all) h)
 
 -- a space in the place of other bytes
 word_space : (xs ys zs : List ℕ) → HasNoWord (xs ++ ys) → HasNoWord zs → HasNoWord (xs ++ space ∷ zs)
 word_space [] ys zs h k = no_word_here refl k
-word_space (b ∷ []) ys zs (no_word_here e more) k = no_word_here (right_false (equals_sign == b) (has_prefix (codes "?") (space ∷ zs)) refl) (no_word_here refl k)
+word_space (b ∷ []) ys zs (no_word_here e more) k =
+    no_word_here (right_false (equals_sign == b) (has_prefix (codes "?") (space ∷ zs)) refl) (no_word_here refl k)
 word_space (b ∷ (c ∷ xs)) ys zs (no_word_here e more) k = no_word_here e (word_space (c ∷ xs) ys zs more k)
 
 words_past : (xs : List ℕ) → HasNoWord xs → first_place begins_opening xs ≡ length xs
 words_past xs no_word = refl
-words_past xs (no_word_here {b = b} {rest = rest} e more) = first_place-past begins_opening b rest e ∙ ap suc (words_past rest more)
+words_past xs (no_word_here {b = b} {rest = rest} e more) =
+    first_place-past begins_opening b rest e ∙ ap suc (words_past rest more)
 
 -- ---- parameters
 
@@ -183,7 +220,8 @@ words_past xs (no_word_here {b = b} {rest = rest} e more) = first_place-past beg
 record Unfolds (rest : List ℕ) : Type 0 where
   flat : List ℕ
   is : AreFlat flat
-  shown : (blanks : List ℕ) (b : ℕ) (run : List ℕ) → list_all is_blank blanks ≡ true → is_whitespace b ≡ false → list_all is_inner (b ∷ run) ≡ true
+  shown : (blanks : List ℕ) (b : ℕ) (run : List ℕ) → list_all is_blank blanks ≡ true → is_whitespace b ≡ false
+      → list_all is_inner (b ∷ run) ≡ true
       → list_all is_low ((blanks ++ b ∷ run) ++ rest) ≡ true → joined_text ((blanks ++ b ∷ run) ++ rest) ≡ (b ∷ run) ++ flat
   low : list_all is_low rest ≡ true → list_all is_low flat ≡ true
   word : (run : List ℕ) → HasNoWord (run ++ rest) → HasNoWord (run ++ flat)
@@ -196,25 +234,31 @@ ended rest inner is = record {
   shown = λ blanks b run all black inner_run low.
       let same : (blanks ++ b ∷ run) ++ rest ≡ blanks ++ b ∷ (run ++ rest) = append_assoc blanks (b ∷ run) rest in
       let low_here = subst (λ (xs : List ℕ). list_all is_low xs ≡ true) same low in
-      let unfed = inner_unfed (blanks ++ b ∷ (run ++ rest)) (all_both is_inner blanks (b ∷ (run ++ rest)) (blanks_inner blanks all) (all_both is_inner (b ∷ run) rest inner_run inner)) in
+      let unfed =
+      inner_unfed (blanks ++ b ∷ (run ++ rest))
+      (all_both is_inner blanks (b ∷ (run ++ rest)) (blanks_inner blanks all)
+      (all_both is_inner (b ∷ run) rest inner_run inner)) in
       ap joined_text same
-      ∙ joined_alone (blanks ++ b ∷ (run ++ rest)) (place_past (begins (λ b. b == line_feed)) (blanks ++ b ∷ (run ++ rest)) (feed_none (blanks ++ b ∷ (run ++ rest)) unfed))
+      ∙ joined_alone (blanks ++ b ∷ (run ++ rest))
+      (place_past (begins (λ b. b == line_feed)) (blanks ++ b ∷ (run ++ rest)) (feed_none (blanks ++ b ∷ (run ++ rest)) unfed))
       ∙ trim_front blanks b (run ++ rest) all black low_here;
   low = λ h. h;
   word = λ run h. h;
 }
 
 -- after other bytes
-onwards : (part rest bytes : List ℕ) → list_all is_inner part ≡ true → bytes ≡ part ++ rest → (more : Unfolds rest) → AreFlat (part ++ more.flat) → Unfolds bytes
+onwards : (part rest bytes : List ℕ) → list_all is_inner part ≡ true → bytes ≡ part ++ rest → (more : Unfolds rest)
+    → AreFlat (part ++ more.flat) → Unfolds bytes
 onwards part rest bytes inner made more is = record {
   flat = part ++ more.flat;
   is = is;
   shown = λ blanks b run all black inner_run low.
       let same : (blanks ++ b ∷ run) ++ bytes ≡ (blanks ++ b ∷ (run ++ part)) ++ rest =
-          ap (λ (xs : List ℕ). (blanks ++ b ∷ run) ++ xs) made ∙ sym (append_assoc (blanks ++ b ∷ run) part rest)
-          ∙ ap (λ (xs : List ℕ). xs ++ rest) (append_assoc blanks (b ∷ run) part) in
+      ap (λ (xs : List ℕ). (blanks ++ b ∷ run) ++ xs) made ∙ sym (append_assoc (blanks ++ b ∷ run) part rest)
+      ∙ ap (λ (xs : List ℕ). xs ++ rest) (append_assoc blanks (b ∷ run) part) in
       ap joined_text same
-      ∙ more.shown blanks b (run ++ part) all black (all_both is_inner (b ∷ run) part inner_run inner) (subst (λ (xs : List ℕ). list_all is_low xs ≡ true) same low)
+      ∙ more.shown blanks b (run ++ part) all black (all_both is_inner (b ∷ run) part inner_run inner)
+      (subst (λ (xs : List ℕ). list_all is_low xs ≡ true) same low)
       ∙ append_assoc (b ∷ run) part more.flat;
   low = λ h.
       let here = subst (λ (xs : List ℕ). list_all is_low xs ≡ true) made h in
@@ -225,7 +269,8 @@ onwards part rest bytes inner made more is = record {
 }
 
 -- before a fold
-folded : (part line blanks : List ℕ) (x : ℕ) (xs rest bytes : List ℕ) → list_all is_inner part ≡ true → IsLineEnd line → list_all is_blank blanks ≡ true → is_whitespace x ≡ false
+folded : (part line blanks : List ℕ) (x : ℕ) (xs rest bytes : List ℕ) → list_all is_inner part ≡ true → IsLineEnd line
+    → list_all is_blank blanks ≡ true → is_whitespace x ≡ false
     → list_all is_inner (x ∷ xs) ≡ true → bytes ≡ part ++ (line ++ ((blanks ++ x ∷ xs) ++ rest)) → (more : Unfolds rest)
     → AreFlat (part ++ (space ∷ ((x ∷ xs) ++ more.flat))) → Unfolds bytes
 folded part line blanks x xs rest bytes inner is_line all_blank dark inner_next made more is = record {
@@ -235,28 +280,36 @@ folded part line blanks x xs rest bytes inner is_line all_blank dark inner_next 
       let tail : List ℕ = (blanks ++ x ∷ xs) ++ rest in
       let front : List ℕ = before ++ b ∷ (run ++ part) in
       let same : (before ++ b ∷ run) ++ bytes ≡ front ++ (line ++ tail) =
-          ap (λ (ys : List ℕ). (before ++ b ∷ run) ++ ys) made ∙ sym (append_assoc (before ++ b ∷ run) part (line ++ tail))
-          ∙ ap (λ (ys : List ℕ). ys ++ (line ++ tail)) (append_assoc before (b ∷ run) part) in
+      ap (λ (ys : List ℕ). (before ++ b ∷ run) ++ ys) made ∙ sym (append_assoc (before ++ b ∷ run) part (line ++ tail))
+      ∙ ap (λ (ys : List ℕ). ys ++ (line ++ tail)) (append_assoc before (b ∷ run) part) in
       let low_here = subst (λ (ys : List ℕ). list_all is_low ys ≡ true) same low in
       let low_tail = all_back is_low line tail (all_back is_low front (line ++ tail) low_here) in
-      let inner_front = all_both is_inner before (b ∷ (run ++ part)) (blanks_inner before all) (all_both is_inner (b ∷ run) part inner_run inner) in
+      let inner_front =
+      all_both is_inner before (b ∷ (run ++ part)) (blanks_inner before all)
+      (all_both is_inner (b ∷ run) part inner_run inner) in
       let sizes = length-append (blanks ++ x ∷ xs) rest in
       let size = length-append blanks (x ∷ xs) in
       ap joined_text same
       ∙ joined_cut front line tail inner_front is_line (omega (arith, sizes, size))
-      ∙ ap (λ (ys : List ℕ). (ys ++ space ∷ []) ++ joined_text tail) (trim_front before b (run ++ part) all black (all_front is_low front (line ++ tail) low_here))
-      ∙ ap (λ (ys : List ℕ). ((b ∷ (run ++ part)) ++ space ∷ []) ++ ys) (more.shown blanks x xs all_blank dark inner_next low_tail)
+      ∙ ap (λ (ys : List ℕ). (ys ++ space ∷ []) ++ joined_text tail)
+      (trim_front before b (run ++ part) all black (all_front is_low front (line ++ tail) low_here))
+      ∙ ap (λ (ys : List ℕ). ((b ∷ (run ++ part)) ++ space ∷ []) ++ ys)
+      (more.shown blanks x xs all_blank dark inner_next low_tail)
       ∙ append_assoc (b ∷ (run ++ part)) (space ∷ []) ((x ∷ xs) ++ more.flat)
       ∙ append_assoc (b ∷ run) part (space ∷ ((x ∷ xs) ++ more.flat));
   low = λ h.
       let here = subst (λ (ys : List ℕ). list_all is_low ys ≡ true) made h in
-      let tail = all_back is_low line ((blanks ++ x ∷ xs) ++ rest) (all_back is_low part (line ++ ((blanks ++ x ∷ xs) ++ rest)) here) in
+      let tail =
+      all_back is_low line ((blanks ++ x ∷ xs) ++ rest) (all_back is_low part (line ++ ((blanks ++ x ∷ xs) ++ rest)) here) in
       all_both is_low part (space ∷ ((x ∷ xs) ++ more.flat)) (all_front is_low part (line ++ ((blanks ++ x ∷ xs) ++ rest)) here)
-      (all_both is_low (x ∷ xs) more.flat (all_back is_low blanks (x ∷ xs) (all_front is_low (blanks ++ x ∷ xs) rest tail)) (more.low (all_back is_low (blanks ++ x ∷ xs) rest tail)));
+      (all_both is_low (x ∷ xs) more.flat (all_back is_low blanks (x ∷ xs) (all_front is_low (blanks ++ x ∷ xs) rest tail))
+      (more.low (all_back is_low (blanks ++ x ∷ xs) rest tail)));
   word = λ run h.
       let here : HasNoWord ((run ++ part) ++ (line ++ ((blanks ++ x ∷ xs) ++ rest))) =
-          subst HasNoWord (ap (λ (ys : List ℕ). run ++ ys) made ∙ sym (append_assoc run part (line ++ ((blanks ++ x ∷ xs) ++ rest)))) h in
-      let tail = word_back line ((blanks ++ x ∷ xs) ++ rest) (word_back (run ++ part) (line ++ ((blanks ++ x ∷ xs) ++ rest)) here) in
+      subst HasNoWord (ap (λ (ys : List ℕ). run ++ ys) made
+      ∙ sym (append_assoc run part (line ++ ((blanks ++ x ∷ xs) ++ rest)))) h in
+      let tail =
+      word_back line ((blanks ++ x ∷ xs) ++ rest) (word_back (run ++ part) (line ++ ((blanks ++ x ∷ xs) ++ rest)) here) in
       let next = word_back blanks ((x ∷ xs) ++ rest) (subst HasNoWord (append_assoc blanks (x ∷ xs) rest) tail) in
       subst HasNoWord (append_assoc run part (space ∷ ((x ∷ xs) ++ more.flat)))
       (word_space (run ++ part) (line ++ ((blanks ++ x ∷ xs) ++ rest)) ((x ∷ xs) ++ more.flat) here (more.word (x ∷ xs) next));
@@ -277,14 +330,30 @@ gap_cases gap no_gap = inl refl
 gap_cases gap (gap_blank {b = b} {rest = rest} is more) = elim (gap_cases rest more) [
   | inl e ↦ inl (are_true (is_blank b) (list_all is_blank rest) is e)
   | inr f ↦ inr (record {
-    before = b ∷ f.before; line = f.line; blanks = f.blanks; are_before = are_true (is_blank b) (list_all is_blank f.before) is f.are_before;
-    is_line = f.is_line; are_after = f.are_after; made = ap (λ (xs : List ℕ). b ∷ xs) f.made;
+    before =
+        b ∷ f.before;
+    line = f.line;
+    blanks = f.blanks;
+    are_before = are_true (is_blank b)
+        (list_all is_blank f.before) is f.are_before;
+    is_line = f.is_line;
+    are_after = f.are_after;
+    made = ap (λ (xs : List ℕ). b ∷ xs) f.made;
   })
 ]
 gap_cases gap (gap_fold {line = line} first blanks is_line all made) =
-    inr (record { before = []; line = line; blanks = first ∷ blanks; are_before = refl; is_line = is_line; are_after = all; made = made })
+    inr (record {
+      before = [];
+      line = line;
+      blanks = first ∷ blanks;
+      are_before = refl;
+      is_line = is_line;
+      are_after = all;
+      made = made;
+    })
 
-dark : (test : ℕ → Bool) → none_below test 33 ≡ true → test 127 ≡ false → (b : ℕ) → test b ≡ true → is_low b ≡ true → is_whitespace b ≡ false
+dark : (test : ℕ → Bool) → none_below test 33 ≡ true → test 127 ≡ false → (b : ℕ) → test b ≡ true → is_low b ≡ true
+    → is_whitespace b ≡ false
 dark test h e b is low =
     let least = visible test h b is in
     let most = ltb-true b 128 low in
@@ -296,45 +365,62 @@ dark test h e b is low =
     ]
 
 -- one parameter more
-one_more : (first : ℕ) (gap others value rest bytes : List ℕ) → IsGap gap → list_all is_name_character (first ∷ others) ≡ true → IsPlainValue value → is_whitespace first ≡ false
+one_more : (first : ℕ) (gap others value rest bytes : List ℕ) → IsGap gap → list_all is_name_character (first ∷ others) ≡ true
+    → IsPlainValue value → is_whitespace first ≡ false
     → Unfolds rest → bytes ≡ semicolon ∷ (gap ++ ((first ∷ others) ++ (equals_sign ∷ (value ++ rest)))) → Unfolds bytes
 one_more first gap others value rest bytes is_gap names is black more made =
     let next : List ℕ = others ++ (equals_sign ∷ value) in
     let inner_next : list_all is_inner (first ∷ next) ≡ true =
-        all_both is_inner (first ∷ others) (equals_sign ∷ value) (all_inner is_name_character refl refl (first ∷ others) names) (value_inner value is) in
+    all_both is_inner (first ∷ others) (equals_sign ∷ value) (all_inner is_name_character refl refl (first ∷ others) names)
+    (value_inner value is) in
     elim (gap_cases gap is_gap) [
       | inl blanks ↦
           let part : List ℕ = semicolon ∷ (gap ++ (first ∷ next)) in
           onwards part rest bytes (all_both is_inner gap (first ∷ next) (blanks_inner gap blanks) inner_next)
           (made ∙ ap (λ (xs : List ℕ). semicolon ∷ xs) (joins gap rest)) more
-          (flat_parameter gap (first ∷ others) more.flat blanks names is more.is (sym (ap (λ (xs : List ℕ). semicolon ∷ xs) (joins gap more.flat))))
+          (flat_parameter gap (first ∷ others) more.flat blanks names is more.is
+          (sym (ap (λ (xs : List ℕ). semicolon ∷ xs) (joins gap more.flat))))
       | inr f ↦
           let part : List ℕ = semicolon ∷ f.before in
-          folded part f.line f.blanks first next rest bytes (blanks_inner f.before f.are_before) f.is_line f.are_after black inner_next
-          (made ∙ ap (λ (xs : List ℕ). semicolon ∷ xs) (joins gap rest ∙ ap (λ (xs : List ℕ). (xs ++ (first ∷ next)) ++ rest) f.made ∙ split f.before f.line f.blanks (first ∷ next) rest)) more
-          (flat_parameter (f.before ++ space ∷ []) (first ∷ others) more.flat (all_both is_blank f.before (space ∷ []) f.are_before refl) names is more.is
-          (ap (λ (xs : List ℕ). semicolon ∷ (f.before ++ (space ∷ xs))) (append_assoc (first ∷ others) (equals_sign ∷ value) more.flat)
-          ∙ ap (λ (xs : List ℕ). semicolon ∷ xs) (sym (append_assoc f.before (space ∷ []) ((first ∷ others) ++ (equals_sign ∷ (value ++ more.flat)))))))
+          folded part f.line f.blanks first next rest bytes
+          (blanks_inner f.before f.are_before) f.is_line f.are_after black inner_next
+          (made ∙ ap (λ (xs : List ℕ). semicolon ∷ xs)
+          (joins gap rest ∙ ap (λ (xs : List ℕ). (xs ++ (first ∷ next)) ++ rest) f.made
+          ∙ split f.before f.line f.blanks (first ∷ next) rest)) more
+          (flat_parameter (f.before ++ space ∷ []) (first ∷ others) more.flat
+          (all_both is_blank f.before (space ∷ []) f.are_before refl) names is more.is
+          (ap (λ (xs : List ℕ). semicolon ∷ (f.before ++ (space ∷ xs)))
+          (append_assoc (first ∷ others) (equals_sign ∷ value) more.flat)
+          ∙ ap (λ (xs : List ℕ). semicolon ∷ xs)
+          (sym (append_assoc f.before (space ∷ []) ((first ∷ others) ++ (equals_sign ∷ (value ++ more.flat)))))))
     ]
   where
-    joins : (gap rest : List ℕ) → gap ++ ((first ∷ others) ++ (equals_sign ∷ (value ++ rest))) ≡ (gap ++ (first ∷ (others ++ (equals_sign ∷ value)))) ++ rest
+    joins : (gap rest : List ℕ)
+        → gap ++ ((first ∷ others) ++ (equals_sign ∷ (value ++ rest)))
+        ≡ (gap ++ (first ∷ (others ++ (equals_sign ∷ value)))) ++ rest
     joins gap rest =
-        ap (λ (xs : List ℕ). gap ++ xs) (sym (append_assoc (first ∷ others) (equals_sign ∷ value) rest)) ∙ sym (append_assoc gap (first ∷ (others ++ (equals_sign ∷ value))) rest)
+        ap (λ (xs : List ℕ). gap ++ xs) (sym (append_assoc (first ∷ others) (equals_sign ∷ value) rest))
+        ∙ sym (append_assoc gap (first ∷ (others ++ (equals_sign ∷ value))) rest)
 
-    split : (before line blanks next rest : List ℕ) → ((before ++ (line ++ blanks)) ++ next) ++ rest ≡ before ++ (line ++ ((blanks ++ next) ++ rest))
+    split : (before line blanks next rest : List ℕ)
+        → ((before ++ (line ++ blanks)) ++ next) ++ rest ≡ before ++ (line ++ ((blanks ++ next) ++ rest))
     split before line blanks next rest =
-        ap (λ (xs : List ℕ). xs ++ rest) (append_assoc before (line ++ blanks) next ∙ ap (λ (xs : List ℕ). before ++ xs) (append_assoc line blanks next))
-        ∙ append_assoc before (line ++ (blanks ++ next)) rest ∙ ap (λ (xs : List ℕ). before ++ xs) (append_assoc line (blanks ++ next) rest)
+        ap (λ (xs : List ℕ). xs ++ rest)
+        (append_assoc before (line ++ blanks) next ∙ ap (λ (xs : List ℕ). before ++ xs) (append_assoc line blanks next))
+        ∙ append_assoc before (line ++ (blanks ++ next)) rest
+        ∙ ap (λ (xs : List ℕ). before ++ xs) (append_assoc line (blanks ++ next) rest)
 
 parameters_unfold : (names : List (List ℕ)) (bytes : List ℕ) → list_all is_low bytes ≡ true → ArePlain names bytes → Unfolds bytes
 parameters_unfold names bytes low no_plain = ended [] refl no_flat
 parameters_unfold names bytes low plain_semicolon = ended (semicolon ∷ []) refl flat_semicolon
-parameters_unfold names bytes low (plain_parameter {names = more_names} {gap = gap} {value = value} first others rest is_gap all is other more made) =
+parameters_unfold names bytes low
+    (plain_parameter {names = more_names} {gap = gap} {value = value} first others rest is_gap all is other more made) =
     let here = subst (λ (xs : List ℕ). list_all is_low xs ≡ true) made low in
     let name = all_back is_low gap ((first ∷ others) ++ (equals_sign ∷ (value ++ rest))) here in
     let left = all_back is_low value rest (all_back is_low (first ∷ others) (equals_sign ∷ (value ++ rest)) name) in
     one_more first gap others value rest bytes is_gap all is
-    (dark is_name_character refl refl first (all_head is_name_character first others all) (all_head is_low first (others ++ (equals_sign ∷ (value ++ rest))) name))
+    (dark is_name_character refl refl first (all_head is_name_character first others all)
+    (all_head is_low first (others ++ (equals_sign ∷ (value ++ rest))) name))
     (parameters_unfold more_names rest left more) made
 
 -- ---- the types that all programs know
@@ -345,33 +431,39 @@ record IsWord (bytes : List ℕ) : Type 0 where
 
 are_words : List (List ℕ) → Bool
 are_words [] = true
-are_words (t ∷ types) = (not (is_empty (str_to_ascii_lowercase t)) && list_all is_token_character (str_to_ascii_lowercase t)) && are_words types
+are_words (t ∷ types) =
+    (not (is_empty (str_to_ascii_lowercase t)) && list_all is_token_character (str_to_ascii_lowercase t)) && are_words types
 
 raised : (b : ℕ) → is_token_character (to_ascii_lowercase b) ≡ true → is_token_character b ≡ true
 raised b h = elim (cases_lt b 65) [
   | inl l ↦ ap is_token_character (sym (cond-true (nat_lt b 65) b _ (lt-ltb b 65 l))) ∙ h
   | inr g ↦ elim (cases_lt b 91) [
-    | inr k ↦ ap is_token_character (sym (cond-false (nat_lt b 65) b _ (le-ltb b 65 g) ∙ cond-false (nat_lt b 91) (b + 32) b (le-ltb b 91 k))) ∙ h
+    | inr k ↦ ap is_token_character
+        (sym (cond-false (nat_lt b 65) b _ (le-ltb b 65 g) ∙ cond-false (nat_lt b 91) (b + 32) b (le-ltb b 91 k))) ∙ h
     | inl l ↦ upper (leb 48 b && leb b 57) (leb 97 b && leb b 122) (le-leb 65 b g) (le-leb b 90 (omega (arith, l)))
   ]
 ]
   where
-    upper : (digit lower : Bool) → leb 65 b ≡ true → leb b 90 ≡ true → (((digit || (leb 65 b && leb b 90)) || lower) || is_some (byte_place (codes "!#$&-^_.+") b)) ≡ true
+    upper : (digit lower : Bool) → leb 65 b ≡ true → leb b 90 ≡ true
+        → (((digit || (leb 65 b && leb b 90)) || lower) || is_some (byte_place (codes "!#$&-^_.+") b)) ≡ true
     upper true lower e f = refl
     upper false lower e f =
         ap (λ (t : Bool). (t || lower) || is_some (byte_place (codes "!#$&-^_.+") b)) (are_true (leb 65 b) (leb b 90) e f)
 
-all_raised : (xs : List ℕ) → list_all is_token_character (str_to_ascii_lowercase xs) ≡ true → list_all is_token_character xs ≡ true
+all_raised : (xs : List ℕ) → list_all is_token_character (str_to_ascii_lowercase xs) ≡ true
+    → list_all is_token_character xs ≡ true
 all_raised [] h = refl
 all_raised (b ∷ xs) h =
-    are_true (is_token_character b) (list_all is_token_character xs) (raised b (all_head is_token_character (to_ascii_lowercase b) (str_to_ascii_lowercase xs) h))
+    are_true (is_token_character b) (list_all is_token_character xs)
+    (raised b (all_head is_token_character (to_ascii_lowercase b) (str_to_ascii_lowercase xs) h))
     (all_raised xs (all_tail is_token_character (to_ascii_lowercase b) (str_to_ascii_lowercase xs) h))
 
 lower_some : (xs : List ℕ) → is_empty (str_to_ascii_lowercase xs) ≡ false → is_empty xs ≡ false
 lower_some [] h = h
 lower_some (b ∷ xs) h = refl
 
-word_named : (main : List ℕ) (types : List (List ℕ)) → are_words types ≡ true → list_any (str_eq_ignore_ascii_case main) types ≡ true → IsWord main
+word_named : (main : List ℕ) (types : List (List ℕ)) → are_words types ≡ true
+    → list_any (str_eq_ignore_ascii_case main) types ≡ true → IsWord main
 unfolding are_words
 word_named main [] words h = absurd (false≢true h)
 word_named main (t ∷ types) words h =
@@ -406,34 +498,55 @@ token_unopened : (xs : List ℕ) → list_all is_token_character xs ≡ true →
 token_unopened [] h = refl
 token_unopened (b ∷ xs) h =
     are_true (not (equals_sign == b)) (list_all (λ b. not (equals_sign == b)) xs)
-    (is_not (equals_sign == b) (eq_flip equals_sign b ∙ differs is_token_character equals_sign refl b (all_head is_token_character b xs h)))
+    (is_not (equals_sign == b)
+    (eq_flip equals_sign b ∙ differs is_token_character equals_sign refl b (all_head is_token_character b xs h)))
     (token_unopened xs (all_tail is_token_character b xs h))
 
-type_from : (blanks : List ℕ) (m : ℕ) (ms : List ℕ) (first : ℕ) (others rest : List ℕ) → list_all is_blank blanks ≡ true → list_all is_token_character (m ∷ ms) ≡ true
-    → list_all is_token_character (first ∷ others) ≡ true → HasNoWord ((first ∷ others) ++ rest) → list_all is_low ((blanks ++ ((m ∷ ms) ++ (slash ∷ (first ∷ others)))) ++ rest) ≡ true
+type_from : (blanks : List ℕ) (m : ℕ) (ms : List ℕ) (first : ℕ) (others rest : List ℕ) → list_all is_blank blanks ≡ true
+    → list_all is_token_character (m ∷ ms) ≡ true
+    → list_all is_token_character (first ∷ others) ≡ true → HasNoWord ((first ∷ others) ++ rest)
+    → list_all is_low ((blanks ++ ((m ∷ ms) ++ (slash ∷ (first ∷ others)))) ++ rest) ≡ true
     → Unfolds rest → IsShown ((blanks ++ ((m ∷ ms) ++ (slash ∷ (first ∷ others)))) ++ rest)
 type_from blanks m ms first others rest all main subtype word low more =
     let run : List ℕ = ms ++ (slash ∷ (first ∷ others)) in
     let front = all_front is_low (blanks ++ m ∷ run) rest low in
     let low_run = all_back is_low blanks (m ∷ run) front in
     let inner : list_all is_inner (m ∷ run) ≡ true =
-        all_both is_inner (m ∷ ms) (slash ∷ (first ∷ others)) (all_inner is_token_character refl refl (m ∷ ms) main) (all_inner is_token_character refl refl (first ∷ others) subtype) in
-    let same : (m ∷ run) ++ more.flat ≡ (m ∷ ms) ++ (slash ∷ ((first ∷ others) ++ more.flat)) = append_assoc (m ∷ ms) (slash ∷ (first ∷ others)) more.flat in
+    all_both is_inner (m ∷ ms) (slash ∷ (first ∷ others)) (all_inner is_token_character refl refl (m ∷ ms) main)
+    (all_inner is_token_character refl refl (first ∷ others) subtype) in
+    let same : (m ∷ run) ++ more.flat ≡ (m ∷ ms) ++ (slash ∷ ((first ∷ others) ++ more.flat)) =
+    append_assoc (m ∷ ms) (slash ∷ (first ∷ others)) more.flat in
     record {
       text = (m ∷ run) ++ more.flat;
-      shown = more.shown blanks m run all (dark is_token_character refl refl m (all_head is_token_character m ms main) (all_head is_low m run low_run)) inner low;
-      is = record { first = m; main = ms; second = first; subtype = others; rest = more.flat; is_main = main; is_subtype = subtype; parameters = more.is; made = same };
+      shown =
+          more.shown blanks m run all
+          (dark is_token_character refl refl m (all_head is_token_character m ms main) (all_head is_low m run low_run)) inner low;
+      is =
+          record {
+            first = m;
+            main = ms;
+            second = first;
+            subtype = others;
+            rest = more.flat;
+            is_main = main;
+            is_subtype = subtype;
+            parameters = more.is;
+            made = same;
+          };
       low = all_both is_low (m ∷ run) more.flat low_run (more.low (all_back is_low (blanks ++ m ∷ run) rest low));
-      word = subst HasNoWord (sym same) (word_front (m ∷ ms) (slash ∷ ((first ∷ others) ++ more.flat)) (token_unopened (m ∷ ms) main)
+      word =
+          subst HasNoWord (sym same) (word_front (m ∷ ms) (slash ∷ ((first ∷ others) ++ more.flat)) (token_unopened (m ∷ ms) main)
           (no_word_here refl (more.word (first ∷ others) word)));
     }
 
 -- a plain type after blanks
-type_shown : (blanks value : List ℕ) → list_all is_blank blanks ≡ true → list_all is_low (blanks ++ value) ≡ true → IsPlainType value → IsShown (blanks ++ value)
+type_shown : (blanks value : List ℕ) → list_all is_blank blanks ≡ true → list_all is_low (blanks ++ value) ≡ true
+    → IsPlainType value → IsShown (blanks ++ value)
 type_shown blanks value all low (blank_before_plain_type {b = b} {rest = rest} is more) =
     let same : (blanks ++ b ∷ []) ++ rest ≡ blanks ++ b ∷ rest = append_assoc blanks (b ∷ []) rest in
     subst IsShown same
-    (type_shown (blanks ++ b ∷ []) rest (all_both is_blank blanks (b ∷ []) all (are_true (is_blank b) true is refl)) (subst (λ (xs : List ℕ). list_all is_low xs ≡ true) (sym same) low) more)
+    (type_shown (blanks ++ b ∷ []) rest (all_both is_blank blanks (b ∷ []) all (are_true (is_blank b) true is refl))
+    (subst (λ (xs : List ℕ). list_all is_low xs ≡ true) (sym same) low) more)
 type_shown blanks value all low (plain_type {text = text} main is plain made) =
     let word = word_named main main_types known_words is in
     by_main main word.some word.all made
@@ -441,26 +554,34 @@ type_shown blanks value all low (plain_type {text = text} main is plain made) =
     begins_token : is_token_character plain.first ≡ true
     begins_token = ap (λ (t : Bool). t || is_some (byte_place (codes "!#$&-^_.+") plain.first)) plain.begins
 
-    by_main : (main : List ℕ) → is_empty main ≡ false → list_all is_token_character main ≡ true → value ≡ main ++ (slash ∷ text) → IsShown (blanks ++ value)
+    by_main : (main : List ℕ) → is_empty main ≡ false → list_all is_token_character main ≡ true → value ≡ main ++ (slash ∷ text)
+        → IsShown (blanks ++ value)
     by_main [] some tokens made = absurd (cc)
     by_main (m ∷ ms) some tokens made =
         let subtype : List ℕ = plain.first ∷ plain.others in
         let same : blanks ++ value ≡ (blanks ++ ((m ∷ ms) ++ (slash ∷ subtype))) ++ plain.rest =
-            ap (λ (xs : List ℕ). blanks ++ xs) (made ∙ ap (λ (xs : List ℕ). (m ∷ ms) ++ (slash ∷ xs)) plain.made ∙ sym (append_assoc (m ∷ ms) (slash ∷ subtype) plain.rest))
-            ∙ sym (append_assoc blanks ((m ∷ ms) ++ (slash ∷ subtype)) plain.rest) in
+        ap (λ (xs : List ℕ). blanks ++ xs)
+        (made ∙ ap (λ (xs : List ℕ). (m ∷ ms) ++ (slash ∷ xs)) plain.made
+        ∙ sym (append_assoc (m ∷ ms) (slash ∷ subtype) plain.rest))
+        ∙ sym (append_assoc blanks ((m ∷ ms) ++ (slash ∷ subtype)) plain.rest) in
         let low_here = subst (λ (xs : List ℕ). list_all is_low xs ≡ true) same low in
         subst IsShown (sym same)
-        (type_from blanks m ms plain.first plain.others plain.rest all tokens (are_true (is_token_character plain.first) (list_all is_token_character plain.others) begins_token plain.characters)
+        (type_from blanks m ms plain.first plain.others plain.rest all tokens
+        (are_true (is_token_character plain.first) (list_all is_token_character plain.others) begins_token plain.characters)
         (subst HasNoWord plain.made plain.word) low_here
-        (parameters_unfold plain.names plain.rest (all_back is_low (blanks ++ ((m ∷ ms) ++ (slash ∷ subtype))) plain.rest low_here) plain.parameters))
+        (parameters_unfold plain.names plain.rest
+        (all_back is_low (blanks ++ ((m ∷ ms) ++ (slash ∷ subtype))) plain.rest low_here) plain.parameters))
 
 -- a plain type of ASCII needs no lenient reading
-pub plain_type_strict : (known : Charsets) (value : List ℕ) → list_all is_low value ≡ true → IsPlainType value → HasBoundary (content_type_in known (lenient_value_in known value))
+pub plain_type_strict : (known : Charsets) (value : List ℕ) → list_all is_low value ≡ true → IsPlainType value
+    → HasBoundary (content_type_in known (lenient_value_in known value))
     → is_strict known (lenient_value_in known value) ≡ true
 plain_type_strict known value low is boundary =
     let found = type_shown [] value refl low is in
     let same : lenient_value_in known value ≡ found.text =
-        lenient-utf8 known value (IsUtf8-from_ascii value (low_ascii value low))
-        ∙ sym (unfolded_value-joined known value found.text (sym found.shown) (place_past begins_opening found.text (words_past found.text found.word))) in
+    lenient-utf8 known value (IsUtf8-from_ascii value (low_ascii value low))
+    ∙ sym (unfolded_value-joined known value found.text (sym found.shown)
+    (place_past begins_opening found.text (words_past found.text found.word))) in
     subst (λ (text : List ℕ). is_strict known text ≡ true) (sym same)
-    (flat_strict known found.text found.low found.is (subst (λ (text : List ℕ). HasBoundary (content_type_in known text)) same boundary))
+    (flat_strict known found.text found.low found.is
+    (subst (λ (text : List ℕ). HasBoundary (content_type_in known text)) same boundary))

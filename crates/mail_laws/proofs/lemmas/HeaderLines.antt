@@ -1,15 +1,18 @@
 -- No line that looks like a delimiter is among the headers of a message whose header block is of the grammar.
-use Rattle.std.proofs.Common.{◌≡◌, ◌∙◌, ◌⊎◌, ℕ, suc, Bool, true, false, not, List, [], ◌∷◌, ◌++◌, drop, refl, sym, ap, subst, inl, inr, append_assoc}
-use Rattle.std.specs.Prelude.{◌&&◌, ◌||◌, ◌==◌, nat_lt, codes}
+use Rattle.std.proofs.Common.{◌≡◌, ◌∙◌, ◌⊎◌, ℕ, suc, Bool, true, false, not, List, [], ◌∷◌, ◌++◌, drop, refl, sym, ap, subst, inl}
+use Rattle.std.proofs.Common.{inr, append_assoc}
+use Rattle.std.specs.Prelude.{◌||◌, ◌==◌, nat_lt, codes}
 use Rattle.std.specs.List.{list_all}
 use Rattle.std.proofs.lemmas.Bool.{eqb-true}
-use Rattle.mail_codec.specs.Ascii.{carriage_return, colon, is_blank, line_feed, space, tilde}
+use Rattle.mail_codec.specs.Ascii.{colon, is_blank, line_feed}
 use Rattle.mail_codec.specs.Places.{begins, first_place, has_prefix}
 use Rattle.mail_codec.proofs.lemmas.Places.{first_place-here, first_place-past}
 use Rattle.mailparse.specs.Block.{blank_line, ends_header_lines, header_lines_end, headers_end, is_dash_line}
 use Rattle.mailparse.specs.Header.{has_colon, key_end, ends_key}
-use Rattle.mail_check.specs.strict.Headers.{is_name_byte, is_value_byte, IsValue, value_ends, value_byte, value_folds, IsHeader, IsBlock, last_header, next_header}
-use Rattle.mail_check.proofs.lemmas.StrictHeaders.{all_head, all_tail, both_true, cases_Bool, left_false, right_false, name_parts, no_feed, not_true}
+use Rattle.mail_check.specs.strict.Headers.{is_name_byte, IsValue, value_ends, value_byte, value_folds, IsHeader}
+use Rattle.mail_check.specs.strict.Headers.{IsBlock, last_header, next_header}
+use Rattle.mail_check.proofs.lemmas.StrictHeaders.{all_head, all_tail, both_true, cases_Bool, left_false, right_false, name_parts}
+use Rattle.mail_check.proofs.lemmas.StrictHeaders.{no_feed, not_true}
 
 -- the line after the headers looks like no delimiter
 abbrev Undashed : List ℕ → Type 0
@@ -58,7 +61,8 @@ blank_look (b ∷ more) rest h = left_false (has_prefix (codes "--") (b ∷ (mor
 value_undashed : (value rest : List ℕ) → IsValue value → Follows rest → Undashed (value ++ rest)
 value_undashed value rest value_ends follows = after_feed rest follows
 value_undashed value rest (value_byte {b = b} {rest = more} is left) follows =
-    other b (more ++ rest) (not_true (b == line_feed) (both_true (nat_lt b 128) (not (b == line_feed)) is).1) (value_undashed more rest left follows)
+    other b (more ++ rest) (not_true (b == line_feed) (both_true (nat_lt b 128) (not (b == line_feed)) is).1)
+    (value_undashed more rest left follows)
 value_undashed value rest (value_folds {rest = more} blank text left made) follows =
     subst (λ (xs : List ℕ). Undashed (xs ++ rest)) (sym made)
     (step line_feed (more ++ rest) (λ e. blank_look more rest blank) (value_undashed more rest left follows))
@@ -66,16 +70,19 @@ value_undashed value rest (value_folds {rest = more} blank text left made) follo
 name_undashed : (name rest : List ℕ) → list_all is_name_byte name ≡ true → Undashed rest → Undashed (name ++ rest)
 name_undashed [] rest all more = more
 name_undashed (b ∷ name) rest all more =
-    other b (name ++ rest) (no_feed b (name_parts b (all_head is_name_byte b name all)).0) (name_undashed name rest (all_tail is_name_byte b name all) more)
+    other b (name ++ rest) (no_feed b (name_parts b (all_head is_name_byte b name all)).0)
+    (name_undashed name rest (all_tail is_name_byte b name all) more)
 
 -- a line with a colon
-key_there : (name rest : List ℕ) → list_all is_name_byte name ≡ true → begins (λ b. b == colon) (drop (first_place (begins ends_key) (name ++ colon ∷ rest)) (name ++ colon ∷ rest)) ≡ true
+key_there : (name rest : List ℕ) → list_all is_name_byte name ≡ true
+    → begins (λ b. b == colon) (drop (first_place (begins ends_key) (name ++ colon ∷ rest)) (name ++ colon ∷ rest)) ≡ true
 key_there [] rest all = refl
 key_there (b ∷ name) rest all =
     let parts = name_parts b (all_head is_name_byte b name all) in
     let feed = no_feed b parts.0 in
     let neither : ends_key b ≡ false = rw (feed, parts.2) refl in
-    ap (λ (n : ℕ). begins (λ b. b == colon) (drop n (b ∷ (name ++ colon ∷ rest)))) (first_place-past (begins ends_key) b (name ++ colon ∷ rest) neither)
+    ap (λ (n : ℕ). begins (λ b. b == colon) (drop n (b ∷ (name ++ colon ∷ rest))))
+    (first_place-past (begins ends_key) b (name ++ colon ∷ rest) neither)
     ∙ key_there name rest (all_tail is_name_byte b name all)
 
 colon_look : (name rest : List ℕ) → list_all is_name_byte name ≡ true → is_dash_line (name ++ colon ∷ rest) ≡ false
@@ -93,7 +100,9 @@ header_follows : (header rest : List ℕ) → IsHeader header → Follows rest �
 header_follows header rest is follows =
     let name : List ℕ = is.first ∷ is.others in
     record {
-      look = subst (λ (xs : List ℕ). is_dash_line xs ≡ false) (sym (ap (λ (xs : List ℕ). xs ++ rest) is.made ∙ append_assoc name (colon ∷ is.value) rest))
+      look =
+          subst (λ (xs : List ℕ). is_dash_line xs ≡ false)
+          (sym (ap (λ (xs : List ℕ). xs ++ rest) is.made ∙ append_assoc name (colon ∷ is.value) rest))
           (colon_look name (is.value ++ rest) is.is_name);
       more = inr (header_undashed header rest is follows);
     }
