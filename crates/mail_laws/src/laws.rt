@@ -18,8 +18,8 @@ pub use mails::{
     ranges_apart, ranges_give_tree,
 };
 pub use manners::{
-    limits_count_items, manners_agree, manners_keep_placements, manners_keep_ranges,
-    nothing_is_refused, strict_mails_are_read_alike,
+    clean_mails_are_read_alike, limits_count_items, manners_agree, manners_keep_placements,
+    manners_keep_ranges, nothing_is_refused, strict_mails_are_read_alike,
 };
 pub use parameters::{
     candidates_have_a_form, charset_source_is_the_greatest, dispositions_equal_by_kind,
