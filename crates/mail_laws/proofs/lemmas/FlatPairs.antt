@@ -201,11 +201,11 @@ before_at test (b ∷ run) c rest all is =
     cond-true (not (test b)) (1 + position_or_len test (run ++ c ∷ rest)) 0 (all_head (λ b. not (test b)) b run all)
     ∙ (let more = before_at test run c rest (all_tail (λ b. not (test b)) b run all) is in omega (arith, more))
 
-taken : (run rest : List ℕ) → take (length run) (run ++ rest) ≡ run
+pub taken : (run rest : List ℕ) → take (length run) (run ++ rest) ≡ run
 taken [] rest = refl
 taken (b ∷ run) rest = ap (λ (xs : List ℕ). b ∷ xs) (taken run rest)
 
-dropped : (run : List ℕ) (c : ℕ) (rest : List ℕ) → drop (suc (length run)) (run ++ c ∷ rest) ≡ rest
+pub dropped : (run : List ℕ) (c : ℕ) (rest : List ℕ) → drop (suc (length run)) (run ++ c ∷ rest) ≡ rest
 dropped [] c rest = refl
 dropped (b ∷ run) c rest = dropped run c rest
 

@@ -33,7 +33,7 @@ use Rattle.mail_check.specs.strict.PlainParameters.{no_word_here, IsPlainType, b
 use Rattle.mail_check.proofs.lemmas.StrictDelimiters.{is_inner}
 use Rattle.mail_check.proofs.lemmas.StrictHeaders.{all_head, all_tail, are_true, both_true, eq_flip, is_not, neither}
 use Rattle.mail_check.proofs.lemmas.StrictHeaders.{nor, not_true, right_false}
-use Rattle.mail_laws.proofs.lemmas.FlatPairs.{all_back, all_both, all_front, flat_strict, is_low, low_ascii}
+use Rattle.mail_laws.proofs.lemmas.FlatPairs.{all_back, all_both, all_front, dropped, flat_strict, is_low, low_ascii, taken}
 use Rattle.mail_laws.proofs.lemmas.FlatTypes.{AreFlat, no_flat, flat_semicolon, flat_parameter, IsFlat, differs, none_below}
 use Rattle.mail_laws.proofs.lemmas.FlatTypes.{plain_all, visible}
 
@@ -100,14 +100,6 @@ feed_place run rest all =
     let size = length-append run (line_feed ∷ rest) in
     sym (cond-true (nat_lt p (length (run ++ line_feed ∷ rest))) (Some p) None
     (lt-ltb p (length (run ++ line_feed ∷ rest)) (omega (arith, e, size))) ∙ ap (λ (n : ℕ). Some n) e)
-
-taken : (run rest : List ℕ) → take (length run) (run ++ rest) ≡ run
-taken [] rest = refl
-taken (b ∷ run) rest = ap (λ (xs : List ℕ). b ∷ xs) (taken run rest)
-
-dropped : (run : List ℕ) (c : ℕ) (rest : List ℕ) → drop (suc (length run)) (run ++ c ∷ rest) ≡ rest
-dropped [] c rest = refl
-dropped (b ∷ run) c rest = dropped run c rest
 
 cut_at : (run rest : List ℕ) → list_all is_unfed run ≡ true
     → lines (run ++ line_feed ∷ rest) ≡ strip_carriage_return run ∷ lines rest
