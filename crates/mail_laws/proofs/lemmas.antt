@@ -34,3 +34,7 @@ pub mod FlatTypes
 pub mod FlatPairs
 pub mod FoldedTypes
 pub mod CleanMails
+pub mod PlainHeaders
+pub mod PlainTypes
+pub mod PlainParts
+pub mod PlainOutlines

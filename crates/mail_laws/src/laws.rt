@@ -30,4 +30,6 @@ pub use values::{
     adjacent_words_join, one_list_of_tokens_fits, plain_value_reads_as_itself, tokens_make_up_line,
     utf8_value_agrees,
 };
-pub use writing::{one_list_of_words_fits, outline_reads_back, written_values_read_back};
+pub use writing::{
+    one_list_of_words_fits, outline_reads_back, plain_outlines_are_strict, written_values_read_back,
+};

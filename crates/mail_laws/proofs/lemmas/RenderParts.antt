@@ -22,7 +22,7 @@ abbrev pub no_return : ℕ → Bool
 no_return b = not (eqb b 13)
 
 -- a text without CR that is found before a CR is found without what follows
-has_prefix-before : (text front rest : List ℕ) → list_all no_return text ≡ true → has_prefix text (front ++ 13 ∷ rest) ≡ has_prefix text front
+pub has_prefix-before : (text front rest : List ℕ) → list_all no_return text ≡ true → has_prefix text (front ++ 13 ∷ rest) ≡ has_prefix text front
 has_prefix-before [] front rest free = refl
 has_prefix-before (x ∷ text) [] rest free =
     and_left (eqb x 13) (has_prefix text rest) (not-true (eqb x 13) (and_parts (no_return x) (list_all no_return text) free).0)

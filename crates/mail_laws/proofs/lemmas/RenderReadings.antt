@@ -52,21 +52,21 @@ AreClear-from boundary (outline_and part parts) none =
     (IsClear-from boundary (rendered part) (not-true _ both.0), AreClear-from boundary parts both.1)
 
 -- letters and digits are not CR
-no_return-alphanumeric : (b : ℕ) → is_ascii_alphanumeric b ≡ true → no_return b ≡ true
+pub no_return-alphanumeric : (b : ℕ) → is_ascii_alphanumeric b ≡ true → no_return b ≡ true
 no_return-alphanumeric b h = grind (arith, nat_tests)
 
 -- ---- the conditions of an outline by itself
 
-record IsFormed (outline : OutlineTree) : Type 0 where
-  keys : has_keys outline ≡ true
-  values : has_texts outline ≡ true
-  names : names_its_boundary outline ≡ true
-  plain : has_plain_boundary outline ≡ true
-  other : is_not_multipart outline ≡ true
-  some : has_some_part outline ≡ true
-  clear : has_clear_parts outline ≡ true
+pub record IsFormed (outline : OutlineTree) : Type 0 where
+  pub keys : has_keys outline ≡ true
+  pub values : has_texts outline ≡ true
+  pub names : names_its_boundary outline ≡ true
+  pub plain : has_plain_boundary outline ≡ true
+  pub other : is_not_multipart outline ≡ true
+  pub some : has_some_part outline ≡ true
+  pub clear : has_clear_parts outline ≡ true
 
-IsFormed-from : (outline : OutlineTree) → is_well_formed_here outline ≡ true → IsFormed outline
+pub IsFormed-from : (outline : OutlineTree) → is_well_formed_here outline ≡ true → IsFormed outline
 IsFormed-from outline h =
     let one = and_parts (has_keys outline) _ h in
     let two = and_parts (has_texts outline) _ one.1 in
@@ -76,7 +76,7 @@ IsFormed-from outline h =
     let six = and_parts (has_some_part outline) (has_clear_parts outline) five.1 in
     record { keys = one.0; values = two.0; names = three.0; plain = four.0; other = five.0; some = six.0; clear = six.1 }
 
-branch-formed : (headers : List Header) (boundary : List ℕ) (parts : OutlineForest) → is_well_formed_within (branch headers boundary parts) ≡ true → IsFormed (branch headers boundary parts)
+pub branch-formed : (headers : List Header) (boundary : List ℕ) (parts : OutlineForest) → is_well_formed_within (branch headers boundary parts) ≡ true → IsFormed (branch headers boundary parts)
 branch-formed headers boundary parts formed =
     IsFormed-from (branch headers boundary parts) (and_parts (is_well_formed_here (branch headers boundary parts)) (are_well_formed_within parts) formed).0
 

@@ -24,7 +24,7 @@ use Rattle.mail_laws.proofs.lemmas.RenderValues.{AreShown}
 
 -- ---- ASCII
 
-key_ascii : (key : List ℕ) → is_key key ≡ true → IsAscii key
+pub key_ascii : (key : List ℕ) → is_key key ≡ true → IsAscii key
 key_ascii key named =
     IsAscii-from_all key (each {P = λ b. b < 128} is_key_byte (λ b h. let high = (key_byte b h).1 in omega (arith, high)) key (and_parts (list_all is_key_byte key) _ named).0)
 
@@ -75,7 +75,7 @@ module _ (known : Charsets) where
       go (Some h) e = no_parts-named h.value (not-true (has_prefix (codes "multipart") (mimetype_of h.value)) e)
 
   -- the type that names a boundary of letters and digits
-  IsAlphanumeric-from : (boundary : List ℕ) → list_all is_ascii_alphanumeric boundary ≡ true → IsAlphanumeric boundary
+  pub IsAlphanumeric-from : (boundary : List ℕ) → list_all is_ascii_alphanumeric boundary ≡ true → IsAlphanumeric boundary
   IsAlphanumeric-from boundary all = each is_ascii_alphanumeric alphanumeric boundary all
     where
       range : (low high b : ℕ) → (leb low b && leb b high) ≡ true → (low ≤ b) × (b ≤ high)

@@ -1,0 +1,354 @@
+-- The types, bodies and texts of plain outlines are those of strict mails.
+use Rattle.std.proofs.Common.{◌≡◌, ◌∙◌, ◌≤◌, ℕ, zero, suc, Bool, true, false, cond, not, List, [], ◌∷◌, ◌++◌, length, find, Option, Some, None, option_map, refl, sym, ap, subst, arith}
+use Rattle.std.specs.Prelude.{◌||◌, ◌==◌, codes}
+use Rattle.std.specs.Char.{is_ascii_alphanumeric}
+use Rattle.std.specs.List.{AllByRecursion, list_all, list_any}
+use Rattle.std.specs.Option.{option_map_or}
+use Rattle.std.specs.Str.{bytes_eq, str_eq_ignore_ascii_case, str_to_ascii_lowercase}
+use Rattle.std.proofs.lemmas.Bool.{and_parts, false≢true}
+use Rattle.std.proofs.lemmas.Bool.Decides.{nat_tests}
+use Rattle.std.proofs.lemmas.Str.{encodes-IsAscii}
+use lib.Pointwise.{bytes_decides}
+use Rattle.mail_codec.specs.Charset.{Charsets, four_charsets}
+use Rattle.mail_codec.specs.Places.{has_prefix}
+use Rattle.mailparse.specs.Body.{kind_named, decoded, in_7bit}
+use Rattle.mailparse.specs.ContentType.{ContentType, content_type_in, default_type}
+use Rattle.mailparse.specs.Disposition.{default_disposition, disposition_in}
+use Rattle.mailparse.specs.Header.{Header}
+use Rattle.mailparse.specs.Mail.{Node, tree, Forest, body_kind, shown_as}
+use Rattle.mailparse.specs.Map.{has_key}
+use Rattle.mailparse.specs.Value.{lenient_value_in}
+use Rattle.mail_data.specs.lenient.Content.{Content, all_of, lenient_content, message_content}
+use Rattle.mail_data.specs.lenient.Encoding.{lenient_kind, lenient_kind_named}
+use Rattle.mail_check.specs.Parameters.{parameter_names}
+use Rattle.mail_check.specs.strict.Bodies.{HasStrictBody, IsEncoded}
+use Rattle.mail_check.specs.strict.Charsets.{is_ascii_byte, this_label, HasNoMark, in_us_ascii}
+use Rattle.mail_check.specs.strict.Fields.{HasNone, another, HasAtMostOne, other_name, the_one, is_boundary_character, IsBoundary, last_character, more_characters, of_multipart, IsType, IsField}
+use Rattle.mail_check.specs.strict.FileNames.{names_of_type, HasOwnNames, HasStrictFileName}
+use Rattle.mail_check.specs.strict.LineEnds.{is_line_byte, AreLines, in_line, end_of_line, no_line}
+use Rattle.mail_check.specs.strict.Parameters.{no_gap, gap_blank, is_name_character, is_token_character}
+use Rattle.mail_check.specs.strict.PlainParameters.{IsPlainType, plain_type, plain_token, plain_parameter, no_plain, HasNoWord, no_word, no_word_here, HasPlainValue}
+use Rattle.mail_check.specs.strict.Texts.{HasStrictText, IsReadableText}
+use Rattle.mail_check.proofs.lemmas.StrictHeaders.{all_head, all_tail, are_true, left_false}
+use Rattle.mail_check.proofs.lemmas.StrictReading.{all_with}
+use Rattle.mail_check.proofs.lemmas.StrictValues.{plain_type_text}
+use Rattle.mail_laws.specs.Boundaries.{boundary_type, one_text}
+use Rattle.mail_laws.specs.PlainOutlines.{IsPlainHeader}
+use Rattle.mail_laws.specs.Render.{is_key, type_header, type_of}
+use Rattle.mail_laws.proofs.lemmas.Boundaries.{boundary_content_type}
+use Rattle.mail_laws.proofs.lemmas.RenderTypes.{IsAlphanumeric-from, key_ascii}
+
+-- ---- headers without a name
+
+-- no header has the name
+abbrev pub Lack : List ℕ → List Header → Type 0
+Lack name headers = AllByRecursion (λ h. str_eq_ignore_ascii_case h.key name ≡ false) headers
+
+pub none_lack : (name : List ℕ) (headers : List Header) → HasNone name headers → Lack name headers
+none_lack name [] none = tt
+none_lack name (h ∷ headers) (another other more) = (other, none_lack name headers more)
+
+pub find_none : (name : List ℕ) (headers : List Header) → list_all (λ h. is_key h.key) headers ≡ true → Lack name headers
+    → find (has_key name) headers ≡ None
+find_none name [] keys lack = refl
+find_none name (h ∷ headers) keys lack =
+    let key = and_parts (is_key h.key) (list_all (λ x. is_key x.key) headers) keys in
+    let same : has_key name h ≡ false =
+    ap (λ (k : List ℕ). str_eq_ignore_ascii_case k name) (encodes-IsAscii h.key (key_ascii h.key key.0)) ∙ lack.0 in
+    ap (λ (t : Bool). cond t (Some h) (find (has_key name) headers)) same ∙ find_none name headers key.1 lack.1
+
+lack_encoding : (headers : List Header) → AllByRecursion IsPlainHeader headers → Lack (codes "Content-Transfer-Encoding") headers
+lack_encoding [] plain = tt
+lack_encoding (h ∷ headers) plain = (plain.0.no_encoding, lack_encoding headers plain.1)
+
+lack_disposition : (headers : List Header) → AllByRecursion IsPlainHeader headers → Lack (codes "Content-Disposition") headers
+lack_disposition [] plain = tt
+lack_disposition (h ∷ headers) plain = (plain.0.no_disposition, lack_disposition headers plain.1)
+
+-- ---- the type
+
+find_lack : (headers : List Header) → Lack (codes "Content-Type") headers → type_header headers ≡ None
+find_lack [] lack = refl
+find_lack (h ∷ headers) lack =
+    ap (λ (t : Bool). cond t (Some h) (type_header headers)) lack.0 ∙ find_lack headers lack.1
+
+-- each header with a type has this value
+abbrev pub TypedAs : List ℕ → Header → Type 0
+TypedAs value h = str_eq_ignore_ascii_case h.key (codes "Content-Type") ≡ true → h.value ≡ value
+
+lack_typed : (value : List ℕ) (headers : List Header) → Lack (codes "Content-Type") headers → AllByRecursion (TypedAs value) headers
+lack_typed value [] lack = tt
+lack_typed value (h ∷ headers) lack = ((λ e. absurd (false≢true (sym lack.0 ∙ e))), lack_typed value headers lack.1)
+
+pub one_typed : (value : List ℕ) (headers : List Header) → HasAtMostOne (codes "Content-Type") headers
+    → option_map_or (λ h. bytes_eq h.value value) (type_header headers) false ≡ true → AllByRecursion (TypedAs value) headers
+one_typed value [] one names = tt
+one_typed value (h ∷ headers) (other_name other more) names =
+    let later = ap (λ (t : Bool). option_map_or (λ (x : Header). bytes_eq x.value value) (cond t (Some h) (type_header headers)) false) other in
+    ((λ e. absurd (false≢true (sym other ∙ e))), one_typed value headers more (sym later ∙ names))
+one_typed value (h ∷ headers) (the_one same none) names =
+    let here = ap (λ (t : Bool). option_map_or (λ (x : Header). bytes_eq x.value value) (cond t (Some h) (type_header headers)) false) same in
+    ((λ e. (bytes_decides h.value value).0 (sym here ∙ names)), lack_typed value headers (none_lack (codes "Content-Type") headers none))
+
+-- ---- a boundary
+
+or_true : (s t : Bool) → s ≡ true → (s || t) ≡ true
+or_true true t h = refl
+or_true false t h = absurd (false≢true h)
+
+boundary_byte : (b : ℕ) → is_ascii_alphanumeric b ≡ true → is_boundary_character b ≡ true
+boundary_byte b h = or_true (is_ascii_alphanumeric b) _ h
+
+no_space : (b : ℕ) → is_ascii_alphanumeric b ≡ true → (b == 32) ≡ false
+no_space b h = grind (arith, nat_tests)
+
+no_question : (b : ℕ) → is_ascii_alphanumeric b ≡ true → (61 == b) ≡ false
+no_question b h = grind (arith, nat_tests)
+
+no_mark : (b : ℕ) → is_ascii_alphanumeric b ≡ true → (63 == b) ≡ false
+no_mark b h = grind (arith, nat_tests)
+
+pub is_boundary : (n b : ℕ) (bs : List ℕ) → list_all is_ascii_alphanumeric (b ∷ bs) ≡ true → length (b ∷ bs) ≤ n → IsBoundary n (b ∷ bs)
+is_boundary zero b bs all short = absurd (omega arith)
+is_boundary (suc n) b [] all short =
+    let is = all_head is_ascii_alphanumeric b [] all in last_character (boundary_byte b is) (no_space b is)
+is_boundary (suc n) b (c ∷ bs) all short =
+    more_characters (boundary_byte b (all_head is_ascii_alphanumeric b (c ∷ bs) all))
+    (is_boundary n c bs (all_tail is_ascii_alphanumeric b (c ∷ bs) all) (omega (arith, short)))
+
+alphanumeric_name : (xs : List ℕ) → list_all is_ascii_alphanumeric xs ≡ true → list_all is_name_character xs ≡ true
+alphanumeric_name [] all = refl
+alphanumeric_name (b ∷ xs) all =
+    are_true (is_name_character b) (list_all is_name_character xs)
+    (or_true (is_token_character b) _ (or_true (is_ascii_alphanumeric b) _ (all_head is_ascii_alphanumeric b xs all)))
+    (alphanumeric_name xs (all_tail is_ascii_alphanumeric b xs all))
+
+alphanumeric_wordless : (xs : List ℕ) → list_all is_ascii_alphanumeric xs ≡ true → HasNoWord xs
+alphanumeric_wordless [] all = no_word
+alphanumeric_wordless (b ∷ xs) all =
+    no_word_here (left_false (61 == b) (has_prefix (codes "?") xs) (no_question b (all_head is_ascii_alphanumeric b xs all)))
+    (alphanumeric_wordless xs (all_tail is_ascii_alphanumeric b xs all))
+
+wordless_before : (xs rest : List ℕ) → list_all (λ b. not (61 == b)) xs ≡ true → HasNoWord rest → HasNoWord (xs ++ rest)
+wordless_before [] rest all more = more
+wordless_before (b ∷ xs) rest all more =
+    no_word_here (left_false (61 == b) (has_prefix (codes "?") (xs ++ rest)) (is_false (61 == b) (all_head (λ b. not (61 == b)) b xs all)))
+    (wordless_before xs rest (all_tail (λ b. not (61 == b)) b xs all) more)
+  where
+    is_false : (t : Bool) → not t ≡ true → t ≡ false
+    is_false false h = refl
+    is_false true h = absurd (false≢true h)
+
+type_wordless : (b : ℕ) (bs : List ℕ) → list_all is_ascii_alphanumeric (b ∷ bs) ≡ true
+    → HasNoWord (codes "mixed; boundary=" ++ (b ∷ bs))
+type_wordless b bs all =
+    wordless_before (codes "mixed; boundary") (61 ∷ b ∷ bs) refl
+    (no_word_here (left_false (63 == b) true (no_mark b (all_head is_ascii_alphanumeric b bs all))) (alphanumeric_wordless (b ∷ bs) all))
+
+pub boundary_plain : (b : ℕ) (bs : List ℕ) → list_all is_ascii_alphanumeric (b ∷ bs) ≡ true → IsPlainType (boundary_type (b ∷ bs))
+boundary_plain b bs all =
+    plain_type {text = codes "mixed; boundary=" ++ (b ∷ bs)} (codes "multipart") refl
+    (record {
+      first = 109;
+      others = codes "ixed";
+      rest = codes "; boundary=" ++ (b ∷ bs);
+      names = codes "boundary" ∷ [];
+      begins = refl;
+      characters = refl;
+      parameters = plain_parameter {names = []} {gap = codes " "} {value = b ∷ bs} 98 (codes "oundary") [] (gap_blank refl no_gap) refl
+          (plain_token (alphanumeric_name (b ∷ bs) all)) refl no_plain
+          (ap (λ (x : List ℕ). codes "; boundary=" ++ x) (sym (nil (b ∷ bs))));
+      made = refl;
+      word = type_wordless b bs all;
+    })
+    refl
+  where
+    nil : (xs : List ℕ) → xs ++ [] ≡ xs
+    nil [] = refl
+    nil (x ∷ xs) = ap (λ ys. x ∷ ys) (nil xs)
+
+-- the names of its parameters
+type_names : (value : List ℕ) (one two : IsPlainType value) → names_of_type one ≡ names_of_type two
+type_names value one two =
+    let first = plain_type_text value one in
+    let second = plain_type_text value two in
+    let both : Some first.text ≡ Some second.text = sym first.same ∙ second.same in
+    let same : first.text ≡ second.text = cc in
+    sym first.named ∙ ap parameter_names same ∙ second.named
+
+plain_names : (b : ℕ) (bs : List ℕ) (all : list_all is_ascii_alphanumeric (b ∷ bs) ≡ true)
+    → names_of_type (boundary_plain b bs all) ≡ codes "boundary" ∷ []
+unfolding boundary_plain
+plain_names b bs all = refl
+
+pub boundary_names : (b : ℕ) (bs : List ℕ) → list_all is_ascii_alphanumeric (b ∷ bs) ≡ true → (value : List ℕ)
+    → value ≡ boundary_type (b ∷ bs) → (is : IsPlainType value) → list_any (bytes_eq (codes "filename")) (names_of_type is) ≡ false
+boundary_names b bs all value same =
+    subst (λ (v : List ℕ). (is : IsPlainType v) → list_any (bytes_eq (codes "filename")) (names_of_type is) ≡ false) (sym same)
+    (λ is. ap (list_any (bytes_eq (codes "filename")))
+    (type_names (boundary_type (b ∷ bs)) is (boundary_plain b bs all) ∙ plain_names b bs all))
+
+-- ---- the headers of a message of this type
+
+-- what a header says of the type
+pub record IsTyped (ctype : ContentType) (h : Header) : Type 0 where
+  pub type : str_eq_ignore_ascii_case h.key (codes "Content-Type") ≡ true → IsType ctype
+  pub plain : str_eq_ignore_ascii_case h.key (codes "Content-Type") ≡ true → IsPlainType h.value
+  pub own : str_eq_ignore_ascii_case h.key (codes "Content-Type") ≡ true → (is : IsPlainType h.value)
+      → list_any (bytes_eq (codes "filename")) (names_of_type is) ≡ false
+
+pub untyped : (ctype : ContentType) (headers : List Header) → Lack (codes "Content-Type") headers → AllByRecursion (IsTyped ctype) headers
+untyped ctype [] lack = tt
+untyped ctype (h ∷ headers) lack = (
+  record {
+    type = λ e. absurd (false≢true (sym lack.0 ∙ e));
+    plain = λ e. absurd (false≢true (sym lack.0 ∙ e));
+    own = λ e is. absurd (false≢true (sym lack.0 ∙ e));
+  },
+  untyped ctype headers lack.1,
+)
+
+pub typed : (b : ℕ) (bs : List ℕ) → list_all is_ascii_alphanumeric (b ∷ bs) ≡ true → (ctype : ContentType) → IsType ctype
+    → (headers : List Header) → AllByRecursion (TypedAs (boundary_type (b ∷ bs))) headers → AllByRecursion (IsTyped ctype) headers
+typed b bs all ctype is [] same = tt
+typed b bs all ctype is (h ∷ headers) same = (
+  record {
+    type = λ e. is;
+    plain = λ e. subst IsPlainType (sym (same.0 e)) (boundary_plain b bs all);
+    own = λ e plain. boundary_names b bs all h.value (same.0 e) plain;
+  },
+  typed b bs all ctype is headers same.1,
+)
+
+pub header_field : (ctype : ContentType) (h : Header) → IsPlainHeader h → IsTyped ctype h → IsField ctype h
+header_field ctype h plain type = record {
+  encoding = λ e. absurd (false≢true (sym plain.no_encoding ∙ e));
+  type = type.type;
+  type_value = λ e. (plain_type_text h.value (type.plain e)).is;
+  disposition_value = λ e. absurd (false≢true (sym plain.no_disposition ∙ e));
+}
+
+pub header_plain : (ctype : ContentType) (h : Header) → IsPlainHeader h → IsTyped ctype h → HasPlainValue h
+header_plain ctype h plain type = record {
+  type = type.plain;
+  disposition = λ e. absurd (false≢true (sym plain.no_disposition ∙ e));
+}
+
+header_own : (ctype : ContentType) (h : Header) → IsPlainHeader h → IsTyped ctype h → HasOwnNames h
+header_own ctype h plain type = record {
+  type = type.own;
+  disposition = λ e is. absurd (false≢true (sym plain.no_disposition ∙ e));
+}
+
+no_file : (node : Node) → list_all (λ h. is_key h.key) node.headers ≡ true → AllByRecursion IsPlainHeader node.headers
+    → (shown_as node).params (codes "filename") ≡ None
+no_file node keys plain =
+    ap (λ (o : Option Header). (option_map_or (disposition_in four_charsets) (option_map (λ h. lenient_value_in four_charsets h.value) o)
+    default_disposition).params (codes "filename"))
+    (find_none (codes "Content-Disposition") node.headers keys (lack_disposition node.headers plain))
+
+pub files_are_strict : (node : Node) → list_all (λ h. is_key h.key) node.headers ≡ true → AllByRecursion IsPlainHeader node.headers
+    → AllByRecursion (IsTyped node.ctype) node.headers → HasStrictFileName node
+files_are_strict node keys plain type =
+    let none = no_file node keys plain in
+    record {
+      names = all_with IsPlainHeader (IsTyped node.ctype) HasOwnNames (header_own node.ctype) node.headers plain type;
+      typed = λ file e some. let both : None ≡ Some file = sym none ∙ e in absurd (cc);
+      same = λ file name e other some. let both : None ≡ Some file = sym none ∙ e in absurd (cc);
+    }
+
+-- ---- the types
+
+pub default_typed : (known : Charsets) (headers : List Header) → HasNone (codes "Content-Type") headers → type_of known headers ≡ default_type
+default_typed known headers none =
+    ap (λ (o : Option Header). option_map_or (λ h. content_type_in known h.value) o default_type)
+    (find_lack headers (none_lack (codes "Content-Type") headers none))
+
+-- the type with this boundary
+abbrev pub parted : List ℕ → ContentType
+parted boundary = record { mimetype = codes "multipart/mixed"; charset = codes "us-ascii"; params = one_text (codes "boundary") boundary }
+
+pub boundary_typed : (known : Charsets) (headers : List Header) (boundary : List ℕ)
+    → option_map_or (λ h. bytes_eq h.value (boundary_type boundary)) (type_header headers) false ≡ true
+    → list_all is_ascii_alphanumeric boundary ≡ true → type_of known headers ≡ parted boundary
+boundary_typed known headers boundary names all = go (type_header headers) names
+  where
+    go : (o : Option Header) → option_map_or (λ h. bytes_eq h.value (boundary_type boundary)) o false ≡ true
+        → option_map_or (λ h. content_type_in known h.value) o default_type ≡ parted boundary
+    go None e = absurd (false≢true e)
+    go (Some h) e =
+        ap (content_type_in known) ((bytes_decides h.value (boundary_type boundary)).0 e)
+        ∙ boundary_content_type known boundary (IsAlphanumeric-from known boundary all)
+
+pub parted_is_type : (b : ℕ) (bs : List ℕ) → list_all is_ascii_alphanumeric (b ∷ bs) ≡ true → length (b ∷ bs) ≤ 70 → IsType (parted (b ∷ bs))
+parted_is_type b bs all short = record {
+  message = λ e. absurd (false≢true e);
+  boundary = of_multipart {text = b ∷ bs} refl refl (is_boundary 70 b bs all short);
+}
+
+-- ---- bodies and texts
+
+kind_none : kind_named None ≡ in_7bit
+unfolding kind_named
+kind_none = refl
+
+kind_of : (node : Node) → list_all (λ h. is_key h.key) node.headers ≡ true → AllByRecursion IsPlainHeader node.headers → body_kind node ≡ in_7bit
+kind_of node keys plain =
+    ap (λ (o : Option Header). kind_named (option_map str_to_ascii_lowercase (option_map (λ h. lenient_value_in four_charsets h.value) o)))
+    (find_none (codes "Content-Transfer-Encoding") node.headers keys (lack_encoding node.headers plain))
+    ∙ kind_none
+
+content_none : (body : List ℕ) → lenient_content (lenient_kind None) body ≡ all_of body
+unfolding lenient_content lenient_kind lenient_kind_named kind_named decoded
+content_none body = refl
+
+content_of : (node : Node) → list_all (λ h. is_key h.key) node.headers ≡ true → AllByRecursion IsPlainHeader node.headers
+    → (message_content node).bytes ≡ node.body
+content_of node keys plain =
+    ap (λ (o : Option Header). (lenient_content (lenient_kind (option_map (λ h. lenient_value_in four_charsets h.value) o)) node.body).bytes)
+    (find_none (codes "Content-Transfer-Encoding") node.headers keys (lack_encoding node.headers plain))
+    ∙ ap (λ (c : Content). c.bytes) (content_none node.body)
+
+pub leaf_body : (node : Node) (parts : Forest) → list_all (λ h. is_key h.key) node.headers ≡ true → AllByRecursion IsPlainHeader node.headers
+    → HasStrictBody (tree node parts)
+leaf_body node parts keys plain = record { encoded = λ e. subst (λ kind. IsEncoded kind node.body) (sym (kind_of node keys plain)) tt }
+
+line_no_nul : (b : ℕ) → is_line_byte b ≡ true → not (b == 0) ≡ true
+line_no_nul b h = grind (arith, nat_tests)
+
+lines_no_nul : (xs : List ℕ) → AreLines (codes "\r\n") xs → list_all (λ b. not (b == 0)) xs ≡ true
+lines_no_nul xs no_line = refl
+lines_no_nul xs (in_line {b = b} {rest = rest} is lines) =
+    are_true (not (b == 0)) (list_all (λ b. not (b == 0)) rest) (line_no_nul b is) (lines_no_nul rest lines)
+lines_no_nul xs (end_of_line {rest = rest} lines made) =
+    subst (λ (ys : List ℕ). list_all (λ b. not (b == 0)) ys ≡ true) (sym made) (lines_no_nul rest lines)
+
+low_mark : (b m : ℕ) → 128 ≤ m → is_ascii_byte b ≡ true → (m == b) ≡ false
+low_mark b m high h = grind (arith, nat_tests)
+
+ascii_unmarked : (xs : List ℕ) → list_all is_ascii_byte xs ≡ true → HasNoMark xs
+ascii_unmarked [] all = record { utf_8 = refl; utf_16_be = refl; utf_16_le = refl }
+ascii_unmarked (b ∷ xs) all =
+    let low = all_head is_ascii_byte b xs all in
+    record {
+      utf_8 = left_false (0xEF == b) _ (low_mark b 0xEF (omega arith) low);
+      utf_16_be = left_false (0xFE == b) _ (low_mark b 0xFE (omega arith) low);
+      utf_16_le = left_false (0xFF == b) _ (low_mark b 0xFF (omega arith) low);
+    }
+
+ascii_readable : (known : Charsets) (xs : List ℕ) → list_all is_ascii_byte xs ≡ true → AreLines (codes "\r\n") xs
+    → IsReadableText known (codes "us-ascii") xs
+ascii_readable known xs all lines = record {
+  no_nul = lines_no_nul xs lines;
+  mark = ascii_unmarked xs all;
+  charset = in_us_ascii (this_label refl) all;
+}
+
+pub leaf_text : (known : Charsets) (node : Node) (parts : Forest) → list_all (λ h. is_key h.key) node.headers ≡ true
+    → AllByRecursion IsPlainHeader node.headers → node.ctype ≡ default_type → list_all is_ascii_byte node.body ≡ true
+    → AreLines (codes "\r\n") node.body → HasStrictText known (tree node parts)
+leaf_text known node parts keys plain type all lines = record {
+  readable = λ e f. subst (λ (label : List ℕ). IsReadableText known label (message_content node).bytes)
+      (sym (ap (λ (c : ContentType). c.charset) type))
+      (subst (IsReadableText known (codes "us-ascii")) (sym (content_of node keys plain)) (ascii_readable known node.body all lines));
+}

@@ -1,0 +1,69 @@
+-- Plain outlines: well-formed outlines of these are written as strict mails. Which outlines are plain is the project's own rule.
+use Rattle.std.specs.Prelude.{◌≡◌, ◌≤◌, ◌==◌, ℕ, true, false, List, length, ⊤, codes}
+use Rattle.std.specs.List.{AllByRecursion, list_all}
+use Rattle.std.specs.Str.{str_eq_ignore_ascii_case}
+use Rattle.mail_codec.specs.Ascii.{colon}
+use Rattle.mail_codec.specs.Places.{begins}
+use Rattle.mailparse.specs.Header.{Header}
+use Rattle.mail_address.specs.Encode.{is_plain_value}
+use Rattle.mail_check.specs.strict.Charsets.{is_ascii_byte}
+use Rattle.mail_check.specs.strict.Delimiters.{HasNoDash}
+use Rattle.mail_check.specs.strict.Fields.{HasAtMostOne, HasNone, once_names}
+use Rattle.mail_check.specs.strict.LineEnds.{AreLines}
+use Rattle.mail_check.specs.strict.SenderNames.{HasNoEarlyAt}
+use Rattle.mail_check.specs.strict.Senders.{IsSenderValue}
+use Rattle.mail_check.specs.strict.Worded.{is_worded_key}
+use Rattle.mail_check.specs.strict.Words.{HasNoWordEnd}
+use Rattle.mail_laws.specs.Render.{OutlineTree, OutlineForest, leaf, branch, no_outlines, outline_and, dash_boundary, depth, headers_within, rendered}
+
+-- ---- headers
+
+-- a header whose value is printable ASCII without encoded words, and that names neither a transfer encoding nor a disposition
+pub record IsPlainHeader (header : Header) : Type 0 where
+  pub value : is_plain_value header.value ≡ true
+  pub no_colon : begins (λ b. b == colon) header.value ≡ false
+  pub no_encoding : str_eq_ignore_ascii_case header.key (codes "Content-Transfer-Encoding") ≡ false
+  pub no_disposition : str_eq_ignore_ascii_case header.key (codes "Content-Disposition") ≡ false
+  -- in a subject or a sender, neither `=?` nor `?=` occurs
+  pub no_word : is_worded_key header.key ≡ true → HasNoWordEnd header.value
+  -- a `From` has one address, as in strict mails, and no opening angle bracket after an at sign
+  pub sender : str_eq_ignore_ascii_case header.key (codes "From") ≡ true → IsSenderValue header.value
+  pub early : str_eq_ignore_ascii_case header.key (codes "From") ≡ true → HasNoEarlyAt header.value
+
+-- one such header or more, of which none is repeated that may occur once
+pub record ArePlainHeaders (headers : List Header) : Type 0 where
+  pub some : 1 ≤ length headers
+  pub each : AllByRecursion IsPlainHeader headers
+  pub once : AllByRecursion (λ name. HasAtMostOne name headers) once_names
+
+-- ---- outlines
+
+-- a leaf without a type, so plain text: its body is ASCII in lines that end in CR LF
+pub record IsPlainLeaf (headers : List Header) (body : List ℕ) : Type 0 where
+  pub headed : ArePlainHeaders headers
+  pub untyped : HasNone (codes "Content-Type") headers
+  pub ascii : list_all is_ascii_byte body ≡ true
+  pub lines : AreLines (codes "\r\n") body
+
+-- a branch with a boundary of at most 70 letters and digits
+pub record IsPlainBranch (headers : List Header) (boundary : List ℕ) : Type 0 where
+  pub headed : ArePlainHeaders headers
+  pub short : length boundary ≤ 70
+
+-- every outline within it is such a leaf or branch, and the dash-boundary of no branch occurs in its parts
+abbrev mutual
+  pub IsPlainWithin : OutlineTree → Type 0
+  IsPlainWithin (leaf headers body) = IsPlainLeaf headers body
+  IsPlainWithin (branch headers boundary parts) = IsPlainBranch headers boundary × ArePlainParts boundary parts
+
+  -- the same of the parts of a branch with this boundary
+  pub ArePlainParts : List ℕ → OutlineForest → Type 0
+  ArePlainParts boundary no_outlines = ⊤
+  ArePlainParts boundary (outline_and part parts) =
+      HasNoDash (dash_boundary boundary) (rendered part) × (IsPlainWithin part × ArePlainParts boundary parts)
+
+-- the same of an outline of at most 10 levels and 100 messages
+pub record IsPlainOutline (outline : OutlineTree) : Type 0 where
+  pub within : IsPlainWithin outline
+  pub levels : depth outline ≤ 9
+  pub messages : length (headers_within outline) ≤ 100
