@@ -29,7 +29,8 @@ use Rattle.mail_laws.proofs.lemmas.FlatPairs.{all_both}
 value_same : (value : List ℕ) → is_plain_value value ≡ true → written_bytes value ≡ value
 unfolding written_value
 value_same value plain =
-    cond_both (is_utf8 value) (written_value value) value (λ x. x ≡ value) (λ e. cond-true (is_plain_value value) _ _ plain) (λ e. refl)
+    cond_both (is_utf8 value) (written_value value) value (λ x. x ≡ value) (λ e. cond-true (is_plain_value value) _ _ plain)
+    (λ e. refl)
 
 pub same_written : (headers : List Header) → AllByRecursion IsPlainHeader headers → written_headers headers ≡ headers
 same_written [] plain = refl
@@ -107,7 +108,8 @@ plain_bytes : (value : List ℕ) → is_plain_value value ≡ true → list_all 
 plain_bytes value plain = (and_parts (list_all is_plain_byte value) _ plain).0
 
 key_bytes : (key : List ℕ) → is_key key ≡ true → list_all is_plain_byte key ≡ true
-key_bytes key named = all_so is_key_byte is_plain_byte key_plain key (and_parts (list_all is_key_byte key) (not (is_empty key)) named).0
+key_bytes key named = all_so is_key_byte is_plain_byte key_plain key
+    (and_parts (list_all is_key_byte key) (not (is_empty key)) named).0
 
 line_is_header : (key value : List ℕ) → is_key key ≡ true → is_plain_value value ≡ true → begins (λ b. b == colon) value ≡ false
     → IsHeader (key ++ 58 ∷ 32 ∷ (value ++ 13 ∷ 10 ∷ []))
@@ -116,11 +118,13 @@ line_is_header (b ∷ key) value named plain none = record {
   first = b;
   others = key;
   value = 32 ∷ (value ++ 13 ∷ 10 ∷ []);
-  is_name = all_so is_key_byte is_name_byte key_name (b ∷ key) (and_parts (list_all is_key_byte (b ∷ key)) (not (is_empty (b ∷ key))) named).0;
+  is_name = all_so is_key_byte is_name_byte key_name (b ∷ key)
+      (and_parts (list_all is_key_byte (b ∷ key)) (not (is_empty (b ∷ key))) named).0;
   one_colon = colon_later refl (colon_first value plain none);
   is_value = value_byte refl (valued value (plain_bytes value plain));
   comments = λ e. subst HasNoCommentFold (line_apart (b ∷ key) value)
-      (uncommented ((b ∷ key) ++ 58 ∷ 32 ∷ value) (written_line (b ∷ key) value (key_bytes (b ∷ key) named) (plain_bytes value plain)));
+      (uncommented ((b ∷ key) ++ 58 ∷ 32 ∷ value)
+      (written_line (b ∷ key) value (key_bytes (b ∷ key) named) (plain_bytes value plain)));
   made = refl;
 }
 
@@ -133,7 +137,8 @@ block_is_strict (h ∷ []) some keys plain =
     (ap (λ (x : List ℕ). x ++ cr_lf) (append-nil (header_line h)))
 block_is_strict (h ∷ g ∷ headers) some keys plain =
     let key = and_parts (is_key h.key) (list_all (λ x. is_key x.key) (g ∷ headers)) keys in
-    next_header (line_is_header h.key h.value key.0 plain.0.value plain.0.no_colon) (block_is_strict (g ∷ headers) (omega arith) key.1 plain.1)
+    next_header (line_is_header h.key h.value key.0 plain.0.value plain.0.no_colon)
+    (block_is_strict (g ∷ headers) (omega arith) key.1 plain.1)
     (append_assoc (header_line h) (flat_map header_line (g ∷ headers)) cr_lf)
 
 -- ---- lines
@@ -157,7 +162,8 @@ header_lined : (key value : List ℕ) → is_key key ≡ true → is_plain_value
 header_lined key value named plain =
     subst (AreLines (codes "\r\n")) (line_apart key value)
     (lines_joined (codes "\r\n") (key ++ 58 ∷ 32 ∷ value) (13 ∷ 10 ∷ [])
-    (plain_lines (key ++ 58 ∷ 32 ∷ value) (written_line key value (key_bytes key named) (plain_bytes value plain))) (line_end [] no_line))
+    (plain_lines (key ++ 58 ∷ 32 ∷ value) (written_line key value (key_bytes key named) (plain_bytes value plain)))
+    (line_end [] no_line))
 
 pub block_lined : (headers : List Header) → list_all (λ h. is_key h.key) headers ≡ true → AllByRecursion IsPlainHeader headers
     → AreLines (codes "\r\n") (header_block headers)
@@ -209,7 +215,8 @@ rest_none value none xs ys e = record {
   closing = pair_later question_mark equals_sign xs value none.closing ys e;
 }
 
-pieces_none : (value : List ℕ) (found : List (List ℕ)) → ArePieces value found → HasNoWordEnd value → AllByRecursion HasNoWordEnd found
+pieces_none : (value : List ℕ) (found : List (List ℕ)) → ArePieces value found → HasNoWordEnd value
+    → AllByRecursion HasNoWordEnd found
 pieces_none value found (one_piece all) none = (none, tt)
 pieces_none value found (piece_and_more {piece = piece} {rest = rest} {found = more} b all is are made) none = (
   piece_none value none piece (b ∷ rest) made,
@@ -239,13 +246,16 @@ no_word piece none word = pair_first equals_sign question_mark piece _ none.open
 no_padded : (head piece : List ℕ) → HasNoWordEnd piece → IsPaddedWord head piece → ⊥
 no_padded head piece none word =
     pair_first equals_sign question_mark piece _ none.opening
-    (word.made ∙ ap (λ (x : List ℕ). x ++ (((word.letter ∷ word.letters) ++ (equals_sign ∷ word.padding)) ++ codes "?=")) word.front)
+    (word.made
+    ∙ ap (λ (x : List ℕ). x ++ (((word.letter ∷ word.letters) ++ (equals_sign ∷ word.padding)) ++ codes "?=")) word.front)
 
-all_apart : (before : List ℕ) (found : List (List ℕ)) → HasNoWordEnd before → AllByRecursion HasNoWordEnd found → AreApart before found
+all_apart : (before : List ℕ) (found : List (List ℕ)) → HasNoWordEnd before → AllByRecursion HasNoWordEnd found
+    → AreApart before found
 all_apart before [] none all = no_more_pieces
 all_apart before ([] ∷ found) none all = empty_piece (all_apart before found none all.1)
 all_apart before ((b ∷ piece) ∷ found) none all =
-    apart_piece refl (λ head same rest padded e. absurd (no_padded head before none padded)) (all_apart (b ∷ piece) found all.0 all.1)
+    apart_piece refl (λ head same rest padded e. absurd (no_padded head before none padded))
+    (all_apart (b ∷ piece) found all.0 all.1)
 
 pub all_are : {X : Type 0} (P Q : X → Type 0) → ((x : X) → P x → Q x) → (xs : List X) → AllByRecursion P xs → AllByRecursion Q xs
 all_are P Q f [] h = tt
@@ -267,7 +277,8 @@ value_worded known header plain worded =
       readable = record {
         found = found;
         are = are;
-        readable = all_are HasNoWordEnd (IsReadablePiece known) (λ piece h word octets are. absurd (no_word piece h word)) found none;
+        readable = all_are HasNoWordEnd (IsReadablePiece known)
+            (λ piece h word octets are. absurd (no_word piece h word)) found none;
       };
       names = record {
         early = plain.early;

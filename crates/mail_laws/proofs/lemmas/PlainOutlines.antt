@@ -56,10 +56,12 @@ boundary_bytes boundary h =
     (and_parts (list_all is_ascii_alphanumeric boundary) (not (is_empty boundary)) h).0
 
 mutual
-  outline_lined : (outline : OutlineTree) → is_well_formed_within outline ≡ true → IsPlainWithin outline → AreLines (codes "\r\n") (rendered outline)
+  outline_lined : (outline : OutlineTree) → is_well_formed_within outline ≡ true → IsPlainWithin outline
+      → AreLines (codes "\r\n") (rendered outline)
   outline_lined (leaf headers body) formed plain =
       let is = IsFormed-from (leaf headers body) formed in
-      lines_joined (codes "\r\n") (header_block (written_headers headers)) body (headers_lined headers is.keys plain.headed) plain.lines
+      lines_joined (codes "\r\n") (header_block (written_headers headers)) body
+      (headers_lined headers is.keys plain.headed) plain.lines
   outline_lined (branch headers boundary parts) formed plain =
       let is = branch-formed headers boundary parts formed in
       let both = and_parts (is_well_formed_here (branch headers boundary parts)) (are_well_formed_within parts) formed in
@@ -68,10 +70,12 @@ mutual
       (parts_lined boundary (boundary_bytes boundary is.plain) parts both.1 plain.1)
 
   parts_lined : (boundary : List ℕ) → list_all is_plain_byte (dash_boundary boundary) ≡ true → (parts : OutlineForest)
-      → are_well_formed_within parts ≡ true → ArePlainParts boundary parts → AreLines (codes "\r\n") (rendered_parts boundary parts)
+      → are_well_formed_within parts ≡ true → ArePlainParts boundary parts
+      → AreLines (codes "\r\n") (rendered_parts boundary parts)
   parts_lined boundary dashed no_outlines formed plain =
       lines_joined (codes "\r\n") (dash_boundary boundary) (codes "--\r\n") (plain_lines (dash_boundary boundary) dashed)
-      (lines_joined (codes "\r\n") (codes "--") (codes "\r\n") (plain_lines (codes "--") refl) (line_end [] (plain_lines [] refl)))
+      (lines_joined (codes "\r\n") (codes "--") (codes "\r\n") (plain_lines (codes "--") refl)
+      (line_end [] (plain_lines [] refl)))
   parts_lined boundary dashed (outline_and part parts) formed plain =
       let both = and_parts (is_well_formed_within part) (are_well_formed_within parts) formed in
       lines_joined (codes "\r\n") (dash_boundary boundary) (cr_lf ++ (rendered part ++ (cr_lf ++ rendered_parts boundary parts)))
@@ -113,7 +117,8 @@ module _ (known : Charsets) where
     block = subst IsBlock (sym block) (block_is_strict node.headers plain.some keys plain.each);
     fields = record {
       once = plain.once;
-      each = all_with IsPlainHeader (IsTyped node.ctype) (IsField node.ctype) (header_field node.ctype) node.headers plain.each type;
+      each = all_with IsPlainHeader (IsTyped node.ctype) (IsField node.ctype)
+          (header_field node.ctype) node.headers plain.each type;
     };
     parameters = all_with IsPlainHeader (IsTyped node.ctype) HasPlainValue (header_plain node.ctype) node.headers plain.each type;
     files = files_are_strict node keys plain.each type;
@@ -129,7 +134,8 @@ module _ (known : Charsets) where
       let type = default_typed known headers plain.untyped in
       let bytes = rendered (leaf headers body) in
       let node = message bytes headers headers body in
-      subst (λ (hs : List Header). IsStrictTree known (tree (message bytes headers hs body) no_parts)) (sym (same_written headers plain.headed.each))
+      subst (λ (hs : List Header). IsStrictTree known (tree (message bytes headers hs body) no_parts))
+      (sym (same_written headers plain.headed.each))
       (from_headers node no_parts refl formed.keys plain.headed
       (untyped (type_of known headers) headers (none_lack (codes "Content-Type") headers plain.untyped))
       (record {
@@ -140,7 +146,8 @@ module _ (known : Charsets) where
       (leaf_text known node no_parts formed.keys plain.headed.each type plain.ascii plain.lines))
 
   branch_strict : (headers : List Header) (boundary : List ℕ) (parts : OutlineForest) → IsFormed (branch headers boundary parts)
-      → IsPlainBranch headers boundary → ArePlainParts boundary parts → IsStrictTree known (stands_for known (branch headers boundary parts))
+      → IsPlainBranch headers boundary → ArePlainParts boundary parts
+      → IsStrictTree known (stands_for known (branch headers boundary parts))
   branch_strict headers boundary no_outlines formed plain apart = absurd (false≢true formed.some)
   branch_strict headers [] (outline_and part parts) formed plain apart = absurd (false≢true formed.plain)
   branch_strict headers (b ∷ bs) (outline_and part parts) formed plain apart =
@@ -153,7 +160,8 @@ module _ (known : Charsets) where
       let made : List Header → Tree = λ hs. tree (message (header_block hs ++ text) headers hs []) inner in
       subst (λ hs. IsStrictTree known (made hs)) (sym (same_written headers plain.headed.each))
       (from_headers (message (header_block headers ++ text) headers headers []) inner refl formed.keys plain.headed
-      (typed b bs all (type_of known headers) is headers (one_typed (boundary_type boundary) headers plain.headed.once.0 formed.names))
+      (typed b bs all (type_of known headers) is headers
+      (one_typed (boundary_type boundary) headers plain.headed.once.0 formed.names))
       (record {
         split = λ named multi found good.
             let both : Some named ≡ Some boundary = sym found ∙ ap (λ (c : ContentType). c.params (codes "boundary")) type in
@@ -162,7 +170,8 @@ module _ (known : Charsets) where
             (record {
               parts = refl;
               preamble = refl;
-              text = subst (HasParts (dash_boundary boundary) true) (sym (drop_at (header_block headers) text (length (header_block headers)) refl))
+              text = subst (HasParts (dash_boundary boundary) true)
+                  (sym (drop_at (header_block headers) text (length (header_block headers)) refl))
                   (parts_split b bs all part parts apart);
             });
       })
@@ -172,12 +181,15 @@ module _ (known : Charsets) where
   mutual
     outline_strict : (outline : OutlineTree) → is_well_formed_within outline ≡ true → IsPlainWithin outline
         → AllByRecursion (IsStrictTree known) (trees_within (stands_for known outline))
-    outline_strict (leaf headers body) formed plain = (leaf_strict headers body (IsFormed-from (leaf headers body) formed) plain, tt)
+    outline_strict (leaf headers body) formed plain = (leaf_strict headers body
+        (IsFormed-from (leaf headers body) formed) plain, tt)
     outline_strict (branch headers boundary parts) formed plain =
         let both = and_parts (is_well_formed_here (branch headers boundary parts)) (are_well_formed_within parts) formed in
-        (branch_strict headers boundary parts (branch-formed headers boundary parts formed) plain.0 plain.1, parts_strict boundary parts both.1 plain.1)
+        (branch_strict headers boundary parts
+        (branch-formed headers boundary parts formed) plain.0 plain.1, parts_strict boundary parts both.1 plain.1)
 
-    parts_strict : (boundary : List ℕ) (parts : OutlineForest) → are_well_formed_within parts ≡ true → ArePlainParts boundary parts
+    parts_strict : (boundary : List ℕ) (parts : OutlineForest) → are_well_formed_within parts ≡ true
+        → ArePlainParts boundary parts
         → AllByRecursion (IsStrictTree known) (trees_in (stand_for known parts))
     parts_strict boundary no_outlines formed plain = tt
     parts_strict boundary (outline_and part parts) formed plain =
@@ -187,7 +199,8 @@ module _ (known : Charsets) where
 
   -- ---- the mail
 
-  senders_strict : (outline : OutlineTree) → IsPlainWithin outline → AllByRecursion HasSenderValue (root (stands_for known outline)).headers
+  senders_strict : (outline : OutlineTree) → IsPlainWithin outline
+      → AllByRecursion HasSenderValue (root (stands_for known outline)).headers
   senders_strict (leaf headers body) plain =
       subst (AllByRecursion HasSenderValue) (sym (same_written headers plain.headed.each))
       (all_are IsPlainHeader HasSenderValue (λ h is. is.sender) headers plain.headed.each)
@@ -213,12 +226,14 @@ module _ (known : Charsets) where
           fields = map_of_all root HasStrictFields all
               (all_are (IsStrictTree known) (λ t. HasStrictFields (root t)) (λ t is. is.fields) all each);
           parameters = map_of_all root (λ node. AllByRecursion HasPlainValue node.headers) all
-              (all_are (IsStrictTree known) (λ t. AllByRecursion HasPlainValue (root t).headers) (λ t is. is.parameters) all each);
+              (all_are (IsStrictTree known) (λ t. AllByRecursion HasPlainValue (root t).headers)
+              (λ t is. is.parameters) all each);
           files = map_of_all root HasStrictFileName all
               (all_are (IsStrictTree known) (λ t. HasStrictFileName (root t)) (λ t is. is.files) all each);
           senders = senders_strict outline plain.within;
           words = map_of_all root (λ node. AllByRecursion (HasWordedValue known) node.headers) all
-              (all_are (IsStrictTree known) (λ t. AllByRecursion (HasWordedValue known) (root t).headers) (λ t is. is.words) all each);
+              (all_are (IsStrictTree known) (λ t. AllByRecursion (HasWordedValue known) (root t).headers)
+              (λ t is. is.words) all each);
           parts = all_are (IsStrictTree known) HasStrictParts (λ t is. is.parts) all each;
           bodies = all_are (IsStrictTree known) HasStrictBody (λ t is. is.body) all each;
           texts = all_are (IsStrictTree known) (HasStrictText known) (λ t is. is.text) all each;
@@ -227,22 +242,27 @@ module _ (known : Charsets) where
       }
 
   -- no value of a plain outline is written as encoded words
-  values_plain : (headers : List Header) → AllByRecursion IsPlainHeader headers → list_all (λ h. is_plain_value h.value) headers ≡ true
+  values_plain : (headers : List Header) → AllByRecursion IsPlainHeader headers
+      → list_all (λ h. is_plain_value h.value) headers ≡ true
   values_plain [] plain = refl
   values_plain (h ∷ headers) plain =
-      are_true (is_plain_value h.value) (list_all (λ x. is_plain_value x.value) headers) plain.0.value (values_plain headers plain.1)
+      are_true (is_plain_value h.value) (list_all (λ x. is_plain_value x.value) headers) plain.0.value
+      (values_plain headers plain.1)
 
   mutual
     words_plain : (outline : OutlineTree) → IsPlainWithin outline → is_plain_within outline ≡ true
     words_plain (leaf headers body) plain = values_plain headers plain.headed.each
     words_plain (branch headers boundary parts) plain =
-        are_true (has_plain_values (branch headers boundary parts)) (are_plain_within parts) (values_plain headers plain.0.headed.each)
+        are_true (has_plain_values (branch headers boundary parts)) (are_plain_within parts)
+        (values_plain headers plain.0.headed.each)
         (words_of_parts_plain boundary parts plain.1)
 
-    words_of_parts_plain : (boundary : List ℕ) (parts : OutlineForest) → ArePlainParts boundary parts → are_plain_within parts ≡ true
+    words_of_parts_plain : (boundary : List ℕ) (parts : OutlineForest) → ArePlainParts boundary parts
+        → are_plain_within parts ≡ true
     words_of_parts_plain boundary no_outlines plain = refl
     words_of_parts_plain boundary (outline_and part parts) plain =
-        are_true (is_plain_within part) (are_plain_within parts) (words_plain part plain.1.0) (words_of_parts_plain boundary parts plain.1.1)
+        are_true (is_plain_within part) (are_plain_within parts) (words_plain part plain.1.0)
+        (words_of_parts_plain boundary parts plain.1.1)
 
   pub plain_is_clean : (greatest : ℕ) (outline : OutlineTree) (t : Tree) → IsWellFormed outline → IsPlainOutline outline
       → read_mail_in known greatest (rendered outline) ≡ Ok t → Lacks is_core (findings known t (placements 0 t))
@@ -250,7 +270,8 @@ module _ (known : Charsets) where
       let inside = within_levels outline formed in
       let able = inr (words_plain outline plain.within) in
       let bytes = rendered outline in
-      ⊎_elim (λ deep. let both : Err recursion_limit ≡ Ok t = sym (outline_is_refused known greatest outline able inside deep) ∙ read in absurd (cc))
+      ⊎_elim (λ deep. let both : Err recursion_limit ≡ Ok t = sym (outline_is_refused known greatest outline able inside deep)
+          ∙ read in absurd (cc))
       (λ within.
       let both : Ok (stands_for known outline) ≡ Ok t = sym (outline_is_read known greatest outline able inside within) ∙ read in
       let same : stands_for known outline ≡ t = cc in

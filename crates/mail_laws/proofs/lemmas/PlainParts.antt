@@ -38,12 +38,14 @@ module _ (b : ℕ) (bs : List ℕ) (all : list_all is_ascii_alphanumeric (b ∷ 
   dashless : (xs rest : List ℕ) → list_all is_ascii_alphanumeric xs ≡ true → HasNoDash dash rest → HasNoDash dash (xs ++ rest)
   dashless [] rest free more = more
   dashless (x ∷ xs) rest free more =
-      no_dash_here (left_false (45 == x) (has_prefix (45 ∷ b ∷ bs) (xs ++ rest)) (no_hyphen x (all_head is_ascii_alphanumeric x xs free)))
+      no_dash_here (left_false (45 == x) (has_prefix (45 ∷ b ∷ bs) (xs ++ rest))
+      (no_hyphen x (all_head is_ascii_alphanumeric x xs free)))
       (dashless xs rest (all_tail is_ascii_alphanumeric x xs free) more)
 
   alone : HasNoDash dash (45 ∷ ((b ∷ bs) ++ 45 ∷ 45 ∷ 13 ∷ 10 ∷ []))
   alone =
-      no_dash_here (left_false (45 == b) (has_prefix (b ∷ bs) (bs ++ 45 ∷ 45 ∷ 13 ∷ 10 ∷ [])) (no_hyphen b (all_head is_ascii_alphanumeric b bs all)))
+      no_dash_here (left_false (45 == b) (has_prefix (b ∷ bs) (bs ++ 45 ∷ 45 ∷ 13 ∷ 10 ∷ []))
+      (no_hyphen b (all_head is_ascii_alphanumeric b bs all)))
       (dashless (b ∷ bs) (45 ∷ 45 ∷ 13 ∷ 10 ∷ []) all
       (no_dash_here (left_false (b == 13) (has_prefix bs (10 ∷ [])) (no_end b (all_head is_ascii_alphanumeric b bs all)))
       (no_dash_here refl (no_dash_here refl (no_dash_here refl no_dash)))))
@@ -51,7 +53,8 @@ module _ (b : ℕ) (bs : List ℕ) (all : list_all is_ascii_alphanumeric (b ∷ 
   free : list_all no_return dash ≡ true
   free = returnless (b ∷ bs) all
 
-  part_closed : (text rest : List ℕ) (starts : Bool) → HasNoDash dash text → HasClose dash true rest → HasClose dash starts (text ++ 13 ∷ 10 ∷ rest)
+  part_closed : (text rest : List ℕ) (starts : Bool) → HasNoDash dash text → HasClose dash true rest
+      → HasClose dash starts (text ++ 13 ∷ 10 ∷ rest)
   part_closed [] rest starts none more = part_byte refl (part_byte refl more)
   part_closed (x ∷ text) rest starts (no_dash_here other none) more =
       part_byte (has_prefix-before dash (x ∷ text) (10 ∷ rest) free ∙ other) (part_closed text rest (x == 10) none more)
@@ -98,7 +101,8 @@ module _ (known : Charsets) where
         trees ∙ ap (λ n. n + length (trees_in (stand_for known parts))) first
         ∙ ap (λ n. length (headers_within part) + n) others ∙ sym headers
 
-  pub outline_small : (outline : OutlineTree) → depth outline ≤ 9 → length (headers_within outline) ≤ 100 → IsSmall (stands_for known outline)
+  pub outline_small : (outline : OutlineTree) → depth outline ≤ 9 → length (headers_within outline) ≤ 100
+      → IsSmall (stands_for known outline)
   outline_small outline levels messages =
       let e = messages_within outline in
       record { levels = outline_levels 9 outline levels; messages = omega (arith, e, messages) }

@@ -76,7 +76,8 @@ find_lack (h ∷ headers) lack =
 abbrev pub TypedAs : List ℕ → Header → Type 0
 TypedAs value h = str_eq_ignore_ascii_case h.key (codes "Content-Type") ≡ true → h.value ≡ value
 
-lack_typed : (value : List ℕ) (headers : List Header) → Lack (codes "Content-Type") headers → AllByRecursion (TypedAs value) headers
+lack_typed : (value : List ℕ) (headers : List Header) → Lack (codes "Content-Type") headers
+    → AllByRecursion (TypedAs value) headers
 lack_typed value [] lack = tt
 lack_typed value (h ∷ headers) lack = ((λ e. absurd (false≢true (sym lack.0 ∙ e))), lack_typed value headers lack.1)
 
@@ -84,11 +85,16 @@ pub one_typed : (value : List ℕ) (headers : List Header) → HasAtMostOne (cod
     → option_map_or (λ h. bytes_eq h.value value) (type_header headers) false ≡ true → AllByRecursion (TypedAs value) headers
 one_typed value [] one names = tt
 one_typed value (h ∷ headers) (other_name other more) names =
-    let later = ap (λ (t : Bool). option_map_or (λ (x : Header). bytes_eq x.value value) (cond t (Some h) (type_header headers)) false) other in
+    let later =
+    ap (λ (t : Bool). option_map_or (λ (x : Header). bytes_eq x.value value)
+    (cond t (Some h) (type_header headers)) false) other in
     ((λ e. absurd (false≢true (sym other ∙ e))), one_typed value headers more (sym later ∙ names))
 one_typed value (h ∷ headers) (the_one same none) names =
-    let here = ap (λ (t : Bool). option_map_or (λ (x : Header). bytes_eq x.value value) (cond t (Some h) (type_header headers)) false) same in
-    ((λ e. (bytes_decides h.value value).0 (sym here ∙ names)), lack_typed value headers (none_lack (codes "Content-Type") headers none))
+    let here =
+    ap (λ (t : Bool). option_map_or (λ (x : Header). bytes_eq x.value value)
+    (cond t (Some h) (type_header headers)) false) same in
+    ((λ e. (bytes_decides h.value value).0 (sym here ∙ names)), lack_typed value headers
+    (none_lack (codes "Content-Type") headers none))
 
 -- ---- a boundary
 
@@ -108,7 +114,8 @@ no_question b h = grind (arith, nat_tests)
 no_mark : (b : ℕ) → is_ascii_alphanumeric b ≡ true → (63 == b) ≡ false
 no_mark b h = grind (arith, nat_tests)
 
-pub is_boundary : (n b : ℕ) (bs : List ℕ) → list_all is_ascii_alphanumeric (b ∷ bs) ≡ true → length (b ∷ bs) ≤ n → IsBoundary n (b ∷ bs)
+pub is_boundary : (n b : ℕ) (bs : List ℕ) → list_all is_ascii_alphanumeric (b ∷ bs) ≡ true → length (b ∷ bs) ≤ n
+    → IsBoundary n (b ∷ bs)
 is_boundary zero b bs all short = absurd (omega arith)
 is_boundary (suc n) b [] all short =
     let is = all_head is_ascii_alphanumeric b [] all in last_character (boundary_byte b is) (no_space b is)
@@ -132,7 +139,8 @@ alphanumeric_wordless (b ∷ xs) all =
 wordless_before : (xs rest : List ℕ) → list_all (λ b. not (61 == b)) xs ≡ true → HasNoWord rest → HasNoWord (xs ++ rest)
 wordless_before [] rest all more = more
 wordless_before (b ∷ xs) rest all more =
-    no_word_here (left_false (61 == b) (has_prefix (codes "?") (xs ++ rest)) (is_false (61 == b) (all_head (λ b. not (61 == b)) b xs all)))
+    no_word_here (left_false (61 == b) (has_prefix (codes "?") (xs ++ rest))
+    (is_false (61 == b) (all_head (λ b. not (61 == b)) b xs all)))
     (wordless_before xs rest (all_tail (λ b. not (61 == b)) b xs all) more)
   where
     is_false : (t : Bool) → not t ≡ true → t ≡ false
@@ -143,7 +151,8 @@ type_wordless : (b : ℕ) (bs : List ℕ) → list_all is_ascii_alphanumeric (b 
     → HasNoWord (codes "mixed; boundary=" ++ (b ∷ bs))
 type_wordless b bs all =
     wordless_before (codes "mixed; boundary") (61 ∷ b ∷ bs) refl
-    (no_word_here (left_false (63 == b) true (no_mark b (all_head is_ascii_alphanumeric b bs all))) (alphanumeric_wordless (b ∷ bs) all))
+    (no_word_here (left_false (63 == b) true (no_mark b (all_head is_ascii_alphanumeric b bs all)))
+    (alphanumeric_wordless (b ∷ bs) all))
 
 pub boundary_plain : (b : ℕ) (bs : List ℕ) → list_all is_ascii_alphanumeric (b ∷ bs) ≡ true → IsPlainType (boundary_type (b ∷ bs))
 boundary_plain b bs all =
@@ -155,7 +164,8 @@ boundary_plain b bs all =
       names = codes "boundary" ∷ [];
       begins = refl;
       characters = refl;
-      parameters = plain_parameter {names = []} {gap = codes " "} {value = b ∷ bs} 98 (codes "oundary") [] (gap_blank refl no_gap) refl
+      parameters = plain_parameter {names = []} {gap = codes " "} {value = b ∷ bs} 98 (codes "oundary") []
+          (gap_blank refl no_gap) refl
           (plain_token (alphanumeric_name (b ∷ bs) all)) refl no_plain
           (ap (λ (x : List ℕ). codes "; boundary=" ++ x) (sym (nil (b ∷ bs))));
       made = refl;
@@ -182,7 +192,8 @@ unfolding boundary_plain
 plain_names b bs all = refl
 
 pub boundary_names : (b : ℕ) (bs : List ℕ) → list_all is_ascii_alphanumeric (b ∷ bs) ≡ true → (value : List ℕ)
-    → value ≡ boundary_type (b ∷ bs) → (is : IsPlainType value) → list_any (bytes_eq (codes "filename")) (names_of_type is) ≡ false
+    → value ≡ boundary_type (b ∷ bs) → (is : IsPlainType value)
+    → list_any (bytes_eq (codes "filename")) (names_of_type is) ≡ false
 boundary_names b bs all value same =
     subst (λ (v : List ℕ). (is : IsPlainType v) → list_any (bytes_eq (codes "filename")) (names_of_type is) ≡ false) (sym same)
     (λ is. ap (list_any (bytes_eq (codes "filename")))
@@ -197,7 +208,8 @@ pub record IsTyped (ctype : ContentType) (h : Header) : Type 0 where
   pub own : str_eq_ignore_ascii_case h.key (codes "Content-Type") ≡ true → (is : IsPlainType h.value)
       → list_any (bytes_eq (codes "filename")) (names_of_type is) ≡ false
 
-pub untyped : (ctype : ContentType) (headers : List Header) → Lack (codes "Content-Type") headers → AllByRecursion (IsTyped ctype) headers
+pub untyped : (ctype : ContentType) (headers : List Header) → Lack (codes "Content-Type") headers
+    → AllByRecursion (IsTyped ctype) headers
 untyped ctype [] lack = tt
 untyped ctype (h ∷ headers) lack = (
   record {
@@ -243,11 +255,13 @@ header_own ctype h plain type = record {
 no_file : (node : Node) → list_all (λ h. is_key h.key) node.headers ≡ true → AllByRecursion IsPlainHeader node.headers
     → (shown_as node).params (codes "filename") ≡ None
 no_file node keys plain =
-    ap (λ (o : Option Header). (option_map_or (disposition_in four_charsets) (option_map (λ h. lenient_value_in four_charsets h.value) o)
+    ap (λ (o : Option Header). (option_map_or (disposition_in four_charsets)
+    (option_map (λ h. lenient_value_in four_charsets h.value) o)
     default_disposition).params (codes "filename"))
     (find_none (codes "Content-Disposition") node.headers keys (lack_disposition node.headers plain))
 
-pub files_are_strict : (node : Node) → list_all (λ h. is_key h.key) node.headers ≡ true → AllByRecursion IsPlainHeader node.headers
+pub files_are_strict : (node : Node) → list_all (λ h. is_key h.key) node.headers ≡ true
+    → AllByRecursion IsPlainHeader node.headers
     → AllByRecursion (IsTyped node.ctype) node.headers → HasStrictFileName node
 files_are_strict node keys plain type =
     let none = no_file node keys plain in
@@ -259,14 +273,16 @@ files_are_strict node keys plain type =
 
 -- ---- the types
 
-pub default_typed : (known : Charsets) (headers : List Header) → HasNone (codes "Content-Type") headers → type_of known headers ≡ default_type
+pub default_typed : (known : Charsets) (headers : List Header) → HasNone (codes "Content-Type") headers
+    → type_of known headers ≡ default_type
 default_typed known headers none =
     ap (λ (o : Option Header). option_map_or (λ h. content_type_in known h.value) o default_type)
     (find_lack headers (none_lack (codes "Content-Type") headers none))
 
 -- the type with this boundary
 abbrev pub parted : List ℕ → ContentType
-parted boundary = record { mimetype = codes "multipart/mixed"; charset = codes "us-ascii"; params = one_text (codes "boundary") boundary }
+parted boundary = record { mimetype = codes "multipart/mixed"; charset = codes "us-ascii"; params = one_text
+    (codes "boundary") boundary }
 
 pub boundary_typed : (known : Charsets) (headers : List Header) (boundary : List ℕ)
     → option_map_or (λ h. bytes_eq h.value (boundary_type boundary)) (type_header headers) false ≡ true
@@ -280,7 +296,8 @@ boundary_typed known headers boundary names all = go (type_header headers) names
         ap (content_type_in known) ((bytes_decides h.value (boundary_type boundary)).0 e)
         ∙ boundary_content_type known boundary (IsAlphanumeric-from known boundary all)
 
-pub parted_is_type : (b : ℕ) (bs : List ℕ) → list_all is_ascii_alphanumeric (b ∷ bs) ≡ true → length (b ∷ bs) ≤ 70 → IsType (parted (b ∷ bs))
+pub parted_is_type : (b : ℕ) (bs : List ℕ) → list_all is_ascii_alphanumeric (b ∷ bs) ≡ true → length (b ∷ bs) ≤ 70
+    → IsType (parted (b ∷ bs))
 parted_is_type b bs all short = record {
   message = λ e. absurd (false≢true e);
   boundary = of_multipart {text = b ∷ bs} refl refl (is_boundary 70 b bs all short);
@@ -292,9 +309,11 @@ kind_none : kind_named None ≡ in_7bit
 unfolding kind_named
 kind_none = refl
 
-kind_of : (node : Node) → list_all (λ h. is_key h.key) node.headers ≡ true → AllByRecursion IsPlainHeader node.headers → body_kind node ≡ in_7bit
+kind_of : (node : Node) → list_all (λ h. is_key h.key) node.headers ≡ true → AllByRecursion IsPlainHeader node.headers
+    → body_kind node ≡ in_7bit
 kind_of node keys plain =
-    ap (λ (o : Option Header). kind_named (option_map str_to_ascii_lowercase (option_map (λ h. lenient_value_in four_charsets h.value) o)))
+    ap (λ (o : Option Header). kind_named
+    (option_map str_to_ascii_lowercase (option_map (λ h. lenient_value_in four_charsets h.value) o)))
     (find_none (codes "Content-Transfer-Encoding") node.headers keys (lack_encoding node.headers plain))
     ∙ kind_none
 
@@ -305,13 +324,16 @@ content_none body = refl
 content_of : (node : Node) → list_all (λ h. is_key h.key) node.headers ≡ true → AllByRecursion IsPlainHeader node.headers
     → (message_content node).bytes ≡ node.body
 content_of node keys plain =
-    ap (λ (o : Option Header). (lenient_content (lenient_kind (option_map (λ h. lenient_value_in four_charsets h.value) o)) node.body).bytes)
+    ap (λ (o : Option Header). (lenient_content
+    (lenient_kind (option_map (λ h. lenient_value_in four_charsets h.value) o)) node.body).bytes)
     (find_none (codes "Content-Transfer-Encoding") node.headers keys (lack_encoding node.headers plain))
     ∙ ap (λ (c : Content). c.bytes) (content_none node.body)
 
-pub leaf_body : (node : Node) (parts : Forest) → list_all (λ h. is_key h.key) node.headers ≡ true → AllByRecursion IsPlainHeader node.headers
+pub leaf_body : (node : Node) (parts : Forest) → list_all (λ h. is_key h.key) node.headers ≡ true
+    → AllByRecursion IsPlainHeader node.headers
     → HasStrictBody (tree node parts)
-leaf_body node parts keys plain = record { encoded = λ e. subst (λ kind. IsEncoded kind node.body) (sym (kind_of node keys plain)) tt }
+leaf_body node parts keys plain = record { encoded = λ e. subst (λ kind. IsEncoded kind node.body)
+    (sym (kind_of node keys plain)) tt }
 
 line_no_nul : (b : ℕ) → is_line_byte b ≡ true → not (b == 0) ≡ true
 line_no_nul b h = grind (arith, nat_tests)
@@ -350,5 +372,6 @@ pub leaf_text : (known : Charsets) (node : Node) (parts : Forest) → list_all (
 leaf_text known node parts keys plain type all lines = record {
   readable = λ e f. subst (λ (label : List ℕ). IsReadableText known label (message_content node).bytes)
       (sym (ap (λ (c : ContentType). c.charset) type))
-      (subst (IsReadableText known (codes "us-ascii")) (sym (content_of node keys plain)) (ascii_readable known node.body all lines));
+      (subst (IsReadableText known (codes "us-ascii")) (sym (content_of node keys plain))
+      (ascii_readable known node.body all lines));
 }
