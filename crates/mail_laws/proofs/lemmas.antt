@@ -36,5 +36,6 @@ pub mod FoldedTypes
 pub mod CleanMails
 pub mod PlainHeaders
 pub mod PlainTypes
+pub mod PlainTexts
 pub mod PlainParts
 pub mod PlainOutlines

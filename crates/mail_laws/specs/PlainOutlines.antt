@@ -1,12 +1,13 @@
 -- Plain outlines: well-formed outlines of these are written as strict mails. Which outlines are plain is the project's own rule.
-use Rattle.std.specs.Prelude.{◌≡◌, ◌≤◌, ◌==◌, ℕ, true, false, List, length, ⊤, codes}
+use Rattle.std.specs.Prelude.{◌≡◌, ◌≤◌, ◌==◌, ℕ, true, false, List, length, IsUtf8, ⊤, codes}
 use Rattle.std.specs.List.{AllByRecursion, list_all}
-use Rattle.std.specs.Str.{str_eq_ignore_ascii_case}
+use Rattle.std.specs.Option.{option_map_or}
+use Rattle.std.specs.Str.{bytes_eq, str_eq_ignore_ascii_case}
 use Rattle.mail_codec.specs.Ascii.{colon}
 use Rattle.mail_codec.specs.Places.{begins}
 use Rattle.mailparse.specs.Header.{Header}
 use Rattle.mail_address.specs.Encode.{is_plain_value}
-use Rattle.mail_check.specs.strict.Charsets.{is_ascii_byte}
+use Rattle.mail_check.specs.strict.Charsets.{is_ascii_byte, HasNoMark}
 use Rattle.mail_check.specs.strict.Delimiters.{HasNoDash}
 use Rattle.mail_check.specs.strict.Fields.{HasAtMostOne, HasNone, once_names}
 use Rattle.mail_check.specs.strict.LineEnds.{AreLines}
@@ -14,7 +15,7 @@ use Rattle.mail_check.specs.strict.SenderNames.{HasNoEarlyAt}
 use Rattle.mail_check.specs.strict.Senders.{IsSenderValue}
 use Rattle.mail_check.specs.strict.Worded.{is_worded_key}
 use Rattle.mail_check.specs.strict.Words.{HasNoWordEnd}
-use Rattle.mail_laws.specs.Render.{OutlineTree, OutlineForest, leaf, branch, no_outlines, outline_and, dash_boundary, depth, headers_within, rendered}
+use Rattle.mail_laws.specs.Render.{OutlineTree, OutlineForest, leaf, branch, no_outlines, outline_and, dash_boundary, depth, headers_within, rendered, type_header}
 
 -- ---- headers
 
@@ -38,11 +39,26 @@ pub record ArePlainHeaders (headers : List Header) : Type 0 where
 
 -- ---- outlines
 
--- a leaf without a type, so plain text: its body is ASCII in lines that end in CR LF
+-- The value of a type of texts in UTF-8. The cases:
+pub data IsUtf8Type : List ℕ → Type 0 where
+  -- plain text
+  plain_in_utf_8 : IsUtf8Type (codes "text/plain; charset=utf-8")
+  -- HTML
+  html_in_utf_8 : IsUtf8Type (codes "text/html; charset=utf-8")
+
+-- A body after these headers is a text in the charset that they name. The cases:
+pub data IsTextOf (headers : List Header) (body : List ℕ) : Type 0 where
+  -- no type, and ASCII
+  in_ascii : HasNone (codes "Content-Type") headers → list_all is_ascii_byte body ≡ true → IsTextOf headers body
+  -- such a type, and UTF-8 without a byte order mark
+  in_unicode : {value : List ℕ} → IsUtf8Type value
+      → option_map_or (λ h. bytes_eq h.value value) (type_header headers) false ≡ true → IsUtf8 body → HasNoMark body
+      → IsTextOf headers body
+
+-- a leaf with such a body, in lines that end in CR LF
 pub record IsPlainLeaf (headers : List Header) (body : List ℕ) : Type 0 where
   pub headed : ArePlainHeaders headers
-  pub untyped : HasNone (codes "Content-Type") headers
-  pub ascii : list_all is_ascii_byte body ≡ true
+  pub text : IsTextOf headers body
   pub lines : AreLines (codes "\r\n") body
 
 -- a branch with a boundary of at most 70 letters and digits

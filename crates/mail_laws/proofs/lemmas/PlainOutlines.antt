@@ -1,5 +1,5 @@
 -- A plain outline is written as a strict mail.
-use Rattle.std.proofs.Common.{◌≡◌, ◌∙◌, ⊎_elim, ℕ, true, not, List, [], ◌∷◌, ◌++◌, length, Some, Ok, Err, codes, refl, sym, ap, subst, inr, arith}
+use Rattle.std.proofs.Common.{◌≡◌, ◌∙◌, ⊎_elim, ℕ, true, false, not, List, [], ◌∷◌, ◌++◌, length, Some, Ok, Err, codes, refl, sym, ap, subst, inr, arith}
 use Rattle.std.specs.Prelude.{◌&&◌}
 use Rattle.std.specs.Char.{is_ascii_alphanumeric}
 use Rattle.std.specs.List.{AllByRecursion, list_all}
@@ -9,7 +9,7 @@ use Rattle.std.proofs.lemmas.List.{drop_at}
 use Rattle.mail_codec.specs.Charset.{Charsets}
 use Rattle.mail_codec.specs.Places.{has_prefix, is_empty}
 use Rattle.mail_codec.specs.QuotedPrintable.{cr_lf}
-use Rattle.mailparse.specs.ContentType.{ContentType}
+use Rattle.mailparse.specs.ContentType.{ContentType, default_type}
 use Rattle.mailparse.specs.Header.{Header}
 use Rattle.mailparse.specs.Mail.{Node, Tree, tree, Forest, no_parts, root, trees_in, trees_within, read_mail_in}
 use Rattle.mailparse.specs.Placement.{placements}
@@ -25,17 +25,18 @@ use Rattle.mail_check.specs.strict.LineEnds.{AreLines}
 use Rattle.mail_check.specs.strict.Mail.{IsStrict}
 use Rattle.mail_check.specs.strict.Named.{Lacks, is_core}
 use Rattle.mail_check.specs.strict.PlainParameters.{HasPlainValue}
-use Rattle.mail_check.specs.strict.Texts.{HasStrictText}
+use Rattle.mail_check.specs.strict.Texts.{HasStrictText, IsReadableText}
 use Rattle.mail_check.specs.strict.Worded.{HasSenderValue, HasWordedValue}
 use Rattle.mail_check.proofs.lemmas.StrictHeaders.{are_true}
 use Rattle.mail_check.proofs.lemmas.StrictMails.{mail_strict}
 use Rattle.mail_check.proofs.lemmas.StrictReading.{all_joined, all_with, map_of_all}
 use Rattle.mail_laws.specs.Boundaries.{boundary_type}
-use Rattle.mail_laws.specs.PlainOutlines.{IsPlainHeader, ArePlainHeaders, IsPlainLeaf, IsPlainBranch, IsPlainWithin, ArePlainParts, IsPlainOutline}
+use Rattle.mail_laws.specs.PlainOutlines.{IsPlainHeader, ArePlainHeaders, IsPlainLeaf, IsPlainBranch, IsPlainWithin, ArePlainParts, IsPlainOutline, IsTextOf, in_ascii, in_unicode}
 use Rattle.mail_laws.specs.Render.{OutlineTree, OutlineForest, leaf, branch, no_outlines, outline_and, dash_boundary, depth, has_plain_values, header_block, is_key, is_plain_within, are_plain_within, is_well_formed_here, is_well_formed_within, are_well_formed_within, is_within_levels, IsWellFormed, rendered, rendered_parts, stands_for, stand_for, type_of, written_headers}
 use Rattle.mail_laws.proofs.lemmas.PlainHeaders.{all_are, all_so, same_written, block_is_strict, lines_joined, plain_lines, line_end, block_lined, value_worded}
 use Rattle.mail_laws.proofs.lemmas.PlainParts.{outline_small, parts_split}
-use Rattle.mail_laws.proofs.lemmas.PlainTypes.{IsTyped, untyped, typed, one_typed, none_lack, header_field, header_plain, files_are_strict, default_typed, boundary_typed, parted_is_type, leaf_body, leaf_text}
+use Rattle.mail_laws.proofs.lemmas.PlainTypes.{IsTyped, untyped, typed, one_typed, none_lack, header_field, header_plain, files_are_strict, default_typed, boundary_typed, parted_is_type, leaf_body, leaf_text, named_type, boundary_plain, boundary_names, ascii_readable, utf_8_readable}
+use Rattle.mail_laws.proofs.lemmas.PlainTexts.{text_in_utf_8, utf_8_mimetype, text_content_type, text_is_type, text_no_multipart, text_plain, text_own}
 use Rattle.mail_laws.proofs.lemmas.RenderReadings.{IsFormed, IsFormed-from, branch-formed, outline_is_read, outline_is_refused}
 
 -- ---- lines
@@ -128,22 +129,40 @@ module _ (known : Charsets) where
     text = text;
   }
 
-  leaf_strict : (headers : List Header) (body : List ℕ) → IsFormed (leaf headers body) → IsPlainLeaf headers body
+  -- a leaf whose type and text are these
+  leaf_made : (headers : List Header) (body : List ℕ) → IsFormed (leaf headers body) → ArePlainHeaders headers → (ctype : ContentType)
+      → type_of known headers ≡ ctype → has_prefix (codes "multipart/") ctype.mimetype ≡ false
+      → AllByRecursion (IsTyped (type_of known headers)) headers → IsReadableText known ctype.charset body
       → IsStrictTree known (stands_for known (leaf headers body))
-  leaf_strict headers body formed plain =
-      let type = default_typed known headers plain.untyped in
+  leaf_made headers body formed plain ctype type other named text =
       let bytes = rendered (leaf headers body) in
       let node = message bytes headers headers body in
       subst (λ (hs : List Header). IsStrictTree known (tree (message bytes headers hs body) no_parts))
-      (sym (same_written headers plain.headed.each))
-      (from_headers node no_parts refl formed.keys plain.headed
-      (untyped (type_of known headers) headers (none_lack (codes "Content-Type") headers plain.untyped))
+      (sym (same_written headers plain.each))
+      (from_headers node no_parts refl formed.keys plain named
       (record {
         split = λ text is named good.
-            absurd (false≢true (sym (ap (λ (c : ContentType). has_prefix (codes "multipart/") c.mimetype) type) ∙ is));
+            absurd (false≢true (sym (ap (λ (c : ContentType). has_prefix (codes "multipart/") c.mimetype) type ∙ other) ∙ is));
       })
-      (leaf_body node no_parts formed.keys plain.headed.each)
-      (leaf_text known node no_parts formed.keys plain.headed.each type plain.ascii plain.lines))
+      (leaf_body node no_parts formed.keys plain.each)
+      (leaf_text known node no_parts formed.keys plain.each ctype.charset (ap (λ (c : ContentType). c.charset) type) text))
+
+  text_strict : (headers : List Header) (body : List ℕ) → IsFormed (leaf headers body) → ArePlainHeaders headers
+      → AreLines (codes "\r\n") body → IsTextOf headers body → IsStrictTree known (stands_for known (leaf headers body))
+  text_strict headers body formed plain lines (in_ascii none ascii) =
+      leaf_made headers body formed plain default_type (default_typed known headers none) refl
+      (untyped (type_of known headers) headers (none_lack (codes "Content-Type") headers none)) (ascii_readable known body ascii lines)
+  text_strict headers body formed plain lines (in_unicode {value = value} text names utf_8 mark) =
+      let ctype = text_in_utf_8 (utf_8_mimetype text) in
+      let type = named_type known headers value ctype names (text_content_type known value text) in
+      leaf_made headers body formed plain ctype type (text_no_multipart value text)
+      (typed value (text_plain value text) (text_own value text) (type_of known headers)
+      (subst IsType (sym type) (text_is_type value text)) headers (one_typed value headers plain.once.0 names))
+      (utf_8_readable known body utf_8 mark lines)
+
+  leaf_strict : (headers : List Header) (body : List ℕ) → IsFormed (leaf headers body) → IsPlainLeaf headers body
+      → IsStrictTree known (stands_for known (leaf headers body))
+  leaf_strict headers body formed plain = text_strict headers body formed plain.headed plain.lines plain.text
 
   branch_strict : (headers : List Header) (boundary : List ℕ) (parts : OutlineForest) → IsFormed (branch headers boundary parts)
       → IsPlainBranch headers boundary → ArePlainParts boundary parts
@@ -160,7 +179,7 @@ module _ (known : Charsets) where
       let made : List Header → Tree = λ hs. tree (message (header_block hs ++ text) headers hs []) inner in
       subst (λ hs. IsStrictTree known (made hs)) (sym (same_written headers plain.headed.each))
       (from_headers (message (header_block headers ++ text) headers headers []) inner refl formed.keys plain.headed
-      (typed b bs all (type_of known headers) is headers
+      (typed (boundary_type boundary) (boundary_plain b bs all) (boundary_names b bs all) (type_of known headers) is headers
       (one_typed (boundary_type boundary) headers plain.headed.once.0 formed.names))
       (record {
         split = λ named multi found good.

@@ -1,6 +1,6 @@
 -- The types, bodies and texts of plain outlines are those of strict mails.
 use Rattle.std.proofs.Common.{◌≡◌, ◌∙◌, ◌≤◌, ℕ, zero, suc, Bool, true, false, cond, not, List, [], ◌∷◌, ◌++◌, length, find, Option, Some, None, option_map, refl, sym, ap, subst, arith}
-use Rattle.std.specs.Prelude.{◌||◌, ◌==◌, codes}
+use Rattle.std.specs.Prelude.{IsUtf8, ◌||◌, ◌==◌, codes}
 use Rattle.std.specs.Char.{is_ascii_alphanumeric}
 use Rattle.std.specs.List.{AllByRecursion, list_all, list_any}
 use Rattle.std.specs.Option.{option_map_or}
@@ -22,7 +22,7 @@ use Rattle.mail_data.specs.lenient.Content.{Content, all_of, lenient_content, me
 use Rattle.mail_data.specs.lenient.Encoding.{lenient_kind, lenient_kind_named}
 use Rattle.mail_check.specs.Parameters.{parameter_names}
 use Rattle.mail_check.specs.strict.Bodies.{HasStrictBody, IsEncoded}
-use Rattle.mail_check.specs.strict.Charsets.{is_ascii_byte, this_label, HasNoMark, in_us_ascii}
+use Rattle.mail_check.specs.strict.Charsets.{is_ascii_byte, this_label, HasNoMark, in_us_ascii, in_utf_8}
 use Rattle.mail_check.specs.strict.Fields.{HasNone, another, HasAtMostOne, other_name, the_one, is_boundary_character, IsBoundary, last_character, more_characters, of_multipart, IsType, IsField}
 use Rattle.mail_check.specs.strict.FileNames.{names_of_type, HasOwnNames, HasStrictFileName}
 use Rattle.mail_check.specs.strict.LineEnds.{is_line_byte, AreLines, in_line, end_of_line, no_line}
@@ -136,7 +136,7 @@ alphanumeric_wordless (b ∷ xs) all =
     no_word_here (left_false (61 == b) (has_prefix (codes "?") xs) (no_question b (all_head is_ascii_alphanumeric b xs all)))
     (alphanumeric_wordless xs (all_tail is_ascii_alphanumeric b xs all))
 
-wordless_before : (xs rest : List ℕ) → list_all (λ b. not (61 == b)) xs ≡ true → HasNoWord rest → HasNoWord (xs ++ rest)
+pub wordless_before : (xs rest : List ℕ) → list_all (λ b. not (61 == b)) xs ≡ true → HasNoWord rest → HasNoWord (xs ++ rest)
 wordless_before [] rest all more = more
 wordless_before (b ∷ xs) rest all more =
     no_word_here (left_false (61 == b) (has_prefix (codes "?") (xs ++ rest))
@@ -178,7 +178,7 @@ boundary_plain b bs all =
     nil (x ∷ xs) = ap (λ ys. x ∷ ys) (nil xs)
 
 -- the names of its parameters
-type_names : (value : List ℕ) (one two : IsPlainType value) → names_of_type one ≡ names_of_type two
+pub type_names : (value : List ℕ) (one two : IsPlainType value) → names_of_type one ≡ names_of_type two
 type_names value one two =
     let first = plain_type_text value one in
     let second = plain_type_text value two in
@@ -191,13 +191,11 @@ plain_names : (b : ℕ) (bs : List ℕ) (all : list_all is_ascii_alphanumeric (b
 unfolding boundary_plain
 plain_names b bs all = refl
 
-pub boundary_names : (b : ℕ) (bs : List ℕ) → list_all is_ascii_alphanumeric (b ∷ bs) ≡ true → (value : List ℕ)
-    → value ≡ boundary_type (b ∷ bs) → (is : IsPlainType value)
-    → list_any (bytes_eq (codes "filename")) (names_of_type is) ≡ false
-boundary_names b bs all value same =
-    subst (λ (v : List ℕ). (is : IsPlainType v) → list_any (bytes_eq (codes "filename")) (names_of_type is) ≡ false) (sym same)
-    (λ is. ap (list_any (bytes_eq (codes "filename")))
-    (type_names (boundary_type (b ∷ bs)) is (boundary_plain b bs all) ∙ plain_names b bs all))
+pub boundary_names : (b : ℕ) (bs : List ℕ) → list_all is_ascii_alphanumeric (b ∷ bs) ≡ true
+    → (is : IsPlainType (boundary_type (b ∷ bs))) → list_any (bytes_eq (codes "filename")) (names_of_type is) ≡ false
+boundary_names b bs all is =
+    ap (list_any (bytes_eq (codes "filename")))
+    (type_names (boundary_type (b ∷ bs)) is (boundary_plain b bs all) ∙ plain_names b bs all)
 
 -- ---- the headers of a message of this type
 
@@ -220,16 +218,19 @@ untyped ctype (h ∷ headers) lack = (
   untyped ctype headers lack.1,
 )
 
-pub typed : (b : ℕ) (bs : List ℕ) → list_all is_ascii_alphanumeric (b ∷ bs) ≡ true → (ctype : ContentType) → IsType ctype
-    → (headers : List Header) → AllByRecursion (TypedAs (boundary_type (b ∷ bs))) headers → AllByRecursion (IsTyped ctype) headers
-typed b bs all ctype is [] same = tt
-typed b bs all ctype is (h ∷ headers) same = (
+pub typed : (value : List ℕ) → IsPlainType value
+    → ((is : IsPlainType value) → list_any (bytes_eq (codes "filename")) (names_of_type is) ≡ false)
+    → (ctype : ContentType) → IsType ctype → (headers : List Header) → AllByRecursion (TypedAs value) headers
+    → AllByRecursion (IsTyped ctype) headers
+typed value plain own ctype is [] same = tt
+typed value plain own ctype is (h ∷ headers) same = (
   record {
     type = λ e. is;
-    plain = λ e. subst IsPlainType (sym (same.0 e)) (boundary_plain b bs all);
-    own = λ e plain. boundary_names b bs all h.value (same.0 e) plain;
+    plain = λ e. subst IsPlainType (sym (same.0 e)) plain;
+    own = λ e. subst (λ (v : List ℕ). (is : IsPlainType v) → list_any (bytes_eq (codes "filename")) (names_of_type is) ≡ false)
+        (sym (same.0 e)) own;
   },
-  typed b bs all ctype is headers same.1,
+  typed value plain own ctype is headers same.1,
 )
 
 pub header_field : (ctype : ContentType) (h : Header) → IsPlainHeader h → IsTyped ctype h → IsField ctype h
@@ -284,17 +285,23 @@ abbrev pub parted : List ℕ → ContentType
 parted boundary = record { mimetype = codes "multipart/mixed"; charset = codes "us-ascii"; params = one_text
     (codes "boundary") boundary }
 
+-- the type that a value names is that of the first header with a type, if that has this value
+pub named_type : (known : Charsets) (headers : List Header) (value : List ℕ) (ctype : ContentType)
+    → option_map_or (λ h. bytes_eq h.value value) (type_header headers) false ≡ true
+    → content_type_in known value ≡ ctype → type_of known headers ≡ ctype
+named_type known headers value ctype names is = go (type_header headers) names
+  where
+    go : (o : Option Header) → option_map_or (λ h. bytes_eq h.value value) o false ≡ true
+        → option_map_or (λ h. content_type_in known h.value) o default_type ≡ ctype
+    go None e = absurd (false≢true e)
+    go (Some h) e = ap (content_type_in known) ((bytes_decides h.value value).0 e) ∙ is
+
 pub boundary_typed : (known : Charsets) (headers : List Header) (boundary : List ℕ)
     → option_map_or (λ h. bytes_eq h.value (boundary_type boundary)) (type_header headers) false ≡ true
     → list_all is_ascii_alphanumeric boundary ≡ true → type_of known headers ≡ parted boundary
-boundary_typed known headers boundary names all = go (type_header headers) names
-  where
-    go : (o : Option Header) → option_map_or (λ h. bytes_eq h.value (boundary_type boundary)) o false ≡ true
-        → option_map_or (λ h. content_type_in known h.value) o default_type ≡ parted boundary
-    go None e = absurd (false≢true e)
-    go (Some h) e =
-        ap (content_type_in known) ((bytes_decides h.value (boundary_type boundary)).0 e)
-        ∙ boundary_content_type known boundary (IsAlphanumeric-from known boundary all)
+boundary_typed known headers boundary names all =
+    named_type known headers (boundary_type boundary) (parted boundary) names
+    (boundary_content_type known boundary (IsAlphanumeric-from known boundary all))
 
 pub parted_is_type : (b : ℕ) (bs : List ℕ) → list_all is_ascii_alphanumeric (b ∷ bs) ≡ true → length (b ∷ bs) ≤ 70
     → IsType (parted (b ∷ bs))
@@ -358,7 +365,7 @@ ascii_unmarked (b ∷ xs) all =
       utf_16_le = left_false (0xFF == b) _ (low_mark b 0xFF (omega arith) low);
     }
 
-ascii_readable : (known : Charsets) (xs : List ℕ) → list_all is_ascii_byte xs ≡ true → AreLines (codes "\r\n") xs
+pub ascii_readable : (known : Charsets) (xs : List ℕ) → list_all is_ascii_byte xs ≡ true → AreLines (codes "\r\n") xs
     → IsReadableText known (codes "us-ascii") xs
 ascii_readable known xs all lines = record {
   no_nul = lines_no_nul xs lines;
@@ -366,12 +373,18 @@ ascii_readable known xs all lines = record {
   charset = in_us_ascii (this_label refl) all;
 }
 
+pub utf_8_readable : (known : Charsets) (xs : List ℕ) → IsUtf8 xs → HasNoMark xs → AreLines (codes "\r\n") xs
+    → IsReadableText known (codes "utf-8") xs
+utf_8_readable known xs text mark lines = record {
+  no_nul = lines_no_nul xs lines;
+  mark = mark;
+  charset = in_utf_8 (this_label refl) text;
+}
+
 pub leaf_text : (known : Charsets) (node : Node) (parts : Forest) → list_all (λ h. is_key h.key) node.headers ≡ true
-    → AllByRecursion IsPlainHeader node.headers → node.ctype ≡ default_type → list_all is_ascii_byte node.body ≡ true
-    → AreLines (codes "\r\n") node.body → HasStrictText known (tree node parts)
-leaf_text known node parts keys plain type all lines = record {
-  readable = λ e f. subst (λ (label : List ℕ). IsReadableText known label (message_content node).bytes)
-      (sym (ap (λ (c : ContentType). c.charset) type))
-      (subst (IsReadableText known (codes "us-ascii")) (sym (content_of node keys plain))
-      (ascii_readable known node.body all lines));
+    → AllByRecursion IsPlainHeader node.headers → (label : List ℕ) → node.ctype.charset ≡ label
+    → IsReadableText known label node.body → HasStrictText known (tree node parts)
+leaf_text known node parts keys plain label is text = record {
+  readable = λ e f. subst (λ (label : List ℕ). IsReadableText known label (message_content node).bytes) (sym is)
+      (subst (IsReadableText known label) (sym (content_of node keys plain)) text);
 }
