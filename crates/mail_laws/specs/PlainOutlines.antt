@@ -19,11 +19,17 @@ use Rattle.mail_laws.specs.Render.{OutlineTree, OutlineForest, leaf, branch, no_
 
 -- ---- headers
 
--- a header whose value is printable ASCII without encoded words, and that names neither a transfer encoding nor a disposition
+-- The name of a transfer encoding that leaves a body as it is. The cases:
+pub data IsIdentity : List ℕ → Type 0 where
+  in_seven_bits : IsIdentity (codes "7bit")
+  in_eight_bits : IsIdentity (codes "8bit")
+  as_binary : IsIdentity (codes "binary")
+
+-- a header whose value is printable ASCII without encoded words, and that names no other transfer encoding and no disposition
 pub record IsPlainHeader (header : Header) : Type 0 where
   pub value : is_plain_value header.value ≡ true
   pub no_colon : begins (λ b. b == colon) header.value ≡ false
-  pub no_encoding : str_eq_ignore_ascii_case header.key (codes "Content-Transfer-Encoding") ≡ false
+  pub encoding : str_eq_ignore_ascii_case header.key (codes "Content-Transfer-Encoding") ≡ true → IsIdentity header.value
   pub no_disposition : str_eq_ignore_ascii_case header.key (codes "Content-Disposition") ≡ false
   -- in a subject or a sender, neither `=?` nor `?=` occurs
   pub no_word : is_worded_key header.key ≡ true → HasNoWordEnd header.value

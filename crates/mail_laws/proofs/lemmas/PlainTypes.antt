@@ -1,6 +1,6 @@
 -- The types, bodies and texts of plain outlines are those of strict mails.
-use Rattle.std.proofs.Common.{◌≡◌, ◌∙◌, ◌≤◌, ℕ, zero, suc, Bool, true, false, cond, not, List, [], ◌∷◌, ◌++◌, length, find, Option, Some, None, option_map, refl, sym, ap, subst, arith}
-use Rattle.std.specs.Prelude.{IsUtf8, ◌||◌, ◌==◌, codes}
+use Rattle.std.proofs.Common.{◌≡◌, ◌∙◌, ◌≤◌, ℕ, zero, suc, Bool, true, false, cond, not, List, [], ◌∷◌, ◌++◌, length, find, Option, Some, None, option_map, refl, sym, ap, subst, inl, inr, arith}
+use Rattle.std.specs.Prelude.{⊤, IsUtf8, ◌||◌, ◌==◌, codes}
 use Rattle.std.specs.Char.{is_ascii_alphanumeric}
 use Rattle.std.specs.List.{AllByRecursion, list_all, list_any}
 use Rattle.std.specs.Option.{option_map_or}
@@ -19,21 +19,23 @@ use Rattle.mailparse.specs.Mail.{Node, tree, Forest, body_kind, shown_as}
 use Rattle.mailparse.specs.Map.{has_key}
 use Rattle.mailparse.specs.Value.{lenient_value_in}
 use Rattle.mail_data.specs.lenient.Content.{Content, all_of, lenient_content, message_content}
-use Rattle.mail_data.specs.lenient.Encoding.{lenient_kind, lenient_kind_named}
+use Rattle.mail_data.specs.lenient.Encoding.{name_at, lenient_kind, lenient_kind_named}
 use Rattle.mail_check.specs.Parameters.{parameter_names}
 use Rattle.mail_check.specs.strict.Bodies.{HasStrictBody, IsEncoded}
 use Rattle.mail_check.specs.strict.Charsets.{is_ascii_byte, this_label, HasNoMark, in_us_ascii, in_utf_8}
-use Rattle.mail_check.specs.strict.Fields.{HasNone, another, HasAtMostOne, other_name, the_one, is_boundary_character, IsBoundary, last_character, more_characters, of_multipart, IsType, IsField}
+use Rattle.mail_check.specs.strict.Fields.{HasNone, another, HasAtMostOne, other_name, the_one, is_boundary_character, IsBoundary, last_character, more_characters, of_multipart, IsType, IsField, is_of_messages, encoding_names, IsOneOf, name_here}
 use Rattle.mail_check.specs.strict.FileNames.{names_of_type, HasOwnNames, HasStrictFileName}
 use Rattle.mail_check.specs.strict.LineEnds.{is_line_byte, AreLines, in_line, end_of_line, no_line}
 use Rattle.mail_check.specs.strict.Parameters.{no_gap, gap_blank, is_name_character, is_token_character}
 use Rattle.mail_check.specs.strict.PlainParameters.{IsPlainType, plain_type, plain_token, plain_parameter, no_plain, HasNoWord, no_word, no_word_here, HasPlainValue}
 use Rattle.mail_check.specs.strict.Texts.{HasStrictText, IsReadableText}
-use Rattle.mail_check.proofs.lemmas.StrictHeaders.{all_head, all_tail, are_true, left_false}
+use Rattle.mail_check.proofs.lemmas.StrictHeaders.{all_head, all_tail, are_true, cases_Bool, left_false}
 use Rattle.mail_check.proofs.lemmas.StrictReading.{all_with}
 use Rattle.mail_check.proofs.lemmas.StrictValues.{plain_type_text}
 use Rattle.mail_laws.specs.Boundaries.{boundary_type, one_text}
-use Rattle.mail_laws.specs.PlainOutlines.{IsPlainHeader}
+use Rattle.mail_address.specs.Encode.{is_plain_value}
+use Rattle.mail_address.proofs.lemmas.EncodeRead.{plain_reads}
+use Rattle.mail_laws.specs.PlainOutlines.{IsIdentity, in_seven_bits, in_eight_bits, as_binary, IsPlainHeader}
 use Rattle.mail_laws.specs.Render.{is_key, type_header, type_of}
 use Rattle.mail_laws.proofs.lemmas.Boundaries.{boundary_content_type}
 use Rattle.mail_laws.proofs.lemmas.RenderTypes.{IsAlphanumeric-from, key_ascii}
@@ -56,10 +58,6 @@ find_none name (h ∷ headers) keys lack =
     let same : has_key name h ≡ false =
     ap (λ (k : List ℕ). str_eq_ignore_ascii_case k name) (encodes-IsAscii h.key (key_ascii h.key key.0)) ∙ lack.0 in
     ap (λ (t : Bool). cond t (Some h) (find (has_key name) headers)) same ∙ find_none name headers key.1 lack.1
-
-lack_encoding : (headers : List Header) → AllByRecursion IsPlainHeader headers → Lack (codes "Content-Transfer-Encoding") headers
-lack_encoding [] plain = tt
-lack_encoding (h ∷ headers) plain = (plain.0.no_encoding, lack_encoding headers plain.1)
 
 lack_disposition : (headers : List Header) → AllByRecursion IsPlainHeader headers → Lack (codes "Content-Disposition") headers
 lack_disposition [] plain = tt
@@ -233,9 +231,18 @@ typed value plain own ctype is (h ∷ headers) same = (
   typed value plain own ctype is headers same.1,
 )
 
+-- an encoding that leaves a body as it is may be that of any type
+identity_named : (composite : Bool) (value : List ℕ) → IsIdentity value → IsOneOf (encoding_names composite) value
+identity_named true value in_seven_bits = name_here refl
+identity_named true value in_eight_bits = name_here refl
+identity_named true value as_binary = name_here refl
+identity_named false value in_seven_bits = name_here refl
+identity_named false value in_eight_bits = name_here refl
+identity_named false value as_binary = name_here refl
+
 pub header_field : (ctype : ContentType) (h : Header) → IsPlainHeader h → IsTyped ctype h → IsField ctype h
 header_field ctype h plain type = record {
-  encoding = λ e. absurd (false≢true (sym plain.no_encoding ∙ e));
+  encoding = λ e. identity_named (is_of_messages ctype) h.value (plain.encoding e);
   type = type.type;
   type_value = λ e. (plain_type_text h.value (type.plain e)).is;
   disposition_value = λ e. absurd (false≢true (sym plain.no_disposition ∙ e));
@@ -312,35 +319,69 @@ parted_is_type b bs all short = record {
 
 -- ---- bodies and texts
 
-kind_none : kind_named None ≡ in_7bit
+-- a header, if there is one, names an encoding that leaves a body as it is
+abbrev Identity : Option Header → Type 0
+Identity None = ⊤
+Identity (Some h) = IsIdentity h.value × (is_plain_value h.value ≡ true)
+
+first_identity : (headers : List Header) → list_all (λ h. is_key h.key) headers ≡ true → AllByRecursion IsPlainHeader headers
+    → Identity (find (has_key (codes "Content-Transfer-Encoding")) headers)
+first_identity [] keys plain = tt
+first_identity (h ∷ headers) keys plain =
+    let name = codes "Content-Transfer-Encoding" in
+    let key = and_parts (is_key h.key) (list_all (λ x. is_key x.key) headers) keys in
+    let same : has_key name h ≡ str_eq_ignore_ascii_case h.key name =
+    ap (λ (k : List ℕ). str_eq_ignore_ascii_case k name) (encodes-IsAscii h.key (key_ascii h.key key.0)) in
+    elim (cases_Bool (has_key name h)) [
+      | inl e ↦ subst (λ (t : Bool). Identity (cond t (Some h) (find (has_key name) headers))) (sym e)
+          (plain.0.encoding (sym same ∙ e), plain.0.value)
+      | inr e ↦ subst (λ (t : Bool). Identity (cond t (Some h) (find (has_key name) headers))) (sym e)
+          (first_identity headers key.1 plain.1)
+    ]
+
+kept_none : (body : List ℕ) → IsEncoded (kind_named None) body
 unfolding kind_named
-kind_none = refl
+kept_none body = tt
 
-kind_of : (node : Node) → list_all (λ h. is_key h.key) node.headers ≡ true → AllByRecursion IsPlainHeader node.headers
-    → body_kind node ≡ in_7bit
-kind_of node keys plain =
-    ap (λ (o : Option Header). kind_named
-    (option_map str_to_ascii_lowercase (option_map (λ h. lenient_value_in four_charsets h.value) o)))
-    (find_none (codes "Content-Transfer-Encoding") node.headers keys (lack_encoding node.headers plain))
-    ∙ kind_none
+kept_some : (value body : List ℕ) → IsIdentity value → IsEncoded (kind_named (Some (str_to_ascii_lowercase value))) body
+unfolding kind_named
+kept_some value body in_seven_bits = tt
+kept_some value body in_eight_bits = tt
+kept_some value body as_binary = tt
 
-content_none : (body : List ℕ) → lenient_content (lenient_kind None) body ≡ all_of body
+pub leaf_body : (node : Node) (parts : Forest) → list_all (λ h. is_key h.key) node.headers ≡ true → AllByRecursion IsPlainHeader node.headers
+    → HasStrictBody (tree node parts)
+leaf_body node parts keys plain =
+    record { encoded = λ e. go (find (has_key (codes "Content-Transfer-Encoding")) node.headers) (first_identity node.headers keys plain) }
+  where
+    go : (o : Option Header) → Identity o
+        → IsEncoded (kind_named (option_map str_to_ascii_lowercase (option_map (λ h. lenient_value_in four_charsets h.value) o))) node.body
+    go None is = kept_none node.body
+    go (Some h) is =
+        subst (λ (x : List ℕ). IsEncoded (kind_named (Some (str_to_ascii_lowercase x))) node.body)
+        (sym (plain_reads four_charsets h.value is.1)) (kept_some h.value node.body is.0)
+
+content_none : (body : List ℕ) → (lenient_content (lenient_kind None) body).bytes ≡ body
 unfolding lenient_content lenient_kind lenient_kind_named kind_named decoded
 content_none body = refl
+
+content_some : (value body : List ℕ) → IsIdentity value → (lenient_content (lenient_kind (Some value)) body).bytes ≡ body
+unfolding lenient_content lenient_kind lenient_kind_named kind_named decoded name_at
+content_some value body in_seven_bits = refl
+content_some value body in_eight_bits = refl
+content_some value body as_binary = refl
 
 content_of : (node : Node) → list_all (λ h. is_key h.key) node.headers ≡ true → AllByRecursion IsPlainHeader node.headers
     → (message_content node).bytes ≡ node.body
 content_of node keys plain =
-    ap (λ (o : Option Header). (lenient_content
-    (lenient_kind (option_map (λ h. lenient_value_in four_charsets h.value) o)) node.body).bytes)
-    (find_none (codes "Content-Transfer-Encoding") node.headers keys (lack_encoding node.headers plain))
-    ∙ ap (λ (c : Content). c.bytes) (content_none node.body)
-
-pub leaf_body : (node : Node) (parts : Forest) → list_all (λ h. is_key h.key) node.headers ≡ true
-    → AllByRecursion IsPlainHeader node.headers
-    → HasStrictBody (tree node parts)
-leaf_body node parts keys plain = record { encoded = λ e. subst (λ kind. IsEncoded kind node.body)
-    (sym (kind_of node keys plain)) tt }
+    go (find (has_key (codes "Content-Transfer-Encoding")) node.headers) (first_identity node.headers keys plain)
+  where
+    go : (o : Option Header) → Identity o
+        → (lenient_content (lenient_kind (option_map (λ h. lenient_value_in four_charsets h.value) o)) node.body).bytes ≡ node.body
+    go None is = content_none node.body
+    go (Some h) is =
+        ap (λ (x : List ℕ). (lenient_content (lenient_kind (Some x)) node.body).bytes) (plain_reads four_charsets h.value is.1)
+        ∙ content_some h.value node.body is.0
 
 line_no_nul : (b : ℕ) → is_line_byte b ≡ true → not (b == 0) ≡ true
 line_no_nul b h = grind (arith, nat_tests)
