@@ -25,12 +25,17 @@ pub data IsIdentity : List ℕ → Type 0 where
   in_eight_bits : IsIdentity (codes "8bit")
   as_binary : IsIdentity (codes "binary")
 
--- a header whose value is printable ASCII without encoded words, and that names no other transfer encoding and no disposition
+-- A disposition without parameters. The cases:
+pub data IsBareDisposition : List ℕ → Type 0 where
+  is_inline : IsBareDisposition (codes "inline")
+  is_attachment : IsBareDisposition (codes "attachment")
+
+-- a header whose value is printable ASCII without encoded words, and that names no other transfer encoding or disposition
 pub record IsPlainHeader (header : Header) : Type 0 where
   pub value : is_plain_value header.value ≡ true
   pub no_colon : begins (λ b. b == colon) header.value ≡ false
   pub encoding : str_eq_ignore_ascii_case header.key (codes "Content-Transfer-Encoding") ≡ true → IsIdentity header.value
-  pub no_disposition : str_eq_ignore_ascii_case header.key (codes "Content-Disposition") ≡ false
+  pub disposition : str_eq_ignore_ascii_case header.key (codes "Content-Disposition") ≡ true → IsBareDisposition header.value
   -- in a subject or a sender, neither `=?` nor `?=` occurs
   pub no_word : is_worded_key header.key ≡ true → HasNoWordEnd header.value
   -- a `From` has one address, as in strict mails, and no opening angle bracket after an at sign

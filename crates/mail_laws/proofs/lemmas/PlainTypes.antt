@@ -13,6 +13,10 @@ use Rattle.mail_codec.specs.Charset.{Charsets, four_charsets}
 use Rattle.mail_codec.specs.Places.{has_prefix}
 use Rattle.mailparse.specs.Body.{kind_named, decoded, in_7bit}
 use Rattle.mailparse.specs.ContentType.{ContentType, content_type_in, default_type}
+use Rattle.mailparse.specs.Continuations.{parameters_in}
+use Rattle.mailparse.specs.Pairs.{pairs_of}
+use Rattle.mailparse.specs.Segments.{segments}
+use Rattle.mail_laws.proofs.lemmas.StarFree.{star_free_pairs_are_parameters}
 use Rattle.mailparse.specs.Disposition.{default_disposition, disposition_in}
 use Rattle.mailparse.specs.Header.{Header}
 use Rattle.mailparse.specs.Mail.{Node, tree, Forest, body_kind, shown_as}
@@ -24,18 +28,18 @@ use Rattle.mail_check.specs.Parameters.{parameter_names}
 use Rattle.mail_check.specs.strict.Bodies.{HasStrictBody, IsEncoded}
 use Rattle.mail_check.specs.strict.Charsets.{is_ascii_byte, this_label, HasNoMark, in_us_ascii, in_utf_8}
 use Rattle.mail_check.specs.strict.Fields.{HasNone, another, HasAtMostOne, other_name, the_one, is_boundary_character, IsBoundary, last_character, more_characters, of_multipart, IsType, IsField, is_of_messages, encoding_names, IsOneOf, name_here}
-use Rattle.mail_check.specs.strict.FileNames.{names_of_type, HasOwnNames, HasStrictFileName}
+use Rattle.mail_check.specs.strict.FileNames.{names_of_disposition, names_of_type, HasOwnNames, HasStrictFileName}
 use Rattle.mail_check.specs.strict.LineEnds.{is_line_byte, AreLines, in_line, end_of_line, no_line}
 use Rattle.mail_check.specs.strict.Parameters.{no_gap, gap_blank, is_name_character, is_token_character}
-use Rattle.mail_check.specs.strict.PlainParameters.{IsPlainType, plain_type, plain_token, plain_parameter, no_plain, HasNoWord, no_word, no_word_here, HasPlainValue}
+use Rattle.mail_check.specs.strict.PlainParameters.{IsPlainType, plain_type, plain_token, plain_parameter, no_plain, HasNoWord, no_word, no_word_here, HasPlainValue, IsPlainDisposition, plain_disposition}
 use Rattle.mail_check.specs.strict.Texts.{HasStrictText, IsReadableText}
 use Rattle.mail_check.proofs.lemmas.StrictHeaders.{all_head, all_tail, are_true, cases_Bool, left_false}
 use Rattle.mail_check.proofs.lemmas.StrictReading.{all_with}
-use Rattle.mail_check.proofs.lemmas.StrictValues.{plain_type_text}
+use Rattle.mail_check.proofs.lemmas.StrictValues.{plain_type_text, plain_disposition_text}
 use Rattle.mail_laws.specs.Boundaries.{boundary_type, one_text}
 use Rattle.mail_address.specs.Encode.{is_plain_value}
 use Rattle.mail_address.proofs.lemmas.EncodeRead.{plain_reads}
-use Rattle.mail_laws.specs.PlainOutlines.{IsIdentity, in_seven_bits, in_eight_bits, as_binary, IsPlainHeader}
+use Rattle.mail_laws.specs.PlainOutlines.{IsBareDisposition, is_inline, is_attachment, IsIdentity, in_seven_bits, in_eight_bits, as_binary, IsPlainHeader}
 use Rattle.mail_laws.specs.Render.{is_key, type_header, type_of}
 use Rattle.mail_laws.proofs.lemmas.Boundaries.{boundary_content_type}
 use Rattle.mail_laws.proofs.lemmas.RenderTypes.{IsAlphanumeric-from, key_ascii}
@@ -50,18 +54,26 @@ pub none_lack : (name : List ℕ) (headers : List Header) → HasNone name heade
 none_lack name [] none = tt
 none_lack name (h ∷ headers) (another other more) = (other, none_lack name headers more)
 
-pub find_none : (name : List ℕ) (headers : List Header) → list_all (λ h. is_key h.key) headers ≡ true → Lack name headers
-    → find (has_key name) headers ≡ None
-find_none name [] keys lack = refl
-find_none name (h ∷ headers) keys lack =
-    let key = and_parts (is_key h.key) (list_all (λ x. is_key x.key) headers) keys in
-    let same : has_key name h ≡ false =
-    ap (λ (k : List ℕ). str_eq_ignore_ascii_case k name) (encodes-IsAscii h.key (key_ascii h.key key.0)) ∙ lack.0 in
-    ap (λ (t : Bool). cond t (Some h) (find (has_key name) headers)) same ∙ find_none name headers key.1 lack.1
+-- this is so of a header, if there is one
+abbrev OfSome : (Header → Type 0) → Option Header → Type 0
+OfSome P None = ⊤
+OfSome P (Some h) = P h
 
-lack_disposition : (headers : List Header) → AllByRecursion IsPlainHeader headers → Lack (codes "Content-Disposition") headers
-lack_disposition [] plain = tt
-lack_disposition (h ∷ headers) plain = (plain.0.no_disposition, lack_disposition headers plain.1)
+-- this is so of the first header with a name, if it is so of each plain header with that name
+first_named : (P : Header → Type 0) (name : List ℕ)
+    → ((h : Header) → IsPlainHeader h → str_eq_ignore_ascii_case h.key name ≡ true → P h)
+    → (headers : List Header) → list_all (λ h. is_key h.key) headers ≡ true → AllByRecursion IsPlainHeader headers
+    → OfSome P (find (has_key name) headers)
+first_named P name so [] keys plain = tt
+first_named P name so (h ∷ headers) keys plain =
+    let key = and_parts (is_key h.key) (list_all (λ x. is_key x.key) headers) keys in
+    let same : has_key name h ≡ str_eq_ignore_ascii_case h.key name =
+    ap (λ (k : List ℕ). str_eq_ignore_ascii_case k name) (encodes-IsAscii h.key (key_ascii h.key key.0)) in
+    elim (cases_Bool (has_key name h)) [
+      | inl e ↦ subst (λ (t : Bool). OfSome P (cond t (Some h) (find (has_key name) headers))) (sym e) (so h plain.0 (sym same ∙ e))
+      | inr e ↦ subst (λ (t : Bool). OfSome P (cond t (Some h) (find (has_key name) headers))) (sym e)
+          (first_named P name so headers key.1 plain.1)
+    ]
 
 -- ---- the type
 
@@ -240,33 +252,101 @@ identity_named false value in_seven_bits = name_here refl
 identity_named false value in_eight_bits = name_here refl
 identity_named false value as_binary = name_here refl
 
+-- a disposition without parameters is plain
+bare_plain : (value : List ℕ) → IsBareDisposition value → IsPlainDisposition value
+bare_plain value is_inline =
+    plain_disposition
+    (record {
+      first = 105;
+      others = codes "nline";
+      rest = [];
+      names = [];
+      begins = refl;
+      characters = refl;
+      parameters = no_plain;
+      made = refl;
+      word = wordless_before (codes "inline") [] refl no_word;
+    })
+bare_plain value is_attachment =
+    plain_disposition
+    (record {
+      first = 97;
+      others = codes "ttachment";
+      rest = [];
+      names = [];
+      begins = refl;
+      characters = refl;
+      parameters = no_plain;
+      made = refl;
+      word = wordless_before (codes "attachment") [] refl no_word;
+    })
+
+bare_names : (value : List ℕ) (is : IsBareDisposition value) → names_of_disposition (bare_plain value is) ≡ []
+unfolding bare_plain
+bare_names value is_inline = refl
+bare_names value is_attachment = refl
+
+disposition_names : (value : List ℕ) (one two : IsPlainDisposition value) → names_of_disposition one ≡ names_of_disposition two
+disposition_names value one two =
+    let first = plain_disposition_text value one in
+    let second = plain_disposition_text value two in
+    let both : Some first.text ≡ Some second.text = sym first.same ∙ second.same in
+    let same : first.text ≡ second.text = cc in
+    sym first.named ∙ ap parameter_names same ∙ second.named
+
+bare_own : (value : List ℕ) → IsBareDisposition value → (is : IsPlainDisposition value)
+    → list_any (bytes_eq (codes "name")) (names_of_disposition is) ≡ false
+bare_own value bare is =
+    ap (list_any (bytes_eq (codes "name"))) (disposition_names value is (bare_plain value bare) ∙ bare_names value bare)
+
 pub header_field : (ctype : ContentType) (h : Header) → IsPlainHeader h → IsTyped ctype h → IsField ctype h
 header_field ctype h plain type = record {
   encoding = λ e. identity_named (is_of_messages ctype) h.value (plain.encoding e);
   type = type.type;
   type_value = λ e. (plain_type_text h.value (type.plain e)).is;
-  disposition_value = λ e. absurd (false≢true (sym plain.no_disposition ∙ e));
+  disposition_value = λ e. (plain_disposition_text h.value (bare_plain h.value (plain.disposition e))).is;
 }
 
 pub header_plain : (ctype : ContentType) (h : Header) → IsPlainHeader h → IsTyped ctype h → HasPlainValue h
 header_plain ctype h plain type = record {
   type = type.plain;
-  disposition = λ e. absurd (false≢true (sym plain.no_disposition ∙ e));
+  disposition = λ e. bare_plain h.value (plain.disposition e);
 }
 
 header_own : (ctype : ContentType) (h : Header) → IsPlainHeader h → IsTyped ctype h → HasOwnNames h
 header_own ctype h plain type = record {
   type = type.own;
-  disposition = λ e is. absurd (false≢true (sym plain.no_disposition ∙ e));
+  disposition = λ e. bare_own h.value (plain.disposition e);
 }
+
+-- a header is a disposition without parameters
+abbrev Bare : Header → Type 0
+Bare h = IsBareDisposition h.value × (is_plain_value h.value ≡ true)
+
+bare_pairs : (value : List ℕ) → IsBareDisposition value → pairs_of value ≡ []
+unfolding pairs_of segments
+bare_pairs value is_inline = refl
+bare_pairs value is_attachment = refl
+
+bare_params : (known : Charsets) (value name : List ℕ) → IsBareDisposition value → (disposition_in known value).params name ≡ None
+unfolding disposition_in
+bare_params known value name is =
+    ap (λ pairs. parameters_in known pairs name) (bare_pairs value is)
+    ∙ star_free_pairs_are_parameters known [] (λ i d lt. absurd (omega arith)) name
 
 no_file : (node : Node) → list_all (λ h. is_key h.key) node.headers ≡ true → AllByRecursion IsPlainHeader node.headers
     → (shown_as node).params (codes "filename") ≡ None
 no_file node keys plain =
-    ap (λ (o : Option Header). (option_map_or (disposition_in four_charsets)
-    (option_map (λ h. lenient_value_in four_charsets h.value) o)
-    default_disposition).params (codes "filename"))
-    (find_none (codes "Content-Disposition") node.headers keys (lack_disposition node.headers plain))
+    go (find (has_key (codes "Content-Disposition")) node.headers)
+    (first_named Bare (codes "Content-Disposition") (λ h plain e. (plain.disposition e, plain.value)) node.headers keys plain)
+  where
+    go : (o : Option Header) → OfSome Bare o
+        → (option_map_or (disposition_in four_charsets) (option_map (λ h. lenient_value_in four_charsets h.value) o)
+        default_disposition).params (codes "filename") ≡ None
+    go None is = refl
+    go (Some h) is =
+        ap (λ (x : List ℕ). (disposition_in four_charsets x).params (codes "filename")) (plain_reads four_charsets h.value is.1)
+        ∙ bare_params four_charsets h.value (codes "filename") is.0
 
 pub files_are_strict : (node : Node) → list_all (λ h. is_key h.key) node.headers ≡ true
     → AllByRecursion IsPlainHeader node.headers
@@ -319,25 +399,13 @@ parted_is_type b bs all short = record {
 
 -- ---- bodies and texts
 
--- a header, if there is one, names an encoding that leaves a body as it is
-abbrev Identity : Option Header → Type 0
-Identity None = ⊤
-Identity (Some h) = IsIdentity h.value × (is_plain_value h.value ≡ true)
+-- a header names an encoding that leaves a body as it is
+abbrev Identity : Header → Type 0
+Identity h = IsIdentity h.value × (is_plain_value h.value ≡ true)
 
 first_identity : (headers : List Header) → list_all (λ h. is_key h.key) headers ≡ true → AllByRecursion IsPlainHeader headers
-    → Identity (find (has_key (codes "Content-Transfer-Encoding")) headers)
-first_identity [] keys plain = tt
-first_identity (h ∷ headers) keys plain =
-    let name = codes "Content-Transfer-Encoding" in
-    let key = and_parts (is_key h.key) (list_all (λ x. is_key x.key) headers) keys in
-    let same : has_key name h ≡ str_eq_ignore_ascii_case h.key name =
-    ap (λ (k : List ℕ). str_eq_ignore_ascii_case k name) (encodes-IsAscii h.key (key_ascii h.key key.0)) in
-    elim (cases_Bool (has_key name h)) [
-      | inl e ↦ subst (λ (t : Bool). Identity (cond t (Some h) (find (has_key name) headers))) (sym e)
-          (plain.0.encoding (sym same ∙ e), plain.0.value)
-      | inr e ↦ subst (λ (t : Bool). Identity (cond t (Some h) (find (has_key name) headers))) (sym e)
-          (first_identity headers key.1 plain.1)
-    ]
+    → OfSome Identity (find (has_key (codes "Content-Transfer-Encoding")) headers)
+first_identity = first_named Identity (codes "Content-Transfer-Encoding") (λ h plain e. (plain.encoding e, plain.value))
 
 kept_none : (body : List ℕ) → IsEncoded (kind_named None) body
 unfolding kind_named
@@ -354,7 +422,7 @@ pub leaf_body : (node : Node) (parts : Forest) → list_all (λ h. is_key h.key)
 leaf_body node parts keys plain =
     record { encoded = λ e. go (find (has_key (codes "Content-Transfer-Encoding")) node.headers) (first_identity node.headers keys plain) }
   where
-    go : (o : Option Header) → Identity o
+    go : (o : Option Header) → OfSome Identity o
         → IsEncoded (kind_named (option_map str_to_ascii_lowercase (option_map (λ h. lenient_value_in four_charsets h.value) o))) node.body
     go None is = kept_none node.body
     go (Some h) is =
@@ -376,7 +444,7 @@ content_of : (node : Node) → list_all (λ h. is_key h.key) node.headers ≡ tr
 content_of node keys plain =
     go (find (has_key (codes "Content-Transfer-Encoding")) node.headers) (first_identity node.headers keys plain)
   where
-    go : (o : Option Header) → Identity o
+    go : (o : Option Header) → OfSome Identity o
         → (lenient_content (lenient_kind (option_map (λ h. lenient_value_in four_charsets h.value) o)) node.body).bytes ≡ node.body
     go None is = content_none node.body
     go (Some h) is =
