@@ -130,7 +130,8 @@ module _ (known : Charsets) where
   }
 
   -- a leaf whose type and text are these
-  leaf_made : (headers : List Header) (body : List ℕ) → IsFormed (leaf headers body) → ArePlainHeaders headers → (ctype : ContentType)
+  leaf_made : (headers : List Header) (body : List ℕ) → IsFormed (leaf headers body) → ArePlainHeaders headers
+      → (ctype : ContentType)
       → type_of known headers ≡ ctype → has_prefix (codes "multipart/") ctype.mimetype ≡ false
       → AllByRecursion (IsTyped (type_of known headers)) headers → IsReadableText known ctype.charset body
       → IsStrictTree known (stands_for known (leaf headers body))
@@ -151,7 +152,8 @@ module _ (known : Charsets) where
       → AreLines (codes "\r\n") body → IsTextOf headers body → IsStrictTree known (stands_for known (leaf headers body))
   text_strict headers body formed plain lines (in_ascii none ascii) =
       leaf_made headers body formed plain default_type (default_typed known headers none) refl
-      (untyped (type_of known headers) headers (none_lack (codes "Content-Type") headers none)) (ascii_readable known body ascii lines)
+      (untyped (type_of known headers) headers (none_lack (codes "Content-Type") headers none))
+      (ascii_readable known body ascii lines)
   text_strict headers body formed plain lines (in_unicode {value = value} text names utf_8 mark) =
       let ctype = text_in_utf_8 (utf_8_mimetype text) in
       let type = named_type known headers value ctype names (text_content_type known value text) in

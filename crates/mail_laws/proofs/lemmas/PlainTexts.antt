@@ -1,6 +1,6 @@
 -- The types of texts in UTF-8 are those of strict mails.
-use Rattle.std.proofs.Common.{◌≡◌, ◌∙◌, ℕ, zero, suc, true, false, List, [], ◌∷◌, ◌++◌, None, refl, sym, ap, subst, arith}
-use Rattle.std.specs.Prelude.{◌==◌, codes}
+use Rattle.std.proofs.Common.{◌≡◌, ◌∙◌, ℕ, zero, suc, false, List, [], ◌∷◌, refl, ap, arith}
+use Rattle.std.specs.Prelude.{codes}
 use Rattle.std.specs.List.{list_any}
 use Rattle.std.specs.Str.{bytes_eq, chars, str_to_ascii_lowercase, trim_end, trim_start}
 use lib.Utf8.{encode}
@@ -14,7 +14,7 @@ use Rattle.mailparse.specs.Segments.{segments, unescape}
 use Rattle.mail_check.specs.strict.Fields.{IsType, of_other}
 use Rattle.mail_check.specs.strict.FileNames.{names_of_type}
 use Rattle.mail_check.specs.strict.Parameters.{no_gap, gap_blank}
-use Rattle.mail_check.specs.strict.PlainParameters.{IsPlainType, plain_type, plain_token, plain_parameter, no_plain, HasNoWord, no_word, no_word_here}
+use Rattle.mail_check.specs.strict.PlainParameters.{IsPlainType, plain_type, plain_token, plain_parameter, no_plain, no_word, no_word_here}
 use Rattle.mail_laws.specs.Boundaries.{one_text}
 use Rattle.mail_laws.specs.PlainOutlines.{IsUtf8Type, plain_in_utf_8, html_in_utf_8}
 use Rattle.mail_laws.specs.StarFree.{AreStarFree}
@@ -23,7 +23,8 @@ use Rattle.mail_laws.proofs.lemmas.StarFree.{star_free_pairs_are_parameters}
 
 -- the type of a text in UTF-8
 abbrev pub text_in_utf_8 : List ℕ → ContentType
-text_in_utf_8 mimetype = record { mimetype = mimetype; charset = codes "utf-8"; params = one_text (codes "charset") (codes "utf-8") }
+text_in_utf_8 mimetype = record { mimetype = mimetype; charset = codes "utf-8"; params = one_text (codes "charset")
+    (codes "utf-8") }
 
 starless : AreStarFree ((codes "charset", codes "utf-8") ∷ [])
 starless zero d lt = refl

@@ -11,7 +11,7 @@ use Rattle.std.proofs.lemmas.Str.{encodes-IsAscii}
 use lib.Pointwise.{bytes_decides}
 use Rattle.mail_codec.specs.Charset.{Charsets, four_charsets}
 use Rattle.mail_codec.specs.Places.{has_prefix}
-use Rattle.mailparse.specs.Body.{kind_named, decoded, in_7bit}
+use Rattle.mailparse.specs.Body.{kind_named, decoded}
 use Rattle.mailparse.specs.ContentType.{ContentType, content_type_in, default_type}
 use Rattle.mailparse.specs.Continuations.{parameters_in}
 use Rattle.mailparse.specs.Pairs.{pairs_of}
@@ -19,10 +19,10 @@ use Rattle.mailparse.specs.Segments.{segments}
 use Rattle.mail_laws.proofs.lemmas.StarFree.{star_free_pairs_are_parameters}
 use Rattle.mailparse.specs.Disposition.{default_disposition, disposition_in}
 use Rattle.mailparse.specs.Header.{Header}
-use Rattle.mailparse.specs.Mail.{Node, tree, Forest, body_kind, shown_as}
+use Rattle.mailparse.specs.Mail.{Node, tree, Forest, shown_as}
 use Rattle.mailparse.specs.Map.{has_key}
 use Rattle.mailparse.specs.Value.{lenient_value_in}
-use Rattle.mail_data.specs.lenient.Content.{Content, all_of, lenient_content, message_content}
+use Rattle.mail_data.specs.lenient.Content.{lenient_content, message_content}
 use Rattle.mail_data.specs.lenient.Encoding.{name_at, lenient_kind, lenient_kind_named}
 use Rattle.mail_check.specs.Parameters.{parameter_names}
 use Rattle.mail_check.specs.strict.Bodies.{HasStrictBody, IsEncoded}
@@ -70,7 +70,8 @@ first_named P name so (h ∷ headers) keys plain =
     let same : has_key name h ≡ str_eq_ignore_ascii_case h.key name =
     ap (λ (k : List ℕ). str_eq_ignore_ascii_case k name) (encodes-IsAscii h.key (key_ascii h.key key.0)) in
     elim (cases_Bool (has_key name h)) [
-      | inl e ↦ subst (λ (t : Bool). OfSome P (cond t (Some h) (find (has_key name) headers))) (sym e) (so h plain.0 (sym same ∙ e))
+      | inl e ↦ subst (λ (t : Bool). OfSome P (cond t (Some h) (find (has_key name) headers))) (sym e)
+      (so h plain.0 (sym same ∙ e))
       | inr e ↦ subst (λ (t : Bool). OfSome P (cond t (Some h) (find (has_key name) headers))) (sym e)
           (first_named P name so headers key.1 plain.1)
     ]
@@ -417,13 +418,16 @@ kept_some value body in_seven_bits = tt
 kept_some value body in_eight_bits = tt
 kept_some value body as_binary = tt
 
-pub leaf_body : (node : Node) (parts : Forest) → list_all (λ h. is_key h.key) node.headers ≡ true → AllByRecursion IsPlainHeader node.headers
+pub leaf_body : (node : Node) (parts : Forest) → list_all (λ h. is_key h.key) node.headers ≡ true
+    → AllByRecursion IsPlainHeader node.headers
     → HasStrictBody (tree node parts)
 leaf_body node parts keys plain =
-    record { encoded = λ e. go (find (has_key (codes "Content-Transfer-Encoding")) node.headers) (first_identity node.headers keys plain) }
+    record { encoded = λ e. go (find (has_key (codes "Content-Transfer-Encoding")) node.headers)
+        (first_identity node.headers keys plain) }
   where
     go : (o : Option Header) → OfSome Identity o
-        → IsEncoded (kind_named (option_map str_to_ascii_lowercase (option_map (λ h. lenient_value_in four_charsets h.value) o))) node.body
+        → IsEncoded
+        (kind_named (option_map str_to_ascii_lowercase (option_map (λ h. lenient_value_in four_charsets h.value) o))) node.body
     go None is = kept_none node.body
     go (Some h) is =
         subst (λ (x : List ℕ). IsEncoded (kind_named (Some (str_to_ascii_lowercase x))) node.body)
@@ -445,7 +449,8 @@ content_of node keys plain =
     go (find (has_key (codes "Content-Transfer-Encoding")) node.headers) (first_identity node.headers keys plain)
   where
     go : (o : Option Header) → OfSome Identity o
-        → (lenient_content (lenient_kind (option_map (λ h. lenient_value_in four_charsets h.value) o)) node.body).bytes ≡ node.body
+        → (lenient_content (lenient_kind (option_map (λ h. lenient_value_in four_charsets h.value) o)) node.body).bytes
+        ≡ node.body
     go None is = content_none node.body
     go (Some h) is =
         ap (λ (x : List ℕ). (lenient_content (lenient_kind (Some x)) node.body).bytes) (plain_reads four_charsets h.value is.1)
