@@ -202,12 +202,17 @@ module _ (known : Charsets) where
   mutual
     outline_strict : (outline : OutlineTree) → is_well_formed_within outline ≡ true → IsPlainWithin outline
         → AllByRecursion (IsStrictTree known) (trees_within (stands_for known outline))
-    outline_strict (leaf headers body) formed plain = (leaf_strict headers body
-        (IsFormed-from (leaf headers body) formed) plain, tt)
+    outline_strict (leaf headers body) formed plain = (
+      leaf_strict headers body
+          (IsFormed-from (leaf headers body) formed) plain,
+      tt,
+    )
     outline_strict (branch headers boundary parts) formed plain =
-        let both = and_parts (is_well_formed_here (branch headers boundary parts)) (are_well_formed_within parts) formed in
-        (branch_strict headers boundary parts
-        (branch-formed headers boundary parts formed) plain.0 plain.1, parts_strict boundary parts both.1 plain.1)
+        let both = and_parts (is_well_formed_here (branch headers boundary parts)) (are_well_formed_within parts) formed in (
+          branch_strict headers boundary parts
+              (branch-formed headers boundary parts formed) plain.0 plain.1,
+          parts_strict boundary parts both.1 plain.1,
+        )
 
     parts_strict : (boundary : List ℕ) (parts : OutlineForest) → are_well_formed_within parts ≡ true
         → ArePlainParts boundary parts
@@ -292,7 +297,7 @@ module _ (known : Charsets) where
       let able = inr (words_plain outline plain.within) in
       let bytes = rendered outline in
       ⊎_elim (λ deep. let both : Err recursion_limit ≡ Ok t = sym (outline_is_refused known greatest outline able inside deep)
-          ∙ read in absurd (cc))
+      ∙ read in absurd (cc))
       (λ within.
       let both : Ok (stands_for known outline) ≡ Ok t = sym (outline_is_read known greatest outline able inside within) ∙ read in
       let same : stands_for known outline ≡ t = cc in

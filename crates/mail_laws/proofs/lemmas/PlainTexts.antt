@@ -23,8 +23,12 @@ use Rattle.mail_laws.proofs.lemmas.StarFree.{star_free_pairs_are_parameters}
 
 -- the type of a text in UTF-8
 abbrev pub text_in_utf_8 : List ℕ → ContentType
-text_in_utf_8 mimetype = record { mimetype = mimetype; charset = codes "utf-8"; params = one_text (codes "charset")
-    (codes "utf-8") }
+text_in_utf_8 mimetype = record {
+  mimetype = mimetype;
+  charset = codes "utf-8";
+  params = one_text (codes "charset")
+      (codes "utf-8");
+}
 
 starless : AreStarFree ((codes "charset", codes "utf-8") ∷ [])
 starless zero d lt = refl

@@ -71,7 +71,7 @@ first_named P name so (h ∷ headers) keys plain =
     ap (λ (k : List ℕ). str_eq_ignore_ascii_case k name) (encodes-IsAscii h.key (key_ascii h.key key.0)) in
     elim (cases_Bool (has_key name h)) [
       | inl e ↦ subst (λ (t : Bool). OfSome P (cond t (Some h) (find (has_key name) headers))) (sym e)
-      (so h plain.0 (sym same ∙ e))
+          (so h plain.0 (sym same ∙ e))
       | inr e ↦ subst (λ (t : Bool). OfSome P (cond t (Some h) (find (has_key name) headers))) (sym e)
           (first_named P name so headers key.1 plain.1)
     ]
@@ -103,9 +103,11 @@ one_typed value (h ∷ headers) (other_name other more) names =
 one_typed value (h ∷ headers) (the_one same none) names =
     let here =
     ap (λ (t : Bool). option_map_or (λ (x : Header). bytes_eq x.value value)
-    (cond t (Some h) (type_header headers)) false) same in
-    ((λ e. (bytes_decides h.value value).0 (sym here ∙ names)), lack_typed value headers
-    (none_lack (codes "Content-Type") headers none))
+    (cond t (Some h) (type_header headers)) false) same in (
+      (λ e. (bytes_decides h.value value).0 (sym here ∙ names)),
+      lack_typed value headers
+          (none_lack (codes "Content-Type") headers none),
+    )
 
 -- ---- a boundary
 
@@ -370,8 +372,12 @@ default_typed known headers none =
 
 -- the type with this boundary
 abbrev pub parted : List ℕ → ContentType
-parted boundary = record { mimetype = codes "multipart/mixed"; charset = codes "us-ascii"; params = one_text
-    (codes "boundary") boundary }
+parted boundary = record {
+  mimetype = codes "multipart/mixed";
+  charset = codes "us-ascii";
+  params = one_text
+      (codes "boundary") boundary;
+}
 
 -- the type that a value names is that of the first header with a type, if that has this value
 pub named_type : (known : Charsets) (headers : List Header) (value : List ℕ) (ctype : ContentType)
@@ -422,8 +428,10 @@ pub leaf_body : (node : Node) (parts : Forest) → list_all (λ h. is_key h.key)
     → AllByRecursion IsPlainHeader node.headers
     → HasStrictBody (tree node parts)
 leaf_body node parts keys plain =
-    record { encoded = λ e. go (find (has_key (codes "Content-Transfer-Encoding")) node.headers)
-        (first_identity node.headers keys plain) }
+    record {
+      encoded = λ e. go (find (has_key (codes "Content-Transfer-Encoding")) node.headers)
+          (first_identity node.headers keys plain);
+    }
   where
     go : (o : Option Header) → OfSome Identity o
         → IsEncoded
