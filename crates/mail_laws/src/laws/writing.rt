@@ -60,9 +60,9 @@ pub fn outline_reads_back()
 /// An outline that is well formed and plain is written as a strict mail, whatever charsets are
 /// known. So what is read of its written form has no finding but notes.
 ///
-/// In a plain outline, values are printable ASCII, each leaf is a text in ASCII or UTF-8 whose lines
-/// end in CR LF, and the dash-boundary of a branch is nowhere in its parts. `IsPlainOutline` has all
-/// conditions.
+/// In a plain outline, values are printable ASCII, each leaf is a text in ASCII or UTF-8 whose
+/// lines end in CR LF, and the dash-boundary of a branch is nowhere in its parts. `IsPlainOutline`
+/// has all conditions.
 pub fn plain_outlines_are_strict()
     ensures strict { (known : Charsets) (outline : OutlineTree) → IsWellFormed outline →
         IsPlainOutline outline → IsStrict known (rendered outline) (stands_for known outline) }
