@@ -39,3 +39,6 @@ pub mod PlainTypes
 pub mod PlainTexts
 pub mod PlainParts
 pub mod PlainOutlines
+pub mod StrictPieces
+pub mod StrictHeaderLists
+pub mod WholeMails

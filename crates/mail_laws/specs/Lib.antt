@@ -44,3 +44,4 @@ pub use Rattle.mail_address.specs.WordTokens
 pub mod Render
 pub mod PlainOutlines
 pub mod RenderViews
+pub mod StrictMails

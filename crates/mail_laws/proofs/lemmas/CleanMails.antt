@@ -119,7 +119,7 @@ headers_low node read is =
 -- ---- the types of messages
 
 -- the type of a message is that which its headers name
-abbrev IsTyped : Charsets → Node → Type 0
+abbrev pub IsTyped : Charsets → Node → Type 0
 IsTyped known node = (in_digest : Bool) × (node.ctype ≡ node_type known in_digest node.headers)
 
 module _ (known : Charsets) where
@@ -186,13 +186,13 @@ module _ (known : Charsets) where
   -- ---- one message
 
   -- what is so of each message of a mail without findings but notes
-  record IsClean (t : Tree) : Type 0 where
-    read : IsRead (root t)
-    typed : IsTyped known (root t)
-    block : IsBlock (root t).block
-    fields : HasStrictFields (root t)
-    parameters : AllByRecursion HasPlainValue (root t).headers
-    parts : HasStrictParts t
+  pub record IsClean (t : Tree) : Type 0 where
+    pub read : IsRead (root t)
+    pub typed : IsTyped known (root t)
+    pub block : IsBlock (root t).block
+    pub fields : HasStrictFields (root t)
+    pub parameters : AllByRecursion HasPlainValue (root t).headers
+    pub parts : HasStrictParts t
 
   -- a header that was found
   found_in : (P : Header → Type 0) (test : Header → Bool) (headers : List Header) (h : Header) → find test headers ≡ Some h
@@ -208,7 +208,7 @@ module _ (known : Charsets) where
       by_test false is e ih = ih e
 
   -- the first `Content-Type` of a message, if there is one
-  abbrev TypeHeader : Tree → Header → Type 0
+  abbrev pub TypeHeader : Tree → Header → Type 0
   TypeHeader t h =
       (list_all is_low h.value ≡ true) × HasBoundary (root t).ctype × (is_strict known (lenient_value_in known h.value) ≡ true)
 
@@ -219,7 +219,7 @@ module _ (known : Charsets) where
       ap (λ (o : Option Header). option_map_or (λ h. content_type_in known (lenient_value_in known h.value)) o
       (part_type in_digest)) e
 
-  type_header : (t : Tree) → IsClean t → (h : Header) → first_with_key (codes "Content-Type") (root t).headers ≡ Some h
+  pub type_header : (t : Tree) → IsClean t → (h : Header) → first_with_key (codes "Content-Type") (root t).headers ≡ Some h
       → TypeHeader t h
   type_header t is h e =
       let headers : List Header = (root t).headers in
@@ -238,11 +238,11 @@ module _ (known : Charsets) where
       )
 
   -- without one it is no multipart
-  default_single : (in_digest : Bool) → has_prefix (codes "multipart") (part_type in_digest).mimetype ≡ false
+  pub default_single : (in_digest : Bool) → has_prefix (codes "multipart") (part_type in_digest).mimetype ≡ false
   default_single true = refl
   default_single false = refl
 
-  no_header : (in_digest : Bool) (headers : List Header) → first_with_key (codes "Content-Type") headers ≡ None
+  pub no_header : (in_digest : Bool) (headers : List Header) → first_with_key (codes "Content-Type") headers ≡ None
       → node_type known in_digest headers ≡ part_type in_digest
   unfolding node_type
   no_header in_digest headers e =
@@ -303,7 +303,7 @@ module _ (known : Charsets) where
 
   -- ---- all messages
 
-  all_split : (xs ys : List Tree) → AllByRecursion IsClean (xs ++ ys) → AllByRecursion IsClean xs × AllByRecursion IsClean ys
+  pub all_split : (xs ys : List Tree) → AllByRecursion IsClean (xs ++ ys) → AllByRecursion IsClean xs × AllByRecursion IsClean ys
   all_split [] ys h = (tt, h)
   all_split (x ∷ xs) ys h = let more = all_split xs ys h.1 in ((h.0, more.0), more.1)
 
@@ -331,12 +331,12 @@ module _ (known : Charsets) where
   abbrev Written : Tree → Type 0
   Written t = Headed t × Valued t
 
-  clean_strict : (greatest : ℕ) (bytes : List ℕ) (t : Tree) → read_mail_in known greatest bytes ≡ Ok t → IsStrict known bytes t
-      → is_strict_mail known t ≡ true
-  clean_strict greatest bytes t read is =
+  pub all_clean : (greatest : ℕ) (bytes : List ℕ) (t : Tree) → read_mail_in known greatest bytes ≡ Ok t → IsStrict known bytes t
+      → AllByRecursion IsClean (trees_within t)
+  all_clean greatest bytes t read is =
       let all = trees_within t in
       let messages = is.messages in
-      tree_strict t (all_with ReadTyped Written IsClean
+      all_with ReadTyped Written IsClean
       (λ t read is. record {
         read = read.0;
         typed = read.1;
@@ -351,7 +351,11 @@ module _ (known : Charsets) where
       (all_with (λ (t : Tree). IsBlock (root t).block) (λ (t : Tree). HasStrictFields (root t)) Headed (λ t a b. (a, b)) all
       (all_of_map root (λ node. IsBlock node.block) all messages.blocks) (all_of_map root HasStrictFields all messages.fields))
       (all_with (λ (t : Tree). AllByRecursion HasPlainValue (root t).headers) HasStrictParts Valued (λ t a b. (a, b)) all
-      (all_of_map root (λ node. AllByRecursion HasPlainValue node.headers) all messages.parameters) messages.parts)))
+      (all_of_map root (λ node. AllByRecursion HasPlainValue node.headers) all messages.parameters) messages.parts))
+
+  clean_strict : (greatest : ℕ) (bytes : List ℕ) (t : Tree) → read_mail_in known greatest bytes ≡ Ok t → IsStrict known bytes t
+      → is_strict_mail known t ≡ true
+  clean_strict greatest bytes t read is = tree_strict t (all_clean greatest bytes t read is)
 
   pub clean_mail_strict : (greatest : ℕ) (bytes : List ℕ) (t : Tree) → read_mail_in known greatest bytes ≡ Ok t
       → Lacks is_core (findings known t (placements 0 t))

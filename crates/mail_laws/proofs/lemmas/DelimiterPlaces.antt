@@ -50,7 +50,7 @@ before_byte-other b bytes start p other = ⊎_elim
     (λ h. ap (λ t. if t then p - 1 else p) h)
     (cases_Bool (nat_lt start p && begins (λ x. x == b) (drop (p - 1) bytes)))
 
-before_byte-one : (b : ℕ) (bytes : List ℕ) (start p : ℕ) → start ≤ p → begins (λ x. x == b) (drop p bytes) ≡ true → before_byte b bytes start (suc p) ≡ p
+pub before_byte-one : (b : ℕ) (bytes : List ℕ) (start p : ℕ) → start ≤ p → begins (λ x. x == b) (drop p bytes) ≡ true → before_byte b bytes start (suc p) ≡ p
 before_byte-one b bytes start p low h =
     let less : suc p - 1 ≡ p = omega arith in
     let at : begins (λ x. x == b) (drop (suc p - 1) bytes) ≡ true = ap (λ n. begins (λ x. x == b) (drop n bytes)) less ∙ h in

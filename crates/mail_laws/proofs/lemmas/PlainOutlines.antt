@@ -33,11 +33,13 @@ use Rattle.mail_check.proofs.lemmas.StrictReading.{all_joined, all_with, map_of_
 use Rattle.mail_laws.specs.Boundaries.{boundary_type}
 use Rattle.mail_laws.specs.PlainOutlines.{IsPlainHeader, ArePlainHeaders, IsPlainLeaf, IsPlainBranch, IsPlainWithin, ArePlainParts, IsPlainOutline, IsTextOf, in_ascii, in_unicode}
 use Rattle.mail_laws.specs.Render.{OutlineTree, OutlineForest, leaf, branch, no_outlines, outline_and, dash_boundary, depth, has_plain_values, header_block, is_key, is_plain_within, are_plain_within, is_well_formed_here, is_well_formed_within, are_well_formed_within, is_within_levels, IsWellFormed, rendered, rendered_parts, stands_for, stand_for, type_of, written_headers}
+use Rattle.mail_laws.specs.StrictMails.{IsMail}
 use Rattle.mail_laws.proofs.lemmas.PlainHeaders.{all_are, all_so, same_written, block_is_strict, lines_joined, plain_lines, line_end, block_lined, value_worded}
 use Rattle.mail_laws.proofs.lemmas.PlainParts.{outline_small, parts_split}
 use Rattle.mail_laws.proofs.lemmas.PlainTypes.{IsTyped, untyped, typed, one_typed, none_lack, header_field, header_plain, files_are_strict, default_typed, boundary_typed, parted_is_type, leaf_body, leaf_text, named_type, boundary_plain, boundary_names, ascii_readable, utf_8_readable}
 use Rattle.mail_laws.proofs.lemmas.PlainTexts.{text_in_utf_8, utf_8_mimetype, text_content_type, text_is_type, text_no_multipart, text_plain, text_own}
 use Rattle.mail_laws.proofs.lemmas.RenderReadings.{IsFormed, IsFormed-from, branch-formed, outline_is_read, outline_is_refused}
+use Rattle.mail_laws.proofs.lemmas.WholeMails.{mail_is_derived}
 
 -- ---- lines
 
@@ -303,3 +305,11 @@ module _ (known : Charsets) where
       let same : stands_for known outline ≡ t = cc in
       (mail_strict known greatest bytes t read).1 (subst (IsStrict known bytes) same (plain_is_strict outline formed plain)))
       (cases_lt greatest (depth outline))
+
+  pub plain_is_mail : (outline : OutlineTree) → IsWellFormed outline → IsPlainOutline outline
+      → IsMail known (rendered outline) (stands_for known outline)
+  plain_is_mail outline formed plain =
+      let inside = within_levels outline formed in
+      let able = inr (words_plain outline plain.within) in
+      mail_is_derived known (depth outline) (rendered outline) (stands_for known outline)
+      (outline_is_read known (depth outline) outline able inside (omega arith)) (plain_is_strict outline formed plain)

@@ -29,7 +29,7 @@ has_prefix-before (x ∷ text) [] rest free =
 has_prefix-before (x ∷ text) (b ∷ front) rest free =
     ap (λ t. eqb x b && t) (has_prefix-before text front rest (and_parts (no_return x) (list_all no_return text) free).1)
 
-has_prefix-self : (text rest : List ℕ) → has_prefix text (text ++ rest) ≡ true
+pub has_prefix-self : (text rest : List ℕ) → has_prefix text (text ++ rest) ≡ true
 has_prefix-self [] rest = refl
 has_prefix-self (x ∷ text) rest = and_from (eqb x x) (has_prefix text (text ++ rest)) (eq-eqb x x refl) (has_prefix-self text rest)
 
@@ -43,7 +43,7 @@ has_prefix-nowhere x text bytes none k =
 -- ---- the bytes after a delimiter
 
 -- a place further on
-further : (bytes text : List ℕ) (s k n : ℕ) → drop s bytes ≡ text → s + k ≡ n → drop n bytes ≡ drop k text
+pub further : (bytes text : List ℕ) (s k n : ℕ) → drop s bytes ≡ text → s + k ≡ n → drop n bytes ≡ drop k text
 further bytes text s k n there e = ap (λ m. drop m bytes) (sym e) ∙ sym (drop-drop k s bytes) ∙ ap (drop k) there
 
 -- a line that CR LF ends
