@@ -107,11 +107,13 @@ REAL = {
     "real": ("one real mail", 6_000_000, real_mail.as_parts, ("parse", "all")),
     "real-300k": ("one real mail", 300_000, real_mail.as_parts, ("parse", "all")),
     "real-mailbox": ("a mailbox of real mails", 6_000_000, real_mail.as_mailbox, ("mailbox-parse", "mailbox-all")),
+    "real-check": ("the findings of a mailbox of real mails", 6_000_000, real_mail.as_mailbox, ("mailbox-all", "mailbox-check")),
     "real-html": ("the HTML parts", 60_000_000, real_mail.as_html, ("html",)),
 }
 # what others call `all` is `full` here
 OURS = {"all": "full", "mailbox-all": "mailbox-full"}
-CODECS = {"absent", "lines", "text", "whitespace", "base64", "base64-body", "quoted-printable", "values", "html"}
+# works that other readers of mail do not have
+CODECS = {"absent", "lines", "text", "whitespace", "base64", "base64-body", "quoted-printable", "values", "html", "mailbox-check"}
 
 
 @dataclass
@@ -146,7 +148,7 @@ def compiled(name, source, compiler, package, flags, work):
 
 
 def is_codec(work):
-    """Whether a work is of our decoders and searches alone."""
+    """Whether other readers of mail do not have a work."""
     return work in CODECS or work in CHARSETS
 
 

@@ -11,7 +11,8 @@
 //!   `quoted-printable` decode the input,
 //! - `parse` reads a message, `values` also the value of each of its headers, and `full` the values
 //!   and decoded bodies of all its parts,
-//! - `mailbox-parse` and `mailbox-full` do so with each message of a mailbox,
+//! - `mailbox-parse` and `mailbox-full` do so with each message of a mailbox, and `mailbox-check`
+//!   lists its findings,
 //! - `html` reads the text of HTML in UTF-8.
 //!
 //! The size of the result goes to standard output. The nanoseconds for each byte of the input, the

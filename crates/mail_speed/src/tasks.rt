@@ -1,6 +1,7 @@
 //! The tasks that are timed.
 
-use mail_charsets::{Encoding, Indexes};
+use mail_charsets::{AllCharsets, Encoding, Indexes};
+use mail_check::read_findings;
 use mail_codec::bytescan::{find, find_byte, strip_ascii_whitespace};
 use mail_codec::transfer::{decode_base64, decode_base64_body, decode_quoted_printable};
 use mail_data::mailbox::{Format, read_mailbox};
@@ -25,6 +26,7 @@ pub fn run(alloc: Global, name: &str, input: &[u8]) -> Result<usize, MailParseEr
         "full" => full(alloc, &parse_mail(alloc, input)?),
         "mailbox-parse" => mails(alloc, false, input),
         "mailbox-full" => mails(alloc, true, input),
+        "mailbox-check" => checked(alloc, input),
         "html" => html(alloc, input),
         _ => decoded(alloc, name, input),
     }
@@ -101,6 +103,25 @@ fn mail(alloc: Global, is_full: bool, input: &[u8]) -> Result<usize, MailParseEr
     match parse_mail(alloc, input) {
         Ok(mail) if is_full => full(alloc, &mail),
         Ok(mail) => Ok(mail.headers.len()),
+        Err(MailParseError::Memory(e)) => Err(MailParseError::Memory(e)),
+        Err(_refusal) => Ok(0),
+    }
+}
+
+/// Lists the findings of each message of a mailbox. Returns their number.
+fn checked(alloc: Global, mailbox: &[u8]) -> Result<usize, MailParseError> {
+    let known = AllCharsets::standard();
+    let mut count = 0usize;
+    for entry in read_mailbox(mailbox, Format::Plain) {
+        count = count.saturating_add(finding_count(alloc, entry.mail(), &known)?);
+    }
+    Ok(count)
+}
+
+/// Lists the findings of a message. Returns their number, which is 0 if the message is refused.
+fn finding_count(alloc: Global, mail: &[u8], known: &AllCharsets) -> Result<usize, MailParseError> {
+    match read_findings(alloc, mail, usize::MAX, known) {
+        Ok(found) => Ok(found.len()),
         Err(MailParseError::Memory(e)) => Err(MailParseError::Memory(e)),
         Err(_refusal) => Ok(0),
     }
