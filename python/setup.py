@@ -65,7 +65,7 @@ setup(
     ext_modules=[
         Extension(
             "rocktray._engine",
-            ["engine/mail.c", "engine/module.c", "engine/node.c", "engine/reading.c", "engine/records.c"],
+            [f"engine/{name}.c" for name in ("mail", "module", "node", "reading", "records", "store")],
             define_macros=[("Py_LIMITED_API", "0x030a0000")],
             extra_compile_args=["-std=c11", "-fvisibility=hidden", "-Wall", "-Wextra", "-g0"],
             extra_link_args=["-Wl,--exclude-libs,ALL", "-Wl,-z,relro,-z,now,-z,noexecstack", "-Wl,--strip-all"],

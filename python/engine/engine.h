@@ -62,11 +62,22 @@ struct ahead {
     size_t subject_start, subject_end; /* in the strings, as the ranges of addresses are */
     struct date date;
     size_t first[VALUES], last[VALUES]; /* the addresses of each value */
-    const struct rocktray_address *addresses;
-    const char *strings;
+    size_t address_count; /* of those that follow this, before the strings */
 };
 
-/* a mail that is read: its bytes, and its records in one block that is allocated */
+/* What follows the values: their addresses, and their strings. */
+const struct rocktray_address *addresses_in(const struct ahead *ahead);
+const char *strings_in(const struct ahead *ahead);
+
+/* space for the records of the mails of a batch, which is used again */
+#define SPACE (1 << 19)
+struct space {
+    struct space *next;
+    size_t used; /* the number of bytes */
+    uint64_t at[SPACE / sizeof(uint64_t)];
+};
+
+/* a mail that is read: its bytes, and its records in one block, which is in a space or was allocated */
 struct records {
     const uint8_t *at;
     size_t length, limit;
@@ -74,11 +85,19 @@ struct records {
     size_t part_count, header_count;
     struct rocktray_part *parts;
     struct rocktray_header_record *headers;
-    struct ahead *ahead; /* NULL if nothing was decoded */
+    struct ahead *ahead;  /* NULL if nothing was decoded */
+    struct space *space;  /* the one to be used; later the one with the block, or NULL if that was allocated */
+    size_t size;          /* of a block in a space */
 };
 
 /* Reads the mail. Returns the code; after any but ROCKTRAY_DONE nothing is allocated. */
 uint32_t read_records(struct records *records);
+
+/* Frees the block of records, unless it is in a space. */
+void free_records(const struct records *records);
+
+/* Moves the records to a block that is allocated, if they are in a space. Returns 0, or -1 without memory. */
+int own_records(struct records *records);
 
 /* Counts the offsets of records from `start` bytes earlier. */
 void move(const struct records *records, uint64_t start);
@@ -165,10 +184,10 @@ int take_type(PyTypeObject **type, PyObject *object, PyTypeObject *base);
 
 /* The state of the module: its types, and what it has of other modules. */
 struct types {
-    PyObject *reading, *header, *node, *mail, *mails, *use, *batch;
+    PyObject *reading, *header, *node, *mail, *mails, *use, *batch, *store;
     PyObject *address, *datetime, *zone_of, *zones;
 };
-extern PyType_Spec reading_spec, header_spec, node_spec, mail_spec, mails_spec, use_spec, batch_spec;
+extern PyType_Spec reading_spec, header_spec, node_spec, mail_spec, mails_spec, use_spec, batch_spec, store_spec;
 
 /* The text of a code. */
 PyObject *reason_of(uint32_t code);
@@ -182,8 +201,9 @@ PyObject *reading_of(const struct types *types, PyObject *data, const struct rec
 /* The types of the module with a reading. */
 const struct types *types_of(PyObject *reading);
 
-/* What was decoded of a mail with its records, or NULL. */
-const struct ahead *ahead_of(PyObject *reading);
+/* Takes a space of a store for records, or returns NULL; and gives it back, if it is not NULL. */
+struct space *take_space(PyObject *store);
+void give_space(PyObject *store, struct space *space);
 
 /* The first value with a name in the headers of a mail, or None, and a list of its addresses. */
 PyObject *first_value(PyObject *reading, const struct name *name);
@@ -213,11 +233,13 @@ PyObject *nodes_of(PyObject *reading, PyObject *data, const struct rocktray_part
 PyObject *read_mail(PyObject *module, PyObject *const *arguments, Py_ssize_t count);
 /* parse(type, data, limit): reads a mail into a new one of this type. */
 PyObject *parse_mail(PyObject *module, PyObject *const *arguments, Py_ssize_t count);
-/* last_separator(data, start, last): where the last separator after an empty line begins, after `start` and at `last` or
- * before, or 0. */
-PyObject *last_separator(PyObject *module, PyObject *const *arguments, Py_ssize_t count);
-/* read_mails(type, (data, offset, at, last), limit, use, is_counted, most, bytes): finds the mails from `at` up to the
- * separator at `last`, but at most `most` and some bytes, and reads the values that were used of earlier mails. Returns
+/* Where the last separator after an empty line begins in bytes of a mailbox, or 0. Its line and one more byte are there, so
+ * that no further bytes change it. Needs no lock of Python. */
+size_t separator_in(const uint8_t *at, size_t length);
+/* last_separator(data): the same. */
+PyObject *last_separator(PyObject *module, PyObject *data);
+/* read_mails(type, (data, offset, at, last), limit, use, is_counted, most, bytes, store): finds the mails from `at` up to
+ * the separator at `last`, but at most `most` and some bytes, and reads the values that were used of earlier mails. Returns
  * new ones of this type, from the last to the first, their batch, and where the next one begins. */
 PyObject *read_mails(PyObject *module, PyObject *const *arguments, Py_ssize_t count);
 /* recipients(data): of each recipient that a mail reports its five texts, of which a missing one is None. */

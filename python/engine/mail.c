@@ -43,10 +43,36 @@ struct mail {
 /* mails of a mailbox that were found and read together; each refers to the batch as long as it has no bytes of its own */
 struct batch {
     PyObject_HEAD
-    PyObject *data;
+    PyObject *data, *store;
+    struct space *space;  /* with records of the mails, or NULL */
     size_t offset, count; /* the offset of the data in the mailbox */
+    size_t used;          /* the number of mails that refer to it, and of calls that use it */
     struct mail **mails;  /* NULL for one that does not refer to it */
 };
+
+/* Begins that a mail or a call refers to a batch. */
+static struct batch *begin_use(struct batch *batch)
+{
+    if (batch)
+        batch->used++;
+    return (struct batch *)Py_XNewRef((PyObject *)batch);
+}
+
+/* Frees the bytes and the space of a batch for other mails. */
+static void empty(struct batch *batch)
+{
+    Py_CLEAR(batch->data);
+    give_space(batch->store, batch->space);
+    batch->space = NULL;
+}
+
+/* Ends that a mail or a call refers to a batch. */
+static void end_use(struct batch *batch)
+{
+    if (batch && --batch->used == 0)
+        empty(batch);
+    Py_XDECREF((PyObject *)batch);
+}
 
 /* Ends that a mail refers to its batch. */
 static void leave(struct mail *mail)
@@ -55,7 +81,7 @@ static void leave(struct mail *mail)
     mail->batch = NULL;
     if (batch)
         batch->mails[mail->number] = NULL;
-    Py_XDECREF((PyObject *)batch);
+    end_use(batch);
 }
 
 static void mail_free(PyObject *self)
@@ -65,12 +91,12 @@ static void mail_free(PyObject *self)
     PyObject *const objects[] = { mail->data, mail->raw,   mail->limit, mail->place,   mail->own,
                                   mail->all,  mail->known, mail->use,   mail->reading, mail->date_error };
     size_t k;
+    free_records(&mail->records);
     leave(mail);
     for (k = 0; k < sizeof objects / sizeof *objects; k++)
         Py_XDECREF(objects[k]);
     for (k = 0; k < VALUES; k++)
         Py_XDECREF(mail->values[k]);
-    free(mail->records.parts);
     ((freefunc)PyType_GetSlot(type, Py_tp_free))(self);
     Py_DECREF(type);
 }
@@ -109,7 +135,7 @@ static int mail_set_place(PyObject *self, PyObject *place, void *unused)
 
 /* Bytes. */
 
-/* Gives a mail of a batch bytes of its own. Returns 0, or -1 for an error. */
+/* Gives a mail of a batch bytes and records of its own. Returns 0, or -1 for an error. */
 static int own(struct mail *mail)
 {
     struct batch *batch = mail->batch;
@@ -120,6 +146,12 @@ static int own(struct mail *mail)
     if (!(raw = PyBytes_FromStringAndSize(at, (Py_ssize_t)mail->records.length)))
         return -1;
     if (mail->records.parts) {
+        if (own_records(&mail->records) < 0) {
+            Py_DECREF(raw);
+            PyErr_NoMemory();
+            return -1;
+        }
+        mail->ahead = mail->records.ahead;
         mail->reading = reading_of(mail->types, raw, &mail->records);
         mail->records.parts = NULL;
         if (!mail->reading) {
@@ -284,11 +316,15 @@ static PyObject *value_in(PyObject *self, const struct finder *finder)
 {
     struct mail *mail = (struct mail *)self;
     const struct ahead *ahead = mail->ahead && mail->ahead->known & 1u << finder->value ? mail->ahead : NULL;
+    struct batch *batch;
     PyObject *found;
     if (mail->values[finder->value])
         return mail->values[finder->value];
     note(mail, READ | 1u << finder->value);
+    /* to make an object may run code, as garbage is collected, or another thread, which detaches the mail */
+    batch = begin_use(mail->batch);
     found = ahead || reading_in(self, true) ? finder->find(mail, ahead, finder->value) : NULL;
+    end_use(batch);
     /* another thread may have found it meanwhile */
     if (mail->values[finder->value])
         Py_XDECREF(found);
@@ -303,17 +339,17 @@ static PyObject *find_text(struct mail *mail, const struct ahead *ahead, enum va
         return first_value(mail->reading, &value_names[value]);
     if (!ahead->has_subject)
         Py_RETURN_NONE;
-    return decoded(ahead->strings + ahead->subject_start, (Py_ssize_t)(ahead->subject_end - ahead->subject_start));
+    return decoded(strings_in(ahead) + ahead->subject_start, (Py_ssize_t)(ahead->subject_end - ahead->subject_start));
 }
 
 /* The addresses of a value that were decoded ahead. */
 static PyObject *addresses_ahead(const struct ahead *ahead, enum value value, PyTypeObject *type)
 {
+    const struct rocktray_address *addresses = addresses_in(ahead);
     PyObject *list = PyList_New(0);
     size_t k;
     for (k = ahead->first[value]; list && k < ahead->last[value]; k++)
-        if (ahead->addresses[k].kind != ROCKTRAY_GROUP &&
-            append(list, address_of(type, ahead->strings, &ahead->addresses[k])) < 0)
+        if (addresses[k].kind != ROCKTRAY_GROUP && append(list, address_of(type, strings_in(ahead), &addresses[k])) < 0)
             Py_CLEAR(list);
     return list;
 }
@@ -537,7 +573,8 @@ static void batch_free(PyObject *self)
 {
     struct batch *batch = (struct batch *)self;
     PyTypeObject *type = Py_TYPE(self);
-    Py_XDECREF(batch->data);
+    empty(batch);
+    Py_XDECREF(batch->store);
     free(batch->mails);
     ((freefunc)PyType_GetSlot(type, Py_tp_free))(self);
     Py_DECREF(type);
@@ -574,43 +611,39 @@ PyType_Spec batch_spec = {
 };
 
 /* Whether an empty line ends at `end` in the bytes, and the library takes the line after it for a separator. */
-static bool separates(const struct input *input, size_t end)
+static bool separates(const uint8_t *at, size_t length, size_t end)
 {
-    const uint8_t *at = input->at, *line;
-    size_t start = end > 0 && at[end - 1] == '\r' ? end - 1 : end, found, length, next;
-    if (input->length - end < 6 || memcmp(at + end, "\nFrom ", 6) != 0 || start < 1 || at[start - 1] != '\n')
+    const uint8_t *line;
+    size_t start = end > 0 && at[end - 1] == '\r' ? end - 1 : end, found, to, next;
+    if (length - end < 6 || memcmp(at + end, "\nFrom ", 6) != 0 || start < 1 || at[start - 1] != '\n')
         return false;
-    line = memchr(at + end + 1, '\n', input->length - end - 1);
-    length = line ? (size_t)(line + 1 - (at + start)) : input->length - start;
-    return rocktray_next_mail(at + start, length, false, &found, &length, &next) == ROCKTRAY_DONE;
+    line = memchr(at + end + 1, '\n', length - end - 1);
+    length = line ? (size_t)(line + 1 - (at + start)) : length - start;
+    return rocktray_next_mail(at + start, length, false, &found, &to, &next) == ROCKTRAY_DONE;
 }
 
-/* The last separator after an empty line that begins after `start` and at `last` or before, or 0. */
-static size_t separator_before(const struct input *input, size_t start, size_t last)
+size_t separator_in(const uint8_t *at, size_t length)
 {
-    const uint8_t *first = input->at + start, *end = input->at + last;
-    while (end > first && (end = memrchr(first, '\n', (size_t)(end - first))))
-        if (end[1] == 'F' && separates(input, (size_t)(end - input->at)))
-            return (size_t)(end - input->at) + 1;
+    const uint8_t *end = length > 0 ? memrchr(at, '\n', length - 1) : NULL;
+    while (end && (end = memrchr(at, '\n', (size_t)(end - at))))
+        if (end[1] == 'F' && separates(at, length, (size_t)(end - at)))
+            return (size_t)(end - at) + 1;
     return 0;
 }
 
-PyObject *last_separator(PyObject *module, PyObject *const *arguments, Py_ssize_t count)
+PyObject *last_separator(PyObject *module, PyObject *data)
 {
     struct input input;
-    size_t start, last, found;
+    size_t found;
     (void)module;
-    if (!is_count(count, 3) || take_size(&start, arguments[1]) < 0 || take_size(&last, arguments[2]) < 0)
-        return NULL;
-    if (!PyBytes_Check(arguments[0])) {
+    if (!PyBytes_Check(data)) {
         PyErr_SetString(PyExc_TypeError, "bytes are needed");
         return NULL;
     }
-    if (take(&input, arguments[0]) < 0)
+    if (take(&input, data) < 0)
         return NULL;
-    last = last < input.length ? last : input.length; /* bytes end with a NUL */
     Py_BEGIN_ALLOW_THREADS
-    found = start > last ? 0 : separator_before(&input, start, last);
+    found = separator_in(input.at, input.length);
     Py_END_ALLOW_THREADS
     give_back(&input);
     return PyLong_FromSize_t(found);
@@ -621,6 +654,8 @@ struct search {
     const struct types *types;
     PyTypeObject *type;
     PyObject *limit, *use; /* of each mail */
+    PyObject *store;
+    struct space *space; /* for the records, or NULL */
     struct input input;
     size_t at, last, offset; /* the offset of the data in the mailbox */
     size_t most, bytes;      /* the most mails, and the most bytes unless one mail has more */
@@ -665,6 +700,7 @@ static void read_found(struct search *search)
         item->records.limit = search->most_items;
         item->records.wanted = search->wanted & ~READ;
         item->records.parts = NULL;
+        item->records.space = search->space;
         item->code = search->wanted ? read_records(&item->records) : ROCKTRAY_ABSENT;
         search->count++;
     }
@@ -682,7 +718,7 @@ static PyObject *mail_of(struct batch *batch, const struct search *search, struc
     mail->start = batch->offset + item->start;
     mail->end = mail->start + item->records.length;
     mail->records = item->records;
-    mail->batch = (struct batch *)Py_NewRef((PyObject *)batch);
+    mail->batch = begin_use(batch);
     mail->number = batch->count;
     batch->mails[batch->count++] = mail;
     if (item->code == ROCKTRAY_DONE)
@@ -695,13 +731,16 @@ static PyObject *mail_of(struct batch *batch, const struct search *search, struc
     return (PyObject *)mail;
 }
 
-/* A batch for the mails that were found. */
-static struct batch *batch_of(const struct search *search)
+/* A batch for the mails that were found, which takes over the space with their records. */
+static struct batch *batch_of(struct search *search)
 {
     struct batch *batch = (struct batch *)PyType_GenericAlloc((PyTypeObject *)search->types->batch, 0);
     if (!batch)
         return NULL;
     batch->data = Py_NewRef(search->input.object);
+    batch->store = Py_NewRef(search->store);
+    batch->space = search->space;
+    search->space = NULL;
     batch->offset = search->offset;
     batch->mails = malloc((search->count + 1) * sizeof *batch->mails);
     if (!batch->mails) {
@@ -712,9 +751,9 @@ static struct batch *batch_of(const struct search *search)
 }
 
 /* The mails that were found, from the last to the first, their batch, and where the next one begins. */
-static PyObject *mails_of(const struct search *search)
+static PyObject *mails_of(struct search *search)
 {
-    struct batch *batch = batch_of(search);
+    struct batch *batch = batch_of(search), *used = begin_use(batch);
     PyObject *list = batch ? PyList_New((Py_ssize_t)search->count) : NULL;
     size_t k;
     for (k = 0; list && k < search->count; k++) {
@@ -725,6 +764,7 @@ static PyObject *mails_of(const struct search *search)
             Py_CLEAR(list);
     }
     list = list ? Py_BuildValue("NOn", list, (PyObject *)batch, (Py_ssize_t)search->at) : NULL;
+    end_use(used);
     Py_XDECREF((PyObject *)batch);
     return list;
 }
@@ -763,6 +803,11 @@ static int take_search(struct search *search, PyObject *const *arguments)
         return -1;
     }
     search->wanted = ((struct use *)search->use)->wanted;
+    search->store = arguments[7];
+    if (Py_TYPE(search->store) != (PyTypeObject *)search->types->store) {
+        PyErr_SetString(PyExc_TypeError, "a Store is needed");
+        return -1;
+    }
     return take_found(search, arguments[1]);
 }
 
@@ -771,12 +816,13 @@ PyObject *read_mails(PyObject *module, PyObject *const *arguments, Py_ssize_t co
     struct search search = { .types = PyModule_GetState(module) };
     PyObject *made = NULL;
     size_t k;
-    if (!is_count(count, 7) || take_search(&search, arguments) < 0)
+    if (!is_count(count, 8) || take_search(&search, arguments) < 0)
         return NULL;
     search.items = malloc(search.most * sizeof *search.items + 1);
     if (!search.items) {
         PyErr_NoMemory();
     } else {
+        search.space = search.wanted ? take_space(search.store) : NULL;
         Py_BEGIN_ALLOW_THREADS
         read_found(&search);
         Py_END_ALLOW_THREADS
@@ -784,7 +830,8 @@ PyObject *read_mails(PyObject *module, PyObject *const *arguments, Py_ssize_t co
     }
     for (k = 0; k < search.count; k++)
         if (search.items[k].code == ROCKTRAY_DONE)
-            free(search.items[k].records.parts);
+            free_records(&search.items[k].records);
+    give_space(search.store, search.space);
     free(search.items);
     give_back(&search.input);
     return made;

@@ -506,7 +506,8 @@ static int fill_module(PyObject *module)
                    (types->mail = add_type(module, "Mail", &mail_spec)) &&
                    (types->mails = add_type(module, "Mails", &mails_spec)) &&
                    (types->use = add_type(module, "Use", &use_spec)) &&
-                   (types->batch = add_type(module, "Batch", &batch_spec)) && (types->zones = PyDict_New()) &&
+                   (types->batch = add_type(module, "Batch", &batch_spec)) &&
+                   (types->store = add_type(module, "Store", &store_spec)) && (types->zones = PyDict_New()) &&
                    (types->datetime = object_of("datetime", "datetime"))
                ? 0
                : -1;
@@ -554,7 +555,7 @@ static PyMethodDef functions[] = {
     { "safe_name", safe_name, METH_O, NULL },
     { "read", FAST(read_mail), METH_FASTCALL, NULL },
     { "parse", FAST(parse_mail), METH_FASTCALL, NULL },
-    { "last_separator", FAST(last_separator), METH_FASTCALL, NULL },
+    { "last_separator", last_separator, METH_O, NULL },
     { "read_mails", FAST(read_mails), METH_FASTCALL, NULL },
     { "values", FAST(values), METH_FASTCALL, NULL },
     { NULL, NULL, 0, NULL },

@@ -17,9 +17,8 @@ struct reading {
     PyObject *data;
     const struct types *types; /* the module is kept by the type, which the reading keeps */
     size_t part_count, header_count;
-    struct rocktray_part *parts; /* in one block with the headers and the values */
+    struct rocktray_part *parts; /* in one block with the headers, and with values that were decoded ahead */
     struct rocktray_header_record *headers;
-    const struct ahead *ahead;
 };
 
 /* Reading. */
@@ -28,7 +27,7 @@ PyObject *reading_of(const struct types *types, PyObject *data, const struct rec
 {
     struct reading *reading = (struct reading *)PyType_GenericAlloc((PyTypeObject *)types->reading, 0);
     if (!reading) {
-        free(records->parts);
+        free_records(records);
         return NULL;
     }
     reading->data = Py_NewRef(data);
@@ -37,7 +36,6 @@ PyObject *reading_of(const struct types *types, PyObject *data, const struct rec
     reading->header_count = records->header_count;
     reading->parts = records->parts;
     reading->headers = records->headers;
-    reading->ahead = records->ahead;
     return (PyObject *)reading;
 }
 
@@ -46,17 +44,13 @@ const struct types *types_of(PyObject *reading)
     return ((struct reading *)reading)->types;
 }
 
-const struct ahead *ahead_of(PyObject *reading)
-{
-    return ((struct reading *)reading)->ahead;
-}
-
 uint32_t read_input(const struct input *input, struct records *records)
 {
     uint32_t code;
     records->at = input->at;
     records->length = input->length;
     records->wanted = 0;
+    records->space = NULL;
     if (!is_mail_read_freely(input))
         return read_records(records);
     Py_BEGIN_ALLOW_THREADS

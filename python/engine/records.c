@@ -45,7 +45,7 @@ bool is_named(const uint8_t *mail, const struct rocktray_header_record *header, 
 struct decoded {
     struct ahead ahead;
     struct rocktray_address addresses[FEW_ADDRESSES];
-    size_t address_count, length;
+    size_t length;
     char strings[SHORT];
 };
 
@@ -102,12 +102,12 @@ static bool decode_date(const struct records *records, struct decoded *to)
 static bool decode_addresses(const struct records *records, enum value value, struct decoded *to)
 {
     const struct rocktray_header_record *header = NULL;
-    to->ahead.first[value] = to->address_count;
+    to->ahead.first[value] = to->ahead.address_count;
     while ((header = header_of_value(records, value, header ? header + 1 : NULL))) {
-        struct rocktray_address *addresses = to->addresses + to->address_count;
+        struct rocktray_address *addresses = to->addresses + to->ahead.address_count;
         size_t count, needed, k;
         if (rocktray_addresses(records->at + header->value_start, header->value_end - header->value_start, addresses,
-                               FEW_ADDRESSES - to->address_count, &count, to->strings + to->length,
+                               FEW_ADDRESSES - to->ahead.address_count, &count, to->strings + to->length,
                                sizeof to->strings - to->length, &needed) != ROCKTRAY_DONE)
             return false;
         for (k = 0; k < count; k++) {
@@ -116,10 +116,10 @@ static bool decode_addresses(const struct records *records, enum value value, st
             addresses[k].address_start += to->length;
             addresses[k].address_end += to->length;
         }
-        to->address_count += count;
+        to->ahead.address_count += count;
         to->length += needed;
     }
-    to->ahead.last[value] = to->address_count;
+    to->ahead.last[value] = to->ahead.address_count;
     return true;
 }
 
@@ -128,7 +128,7 @@ static void decode(const struct records *records, struct decoded *to)
 {
     int value;
     to->ahead = (struct ahead){ .known = 0 };
-    to->address_count = to->length = 0;
+    to->length = 0;
     for (value = 0; value < VALUES; value++) {
         bool is_known = false;
         if (records->wanted & 1u << value)
@@ -158,6 +158,51 @@ static size_t size_of(size_t part_count, size_t header_count)
     return part_count * sizeof(struct rocktray_part) + header_count * sizeof(struct rocktray_header_record);
 }
 
+const struct rocktray_address *addresses_in(const struct ahead *ahead)
+{
+    return (const struct rocktray_address *)(ahead + 1);
+}
+
+const char *strings_in(const struct ahead *ahead)
+{
+    return (const char *)(addresses_in(ahead) + ahead->address_count);
+}
+
+/* A block for records: in their space, or allocated if there is none or it is too short. NULL without memory. */
+static void *take_block(struct records *records, size_t size)
+{
+    struct space *space = records->space;
+    size_t whole = (size + sizeof *space->at - 1) / sizeof *space->at * sizeof *space->at;
+    if (space && whole <= SPACE - space->used) {
+        space->used += whole;
+        records->size = size;
+        return (char *)space->at + (space->used - whole);
+    }
+    records->space = NULL;
+    return malloc(size);
+}
+
+void free_records(const struct records *records)
+{
+    if (!records->space)
+        free(records->parts);
+}
+
+int own_records(struct records *records)
+{
+    char *block;
+    if (!records->space)
+        return 0;
+    if (!(block = malloc(records->size)))
+        return -1;
+    if (records->ahead)
+        records->ahead = (struct ahead *)(block + ((char *)records->ahead - (char *)records->parts));
+    records->parts = memcpy(block, records->parts, records->size);
+    records->headers = (struct rocktray_header_record *)(records->parts + records->part_count);
+    records->space = NULL;
+    return 0;
+}
+
 /* Makes the block of the records, which were read into it, as short as they are. Returns the code. */
 static uint32_t shorten(struct records *records)
 {
@@ -167,15 +212,21 @@ static uint32_t shorten(struct records *records)
     records->parts = parts ? parts : records->parts;
     records->headers = (struct rocktray_header_record *)(records->parts + records->part_count);
     records->ahead = NULL;
+    records->space = NULL;
     return ROCKTRAY_DONE;
+}
+
+/* The size of values that were decoded. */
+static size_t size_of_decoded(const struct decoded *decoded)
+{
+    return sizeof decoded->ahead + decoded->ahead.address_count * sizeof *decoded->addresses + decoded->length;
 }
 
 /* Copies the records to a block of their own, with these decoded values unless they are NULL. Returns the code. */
 static uint32_t copy(struct records *records, const struct decoded *decoded)
 {
-    size_t size = size_of(records->part_count, records->header_count), k;
-    struct rocktray_part *parts =
-        malloc(size + (decoded ? sizeof decoded->ahead + decoded->address_count * sizeof *decoded->addresses + decoded->length : 0));
+    size_t size = size_of(records->part_count, records->header_count);
+    struct rocktray_part *parts = take_block(records, size + (decoded ? size_of_decoded(decoded) : 0));
     struct rocktray_address *addresses;
     if (!parts)
         return ROCKTRAY_NO_MEMORY;
@@ -185,11 +236,8 @@ static uint32_t copy(struct records *records, const struct decoded *decoded)
     if (!decoded)
         return ROCKTRAY_DONE;
     records->ahead = memcpy((char *)parts + size, &decoded->ahead, sizeof decoded->ahead);
-    addresses = (struct rocktray_address *)(records->ahead + 1);
-    for (k = 0; k < decoded->address_count; k++)
-        addresses[k] = decoded->addresses[k];
-    records->ahead->addresses = addresses;
-    records->ahead->strings = memcpy(addresses + k, decoded->strings, decoded->length);
+    addresses = memcpy(records->ahead + 1, decoded->addresses, decoded->ahead.address_count * sizeof *addresses);
+    memcpy(addresses + decoded->ahead.address_count, decoded->strings, decoded->length);
     return ROCKTRAY_DONE;
 }
 

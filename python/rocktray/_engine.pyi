@@ -48,16 +48,24 @@ def read(data: Bytes, start: int, end: int, limit: int, /) -> Reading:
 def parse(type: Type[_Mail], mail: Bytes, limit: int, /) -> _Mail:
     """The same as a mail of this type."""
 
-def last_separator(data: bytes, start: int, last: int, /) -> int:
-    """Where the last separator after an empty line begins, after `start` and at `last` or before, or 0."""
+def last_separator(data: bytes, /) -> int:
+    """Where the last separator after an empty line begins whose line and one more byte are there, or 0."""
 
 def read_mails(
-    type: Type[_Mail], found: Tuple[bytes, int, int, int], limit: int, use: Use, is_counted: bool, most: int, bytes: int, /
+    type: Type[_Mail],
+    found: Tuple[bytes, int, int, int],
+    limit: int,
+    use: Use,
+    is_counted: bool,
+    most: int,
+    bytes: int,
+    store: Store,
+    /,
 ) -> Tuple[List[_Mail], Batch, int]:
     """Some mails of the data at an offset of a mailbox, from one offset in it up to the separator at another: at most
     `most`, and some bytes, from the last to the first; their batch; and where the next one begins. They are found in one
     call, without Python's lock, and read if earlier ones were used, with those of their values that were used. Nothing is
-    copied.
+    copied, and records are put into the store.
     """
 
 def values(address: Type[Address], zone_of: Callable[[int], timezone], /) -> None:
@@ -65,6 +73,17 @@ def values(address: Type[Address], zone_of: Callable[[int], timezone], /) -> Non
 
 class Use:
     """What is used of the mails of a mailbox."""
+
+class Store:
+    """The memory of a mailbox, which is used again."""
+
+    def read(self, file: int, size: int, offset: int, /) -> Tuple[bytes, int]:
+        """Bytes of a file, fewer at its end, and their `last_separator`. The object may be that of an earlier call, if
+        nothing refers to it any more.
+        """
+
+    def close(self) -> None:
+        """Frees what is kept. Nothing is kept from then on."""
 
 class Batch:
     """Mails that were read together, which share their bytes."""

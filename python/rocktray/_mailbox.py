@@ -54,25 +54,25 @@ class _File:
     def __init__(self, file: Any, size: int) -> None:
         self._file = file
         self.size = size
+        self.store = _engine.Store()
 
     def is_shortened(self) -> bool:
         """Whether another program has shortened the file."""
         return os.fstat(self._file.fileno()).st_size < self.size
 
-    def read_on(self, left: bytes, start: int) -> Tuple[bytes, bool]:
-        """The bytes from `start`: those that are left, and at least as many more if the file has them. Also whether
-        the file ends there.
+    def read_on(self, window: "_Window") -> Tuple[bytes, int, bool]:
+        """The bytes from the next mail of a window on: those that are left of it, and at least as many more if the file
+        has them. Also their last separator, and whether the file ends there.
         """
-        count = min(max(BLOCK, 2 * len(left)), self.size - start)
-        # what is left is read again, which is faster than copying all; one call reads less than 2 GiB
-        kept = left if len(left) > 1 << 30 else b""
-        data = kept + os.pread(self._file.fileno(), count - len(kept), start + len(kept))
-        if len(data) <= len(left):
+        start, left = window.start + window.at, len(window.data) - window.at
+        # what is left is read again, which is faster than copying all
+        data, separator = self.store.read(self._file.fileno(), min(max(BLOCK, 2 * left), self.size - start), start)
+        if len(data) <= left:
             from mailbox import ExternalClashError  # here, since it imports much
 
             name, size = self._file.name, os.fstat(self._file.fileno()).st_size
             raise ExternalClashError(f"{name!r} was shortened while it was read: from {self.size} bytes to {size}")
-        return data, start + len(data) == self.size
+        return data, separator, start + len(data) == self.size
 
 
 class _Stream:
@@ -80,9 +80,11 @@ class _Stream:
 
     def __init__(self, file: Any) -> None:
         self._read = getattr(file, "read1", file.read)
+        self.store = _engine.Store()
 
-    def read_on(self, left: bytes, start: int) -> Tuple[bytes, bool]:
+    def read_on(self, window: "_Window") -> Tuple[bytes, int, bool]:
         """The same as `_File.read_on`."""
+        left = window.data[window.at :]
         pieces, wanted = [left], max(_LONGEST_START, len(left))
         while wanted > 0:
             data = self._read(max(BLOCK, wanted))
@@ -93,7 +95,8 @@ class _Stream:
                 break
             pieces.append(data)
             wanted -= len(data)
-        return b"".join(pieces), wanted > 0
+        data = b"".join(pieces)
+        return data, _engine.last_separator(data), wanted > 0
 
 
 def _reader_of(file: Any) -> Union[_File, _Stream]:
@@ -114,6 +117,8 @@ class _Window(NamedTuple):
     """The last offset at which a separator ends a mail that no further bytes change: its line and one more byte were
     read. At the end of the mailbox it is the length of the bytes.
     """
+    separator: int = 0
+    """The last separator that is before it and after an empty line, or 0."""
 
 
 # whole mails that were read and not yet found: the bytes with them, the offset of these, where the first mail begins, and
@@ -237,7 +242,7 @@ class Mailbox(_engine.Mails):
             reader = self._reader
             self._taken.append(some)
         try:
-            mails, batch, after = self._mails_of(some, most)
+            mails, batch, after = self._mails_of(some, most, reader)
         except BaseException:
             self._give_back(some, some[2], reader)
             raise
@@ -263,12 +268,14 @@ class Mailbox(_engine.Mails):
         while len(self._batches) > count:
             self._batches.popleft().detach()
 
-    def _mails_of(self, some: "_Found", most: int) -> Tuple[List[Mail], _engine.Batch, int]:
+    def _mails_of(
+        self, some: "_Found", most: int, reader: Union[_File, _Stream]
+    ) -> Tuple[List[Mail], _engine.Batch, int]:
         """At most `most` of these mails, from the last to the first, their batch, and where the next one begins. They are
         found and read together, so that Python's lock is free for long.
         """
         mails, batch, after = _engine.read_mails(
-            Mail, some, self._limit, self._use, self._is_counted, most, AHEAD_BYTES
+            Mail, some, self._limit, self._use, self._is_counted, most, AHEAD_BYTES, reader.store
         )
         if self._is_quoted:
             mails = [self._unquoted(mail) if b">From " in mail.raw else mail for mail in mails]
@@ -328,6 +335,7 @@ class Mailbox(_engine.Mails):
     def _release(self, window: Optional[_Window]) -> None:
         """Closes the file that was opened for the mailbox, and leaves this window."""
         self._window = window
+        self._reader.store.close()
         if self._file is not None:
             self._file.close()
 
@@ -368,9 +376,9 @@ def _check_front(name: str, data: bytes) -> None:
 
 def _next_window(window: _Window, reader: Union[_File, _Stream]) -> _Window:
     """The bytes from the next mail on, and at least as many more."""
-    start = window.start + window.at
-    data, is_last = reader.read_on(window.data[window.at :], start)
-    return _Window(start, data, 0, len(data) if is_last else data.rfind(b"\n", 0, -1))
+    data, separator, is_last = reader.read_on(window)
+    last = len(data) if is_last else data.rfind(b"\n", 0, -1)
+    return _Window(window.start + window.at, data, 0, last, separator)
 
 
 def _count_found(found: List[_Found], is_counted: bool) -> int:
@@ -403,11 +411,10 @@ def _settled(window: _Window, is_counted: bool) -> List[Tuple[int, int, int]]:
 
 def _end_of_whole(window: _Window, is_counted: bool) -> int:
     """Where the last of some next mails ends that no further bytes change, or their start if there are none."""
-    data, at, last = window.data, window.at, window.last
     if is_counted:
         places = _settled(window, is_counted)
-        return places[-1][2] if places else at
-    return last if last == len(data) else _engine.last_separator(data, at, last) or at
+        return places[-1][2] if places else window.at
+    return window.last if window.last == len(window.data) else max(window.at, window.separator)
 
 
 def _is_count_known(data: bytes, start: int, after: int) -> bool:

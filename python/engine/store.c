@@ -1,0 +1,179 @@
+/* rocktray._engine.Store: the memory of a mailbox that is used again. What is returned to the system has to be cleared by
+ * it before it can be used again, page by page, which takes as long as a quarter of the reading. */
+#define _GNU_SOURCE /* pread */
+#include "engine.h"
+
+#include <errno.h>
+#include <stdlib.h>
+#include <unistd.h>
+
+/* the most blocks that are kept and the most bytes of each, and the most spaces */
+#define MOST_BLOCKS 8
+#define MOST_BYTES (1 << 20)
+#define MOST_SPACES 8
+
+/* Blocks are bytes. One is read into again when nothing but the store refers to it, so that nobody sees it change. */
+struct store {
+    PyObject_HEAD
+    PyObject *blocks[MOST_BLOCKS];
+    struct space *spaces; /* those that no batch uses */
+    size_t space_count;
+    bool is_closed;
+};
+
+/* Spaces. */
+
+struct space *take_space(PyObject *self)
+{
+    struct store *store = (struct store *)self;
+    struct space *space = store->spaces;
+    if (space) {
+        store->spaces = space->next;
+        store->space_count--;
+    } else {
+        space = malloc(sizeof *space);
+    }
+    if (space)
+        space->used = 0;
+    return space;
+}
+
+void give_space(PyObject *self, struct space *space)
+{
+    struct store *store = (struct store *)self;
+    if (!space)
+        return;
+    if (store->is_closed || store->space_count == MOST_SPACES) {
+        free(space);
+        return;
+    }
+    space->next = store->spaces;
+    store->spaces = space;
+    store->space_count++;
+}
+
+/* Blocks. */
+
+/* Whether nothing but the store refers to a block, or there is none. */
+static bool is_unused(PyObject *block)
+{
+    return !block || Py_REFCNT(block) == 1;
+}
+
+/* A block of this size, which is used again or new. A new reference, or NULL for an error. */
+static PyObject *block_of(struct store *store, size_t size)
+{
+    PyObject **unused = NULL, *block;
+    size_t k;
+    for (k = 0; k < MOST_BLOCKS; k++) {
+        if (!is_unused(store->blocks[k]))
+            continue;
+        if (store->blocks[k] && (size_t)PyBytes_Size(store->blocks[k]) == size)
+            return Py_NewRef(store->blocks[k]);
+        unused = unused ? unused : &store->blocks[k];
+    }
+    block = PyBytes_FromStringAndSize(NULL, (Py_ssize_t)size);
+    if (block && unused && size > 0 && size <= MOST_BYTES && !store->is_closed) {
+        Py_XDECREF(*unused);
+        *unused = Py_NewRef(block);
+    }
+    return block;
+}
+
+/* a reading of a file into a block */
+struct reading {
+    int file;
+    off_t offset;
+    uint8_t *to;
+    size_t size, length; /* how many bytes are to be read, and how many were */
+    size_t separator;    /* the last one in them */
+};
+
+/* Reads, and finds the last separator, without Python's lock. At the end of the file fewer bytes are read. Returns 0, or -1
+ * for an error. */
+static int read_block(struct reading *it)
+{
+    ssize_t more = 1;
+    while (it->length < it->size && more != 0) {
+        Py_BEGIN_ALLOW_THREADS
+        more = pread(it->file, it->to + it->length, it->size - it->length, it->offset + (off_t)it->length);
+        it->length += more > 0 ? (size_t)more : 0;
+        if (more == 0 || it->length == it->size)
+            it->separator = separator_in(it->to, it->length);
+        Py_END_ALLOW_THREADS
+        if (more < 0 && errno != EINTR) {
+            PyErr_SetFromErrno(PyExc_OSError);
+            return -1;
+        }
+        if (more < 0 && PyErr_CheckSignals() < 0)
+            return -1;
+    }
+    return 0;
+}
+
+/* read(file, size, offset): the bytes at an offset of a file, and where their last separator begins, or 0. */
+static PyObject *store_read(PyObject *self, PyObject *const *arguments, Py_ssize_t count)
+{
+    struct reading it = { .length = 0 };
+    size_t file, offset;
+    PyObject *block, *shorter = NULL;
+    if (!is_count(count, 3) || take_size(&file, arguments[0]) < 0 || take_size(&it.size, arguments[1]) < 0 ||
+        take_size(&offset, arguments[2]) < 0 || !(block = block_of((struct store *)self, it.size)))
+        return NULL;
+    it.file = (int)file;
+    it.offset = (off_t)offset;
+    it.to = (uint8_t *)PyBytes_AsString(block);
+    if (read_block(&it) == 0 && it.length == it.size)
+        return Py_BuildValue("Nn", block, (Py_ssize_t)it.separator);
+    if (!PyErr_Occurred())
+        shorter = PyBytes_FromStringAndSize((const char *)it.to, (Py_ssize_t)it.length);
+    Py_DECREF(block);
+    return shorter ? Py_BuildValue("Nn", shorter, (Py_ssize_t)it.separator) : NULL;
+}
+
+/* Frees what is kept. */
+static void empty(struct store *store)
+{
+    size_t k;
+    for (k = 0; k < MOST_BLOCKS; k++)
+        Py_CLEAR(store->blocks[k]);
+    while (store->space_count > 0)
+        free(take_space((PyObject *)store));
+}
+
+/* close(): frees what is kept, and keeps nothing from now on. */
+static PyObject *store_close(PyObject *self, PyObject *unused)
+{
+    struct store *store = (struct store *)self;
+    (void)unused;
+    store->is_closed = true;
+    empty(store);
+    Py_RETURN_NONE;
+}
+
+static void store_free(PyObject *self)
+{
+    PyTypeObject *type = Py_TYPE(self);
+    empty((struct store *)self);
+    ((freefunc)PyType_GetSlot(type, Py_tp_free))(self);
+    Py_DECREF(type);
+}
+
+static PyMethodDef methods[] = {
+    { "read", FAST(store_read), METH_FASTCALL, NULL },
+    { "close", store_close, METH_NOARGS, NULL },
+    { NULL, NULL, 0, NULL },
+};
+
+static PyType_Slot slots[] = {
+    { Py_tp_dealloc, store_free },
+    { Py_tp_methods, methods },
+    { 0, NULL },
+};
+
+PyType_Spec store_spec = {
+    .name = "rocktray._engine.Store",
+    .basicsize = sizeof(struct store),
+    .flags = Py_TPFLAGS_DEFAULT,
+    .slots = slots,
+};
