@@ -182,10 +182,15 @@ PyObject *date_of(const char *text, Py_ssize_t length);
 /* Takes a type, which is `base` or one made of it. Returns 0, or -1 for an error. */
 int take_type(PyTypeObject **type, PyObject *object, PyTypeObject *base);
 
-/* The state of the module: its types, and what it has of other modules. */
+/* The seconds of a day, and of a quarter of an hour: the offset of nearly each zone is a multiple of it. */
+#define DAY 86400
+#define QUARTER 900
+
+/* The state of the module: its types, and what it has of other modules; and the zones that were used, by their quarters of
+ * an hour. */
 struct types {
     PyObject *reading, *header, *node, *mail, *mails, *use, *batch, *store;
-    PyObject *address, *datetime, *zone_of, *zones;
+    PyObject *address, *datetime, *zone_of, *zones[2 * DAY / QUARTER];
 };
 extern PyType_Spec reading_spec, header_spec, node_spec, mail_spec, mails_spec, use_spec, batch_spec, store_spec;
 
@@ -196,10 +201,10 @@ PyObject *reason_of(uint32_t code);
 PyObject *refuse(uint32_t code, PyObject *place);
 
 /* Makes a reading of these records, which it takes over. */
-PyObject *reading_of(const struct types *types, PyObject *data, const struct records *records);
+PyObject *reading_of(struct types *types, PyObject *data, const struct records *records);
 
 /* The types of the module with a reading. */
-const struct types *types_of(PyObject *reading);
+struct types *types_of(PyObject *reading);
 
 /* Takes a space of a store for records, or returns NULL; and gives it back, if it is not NULL. */
 struct space *take_space(PyObject *store);

@@ -7,14 +7,11 @@
 #include <string.h>
 #include <structmember.h>
 
-/* The first and the last second that a datetime can have, and the seconds of a day. */
+/* The first and the last second that a datetime can have. */
 #define FIRST_SECOND (-62135596800)
 #define LAST_SECOND 253402300799
-#define DAY 86400
 /* the most mails that are read together */
 #define MOST_MAILS 10000
-/* the most zones that are kept */
-#define MOST_ZONES 1000
 
 /* the values that were used of mails of a mailbox, which are decoded ahead; READ is for a mail that was read at all */
 #define READ (1u << VALUES)
@@ -28,7 +25,7 @@ struct mail {
     PyObject_HEAD
     PyObject *data, *raw, *limit, *place, *own, *all, *known, *use, *reading, *date_error;
     PyObject *values[VALUES];
-    const struct types *types;
+    struct types *types;
     /* of a mail of a mailbox: its batch as long as its bytes are there, its number in it, and where it begins and ends in
      * the mailbox, unless its place was set */
     struct batch *batch;
@@ -206,7 +203,7 @@ static PyObject *mail_raw(PyObject *self, void *unused)
 /* Reading. */
 
 /* The types of the module: its own type of mails, of which that of a mail is made, has the module. */
-static const struct types *types_of_mail(PyObject *self)
+static struct types *types_of_mail(PyObject *self)
 {
     PyTypeObject *type = Py_TYPE(self);
     if (((struct mail *)self)->types)
@@ -219,7 +216,7 @@ static const struct types *types_of_mail(PyObject *self)
 /* Reads a mail that was not read before. Returns 0, or -1 for an error; a refusal is no error. */
 static int read_now(struct mail *mail)
 {
-    const struct types *types = types_of_mail((PyObject *)mail);
+    struct types *types = types_of_mail((PyObject *)mail);
     struct input input;
     struct records records;
     uint32_t code;
@@ -342,22 +339,37 @@ static PyObject *find_text(struct mail *mail, const struct ahead *ahead, enum va
     return decoded(strings_in(ahead) + ahead->subject_start, (Py_ssize_t)(ahead->subject_end - ahead->subject_start));
 }
 
-/* The addresses of a value that were decoded ahead. */
+/* The addresses of a value that were decoded ahead, as a tuple. */
 static PyObject *addresses_ahead(const struct ahead *ahead, enum value value, PyTypeObject *type)
 {
-    const struct rocktray_address *addresses = addresses_in(ahead);
-    PyObject *list = PyList_New(0);
-    size_t k;
-    for (k = ahead->first[value]; list && k < ahead->last[value]; k++)
-        if (addresses[k].kind != ROCKTRAY_GROUP && append(list, address_of(type, strings_in(ahead), &addresses[k])) < 0)
-            Py_CLEAR(list);
-    return list;
+    const struct rocktray_address *at, *end = addresses_in(ahead) + ahead->last[value];
+    PyObject *tuple, *address;
+    Py_ssize_t count = 0;
+    for (at = addresses_in(ahead) + ahead->first[value]; at < end; at++)
+        count += at->kind != ROCKTRAY_GROUP;
+    tuple = PyTuple_New(count);
+    while (tuple && at-- > addresses_in(ahead) + ahead->first[value]) {
+        if (at->kind == ROCKTRAY_GROUP)
+            continue;
+        if ((address = address_of(type, strings_in(ahead), at)))
+            PyTuple_SetItem(tuple, --count, address);
+        else
+            Py_CLEAR(tuple);
+    }
+    return tuple;
 }
 
+/* The addresses of a value, as a tuple. */
 static PyObject *find_addresses(struct mail *mail, const struct ahead *ahead, enum value value)
 {
     PyTypeObject *type = (PyTypeObject *)types_of_mail((PyObject *)mail)->address;
-    return ahead ? addresses_ahead(ahead, value, type) : all_addresses(mail->reading, &value_names[value], type);
+    PyObject *list, *tuple;
+    if (ahead)
+        return addresses_ahead(ahead, value, type);
+    list = all_addresses(mail->reading, &value_names[value], type);
+    tuple = list ? PyList_AsTuple(list) : NULL;
+    Py_XDECREF(list);
+    return tuple;
 }
 
 static PyObject *mail_value(PyObject *self, void *finder)
@@ -365,28 +377,29 @@ static PyObject *mail_value(PyObject *self, void *finder)
     return Py_XNewRef(value_in(self, finder));
 }
 
-/* A list is the caller's to change. */
+/* The addresses of a value, as a list, which is the caller's to change. */
 static PyObject *mail_list(PyObject *self, void *finder)
 {
-    PyObject *list = value_in(self, finder);
-    return list ? PyList_GetSlice(list, 0, PyList_Size(list)) : NULL;
+    PyObject *tuple = value_in(self, finder), *list;
+    Py_ssize_t count = tuple ? PyTuple_Size(tuple) : 0, k;
+    list = tuple ? PyList_New(count) : NULL;
+    for (k = 0; list && k < count; k++)
+        PyList_SetItem(list, k, Py_NewRef(PyTuple_GetItem(tuple, k)));
+    return list;
 }
 
 /* Dates. */
 
-/* The zone with an offset. */
-static PyObject *zone_of(const struct types *types, int64_t offset)
+/* The zone with an offset of less than a day. */
+static PyObject *zone_of(struct types *types, int64_t offset)
 {
-    PyObject *number = PyLong_FromLongLong(offset);
-    PyObject *zone = number ? Py_XNewRef(PyDict_GetItemWithError(types->zones, number)) : NULL;
-    if (number && !zone && !PyErr_Occurred()) {
-        zone = PyObject_CallFunctionObjArgs(types->zone_of, number, NULL);
-        if (PyDict_Size(types->zones) >= MOST_ZONES)
-            PyDict_Clear(types->zones);
-        if (zone && PyDict_SetItem(types->zones, number, zone) < 0)
-            Py_CLEAR(zone);
-    }
-    Py_XDECREF(number);
+    PyObject **kept = offset % QUARTER == 0 ? &types->zones[(offset + DAY) / QUARTER] : NULL, *zone;
+    if (kept && *kept)
+        return Py_NewRef(*kept);
+    zone = PyObject_CallFunction(types->zone_of, "L", (long long)offset);
+    /* another thread may have made it meanwhile */
+    if (kept && !*kept)
+        *kept = Py_XNewRef(zone);
     return zone;
 }
 
@@ -403,12 +416,12 @@ static void set_day(int64_t days, long numbers[3])
 
 /* The datetime of these seconds in a zone, which the clocks of it show. It is made of the bytes of its pickle: the year,
  * the month, the day, the time of day, and the microseconds. */
-static PyObject *time_in(const struct types *types, int64_t seconds, PyObject *zone)
+static PyObject *time_in(struct types *types, int64_t seconds, PyObject *zone)
 {
     int64_t days = (seconds - FIRST_SECOND) / DAY + FIRST_SECOND / DAY, rest = seconds - days * DAY;
     long day[3];
     char bytes[10] = { 0 };
-    PyObject *state, *time;
+    PyObject *arguments, *time;
     set_day(days, day);
     bytes[0] = (char)(day[0] >> 8);
     bytes[1] = (char)(day[0] & 0xff);
@@ -417,15 +430,15 @@ static PyObject *time_in(const struct types *types, int64_t seconds, PyObject *z
     bytes[4] = (char)(rest / 3600);
     bytes[5] = (char)(rest / 60 % 60);
     bytes[6] = (char)(rest % 60);
-    state = PyBytes_FromStringAndSize(bytes, sizeof bytes);
-    time = state ? PyObject_CallFunctionObjArgs(types->datetime, state, zone, NULL) : NULL;
-    Py_XDECREF(state);
+    arguments = pair_of(NULL, PyBytes_FromStringAndSize(bytes, sizeof bytes), Py_NewRef(zone));
+    time = arguments ? PyObject_Call(types->datetime, arguments, NULL) : NULL;
+    Py_XDECREF(arguments);
     return time;
 }
 
 /* The datetime of a date, in its zone, or in UTC if that is unknown or a day or more away; None if it is after the last
  * year of a datetime, or before the first. */
-static PyObject *time_of(const struct types *types, const struct date *date)
+static PyObject *time_of(struct types *types, const struct date *date)
 {
     int64_t offset = date->is_zone_known && date->offset > -DAY && date->offset < DAY ? date->offset : 0;
     PyObject *zone, *time;
@@ -541,7 +554,7 @@ PyType_Spec mail_spec = {
 
 PyObject *parse_mail(PyObject *module, PyObject *const *arguments, Py_ssize_t count)
 {
-    const struct types *types = PyModule_GetState(module);
+    struct types *types = PyModule_GetState(module);
     PyTypeObject *type;
     struct input input;
     struct records records;
@@ -651,7 +664,7 @@ PyObject *last_separator(PyObject *module, PyObject *data)
 
 /* a search for mails, which are read as they are found */
 struct search {
-    const struct types *types;
+    struct types *types;
     PyTypeObject *type;
     PyObject *limit, *use; /* of each mail */
     PyObject *store;

@@ -507,7 +507,7 @@ static int fill_module(PyObject *module)
                    (types->mails = add_type(module, "Mails", &mails_spec)) &&
                    (types->use = add_type(module, "Use", &use_spec)) &&
                    (types->batch = add_type(module, "Batch", &batch_spec)) &&
-                   (types->store = add_type(module, "Store", &store_spec)) && (types->zones = PyDict_New()) &&
+                   (types->store = add_type(module, "Store", &store_spec)) &&
                    (types->datetime = object_of("datetime", "datetime"))
                ? 0
                : -1;

@@ -15,7 +15,7 @@
 struct reading {
     PyObject_HEAD
     PyObject *data;
-    const struct types *types; /* the module is kept by the type, which the reading keeps */
+    struct types *types; /* the module is kept by the type, which the reading keeps */
     size_t part_count, header_count;
     struct rocktray_part *parts; /* in one block with the headers, and with values that were decoded ahead */
     struct rocktray_header_record *headers;
@@ -23,7 +23,7 @@ struct reading {
 
 /* Reading. */
 
-PyObject *reading_of(const struct types *types, PyObject *data, const struct records *records)
+PyObject *reading_of(struct types *types, PyObject *data, const struct records *records)
 {
     struct reading *reading = (struct reading *)PyType_GenericAlloc((PyTypeObject *)types->reading, 0);
     if (!reading) {
@@ -39,7 +39,7 @@ PyObject *reading_of(const struct types *types, PyObject *data, const struct rec
     return (PyObject *)reading;
 }
 
-const struct types *types_of(PyObject *reading)
+struct types *types_of(PyObject *reading)
 {
     return ((struct reading *)reading)->types;
 }

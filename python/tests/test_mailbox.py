@@ -230,6 +230,168 @@ assert resident() - before < 12 << 20, resident() - before
     )
 
 
+def test_blocks_are_used_again(tmp_path):
+    """A block is read into again when nothing refers to it, and does not change before."""
+    (tmp_path / "file").write_bytes(b"".join(bytes([letter]) * 5000 for letter in b"abcdefgh"))
+    store, others = _mailbox._engine.Store(), []
+    with (tmp_path / "file").open("rb") as file:
+        read = lambda number, size=5000: store.read(file.fileno(), size, number * 5000)[0]  # noqa: E731
+        kept, number = read(0), id(read(1))
+        others.append(bytes(5000))  # would take its memory, were it free
+        block = read(2)
+        assert id(block) == number and block == b"c" * 5000 and kept == b"a" * 5000
+        view = memoryview(block)
+        del block
+        assert id(read(3)) != number and view.tobytes() == b"c" * 5000
+        del view
+        assert read(3) == b"d" * 5000 and kept == b"a" * 5000
+        assert read(7, 9000) == b"h" * 5000 and read(8) == b"" == read(3, 0)
+        blocks = [read(number % 8) for number in range(40)]
+        assert blocks == [bytes([letter]) * 5000 for letter in b"abcdefgh"] * 5 and len(set(map(id, blocks))) == 40
+        store.close()
+        again = [read(number) for number in range(8)]
+        assert again == blocks[:8] and not {*map(id, again)} & {*map(id, blocks)}
+    for arguments in ((file_closed(tmp_path / "file"), 5000, 0), (-1, 5000, 0), (0, -1, 0), ("0", 1, 0), (0, 1)):
+        with pytest.raises((OSError, OverflowError, TypeError)):
+            store.read(*arguments)
+
+
+def file_closed(path):
+    """The number of a file that is closed."""
+    with path.open("rb") as file:
+        return file.fileno()
+
+
+def test_separators_of_blocks(tmp_path):
+    """The last separator whose line and one more byte were read, with LF and with CRLF."""
+    store = _mailbox._engine.Store()
+    small = numbered(3, 100)
+    for data in (small, small.replace(b"\n", b"\r\n"), b"x\n\n" + LINE * 3, b"", b"\n", b"x" * 50, b"\n" * 50):
+        for size in range(len(data) + 1):
+            (tmp_path / "box").write_bytes(data[:size])
+            with (tmp_path / "box").open("rb") as file:
+                block, found = store.read(file.fileno(), size, 0)
+            assert block == data[:size] and found == _mailbox._engine.last_separator(block)
+            places = [at for at in range(3, size) if data[:at].replace(b"\r", b"").endswith(b"\n\n") and data[at:].startswith(b"From ")]
+            whole = [at for at in places if b"\n" in data[at : size - 1]]
+            assert found == max(whole, default=0), (data, size)
+
+
+KEEPS = """
+import random, rocktray, sys, threading
+data, chance = open(sys.argv[1], "rb").read(), random.Random(int(sys.argv[2]))
+uses = (
+    lambda mail: None,
+    lambda mail: mail.raw,
+    lambda mail: (mail.subject, mail.date, mail.from_),
+    lambda mail: mail.header("subject"),
+    lambda mail: mail.headers,
+    lambda mail: mail.error,
+)
+def read(box, kept):
+    for mail in box:
+        raw = data[slice(*mail.place)]
+        if chance.random() < 0.3:
+            chance.choice(uses)(mail)
+        if chance.random() < 0.05:
+            kept.append((mail, raw))
+        if len(kept) > 5 and chance.random() < 0.05:
+            mail, raw = kept.pop(chance.randrange(3))
+            assert mail.raw == raw and raw.startswith(b"Subject: " + mail.subject.encode() + b"\\n")
+            assert mail.headers[0].value == mail.subject
+def run(threads, opened):
+    kept = [[] for _ in opened]
+    running = [threading.Thread(target=read, args=(box, some)) for box, some in zip(opened, kept) for _ in range(threads)]
+    failed = []
+    threading.excepthook = failed.append
+    for thread in running: thread.start()
+    for thread in running: thread.join()
+    assert not failed, failed
+    for some in kept:
+        assert len(some) >= 3
+        for mail, raw in some:
+            assert mail.raw == raw and mail.headers[0].value == mail.subject == raw.split(b"\\n")[0][9:].decode()
+run(1, [rocktray.open_mailbox(sys.argv[1])])
+run(4, [rocktray.open_mailbox(sys.argv[1])])
+run(1, [rocktray.open_mailbox(sys.argv[1]) for _ in range(4)])
+"""
+
+
+@pytest.mark.parametrize("size", [2000, 40_000])
+def test_kept_mails_do_not_change(size, tmp_path):
+    """Mails that are kept, whatever was used of them, in one thread and in four, while many blocks are read."""
+    (tmp_path / "box").write_bytes(numbered(30_000_000 // size, size))
+    succeeds(KEEPS, tmp_path / "box", size)
+
+
+def test_exceptions_in_a_loop(tmp_path):
+    """A loop that ends by an exception, whose traceback refers to a mail, goes on where it ended."""
+    (tmp_path / "box").write_bytes(numbered(6000))
+    mails, errors, numbers = rocktray.open_mailbox(tmp_path / "box"), [], []
+
+    def loop():
+        for mail in mails:
+            numbers.append(mail.subject)
+            if len(numbers) % 500 == 0:
+                raise KeyError(mail)
+
+    for _ in range(13):
+        try:
+            loop()
+        except KeyError as error:
+            errors.append(error)
+    assert numbers == [str(number) for number in range(6000)]
+    assert [error.args[0].subject for error in errors] == numbers[499::500]
+    assert all(error.args[0].raw.startswith(b"Subject: %s\n" % error.args[0].subject.encode()) for error in errors)
+
+
+def test_values_of_mails_that_are_detached(tmp_path):
+    """To make a value may run other code, which detaches the mail and reads on."""
+    values = b"From: Ana <a%d@b>\nFrom: Bob <b@b>\nDate: Fri, 21 Nov 1997 09:55:06 -0600\nSubject: %d\n\n%s\n\n"
+    (tmp_path / "box").write_bytes(b"".join(LINE + values % (number, number, b"x" * 2000) for number in range(4000)))
+    succeeds(
+        """
+import gc, rocktray, sys
+box = rocktray.open_mailbox(sys.argv[1])
+class Garbage:
+    def __init__(self):
+        self.self = self
+    def __del__(self):
+        box._detach(0)
+        box._read_ahead()
+gc.set_threshold(1)
+for number, mail in enumerate(box):
+    Garbage()
+    found = mail.from_, mail.date, mail.subject
+    assert [one.address for one in found[0]] == [f"a{number}@b", "b@b"] and found[2] == str(number)
+    again = rocktray.parse(mail.raw)
+    assert found == (again.from_, again.date, again.subject)
+assert number == 3999
+""",
+        tmp_path / "box",
+    )
+
+
+def test_page_faults_of_a_mailbox(tmp_path):
+    """To read on takes no new memory."""
+    (tmp_path / "box").write_bytes(numbered(40_000))
+    succeeds(
+        """
+import resource, rocktray, sys
+def faults():
+    return resource.getrusage(resource.RUSAGE_SELF).ru_minflt
+box = rocktray.open_mailbox(sys.argv[1])
+for mail, _ in zip(box, range(10_000)):
+    mail.subject, mail.date, mail.from_
+before = faults()
+for mail in box:
+    mail.subject, mail.date, mail.from_
+assert faults() - before < 1000, faults() - before
+""",
+        tmp_path / "box",
+    )
+
+
 def test_threads_read_ahead(box):
     """Each mail goes to one of the threads, and is read; beside them the mailbox is closed or begins again."""
     succeeds(
