@@ -7,16 +7,17 @@
 #include <stdlib.h>
 #include <unistd.h>
 
-/* the most blocks that are kept and the most bytes of each, and the most spaces */
-#define MOST_BLOCKS 8
-#define MOST_BYTES (1 << 20)
+/* the most blocks that are kept, and the most bytes of all, and the most spaces */
+#define MOST_BLOCKS 16
+#define MOST_BYTES (16 << 20)
 #define MOST_SPACES 8
 
 /* Blocks are bytes. One is read into again when nothing but the store refers to it, so that nobody sees it change. */
 struct store {
     PyObject_HEAD
-    PyObject *blocks[MOST_BLOCKS];
-    struct space *spaces; /* those that no batch uses */
+    PyObject *blocks[MOST_BLOCKS]; /* NULL for none */
+    size_t bytes;                  /* their number in all blocks */
+    struct space *spaces;          /* those that no batch uses */
     size_t space_count;
     bool is_closed;
 };
@@ -54,29 +55,54 @@ void give_space(PyObject *self, struct space *space)
 
 /* Blocks. */
 
-/* Whether nothing but the store refers to a block, or there is none. */
+/* Whether there is a block, and nothing but the store refers to it. */
 static bool is_unused(PyObject *block)
 {
-    return !block || Py_REFCNT(block) == 1;
+    return block && Py_REFCNT(block) == 1;
+}
+
+/* A block of this size that is unused, a borrowed reference, or NULL. */
+static PyObject *unused_block(const struct store *store, size_t size)
+{
+    size_t k;
+    for (k = 0; k < MOST_BLOCKS; k++)
+        if (is_unused(store->blocks[k]) && (size_t)PyBytes_Size(store->blocks[k]) == size)
+            return store->blocks[k];
+    return NULL;
+}
+
+/* Frees unused blocks until one of this size may be kept, if they suffice. */
+static void make_space(struct store *store, size_t size)
+{
+    size_t k;
+    for (k = 0; k < MOST_BLOCKS && store->bytes + size > MOST_BYTES; k++)
+        if (is_unused(store->blocks[k])) {
+            store->bytes -= (size_t)PyBytes_Size(store->blocks[k]);
+            Py_CLEAR(store->blocks[k]);
+        }
+}
+
+/* Keeps a block of this size, if there is space for it. */
+static void keep(struct store *store, PyObject *block, size_t size)
+{
+    size_t k;
+    if (size == 0 || size > MOST_BYTES || store->is_closed)
+        return;
+    make_space(store, size);
+    for (k = 0; k < MOST_BLOCKS && store->bytes + size <= MOST_BYTES; k++)
+        if (!store->blocks[k]) {
+            store->blocks[k] = Py_NewRef(block);
+            store->bytes += size;
+            return;
+        }
 }
 
 /* A block of this size, which is used again or new. A new reference, or NULL for an error. */
 static PyObject *block_of(struct store *store, size_t size)
 {
-    PyObject **unused = NULL, *block;
-    size_t k;
-    for (k = 0; k < MOST_BLOCKS; k++) {
-        if (!is_unused(store->blocks[k]))
-            continue;
-        if (store->blocks[k] && (size_t)PyBytes_Size(store->blocks[k]) == size)
-            return Py_NewRef(store->blocks[k]);
-        unused = unused ? unused : &store->blocks[k];
-    }
-    block = PyBytes_FromStringAndSize(NULL, (Py_ssize_t)size);
-    if (block && unused && size > 0 && size <= MOST_BYTES && !store->is_closed) {
-        Py_XDECREF(*unused);
-        *unused = Py_NewRef(block);
-    }
+    PyObject *block = Py_XNewRef(unused_block(store, size));
+    if (!block && (block = PyBytes_FromStringAndSize(NULL, (Py_ssize_t)size)))
+        keep(store, block, size);
     return block;
 }
 
@@ -137,6 +163,7 @@ static void empty(struct store *store)
     size_t k;
     for (k = 0; k < MOST_BLOCKS; k++)
         Py_CLEAR(store->blocks[k]);
+    store->bytes = 0;
     while (store->space_count > 0)
         free(take_space((PyObject *)store));
 }

@@ -65,8 +65,10 @@ class _File:
         has them. Also their last separator, and whether the file ends there.
         """
         start, left = window.start + window.at, len(window.data) - window.at
+        # few sizes, so that blocks are used again
+        count = max(1, -(-2 * left // BLOCK)) * BLOCK
         # what is left is read again, which is faster than copying all
-        data, separator = self.store.read(self._file.fileno(), min(max(BLOCK, 2 * left), self.size - start), start)
+        data, separator = self.store.read(self._file.fileno(), min(count, self.size - start), start)
         if len(data) <= left:
             from mailbox import ExternalClashError  # here, since it imports much
 
