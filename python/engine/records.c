@@ -168,18 +168,31 @@ const char *strings_in(const struct ahead *ahead)
     return (const char *)(addresses_in(ahead) + ahead->address_count);
 }
 
+/* Whether the space of records has these bytes left. */
+static bool fits(const struct records *records, size_t size)
+{
+    return records->space && size <= SPACE - records->space->used;
+}
+
+/* The bytes that are left of a space. */
+static void *rest_of(struct space *space)
+{
+    return (char *)space->at + space->used;
+}
+
 /* A block for records: in their space, or allocated if there is none or it is too short. NULL without memory. */
 static void *take_block(struct records *records, size_t size)
 {
-    struct space *space = records->space;
-    size_t whole = (size + sizeof *space->at - 1) / sizeof *space->at * sizeof *space->at;
-    if (space && whole <= SPACE - space->used) {
-        space->used += whole;
-        records->size = size;
-        return (char *)space->at + (space->used - whole);
+    size_t whole = (size + sizeof(uint64_t) - 1) / sizeof(uint64_t) * sizeof(uint64_t);
+    void *block;
+    if (!fits(records, whole)) {
+        records->space = NULL;
+        return malloc(size);
     }
-    records->space = NULL;
-    return malloc(size);
+    block = rest_of(records->space);
+    records->space->used += whole;
+    records->size = size;
+    return block;
 }
 
 void free_records(const struct records *records)
@@ -222,7 +235,8 @@ static size_t size_of_decoded(const struct decoded *decoded)
     return sizeof decoded->ahead + decoded->ahead.address_count * sizeof *decoded->addresses + decoded->length;
 }
 
-/* Copies the records to a block of their own, with these decoded values unless they are NULL. Returns the code. */
+/* Copies the records to a block of their own, with these decoded values unless they are NULL. They may have been read into
+ * the rest of their space, where the block is then. Returns the code. */
 static uint32_t copy(struct records *records, const struct decoded *decoded)
 {
     size_t size = size_of(records->part_count, records->header_count);
@@ -230,8 +244,8 @@ static uint32_t copy(struct records *records, const struct decoded *decoded)
     struct rocktray_address *addresses;
     if (!parts)
         return ROCKTRAY_NO_MEMORY;
-    records->parts = memcpy(parts, records->parts, records->part_count * sizeof *parts);
-    records->headers = memcpy(parts + records->part_count, records->headers, records->header_count * sizeof *records->headers);
+    records->parts = memmove(parts, records->parts, records->part_count * sizeof *parts);
+    records->headers = memmove(parts + records->part_count, records->headers, records->header_count * sizeof *records->headers);
     records->ahead = NULL;
     if (!decoded)
         return ROCKTRAY_DONE;
@@ -276,19 +290,24 @@ static uint32_t read_into(struct records *records, size_t part_capacity, size_t 
                           records->headers, header_capacity, &records->header_count);
 }
 
-/* Reads a mail into a block with space for these numbers of records. Returns the code. */
+/* Reads a mail into a block with space for these numbers of records, or into the rest of its space. Returns the code. */
 static uint32_t read_long(struct records *records, size_t part_capacity, size_t header_capacity)
 {
     uint32_t code = ROCKTRAY_NO_MEMORY;
     int tries;
     for (tries = 0; tries < 2; tries++) {
-        if (!(records->parts = malloc(size_of(part_capacity, header_capacity))))
+        size_t size = size_of(part_capacity, header_capacity);
+        bool is_allocated = !fits(records, size);
+        if (!(records->parts = is_allocated ? malloc(size) : rest_of(records->space)))
             return ROCKTRAY_NO_MEMORY;
         records->headers = (struct rocktray_header_record *)(records->parts + part_capacity);
         code = read_into(records, part_capacity, header_capacity);
+        if (code == ROCKTRAY_DONE && !is_allocated)
+            return is_few(records) ? copy_all(records) : copy(records, NULL);
         if (code == ROCKTRAY_DONE)
             return is_few(records) ? copy_few(records) : shorten(records);
-        free(records->parts);
+        if (is_allocated)
+            free(records->parts);
         if (code != ROCKTRAY_TOO_SHORT)
             return code;
         part_capacity = records->part_count;
