@@ -1,5 +1,5 @@
-/* rocktray._engine.Store: the memory of a mailbox that is used again. What is returned to the system has to be cleared by
- * it before it can be used again, page by page, which takes as long as a quarter of the reading. */
+/* rocktray._engine.Store: the memory of a mailbox that is used again. What malloc returns to the system, it clears page by
+ * page before it can be used again, which takes longer than to copy a block of a file, and threads wait for one another. */
 #define _GNU_SOURCE /* pread */
 #include "engine.h"
 
