@@ -106,8 +106,8 @@ static PyObject *block_of(struct store *store, size_t size)
     return block;
 }
 
-/* a reading of a file into a block */
-struct reading {
+/* bytes of a file that are read into a block */
+struct loading {
     int file;
     off_t offset;
     uint8_t *to;
@@ -117,7 +117,7 @@ struct reading {
 
 /* Reads, and finds the last separator, without Python's lock. At the end of the file fewer bytes are read. Returns 0, or -1
  * for an error. */
-static int read_block(struct reading *it)
+static int read_block(struct loading *it)
 {
     ssize_t more = 1;
     while (it->length < it->size && more != 0) {
@@ -140,7 +140,7 @@ static int read_block(struct reading *it)
 /* read(file, size, offset): the bytes at an offset of a file, and where their last separator begins, or 0. */
 static PyObject *store_read(PyObject *self, PyObject *const *arguments, Py_ssize_t count)
 {
-    struct reading it = { .length = 0 };
+    struct loading it = { .length = 0 };
     size_t file, offset;
     PyObject *block, *shorter = NULL;
     if (!is_count(count, 3) || take_size(&file, arguments[0]) < 0 || take_size(&it.size, arguments[1]) < 0 ||
