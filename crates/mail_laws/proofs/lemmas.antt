@@ -33,6 +33,7 @@ pub mod WholeLines
 pub mod FlatTypes
 pub mod FlatPairs
 pub mod FoldedTypes
+pub mod PlainValues
 pub mod CleanMails
 pub mod PlainHeaders
 pub mod PlainTypes
@@ -42,3 +43,4 @@ pub mod PlainOutlines
 pub mod StrictPieces
 pub mod StrictHeaderLists
 pub mod WholeMails
+pub mod MeantMails

@@ -45,3 +45,4 @@ pub mod Render
 pub mod PlainOutlines
 pub mod RenderViews
 pub mod StrictMails
+pub mod PlainValues

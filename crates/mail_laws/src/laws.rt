@@ -25,11 +25,13 @@ pub use manners::{
 pub use parameters::{
     candidates_have_a_form, charset_source_is_the_greatest, dispositions_equal_by_kind,
     odd_backslashes_go, one_list_of_segments_fits, only_possible_names_have_sections,
-    pairs_without_stars_are_parameters, percent_free, plain_boundary_is_read, runs_are_read_once,
+    pairs_without_stars_are_parameters, percent_free, plain_boundary_is_read,
+    plain_dispositions_are_read, plain_types_are_read, plain_values_have_one_meaning,
+    runs_are_read_once,
 };
 pub use strict_mails::{
     clean_mails_are_of_grammar, plain_outlines_are_of_grammar, strict_blocks_have_headers,
-    strict_mails_have_one_tree, strict_texts_have_parts,
+    strict_mails_have_one_tree, strict_texts_have_parts, strict_types_are_meant,
 };
 pub use values::{
     adjacent_words_join, one_list_of_tokens_fits, plain_value_reads_as_itself, tokens_make_up_line,

@@ -46,6 +46,7 @@ use Rattle.mail_laws.proofs.lemmas.FlatPairs.{all_both, is_low, low_ascii}
 use Rattle.mail_laws.proofs.lemmas.FoldedTypes.{plain_type_strict}
 use Rattle.mail_laws.proofs.lemmas.HeaderLines.{block_undashed}
 use Rattle.mail_laws.proofs.lemmas.LenientAgreement.{strict-mails-agree}
+use Rattle.mail_laws.proofs.lemmas.PlainValues.{type_meant}
 use Rattle.mail_laws.proofs.lemmas.WholeLines.{cuts_alike}
 
 -- ---- header blocks are ASCII
@@ -94,7 +95,7 @@ drop_low (suc n) [] h = refl
 drop_low (suc n) (b ∷ xs) h = drop_low n xs (all_tail is_low b xs h)
 
 -- so are the headers
-abbrev IsLow : Header → Type 0
+abbrev pub IsLow : Header → Type 0
 IsLow header = (list_all is_low header.key ≡ true) × (list_all is_low header.value ≡ true)
 
 lines_low : (headers : List Header) (block : List ℕ) (at : ℕ) → list_all is_low block ≡ true
@@ -111,7 +112,7 @@ lines_low (h ∷ headers) block at low =
       lines_low headers block (at + header_length rest) low,
     )
 
-headers_low : (node : Node) → IsRead node → IsBlock node.block → AllByRecursion IsLow node.headers
+pub headers_low : (node : Node) → IsRead node → IsBlock node.block → AllByRecursion IsLow node.headers
 headers_low node read is =
     subst (AllByRecursion IsLow) (lines_are_headers node read)
     (map_of_all of_line IsLow (header_lines node) (lines_low node.headers node.block 0 (block_low node.block is)))
@@ -212,7 +213,7 @@ module _ (known : Charsets) where
   TypeHeader t h =
       (list_all is_low h.value ≡ true) × HasBoundary (root t).ctype × (is_strict known (lenient_value_in known h.value) ≡ true)
 
-  type_found : (in_digest : Bool) (headers : List Header) (h : Header) → first_with_key (codes "Content-Type") headers ≡ Some h
+  pub type_found : (in_digest : Bool) (headers : List Header) (h : Header) → first_with_key (codes "Content-Type") headers ≡ Some h
       → node_type known in_digest headers ≡ content_type_in known (lenient_value_in known h.value)
   unfolding node_type
   type_found in_digest headers h e =
@@ -233,7 +234,7 @@ module _ (known : Charsets) where
       (has_key (codes "Content-Type")) headers h e is.fields.each).1.type named).boundary in (
         low.1.1,
         boundary,
-        plain_type_strict known h.value low.1.1 plain
+        plain_type_strict known h.value low.1.1 (type_meant h.value plain).is
             (subst HasBoundary (is.typed.1 ∙ type_found is.typed.0 headers h e) boundary),
       )
 

@@ -1,37 +1,40 @@
--- The parameters of a plain type without folds have no asterisks in their names, and its name is of two words.
+-- A plain value without folds is read as its name and its parameters, none of which has an asterisk in its name; the name of such
+-- a type is of two words.
 use Rattle.std.proofs.Common.{◌≡◌, ◌∙◌, ◌<◌, ◌≤◌, ◌+◌, ℕ, zero, suc, Bool, true, false, not, cond, List, [], ◌∷◌, ◌++◌, length}
-use Rattle.std.proofs.Common.{take, drop, Option, Some, None, refl, sym, ap, subst, inl, inr, arith, append_assoc, get_or}
-use Rattle.std.specs.Prelude.{◌&&◌, ◌||◌, ◌==◌, nat_lt, option_to_list, is_some}
+use Rattle.std.proofs.Common.{take, drop, Option, Some, None, refl, sym, ap, subst, inl, inr, arith, append_assoc, get_or, length-append}
+use Rattle.std.specs.Prelude.{◌&&◌, ◌||◌, ◌==◌, ◌-◌, nat_lt, is_some, slice_index}
 use Rattle.std.specs.Char.{is_whitespace, to_ascii_lowercase}
 use Rattle.std.specs.List.{after_first, before_first, list_all, list_any, position_or_len, prefix_len}
 use Rattle.std.specs.Option.{option_map_or}
 use Rattle.std.specs.Str.{IsAscii, bytes_eq, chars, drop_trailing_whitespace, encode_utf8_all, skip_leading_whitespace}
 use Rattle.std.specs.Str.{str_to_ascii_lowercase, trim, trim_end, trim_start}
-use Rattle.std.proofs.lemmas.Bool.{cases_lt, cond-false, cond-true, false≢true, le-ltb, lt-ltb, ltb-true, ne_eqb}
+use Rattle.std.proofs.lemmas.Bool.{cases_lt, cond-false, cond-true, false≢true, le-ltb, lt-ltb, ltb-true, ne_eqb, eqb-true, or_cases}
 use Rattle.std.proofs.lemmas.List.{append-nil, map-append}
 use Rattle.std.proofs.lemmas.Slice.Eq.{bytes_eq-Decides}
 use Rattle.std.proofs.lemmas.Str.{chars-IsAscii, encodes-IsAscii}
 use Rattle.std.proofs.lemmas.Str.Ascii.{IsAscii-from_all}
 use Rattle.mail_codec.specs.Ascii.{asterisk, backslash, carriage_return, equals_sign, is_blank, line_feed, quote, semicolon}
-use Rattle.mail_codec.specs.Ascii.{slash}
+use Rattle.mail_codec.specs.Ascii.{slash, space, tab}
 use Rattle.mail_codec.specs.Places.{begins, either_place, first_place}
 use Rattle.mail_codec.specs.Charset.{Charsets}
 use Rattle.mail_codec.proofs.lemmas.Places.{first_place-past}
 use Rattle.mailparse.specs.ContentType.{ContentType, content_type_in}
 use Rattle.mailparse.specs.Pairs.{is_equals, pair_of, pairs_in, pairs_of, value_of}
 use Rattle.mailparse.specs.Sections.{is_star}
-use Rattle.mailparse.specs.Segments.{QuoteState, outside, quoted, after, ends, segments, segments_from, unescape, with_front}
-use Rattle.mailparse.proofs.lemmas.Pairs.{value_of-first}
+use Rattle.mailparse.specs.Segments.{QuoteState, outside, quoted, after, ends, inside_quotes, is_quoted, segments, segments_from}
+use Rattle.mailparse.specs.Segments.{unescape, with_front, without_escapes}
+use Rattle.mailparse.proofs.lemmas.Pairs.{pair_of-some, pairs_in-some, pairs_of-later, value_of-first}
 use Rattle.mailparse.proofs.lemmas.ValuePlain.{graphic_no_whitespace}
 use Rattle.mail_data.specs.lenient.Agreement.{is_complete, is_named, is_star_free, is_strict}
 use Rattle.mail_data.specs.lenient.Manner.{has_broken_boundary, is_slash, lenient_name, name_of_two}
 use Rattle.mail_check.specs.strict.Fields.{HasBoundary, of_multipart, of_other}
 use Rattle.mail_check.specs.strict.Parameters.{is_name_character, is_token_character}
-use Rattle.mail_check.specs.strict.PlainParameters.{is_plain_byte, IsPlainValue, plain_token, empty_quotes, plain_quotes}
+use Rattle.mail_check.specs.strict.PlainParameters.{is_plain_byte}
+use Rattle.mail_laws.specs.PlainValues.{IsValueOf, token_of, empty_of, quotes_of, Parameters}
 use Rattle.mail_laws.proofs.lemmas.FlatTypes.{AreFlat, no_flat, flat_semicolon, flat_parameter, IsFlat, differs, flat_complete}
-use Rattle.mail_laws.proofs.lemmas.FlatTypes.{plain_all, visible}
+use Rattle.mail_laws.proofs.lemmas.FlatTypes.{none_below, plain_all, visible}
 use Rattle.mail_check.proofs.lemmas.StrictDelimiters.{is_inner}
-use Rattle.mail_check.proofs.lemmas.StrictHeaders.{all_head, all_tail, are_true, both_true, is_not, not_true}
+use Rattle.mail_check.proofs.lemmas.StrictHeaders.{all_head, all_tail, are_true, both_true, is_not, left_false, not_true, right_false}
 use Rattle.mail_check.proofs.lemmas.StrictParts.{boundary_inner}
 
 -- ---- tests of all bytes
@@ -133,30 +136,65 @@ solid_no_slash b h =
 abbrev is_seen : ℕ → Bool
 is_seen b = not (is_whitespace b) && is_low b
 
-trim_seen : (xs : List ℕ) → list_all is_seen xs ≡ true → trim xs ≡ xs
-trim_seen xs h =
-    trim_low xs (all_weaker is_seen is_low (λ b is. (both_true (not (is_whitespace b)) (is_low b) is).1) xs h)
-    ∙ ap drop_trailing_whitespace (first xs h) ∙ last xs h
-  where
-    unwhite : (b : ℕ) → is_seen b ≡ true → is_whitespace b ≡ false
-    unwhite b is = not_true (is_whitespace b) (both_true (not (is_whitespace b)) (is_low b) is).0
+seen_black : (b : ℕ) → is_seen b ≡ true → is_whitespace b ≡ false
+seen_black b is = not_true (is_whitespace b) (both_true (not (is_whitespace b)) (is_low b) is).0
 
-    first : (xs : List ℕ) → list_all is_seen xs ≡ true → skip_leading_whitespace xs ≡ xs
-    first [] h = refl
-    first (b ∷ xs) h = cond-false (is_whitespace b) (skip_leading_whitespace xs) (b ∷ xs) (unwhite b (all_head is_seen b xs h))
+skip_seen : (xs : List ℕ) → list_all is_seen xs ≡ true → skip_leading_whitespace xs ≡ xs
+skip_seen [] h = refl
+skip_seen (b ∷ xs) h =
+    cond-false (is_whitespace b) (skip_leading_whitespace xs) (b ∷ xs) (seen_black b (all_head is_seen b xs h))
 
-    last : (xs : List ℕ) → list_all is_seen xs ≡ true → drop_trailing_whitespace xs ≡ xs
-    last [] h = refl
-    last (b ∷ xs) h =
-        cond-false (is_whitespace b && (length (drop_trailing_whitespace xs) == 0)) [] (b ∷ drop_trailing_whitespace xs)
-        (ap (λ (t : Bool). t && (length (drop_trailing_whitespace xs) == 0)) (unwhite b (all_head is_seen b xs h)))
-        ∙ ap (λ (ys : List ℕ). b ∷ ys) (last xs (all_tail is_seen b xs h))
+trailing_seen : (xs : List ℕ) → list_all is_seen xs ≡ true → drop_trailing_whitespace xs ≡ xs
+trailing_seen [] h = refl
+trailing_seen (b ∷ xs) h =
+    cond-false (is_whitespace b && (length (drop_trailing_whitespace xs) == 0)) [] (b ∷ drop_trailing_whitespace xs)
+    (left_false (is_whitespace b) (length (drop_trailing_whitespace xs) == 0) (seen_black b (all_head is_seen b xs h)))
+    ∙ ap (λ (ys : List ℕ). b ∷ ys) (trailing_seen xs (all_tail is_seen b xs h))
 
-solid_seen : (b : ℕ) → is_solid b ≡ true → is_seen b ≡ true
-solid_seen b h = are_true (not (is_whitespace b)) (is_low b) (is_not (is_whitespace b) (solid_white b h)) (solid_low b h)
+blank_white : (b : ℕ) → is_blank b ≡ true → is_whitespace b ≡ true
+blank_white b h = elim (or_cases (b == space) (b == tab) h) [
+  | inl e ↦ ap is_whitespace (eqb-true b space e)
+  | inr e ↦ ap is_whitespace (eqb-true b tab e)
+]
+
+pub skip_blanks : (blanks run : List ℕ) → list_all is_blank blanks ≡ true → skip_leading_whitespace run ≡ run
+    → skip_leading_whitespace (blanks ++ run) ≡ run
+skip_blanks [] run all e = e
+skip_blanks (c ∷ blanks) run all e =
+    cond-true (is_whitespace c) (skip_leading_whitespace (blanks ++ run)) (c ∷ (blanks ++ run))
+    (blank_white c (all_head is_blank c blanks all))
+    ∙ skip_blanks blanks run (all_tail is_blank c blanks all) e
+
+trim_seen : (blanks xs : List ℕ) → list_all is_blank blanks ≡ true → list_all is_seen xs ≡ true
+    → list_all is_low (blanks ++ xs) ≡ true → trim (blanks ++ xs) ≡ xs
+trim_seen blanks xs all seen low =
+    trim_low (blanks ++ xs) low ∙ ap drop_trailing_whitespace (skip_blanks blanks xs all (skip_seen xs seen))
+    ∙ trailing_seen xs seen
 
 trim_solid : (xs : List ℕ) → list_all is_solid xs ≡ true → trim xs ≡ xs
-trim_solid xs h = trim_seen xs (all_weaker is_solid is_seen solid_seen xs h)
+trim_solid xs h =
+    trim_seen [] xs refl (all_weaker is_solid is_seen seen xs h) (all_weaker is_solid is_low solid_low xs h)
+  where
+    seen : (b : ℕ) → is_solid b ≡ true → is_seen b ≡ true
+    seen b h = are_true (not (is_whitespace b)) (is_low b) (is_not (is_whitespace b) (solid_white b h)) (solid_low b h)
+
+pub dark : (test : ℕ → Bool) → none_below test 33 ≡ true → test 127 ≡ false → (b : ℕ) → test b ≡ true → is_low b ≡ true
+    → is_whitespace b ≡ false
+dark test h e b is low =
+    let least = visible test h b is in
+    let most = ltb-true b 128 low in
+    elim (cases_lt b 127) [
+      | inl l ↦ graphic_no_whitespace b least (omega (arith, l))
+      | inr g ↦
+          let same : b ≡ 127 = omega (arith, most, g) in
+          absurd (false≢true (sym e ∙ ap test (sym same) ∙ is))
+    ]
+
+all_seen : (test : ℕ → Bool) → none_below test 33 ≡ true → test 127 ≡ false → (xs : List ℕ) → list_all test xs ≡ true
+    → list_all is_low xs ≡ true → list_all is_seen xs ≡ true
+all_seen test h e xs all low =
+    all_with test is_low is_seen
+    (λ b is low. are_true (not (is_whitespace b)) (is_low b) (is_not (is_whitespace b) (dark test h e b is low)) low) xs all low
 
 token_solid : (b : ℕ) → is_token_character b ≡ true → is_low b ≡ true → is_solid b ≡ true
 token_solid b h low =
@@ -261,114 +299,200 @@ stays_quoted b is = (
       ∙ cond-false (b == backslash) _ quoted (differs is_plain_byte backslash refl b is),
 )
 
--- a segment that goes on after a value
-record GoesOn (value rest : List ℕ) (parts : List (List ℕ)) : Type 0 where
-  part : List ℕ
-  is : segments_from outside (value ++ rest) ≡ part ∷ parts
+value_segment : {text : List ℕ} (value rest : List ℕ) (parts : List (List ℕ)) → IsValueOf text value
+    → segments_from outside rest ≡ [] ∷ parts → segments_from outside (value ++ rest) ≡ value ∷ parts
+value_segment value rest parts (token_of {first = first} {others = others} all) e =
+    run_segments outside is_name_character (stays_outside is_name_character refl refl) (first ∷ others) rest [] parts all e
+    ∙ ap (λ (xs : List ℕ). xs ∷ parts) (append-nil (first ∷ others))
+value_segment value rest parts empty_of e = ap (λ (ps : List (List ℕ)). with_front (quote ∷ []) (with_front (quote ∷ []) ps)) e
+value_segment value rest parts (quotes_of {first = first} {others = others} other is made) e =
+    ap (λ (xs : List ℕ). segments_from outside (xs ++ rest)) made
+    ∙ ap (λ (xs : List ℕ). with_front (quote ∷ []) (segments_from quoted xs)) (append_assoc (first ∷ others) (quote ∷ []) rest)
+    ∙ ap (with_front (quote ∷ []))
+    (run_segments quoted is_plain_byte stays_quoted (first ∷ others) (quote ∷ rest) (quote ∷ []) parts
+    (plain_all (first ∷ others) is) (ap (with_front (quote ∷ [])) e))
+    ∙ ap (λ (xs : List ℕ). xs ∷ parts) (sym made)
 
-value_segment : (value rest : List ℕ) (parts : List (List ℕ)) → IsPlainValue value → segments_from outside rest ≡ [] ∷ parts
-    → GoesOn value rest parts
-value_segment value rest parts (plain_token {first = first} {others = others} all) e = record {
-  part = (first ∷ others) ++ [];
-  is = run_segments outside is_name_character (stays_outside is_name_character refl refl) (first ∷ others) rest [] parts all e;
-}
-value_segment value rest parts empty_quotes e = record {
-  part = quote ∷ (quote ∷ []);
-  is = ap (λ (ps : List (List ℕ)). with_front (quote ∷ []) (with_front (quote ∷ []) ps)) e;
-}
-value_segment value rest parts (plain_quotes {first = first} {others = others} other is made) e = record {
-  part = quote ∷ ((first ∷ others) ++ (quote ∷ []));
-  is = ap (λ (xs : List ℕ). segments_from outside (xs ++ rest)) made
-      ∙ ap (λ (xs : List ℕ). with_front (quote ∷ []) (segments_from quoted xs)) (append_assoc (first ∷ others) (quote ∷ []) rest)
-      ∙ ap (with_front (quote ∷ []))
-      (run_segments quoted is_plain_byte stays_quoted (first ∷ others) (quote ∷ rest) (quote ∷ []) parts
-      (plain_all (first ∷ others) is) (ap (with_front (quote ∷ [])) e));
-}
+-- ---- texts of values
 
--- ---- names without asterisks
+trailing_last : (xs : List ℕ) (c : ℕ) → is_whitespace c ≡ false → drop_trailing_whitespace (xs ++ c ∷ []) ≡ xs ++ c ∷ []
+trailing_last [] c black =
+    cond-false (is_whitespace c && (0 == 0)) [] (c ∷ []) (left_false (is_whitespace c) (0 == 0) black)
+trailing_last (b ∷ xs) c black =
+    let more = trailing_last xs c black in
+    let left : List ℕ = drop_trailing_whitespace (xs ++ c ∷ []) in
+    cond-false (is_whitespace b && (length left == 0)) [] (b ∷ left)
+    (right_false (is_whitespace b) (length left == 0)
+    (ap (λ (ys : List ℕ). length ys == 0) more
+    ∙ ne_eqb (length (xs ++ c ∷ [])) 0 (λ e. absurd (omega (arith, e, length-append xs (c ∷ []))))))
+    ∙ ap (λ (ys : List ℕ). b ∷ ys) more
 
-abbrev is_starless : ℕ → Bool
-is_starless b = not (is_star b)
+unescaped : (text : List ℕ) → list_all is_plain_byte text ≡ true → without_escapes 0 text ≡ text
+unescaped [] all = refl
+unescaped (b ∷ text) all =
+    cond-false (b == backslash) (without_escapes 1 text) (b ∷ without_escapes 0 text)
+    (differs is_plain_byte backslash refl b (all_head is_plain_byte b text all))
+    ∙ ap (λ (xs : List ℕ). b ∷ xs) (unescaped text (all_tail is_plain_byte b text all))
 
-free_key : (run rest : List ℕ) → list_all (λ b. not (is_equals b)) run ≡ true → list_all is_starless run ≡ true
-    → list_all is_low run ≡ true
-    → list_any is_star (str_to_ascii_lowercase (trim (before_first is_equals (run ++ equals_sign ∷ rest)))) ≡ false
-free_key run rest equals stars low =
-    ap (λ (xs : List ℕ). list_any is_star (str_to_ascii_lowercase (trim xs)))
-    (before_is is_equals run equals_sign rest equals refl)
-    ∙ ap (λ (xs : List ℕ). list_any is_star (str_to_ascii_lowercase xs)) (trim_low run low)
-    ∙ none_any is_star (str_to_ascii_lowercase (drop_trailing_whitespace (skip_leading_whitespace run)))
-    (all_lower is_starless (λ n least most. is_not (n == asterisk) (ne_eqb n asterisk (λ e. absurd (omega (arith, least, e)))))
-    (drop_trailing_whitespace (skip_leading_whitespace run))
-    (all_trailing is_starless (skip_leading_whitespace run) (all_skip is_starless run stars)))
+pub last_at : (run : List ℕ) (c : ℕ) → slice_index (run ++ c ∷ []) (length run) ≡ c
+last_at [] c = refl
+last_at (b ∷ run) c = last_at run c
 
-free_pairs : (segment : List ℕ) (parts : List (List ℕ))
-    → list_any is_star (str_to_ascii_lowercase (trim (before_first is_equals segment))) ≡ false
-    → is_star_free (pairs_in parts) ≡ true → is_star_free (pairs_in (segment ∷ parts)) ≡ true
-unfolding pair_of
-free_pairs segment parts free more = by_equals (nat_lt (position_or_len is_equals segment) (length segment))
-  where
-    by_equals : (t : Bool)
-        → is_star_free (option_to_list
-        (cond t (Some (
-          str_to_ascii_lowercase (trim (before_first is_equals segment)),
-          unescape
-              (trim (after_first is_equals segment)),
-        )) None) ++ pairs_in parts) ≡ true
-    by_equals true =
-        are_true (not (list_any is_star (str_to_ascii_lowercase (trim (before_first is_equals segment)))))
-        (is_star_free (pairs_in parts)) (is_not _ free) more
-    by_equals false = more
+quoted_text : (text : List ℕ) → list_all is_plain_byte text ≡ true → list_all is_low text ≡ true
+    → unescape (trim (quote ∷ (text ++ (quote ∷ [])))) ≡ text
+unfolding unescape
+quoted_text text all low =
+    let whole : List ℕ = quote ∷ (text ++ (quote ∷ [])) in
+    let ascii = low_ascii text low in
+    let size = length-append text (quote ∷ []) in
+    let at : length whole - 1 ≡ suc (length text) = omega (arith, size) in
+    let trimmed : trim whole ≡ whole =
+    trim_low whole (all_both is_low (quote ∷ text) (quote ∷ []) low refl) ∙ trailing_last (quote ∷ text) quote refl in
+    let some : nat_lt 1 (length whole) ≡ true = lt-ltb 1 (length whole) (omega (arith, size)) in
+    let last : (slice_index whole (length whole - 1) == quote) ≡ true =
+    ap (λ (n : ℕ). slice_index whole n == quote) at ∙ ap (λ (c : ℕ). c == quote) (last_at text quote) in
+    let inner : inside_quotes whole ≡ text =
+    ap (λ (n : ℕ). take n (text ++ (quote ∷ []))) {x = length whole - 1 - 1} {y = length text} (omega (arith, size))
+    ∙ taken text (quote ∷ []) in
+    ap unescape trimmed
+    ∙ cond-true (is_quoted whole) (encode_utf8_all (without_escapes 0 (chars (inside_quotes whole)))) whole
+    (are_true (nat_lt 1 (length whole) && (slice_index whole 0 == quote)) (slice_index whole (length whole - 1) == quote)
+    (are_true (nat_lt 1 (length whole)) (slice_index whole 0 == quote) some refl) last)
+    ∙ ap (λ (xs : List ℕ). encode_utf8_all (without_escapes 0 (chars xs))) inner
+    ∙ ap (λ (cs : List ℕ). encode_utf8_all (without_escapes 0 cs)) (chars-IsAscii text ascii)
+    ∙ ap encode_utf8_all (unescaped text all) ∙ encodes-IsAscii text ascii
 
--- the segments of parameters
-record Segmented (rest : List ℕ) : Type 0 where
-  parts : List (List ℕ)
-  is : segments_from outside rest ≡ [] ∷ parts
-  free : is_star_free (pairs_in parts) ≡ true
+token_text : (first : ℕ) (others : List ℕ) → list_all is_name_character (first ∷ others) ≡ true
+    → list_all is_low (first ∷ others) ≡ true → unescape (trim (first ∷ others)) ≡ first ∷ others
+unfolding unescape
+token_text first others all low =
+    let token : List ℕ = first ∷ others in
+    ap unescape (trim_seen [] token refl (all_seen is_name_character refl refl token all low) low)
+    ∙ cond-false (is_quoted token) (encode_utf8_all (without_escapes 0 (chars (inside_quotes token)))) token
+    (left_false (nat_lt 1 (length token) && (slice_index token 0 == quote)) (slice_index token (length token - 1) == quote)
+    (right_false (nat_lt 1 (length token)) (slice_index token 0 == quote)
+    (differs is_name_character quote refl first (all_head is_name_character first others all))))
 
-empty_segment : is_star_free (pairs_in ([] ∷ [])) ≡ true
-unfolding pair_of
-empty_segment = refl
+value_text : {text : List ℕ} (value : List ℕ) → IsValueOf text value → list_all is_low value ≡ true → unescape (trim value) ≡ text
+value_text value (token_of {first = first} {others = others} all) low = token_text first others all low
+value_text value empty_of low = quoted_text [] refl refl
+value_text value (quotes_of {first = first} {others = others} other is made) low =
+    ap (λ (xs : List ℕ). unescape (trim xs)) made
+    ∙ quoted_text (first ∷ others) (plain_all (first ∷ others) is)
+    (all_front is_low (first ∷ others) (quote ∷ []) (subst (λ (xs : List ℕ). list_all is_low xs ≡ true) made low))
+
+-- ---- pairs
 
 not_equals : (test : ℕ → Bool) → test equals_sign ≡ false → (b : ℕ) → test b ≡ true → not (is_equals b) ≡ true
 not_equals test e b is = is_not (b == equals_sign) (differs test equals_sign e b is)
 
-not_star : (test : ℕ → Bool) → test asterisk ≡ false → (b : ℕ) → test b ≡ true → is_starless b ≡ true
-not_star test e b is = is_not (b == asterisk) (differs test asterisk e b is)
+flat_pair : {text : List ℕ} (gap name value : List ℕ) → list_all is_blank gap ≡ true → list_all is_name_character name ≡ true
+    → IsValueOf text value → list_all is_low (gap ++ name) ≡ true → list_all is_low value ≡ true
+    → pair_of (gap ++ (name ++ (equals_sign ∷ value))) ≡ Some (str_to_ascii_lowercase name, text)
+flat_pair {text = text} gap name value blanks names is low low_value =
+    let run : List ℕ = gap ++ name in
+    let whole : List ℕ = run ++ (equals_sign ∷ value) in
+    let free =
+    all_both (λ b. not (is_equals b)) gap name (all_weaker is_blank _ (not_equals is_blank refl) gap blanks)
+    (all_weaker is_name_character _ (not_equals is_name_character refl) name names) in
+    let at = before_at is_equals run equals_sign value free refl in
+    let size = length-append run (equals_sign ∷ value) in
+    let seen = all_seen is_name_character refl refl name names (all_back is_low gap name low) in
+    ap pair_of (sym (append_assoc gap name (equals_sign ∷ value))) ∙ pair_of-some whole (omega (arith, at, size))
+    ∙ ap (λ (xs : List ℕ). Some (str_to_ascii_lowercase (trim xs), unescape (trim (after_first is_equals whole))))
+    (before_is is_equals run equals_sign value free refl)
+    ∙ ap (λ (xs : List ℕ). Some (str_to_ascii_lowercase (trim run), unescape (trim xs)))
+    (after_is is_equals run equals_sign value free refl)
+    ∙ ap (λ (xs : List ℕ). Some (str_to_ascii_lowercase xs, unescape (trim value))) (trim_seen gap name blanks seen low)
+    ∙ ap (λ (xs : List ℕ). Some (str_to_ascii_lowercase name, xs)) (value_text value is low_value)
 
-flat_segments : (bytes : List ℕ) → list_all is_low bytes ≡ true → AreFlat bytes → Segmented bytes
-flat_segments bytes low no_flat = record { parts = []; is = refl; free = refl }
-flat_segments bytes low flat_semicolon = record { parts = [] ∷ []; is = refl; free = empty_segment }
-flat_segments bytes low (flat_parameter {value = value} gap name rest blanks names is more made) =
+-- the segments of parameters
+record Segmented (parameters : Parameters) (rest : List ℕ) : Type 0 where
+  parts : List (List ℕ)
+  is : segments_from outside rest ≡ [] ∷ parts
+  pairs : pairs_in parts ≡ parameters
+
+empty_segment : pairs_in ([] ∷ []) ≡ []
+unfolding pair_of
+empty_segment = refl
+
+flat_segments : {parameters : Parameters} (bytes : List ℕ) → list_all is_low bytes ≡ true → AreFlat parameters bytes
+    → Segmented parameters bytes
+flat_segments bytes low no_flat = record { parts = []; is = refl; pairs = refl }
+flat_segments bytes low flat_semicolon = record { parts = [] ∷ []; is = refl; pairs = empty_segment }
+flat_segments bytes low (flat_parameter {text = text} {value = value} gap name rest blanks names is more made) =
     let low_here : list_all is_low (semicolon ∷ (gap ++ (name ++ (equals_sign ∷ (value ++ rest))))) ≡ true =
     subst (λ (xs : List ℕ). list_all is_low xs ≡ true) made low in
     let low_gap = all_front is_low gap (name ++ (equals_sign ∷ (value ++ rest))) low_here in
     let low_more = all_back is_low gap (name ++ (equals_sign ∷ (value ++ rest))) low_here in
     let low_name = all_front is_low name (equals_sign ∷ (value ++ rest)) low_more in
     let low_value = all_back is_low name (equals_sign ∷ (value ++ rest)) low_more in
-    let low_rest = all_back is_low value rest low_value in
-    let left = flat_segments rest low_rest more in
-    let on = value_segment value rest left.parts is left.is in
-    let run : List ℕ = gap ++ name in
-    let whole : gap ++ (name ++ (equals_sign ∷ on.part)) ≡ run ++ (equals_sign ∷ on.part) =
-    sym (append_assoc gap name (equals_sign ∷ on.part)) in
+    let left = flat_segments rest (all_back is_low value rest low_value) more in
+    let segment : List ℕ = gap ++ (name ++ (equals_sign ∷ value)) in
+    let key : List ℕ = str_to_ascii_lowercase name in
     record {
-      parts = (gap ++ (name ++ (equals_sign ∷ on.part))) ∷ left.parts;
+      parts = segment ∷ left.parts;
       is = ap (segments_from outside) made ∙ ap (λ (ps : List (List ℕ)). [] ∷ ps)
           (run_segments outside is_blank (stays_outside is_blank refl refl) gap (name ++ (equals_sign ∷ (value ++ rest)))
-          (name ++ (equals_sign ∷ on.part)) left.parts blanks
+          (name ++ (equals_sign ∷ value)) left.parts blanks
           (run_segments outside is_name_character (stays_outside is_name_character refl refl) name (equals_sign ∷ (value ++ rest))
-          (equals_sign ∷ on.part) left.parts names
-          (ap (with_front (equals_sign ∷ [])) on.is)));
-      free = free_pairs (gap ++ (name ++ (equals_sign ∷ on.part))) left.parts
-          (ap (λ (xs : List ℕ). list_any is_star (str_to_ascii_lowercase (trim (before_first is_equals xs)))) whole
-          ∙ free_key run on.part
-          (all_both (λ b. not (is_equals b)) gap name (all_weaker is_blank _ (not_equals is_blank refl) gap blanks)
-          (all_weaker is_name_character _ (not_equals is_name_character refl) name names))
-          (all_both is_starless gap name (all_weaker is_blank _ (not_star is_blank refl) gap blanks)
-          (all_weaker is_name_character _ (not_star is_name_character refl) name names))
-          (all_both is_low gap name low_gap low_name)) left.free;
+          (equals_sign ∷ value) left.parts names
+          (ap (with_front (equals_sign ∷ [])) (value_segment value rest left.parts is left.is))));
+      pairs = pairs_in-some segment left.parts key text
+          (flat_pair gap name value blanks names is (all_both is_low gap name low_gap low_name)
+          (all_front is_low value rest low_value))
+          ∙ ap (λ (ps : Parameters). (key, text) ∷ ps) left.pairs;
     }
+
+-- ---- names without asterisks
+
+abbrev is_starless : ℕ → Bool
+is_starless b = not (is_star b)
+
+not_star : (test : ℕ → Bool) → test asterisk ≡ false → (b : ℕ) → test b ≡ true → is_starless b ≡ true
+not_star test e b is = is_not (b == asterisk) (differs test asterisk e b is)
+
+free_name : (name : List ℕ) → list_all is_name_character name ≡ true → list_any is_star (str_to_ascii_lowercase name) ≡ false
+free_name name names =
+    none_any is_star (str_to_ascii_lowercase name)
+    (all_lower is_starless (λ n least most. is_not (n == asterisk) (ne_eqb n asterisk (λ e. absurd (omega (arith, least, e))))) name
+    (all_weaker is_name_character _ (not_star is_name_character refl) name names))
+
+pub flat_free : {parameters : Parameters} (bytes : List ℕ) → AreFlat parameters bytes → is_star_free parameters ≡ true
+flat_free bytes no_flat = refl
+flat_free bytes flat_semicolon = refl
+flat_free bytes (flat_parameter {parameters = others} gap name rest blanks names is more made) =
+    are_true (not (list_any is_star (str_to_ascii_lowercase name))) (is_star_free others)
+    (is_not (list_any is_star (str_to_ascii_lowercase name)) (free_name name names)) (flat_free rest more)
+
+-- ---- a text before parameters
+
+-- a byte of a type or a disposition
+abbrev pub is_head : ℕ → Bool
+is_head b = is_token_character b || b == slash
+
+pub token_head : (xs : List ℕ) → list_all is_token_character xs ≡ true → list_all is_head xs ≡ true
+token_head xs all = all_weaker is_token_character is_head (λ b is. ap (λ (t : Bool). t || (b == slash)) is) xs all
+
+head_segments : {parameters : Parameters} (head rest : List ℕ) → list_all is_head head ≡ true
+    → (more : Segmented parameters rest) → segments (head ++ rest) ≡ head ∷ more.parts
+unfolding segments
+head_segments head rest all more =
+    run_segments outside is_head (stays_outside is_head refl refl) head rest [] more.parts all more.is
+    ∙ ap (λ (xs : List ℕ). xs ∷ more.parts) (append-nil head)
+
+-- it is the value, and the parameters are the pairs
+pub head_read : {parameters : Parameters} (head rest : List ℕ) → list_all is_head head ≡ true
+    → list_all is_low (head ++ rest) ≡ true → AreFlat parameters rest
+    → (value_of (head ++ rest) ≡ head) × (pairs_of (head ++ rest) ≡ parameters)
+head_read head rest all low is =
+    let more = flat_segments rest (all_back is_low head rest low) is in
+    let cut = head_segments head rest all more in
+    let low_head = all_front is_low head rest low in (
+      value_of-first (head ++ rest) head more.parts cut
+          ∙ trim_seen [] head refl (all_seen is_head refl refl head all low_head) low_head,
+      pairs_of-later (head ++ rest) head more.parts cut ∙ more.pairs,
+    )
 
 -- ---- the type
 
@@ -415,7 +539,7 @@ whole_boundary ctype (of_multipart {text = text} e found is) =
         ∙ ap suc (unfound xs (all_tail is_inner b xs all))
 
 -- such a type needs no lenient reading
-module _ (known : Charsets) (bytes : List ℕ) (low : list_all is_low bytes ≡ true) (is : IsFlat bytes) where
+module _ (known : Charsets) {parameters : Parameters} (bytes : List ℕ) (low : list_all is_low bytes ≡ true) (is : IsFlat parameters bytes) where
   one : List ℕ
   one = is.first ∷ is.main
 
@@ -440,30 +564,23 @@ module _ (known : Charsets) (bytes : List ℕ) (low : list_all is_low bytes ≡ 
   unfolding two
   solid_two = all_with is_token_character is_low is_solid token_solid two is.is_subtype (all_front is_low two is.rest low_more)
 
-  segmented : Segmented is.rest
-  segmented = flat_segments is.rest (all_back is_low two is.rest low_more) is.parameters
+  whole : bytes ≡ (one ++ (slash ∷ two)) ++ is.rest
+  unfolding one two
+  whole = is.made ∙ sym (append_assoc one (slash ∷ two) is.rest)
 
-  all_segments : segments bytes ≡ (one ++ (slash ∷ two)) ∷ segmented.parts
-  unfolding segments one two
-  all_segments =
-      ap (segments_from outside) is.made
-      ∙ run_segments outside is_token_character (stays_outside is_token_character refl refl) one (slash ∷ (two ++ is.rest))
-      (slash ∷ (two ++ [])) segmented.parts is.is_main
-      (ap (with_front (slash ∷ []))
-      (run_segments outside is_token_character
-      (stays_outside is_token_character refl refl) two is.rest [] segmented.parts is.is_subtype segmented.is))
-      ∙ ap (λ (xs : List ℕ). (one ++ (slash ∷ xs)) ∷ segmented.parts) (append-nil two)
+  read : (value_of ((one ++ (slash ∷ two)) ++ is.rest) ≡ one ++ (slash ∷ two))
+      × (pairs_of ((one ++ (slash ∷ two)) ++ is.rest) ≡ parameters)
+  unfolding one two
+  read =
+      head_read (one ++ (slash ∷ two)) is.rest
+      (all_both is_head one (slash ∷ two) (token_head one is.is_main) (token_head two is.is_subtype))
+      (subst (λ (xs : List ℕ). list_all is_low xs ≡ true) whole low) is.are_flat
 
   value_is : value_of bytes ≡ one ++ (slash ∷ two)
-  value_is =
-      value_of-first bytes (one ++ (slash ∷ two)) segmented.parts all_segments
-      ∙ trim_seen (one ++ (slash ∷ two))
-      (all_both is_seen one (slash ∷ two) (all_weaker is_solid is_seen solid_seen one solid_one)
-      (are_true (is_seen slash) (list_all is_seen two) refl (all_weaker is_solid is_seen solid_seen two solid_two)))
+  value_is = ap value_of whole ∙ read.0
 
   free_here : is_star_free (pairs_of bytes) ≡ true
-  unfolding pairs_of
-  free_here = ap (λ (ps : List (List ℕ)). is_star_free (pairs_in (drop 1 ps))) all_segments ∙ segmented.free
+  free_here = ap (λ (xs : List ℕ). is_star_free (pairs_of xs)) whole ∙ ap is_star_free read.1 ∙ flat_free is.rest is.are_flat
 
   name_is : lenient_name (str_to_ascii_lowercase (value_of bytes)) ≡ str_to_ascii_lowercase (value_of bytes)
   unfolding one two

@@ -5,7 +5,7 @@ use Rattle.std.specs.Prelude.{◌&&◌, ◌||◌, ◌==◌}
 use Rattle.std.specs.Char.{is_ascii_whitespace}
 use Rattle.std.specs.Int.{is_in_range}
 use Rattle.std.specs.List.{list_all}
-use Rattle.std.specs.Str.{IsAscii, chars, encode_utf8_all}
+use Rattle.std.specs.Str.{IsAscii, chars, encode_utf8_all, str_to_ascii_lowercase}
 use Rattle.std.proofs.lemmas.Bool.{cases_lt, cond-false, eqb-true, false≢true, leb-true, or_cases}
 use Rattle.std.proofs.lemmas.Slice.Eq.{bytes_eq-Decides}
 use Rattle.std.proofs.lemmas.Str.{IsUtf8-from_ascii, chars-IsAscii, encodes-IsAscii}
@@ -17,8 +17,8 @@ use Rattle.mail_data.specs.lenient.Repairs.{after_name, after_quoted, after_text
 use Rattle.mail_data.specs.lenient.Repairs.{repaired}
 use Rattle.mail_data.proofs.lemmas.lenient.Repairs.{whole-text}
 use Rattle.mail_check.specs.strict.Parameters.{is_name_character, is_token_character}
-use Rattle.mail_check.specs.strict.PlainParameters.{is_plain_byte, IsPlainText, last_byte, more_bytes, IsPlainValue, plain_token}
-use Rattle.mail_check.specs.strict.PlainParameters.{empty_quotes, plain_quotes}
+use Rattle.mail_check.specs.strict.PlainParameters.{is_plain_byte, IsPlainText, last_byte, more_bytes}
+use Rattle.mail_laws.specs.PlainValues.{IsValueOf, token_of, empty_of, quotes_of, Parameters}
 use Rattle.mail_check.proofs.lemmas.StrictHeaders.{all_head, all_tail, are_true, both_true, cases_Bool}
 
 -- ---- bytes that pass a test
@@ -74,15 +74,16 @@ no_white test h b is = elim (cases_Bool (is_ascii_whitespace b)) [
 -- ---- the grammar
 
 -- parameters without folds
-pub data AreFlat : List ℕ → Type 0 where
-  no_flat : AreFlat []
-  flat_semicolon : AreFlat (semicolon ∷ [])
-  flat_parameter : {value bytes : List ℕ} (gap name rest : List ℕ) → list_all is_blank gap ≡ true
-      → list_all is_name_character name ≡ true
-      → IsPlainValue value → AreFlat rest → bytes ≡ semicolon ∷ (gap ++ (name ++ (equals_sign ∷ (value ++ rest)))) → AreFlat bytes
+pub data AreFlat : Parameters → List ℕ → Type 0 where
+  no_flat : AreFlat [] []
+  flat_semicolon : AreFlat [] (semicolon ∷ [])
+  flat_parameter : {parameters : Parameters} {text value bytes : List ℕ} (gap name rest : List ℕ) → list_all is_blank gap ≡ true
+      → list_all is_name_character name ≡ true → IsValueOf text value → AreFlat parameters rest
+      → bytes ≡ semicolon ∷ (gap ++ (name ++ (equals_sign ∷ (value ++ rest))))
+      → AreFlat ((str_to_ascii_lowercase name, text) ∷ parameters) bytes
 
 -- a type without folds
-pub record IsFlat (bytes : List ℕ) : Type 0 where
+pub record IsFlat (parameters : Parameters) (bytes : List ℕ) : Type 0 where
   pub first : ℕ
   pub main : List ℕ
   pub second : ℕ
@@ -90,7 +91,7 @@ pub record IsFlat (bytes : List ℕ) : Type 0 where
   pub rest : List ℕ
   pub is_main : list_all is_token_character (first ∷ main) ≡ true
   pub is_subtype : list_all is_token_character (second ∷ subtype) ≡ true
-  pub parameters : AreFlat rest
+  pub are_flat : AreFlat parameters rest
   pub made : bytes ≡ (first ∷ main) ++ (slash ∷ ((second ∷ subtype) ++ rest))
 
 pub plain_all : (text : List ℕ) → IsPlainText text → list_all is_plain_byte text ≡ true
@@ -160,9 +161,9 @@ record Ends (lacks : List ℕ → Bool) : Type 0 where
   nothing : lacks [] ≡ true
   more : (rest : List ℕ) → lacks (semicolon ∷ rest) ≡ past_name rest
 
-value_lacks : (value rest : List ℕ) → IsPlainValue value → ((lacks : List ℕ → Bool) → Ends lacks → lacks rest ≡ true)
+value_lacks : {text : List ℕ} (value rest : List ℕ) → IsValueOf text value → ((lacks : List ℕ → Bool) → Ends lacks → lacks rest ≡ true)
     → past_equals (value ++ rest) ≡ true
-value_lacks value rest (plain_token {first = first} {others = others} all) more =
+value_lacks value rest (token_of {first = first} {others = others} all) more =
     let head = all_head is_name_character first others all in
     ap (λ p. lacks_nothing p (others ++ rest))
     (cond-false (is_ascii_whitespace first) (after_name equals_sign) _ (no_white is_name_character refl first head)
@@ -170,14 +171,14 @@ value_lacks value rest (plain_token {first = first} {others = others} all) more 
     ∙ text_byte first head)
     ∙ run_lacks past_token is_name_character in_token others rest (all_tail is_name_character first others all)
     ∙ more past_token (record { nothing = refl; more = λ rest. refl })
-value_lacks value rest empty_quotes more = more past_quotes (record { nothing = refl; more = λ rest. refl })
-value_lacks value rest (plain_quotes {first = first} {others = others} other is made) more =
+value_lacks value rest empty_of more = more past_quotes (record { nothing = refl; more = λ rest. refl })
+value_lacks value rest (quotes_of {first = first} {others = others} other is made) more =
     subst (λ (xs : List ℕ). past_equals (xs ++ rest) ≡ true) (sym made)
     (ap past_opening (append_assoc (first ∷ others) (quote ∷ []) rest)
     ∙ run_lacks past_opening is_plain_byte in_quotes (first ∷ others) (quote ∷ rest) (plain_all (first ∷ others) is)
     ∙ more past_quotes (record { nothing = refl; more = λ rest. refl }))
 
-flat_lacks : (rest : List ℕ) → AreFlat rest → (lacks : List ℕ → Bool) → Ends lacks → lacks rest ≡ true
+flat_lacks : {parameters : Parameters} (rest : List ℕ) → AreFlat parameters rest → (lacks : List ℕ → Bool) → Ends lacks → lacks rest ≡ true
 flat_lacks rest no_flat lacks ends = ends.nothing
 flat_lacks rest flat_semicolon lacks ends = ends.more []
 flat_lacks bytes (flat_parameter {value = value} gap name rest blanks names is more made) lacks ends =
@@ -209,11 +210,11 @@ word_lacks b more rest all =
     first_word b (more ++ rest) (all_head is_token_character b more all)
     ∙ run_lacks past_word is_token_character in_word more rest (all_tail is_token_character b more all)
 
-type_lacks : (bytes : List ℕ) → IsFlat bytes → past_slash bytes ≡ true
+type_lacks : {parameters : Parameters} (bytes : List ℕ) → IsFlat parameters bytes → past_slash bytes ≡ true
 type_lacks bytes is =
     ap past_slash is.made ∙ word_lacks is.first is.main (slash ∷ ((is.second ∷ is.subtype) ++ is.rest)) is.is_main
     ∙ word_lacks is.second is.subtype is.rest is.is_subtype
-    ∙ flat_lacks is.rest is.parameters past_word (record { nothing = refl; more = λ rest. refl })
+    ∙ flat_lacks is.rest is.are_flat past_word (record { nothing = refl; more = λ rest. refl })
 
 -- ---- there are no comments
 
@@ -256,14 +257,14 @@ quoted_byte : (b : ℕ) → is_plain_byte b ≡ true
 quoted_byte b is =
     (refl, differs is_plain_byte backslash refl b is, cond-false (b == quote) false true (differs is_plain_byte quote refl b is))
 
-value_kept : (value rest : List ℕ) → IsPlainValue value → outside_comments false false 0 rest ≡ rest
+value_kept : {text : List ℕ} (value rest : List ℕ) → IsValueOf text value → outside_comments false false 0 rest ≡ rest
     → outside_comments false false 0 (value ++ rest) ≡ value ++ rest
-value_kept value rest (plain_token {first = first} {others = others} all) more =
+value_kept value rest (token_of {first = first} {others = others} all) more =
     run_kept false is_name_character (bare is_name_character refl refl refl) (first ∷ others) rest all more
-value_kept value rest empty_quotes more =
+value_kept value rest empty_of more =
     one_kept false true quote (quote ∷ rest) refl refl refl
     ∙ ap (λ (xs : List ℕ). quote ∷ xs) (one_kept true false quote rest refl refl refl ∙ ap (λ (xs : List ℕ). quote ∷ xs) more)
-value_kept value rest (plain_quotes {first = first} {others = others} other is made) more =
+value_kept value rest (quotes_of {first = first} {others = others} other is made) more =
     subst (λ (xs : List ℕ). outside_comments false false 0 (xs ++ rest) ≡ xs ++ rest) (sym made)
     (one_kept false true quote (((first ∷ others) ++ (quote ∷ [])) ++ rest) refl refl refl
     ∙ ap (λ (xs : List ℕ). quote ∷ xs)
@@ -271,7 +272,7 @@ value_kept value rest (plain_quotes {first = first} {others = others} other is m
     (run_kept true is_plain_byte quoted_byte (first ∷ others) (quote ∷ rest) (plain_all (first ∷ others) is)
     (one_kept true false quote rest refl refl refl ∙ ap (λ (xs : List ℕ). quote ∷ xs) more))))
 
-flat_kept : (rest : List ℕ) → AreFlat rest → outside_comments false false 0 rest ≡ rest
+flat_kept : {parameters : Parameters} (rest : List ℕ) → AreFlat parameters rest → outside_comments false false 0 rest ≡ rest
 flat_kept rest no_flat = refl
 flat_kept rest flat_semicolon = refl
 flat_kept bytes (flat_parameter {value = value} gap name rest blanks names is more made) =
@@ -283,7 +284,7 @@ flat_kept bytes (flat_parameter {value = value} gap name rest blanks names is mo
     (one_kept false false equals_sign (value ++ rest) refl refl refl
     ∙ ap (λ (xs : List ℕ). equals_sign ∷ xs) (value_kept value rest is (flat_kept rest more))))))
 
-type_kept : (bytes : List ℕ) → IsFlat bytes → outside_comments false false 0 bytes ≡ bytes
+type_kept : {parameters : Parameters} (bytes : List ℕ) → IsFlat parameters bytes → outside_comments false false 0 bytes ≡ bytes
 type_kept bytes is =
     subst (λ (xs : List ℕ). outside_comments false false 0 xs ≡ xs) (sym is.made)
     (run_kept false is_token_character (bare is_token_character refl refl refl) (is.first ∷ is.main)
@@ -291,11 +292,11 @@ type_kept bytes is =
     (one_kept false false slash ((is.second ∷ is.subtype) ++ is.rest) refl refl refl
     ∙ ap (λ (xs : List ℕ). slash ∷ xs)
     (run_kept false is_token_character (bare is_token_character refl refl refl) (is.second ∷ is.subtype) is.rest is.is_subtype
-    (flat_kept is.rest is.parameters))))
+    (flat_kept is.rest is.are_flat))))
 
 -- ---- both
 
-pub flat_complete : (bytes : List ℕ) → IsAscii bytes → IsFlat bytes → is_complete bytes ≡ true
+pub flat_complete : {parameters : Parameters} (bytes : List ℕ) → IsAscii bytes → IsFlat parameters bytes → is_complete bytes ≡ true
 unfolding without_comments
 flat_complete bytes ascii is =
     let read : chars bytes ≡ bytes = chars-IsAscii bytes ascii in

@@ -1,18 +1,19 @@
--- A plain type is shown as one without folds, which needs no lenient reading.
+-- A plain type or disposition is shown as one without folds, and such a type needs no lenient reading.
 use Rattle.std.proofs.Common.{◌≡◌, ◌∙◌, ◌<◌, ◌+◌, ◌-◌, ℕ, zero, suc, Bool, true, false, not, leb, List, [], ◌∷◌, ◌++◌}
 use Rattle.std.proofs.Common.{length, take, drop, Some, None, refl, sym, ap, subst, inl, inr, arith, append_assoc}
 use Rattle.std.proofs.Common.{length-append}
-use Rattle.std.specs.Prelude.{◌⊎◌, ◌&&◌, ◌||◌, ◌==◌, nat_lt, codes, is_some, slice_index}
+use Rattle.std.specs.Prelude.{⊤, ◌⊎◌, ◌&&◌, ◌||◌, ◌==◌, nat_lt, map, codes, is_some, slice_index}
 use Rattle.std.specs.Char.{is_whitespace, to_ascii_lowercase}
 use Rattle.std.specs.List.{list_all, list_any}
-use Rattle.std.specs.Str.{encode_utf8_all, skip_leading_whitespace, str_eq_ignore_ascii_case}
+use Rattle.std.specs.Str.{bytes_eq, encode_utf8_all, skip_leading_whitespace, str_eq_ignore_ascii_case}
 use Rattle.std.specs.Str.{str_to_ascii_lowercase, trim_start}
 use Rattle.std.specs.Str.Lines.{lines, strip_carriage_return}
-use Rattle.std.proofs.lemmas.Bool.{cases_lt, cond-false, cond-true, eqb-true, false≢true, le-leb, le-ltb, lt-ltb, ltb-true}
+use Rattle.std.proofs.lemmas.Bool.{cases_lt, cond-false, cond-true, false≢true, le-leb, le-ltb, lt-ltb}
 use Rattle.std.proofs.lemmas.Bool.{or_cases}
+use Rattle.std.proofs.lemmas.List.{map-append}
 use Rattle.std.proofs.lemmas.Slice.Eq.{bytes_eq-Decides}
 use Rattle.std.proofs.lemmas.Str.{IsUtf8-from_ascii, chars-IsAscii, encodes-IsAscii}
-use Rattle.mail_codec.specs.Ascii.{carriage_return, equals_sign, is_blank, line_feed, semicolon, slash, space, tab}
+use Rattle.mail_codec.specs.Ascii.{carriage_return, equals_sign, is_blank, line_feed, semicolon, slash, space}
 use Rattle.mail_codec.specs.Places.{begins, byte_place, first_place, has_prefix, is_empty, place}
 use Rattle.mail_codec.specs.Charset.{Charsets}
 use Rattle.mail_codec.proofs.lemmas.Places.{first_place-here, first_place-past}
@@ -21,21 +22,22 @@ use Rattle.mailparse.specs.Tokens.{begins_opening}
 use Rattle.mailparse.specs.Value.{lenient_value_in}
 use Rattle.mailparse.proofs.lemmas.Value.{lenient-utf8}
 use Rattle.mailparse.proofs.lemmas.ValueJoined.{joined_alone, joined_more, joined_text, lines_cut}
-use Rattle.mailparse.proofs.lemmas.ValuePlain.{graphic_no_whitespace, unfolded_value-joined}
+use Rattle.mailparse.proofs.lemmas.ValuePlain.{unfolded_value-joined}
 use Rattle.mail_data.specs.lenient.Agreement.{is_strict}
 use Rattle.mail_check.specs.strict.Fields.{HasBoundary}
 use Rattle.mail_check.specs.strict.LineEnds.{IsLineEnd}
 use Rattle.mail_check.specs.strict.Parameters.{IsGap, no_gap, gap_blank, gap_fold, is_name_character, is_token_character}
 use Rattle.mail_check.specs.strict.Parameters.{main_types}
-use Rattle.mail_check.specs.strict.PlainParameters.{is_plain_byte, IsPlainValue, plain_token, empty_quotes, plain_quotes}
-use Rattle.mail_check.specs.strict.PlainParameters.{ArePlain, no_plain, plain_semicolon, plain_parameter, HasNoWord, no_word}
-use Rattle.mail_check.specs.strict.PlainParameters.{no_word_here, IsPlainType, blank_before_plain_type, plain_type}
+use Rattle.mail_check.specs.strict.PlainParameters.{is_plain_byte, HasNoWord, no_word, no_word_here}
+use Rattle.mail_laws.specs.PlainValues.{IsValueOf, token_of, empty_of, quotes_of, Parameters, AreParametersOf, none_of}
+use Rattle.mail_laws.specs.PlainValues.{semicolon_of, parameter_of, IsPlainOf, IsTypeOf, blank_before_type_of, type_of}
+use Rattle.mail_laws.specs.PlainValues.{IsDispositionOf, blank_before_disposition_of, disposition_of}
 use Rattle.mail_check.proofs.lemmas.StrictDelimiters.{is_inner}
 use Rattle.mail_check.proofs.lemmas.StrictHeaders.{all_head, all_tail, are_true, both_true, eq_flip, is_not, neither}
 use Rattle.mail_check.proofs.lemmas.StrictHeaders.{nor, not_true, right_false}
-use Rattle.mail_laws.proofs.lemmas.FlatPairs.{all_back, all_both, all_front, dropped, flat_strict, is_low, low_ascii, taken}
-use Rattle.mail_laws.proofs.lemmas.FlatTypes.{AreFlat, no_flat, flat_semicolon, flat_parameter, IsFlat, differs, none_below}
-use Rattle.mail_laws.proofs.lemmas.FlatTypes.{plain_all, visible}
+use Rattle.mail_laws.proofs.lemmas.FlatPairs.{all_back, all_both, all_front, dark, dropped, flat_strict, is_head, is_low, last_at}
+use Rattle.mail_laws.proofs.lemmas.FlatPairs.{low_ascii, skip_blanks, taken, token_head}
+use Rattle.mail_laws.proofs.lemmas.FlatTypes.{AreFlat, no_flat, flat_semicolon, flat_parameter, differs, plain_all}
 
 -- ---- bytes of no line end
 
@@ -51,10 +53,10 @@ all_inner test e f (b ∷ xs) h =
     are_true (is_inner b) (list_all is_inner xs) (inner_of test e f b (all_head test b xs h))
     (all_inner test e f xs (all_tail test b xs h))
 
-value_inner : (value : List ℕ) → IsPlainValue value → list_all is_inner value ≡ true
-value_inner value (plain_token {first = first} {others = others} all) = all_inner is_name_character refl refl (first ∷ others) all
-value_inner value empty_quotes = refl
-value_inner value (plain_quotes {first = first} {others = others} other is made) =
+value_inner : {text : List ℕ} (value : List ℕ) → IsValueOf text value → list_all is_inner value ≡ true
+value_inner value (token_of {first = first} {others = others} all) = all_inner is_name_character refl refl (first ∷ others) all
+value_inner value empty_of = refl
+value_inner value (quotes_of {first = first} {others = others} other is made) =
     subst (λ (xs : List ℕ). list_all is_inner xs ≡ true) (sym made)
     (all_both is_inner (first ∷ others) (34 ∷ [])
     (all_inner is_plain_byte refl refl (first ∷ others) (plain_all (first ∷ others) is)) refl)
@@ -122,10 +124,6 @@ strip_none : (run : List ℕ) → list_all is_inner run ≡ true → strip_carri
 strip_none run all =
     cond-false (slice_index run (length run - 1) == 13) (take (length run - 1) run) run (no_return run all (length run - 1))
 
-last_at : (run : List ℕ) (c : ℕ) → slice_index (run ++ c ∷ []) (length run) ≡ c
-last_at [] c = refl
-last_at (b ∷ run) c = last_at run c
-
 strip_one : (run : List ℕ) → strip_carriage_return (run ++ carriage_return ∷ []) ≡ run
 strip_one run =
     let whole : List ℕ = run ++ carriage_return ∷ [] in
@@ -154,20 +152,6 @@ joined_cut run line rest all is some =
 
 -- ---- blanks at the front
 
-blank_white : (b : ℕ) → is_blank b ≡ true → is_whitespace b ≡ true
-blank_white b h = elim (or_cases (b == space) (b == tab) h) [
-  | inl e ↦ ap is_whitespace (eqb-true b space e)
-  | inr e ↦ ap is_whitespace (eqb-true b tab e)
-]
-
-skip_blanks : (blanks : List ℕ) (b : ℕ) (run : List ℕ) → list_all is_blank blanks ≡ true → is_whitespace b ≡ false
-    → skip_leading_whitespace (blanks ++ b ∷ run) ≡ b ∷ run
-skip_blanks [] b run all black = cond-false (is_whitespace b) (skip_leading_whitespace run) (b ∷ run) black
-skip_blanks (c ∷ blanks) b run all black =
-    cond-true (is_whitespace c) (skip_leading_whitespace (blanks ++ b ∷ run)) (c ∷ (blanks ++ b ∷ run))
-    (blank_white c (all_head is_blank c blanks all))
-    ∙ skip_blanks blanks b run (all_tail is_blank c blanks all) black
-
 trim_front : (blanks : List ℕ) (b : ℕ) (run : List ℕ) → list_all is_blank blanks ≡ true → is_whitespace b ≡ false
     → list_all is_low (blanks ++ b ∷ run) ≡ true
     → trim_start (blanks ++ b ∷ run) ≡ b ∷ run
@@ -175,7 +159,8 @@ unfolding trim_start
 trim_front blanks b run all black low =
     ap (λ (cs : List ℕ). encode_utf8_all (skip_leading_whitespace cs))
     (chars-IsAscii (blanks ++ b ∷ run) (low_ascii (blanks ++ b ∷ run) low))
-    ∙ ap encode_utf8_all (skip_blanks blanks b run all black)
+    ∙ ap encode_utf8_all
+    (skip_blanks blanks (b ∷ run) all (cond-false (is_whitespace b) (skip_leading_whitespace run) (b ∷ run) black))
     ∙ encodes-IsAscii (b ∷ run) (low_ascii (b ∷ run) (all_back is_low blanks (b ∷ run) low))
 
 blanks_inner : (blanks : List ℕ) → list_all is_blank blanks ≡ true → list_all is_inner blanks ≡ true
@@ -209,9 +194,9 @@ words_past xs (no_word_here {b = b} {rest = rest} e more) =
 -- ---- parameters
 
 -- parameters, and how they are shown after other bytes
-record Unfolds (rest : List ℕ) : Type 0 where
+record Unfolds (parameters : Parameters) (rest : List ℕ) : Type 0 where
   flat : List ℕ
-  is : AreFlat flat
+  is : AreFlat parameters flat
   shown : (blanks : List ℕ) (b : ℕ) (run : List ℕ) → list_all is_blank blanks ≡ true → is_whitespace b ≡ false
       → list_all is_inner (b ∷ run) ≡ true
       → list_all is_low ((blanks ++ b ∷ run) ++ rest) ≡ true → joined_text ((blanks ++ b ∷ run) ++ rest) ≡ (b ∷ run) ++ flat
@@ -219,7 +204,8 @@ record Unfolds (rest : List ℕ) : Type 0 where
   word : (run : List ℕ) → HasNoWord (run ++ rest) → HasNoWord (run ++ flat)
 
 -- at the end of the value
-ended : (rest : List ℕ) → list_all is_inner rest ≡ true → AreFlat rest → Unfolds rest
+ended : {parameters : Parameters} (rest : List ℕ) → list_all is_inner rest ≡ true → AreFlat parameters rest
+    → Unfolds parameters rest
 ended rest inner is = record {
   flat = rest;
   is = is;
@@ -239,8 +225,8 @@ ended rest inner is = record {
 }
 
 -- after other bytes
-onwards : (part rest bytes : List ℕ) → list_all is_inner part ≡ true → bytes ≡ part ++ rest → (more : Unfolds rest)
-    → AreFlat (part ++ more.flat) → Unfolds bytes
+onwards : {parameters others : Parameters} (part rest bytes : List ℕ) → list_all is_inner part ≡ true → bytes ≡ part ++ rest
+    → (more : Unfolds others rest) → AreFlat parameters (part ++ more.flat) → Unfolds parameters bytes
 onwards part rest bytes inner made more is = record {
   flat = part ++ more.flat;
   is = is;
@@ -261,10 +247,11 @@ onwards part rest bytes inner made more is = record {
 }
 
 -- before a fold
-folded : (part line blanks : List ℕ) (x : ℕ) (xs rest bytes : List ℕ) → list_all is_inner part ≡ true → IsLineEnd line
+folded : {parameters others : Parameters} (part line blanks : List ℕ) (x : ℕ) (xs rest bytes : List ℕ)
+    → list_all is_inner part ≡ true → IsLineEnd line
     → list_all is_blank blanks ≡ true → is_whitespace x ≡ false
-    → list_all is_inner (x ∷ xs) ≡ true → bytes ≡ part ++ (line ++ ((blanks ++ x ∷ xs) ++ rest)) → (more : Unfolds rest)
-    → AreFlat (part ++ (space ∷ ((x ∷ xs) ++ more.flat))) → Unfolds bytes
+    → list_all is_inner (x ∷ xs) ≡ true → bytes ≡ part ++ (line ++ ((blanks ++ x ∷ xs) ++ rest))
+    → (more : Unfolds others rest) → AreFlat parameters (part ++ (space ∷ ((x ∷ xs) ++ more.flat))) → Unfolds parameters bytes
 folded part line blanks x xs rest bytes inner is_line all_blank dark inner_next made more is = record {
   flat = part ++ (space ∷ ((x ∷ xs) ++ more.flat));
   is = is;
@@ -344,22 +331,11 @@ gap_cases gap (gap_fold {line = line} first blanks is_line all made) =
       made = made;
     })
 
-dark : (test : ℕ → Bool) → none_below test 33 ≡ true → test 127 ≡ false → (b : ℕ) → test b ≡ true → is_low b ≡ true
-    → is_whitespace b ≡ false
-dark test h e b is low =
-    let least = visible test h b is in
-    let most = ltb-true b 128 low in
-    elim (cases_lt b 127) [
-      | inl l ↦ graphic_no_whitespace b least (omega (arith, l))
-      | inr g ↦
-          let same : b ≡ 127 = omega (arith, most, g) in
-          absurd (false≢true (sym e ∙ ap test (sym same) ∙ is))
-    ]
-
 -- one parameter more
-one_more : (first : ℕ) (gap others value rest bytes : List ℕ) → IsGap gap → list_all is_name_character (first ∷ others) ≡ true
-    → IsPlainValue value → is_whitespace first ≡ false
-    → Unfolds rest → bytes ≡ semicolon ∷ (gap ++ ((first ∷ others) ++ (equals_sign ∷ (value ++ rest)))) → Unfolds bytes
+one_more : {parameters : Parameters} {text : List ℕ} (first : ℕ) (gap others value rest bytes : List ℕ) → IsGap gap
+    → list_all is_name_character (first ∷ others) ≡ true → IsValueOf text value → is_whitespace first ≡ false
+    → Unfolds parameters rest → bytes ≡ semicolon ∷ (gap ++ ((first ∷ others) ++ (equals_sign ∷ (value ++ rest))))
+    → Unfolds ((str_to_ascii_lowercase (first ∷ others), text) ∷ parameters) bytes
 one_more first gap others value rest bytes is_gap names is black more made =
     let next : List ℕ = others ++ (equals_sign ∷ value) in
     let inner_next : list_all is_inner (first ∷ next) ≡ true =
@@ -402,18 +378,18 @@ one_more first gap others value rest bytes is_gap names is black more made =
         ∙ append_assoc before (line ++ (blanks ++ next)) rest
         ∙ ap (λ (xs : List ℕ). before ++ xs) (append_assoc line (blanks ++ next) rest)
 
-parameters_unfold : (names : List (List ℕ)) (bytes : List ℕ) → list_all is_low bytes ≡ true → ArePlain names bytes → Unfolds bytes
-parameters_unfold names bytes low no_plain = ended [] refl no_flat
-parameters_unfold names bytes low plain_semicolon = ended (semicolon ∷ []) refl flat_semicolon
-parameters_unfold names bytes low
-    (plain_parameter {names = more_names} {gap = gap} {value = value} first others rest is_gap all is other more made) =
+parameters_unfold : {parameters : Parameters} (bytes : List ℕ) → list_all is_low bytes ≡ true → AreParametersOf parameters bytes
+    → Unfolds parameters bytes
+parameters_unfold bytes low none_of = ended [] refl no_flat
+parameters_unfold bytes low semicolon_of = ended (semicolon ∷ []) refl flat_semicolon
+parameters_unfold bytes low (parameter_of {gap = gap} {value = value} first others rest is_gap all is other more made) =
     let here = subst (λ (xs : List ℕ). list_all is_low xs ≡ true) made low in
     let name = all_back is_low gap ((first ∷ others) ++ (equals_sign ∷ (value ++ rest))) here in
     let left = all_back is_low value rest (all_back is_low (first ∷ others) (equals_sign ∷ (value ++ rest)) name) in
     one_more first gap others value rest bytes is_gap all is
     (dark is_name_character refl refl first (all_head is_name_character first others all)
     (all_head is_low first (others ++ (equals_sign ∷ (value ++ rest))) name))
-    (parameters_unfold more_names rest left more) made
+    (parameters_unfold rest left more) made
 
 -- ---- the types that all programs know
 
@@ -478,13 +454,48 @@ known_words = refl
 
 -- ---- values
 
--- a value, and its text
-record IsShown (bytes : List ℕ) : Type 0 where
-  text : List ℕ
-  shown : joined_text bytes ≡ text
-  is : IsFlat text
-  low : list_all is_low text ≡ true
-  word : HasNoWord text
+-- no two parameters have the same name
+abbrev pub AreApart : Parameters → Type 0
+AreApart [] = ⊤
+AreApart (parameter ∷ more) = (list_any (bytes_eq parameter.0) (map (λ p. p.0) more) ≡ false) × AreApart more
+
+parameters_apart : {parameters : Parameters} (bytes : List ℕ) → AreParametersOf parameters bytes → AreApart parameters
+parameters_apart bytes none_of = tt
+parameters_apart bytes semicolon_of = tt
+parameters_apart bytes (parameter_of first others rest is_gap all is other more made) = (other, parameters_apart rest more)
+
+-- a value that begins with blanks and this text, and how it is shown
+pub record IsShown (head : List ℕ) (parameters : Parameters) (bytes : List ℕ) : Type 0 where
+  pub flat : List ℕ
+  pub shown : joined_text bytes ≡ head ++ flat
+  pub is : AreFlat parameters flat
+  pub apart : AreApart parameters
+  pub low : list_all is_low (head ++ flat) ≡ true
+  pub word : HasNoWord (head ++ flat)
+
+head_shown : {parameters : Parameters} (blanks : List ℕ) (m : ℕ) (run rest : List ℕ) → list_all is_blank blanks ≡ true
+    → list_all is_head (m ∷ run) ≡ true → HasNoWord ((m ∷ run) ++ rest)
+    → list_all is_low (blanks ++ ((m ∷ run) ++ rest)) ≡ true
+    → AreParametersOf parameters rest → IsShown (m ∷ run) parameters (blanks ++ ((m ∷ run) ++ rest))
+head_shown blanks m run rest all head word low is =
+    let same : (blanks ++ m ∷ run) ++ rest ≡ blanks ++ ((m ∷ run) ++ rest) = append_assoc blanks (m ∷ run) rest in
+    let low_text = all_back is_low blanks ((m ∷ run) ++ rest) low in
+    let low_run = all_front is_low (m ∷ run) rest low_text in
+    let low_rest = all_back is_low (m ∷ run) rest low_text in
+    let more = parameters_unfold rest low_rest is in
+    record {
+      flat = more.flat;
+      shown =
+          ap joined_text (sym same)
+          ∙ more.shown blanks m run all
+          (dark is_head refl refl m (all_head is_head m run head) (all_head is_low m run low_run))
+          (all_inner is_head refl refl (m ∷ run) head)
+          (subst (λ (xs : List ℕ). list_all is_low xs ≡ true) (sym same) low);
+      is = more.is;
+      apart = parameters_apart rest is;
+      low = all_both is_low (m ∷ run) more.flat low_run (more.low low_rest);
+      word = more.word (m ∷ run) word;
+    }
 
 token_unopened : (xs : List ℕ) → list_all is_token_character xs ≡ true → list_all (λ b. not (equals_sign == b)) xs ≡ true
 token_unopened [] h = refl
@@ -494,86 +505,130 @@ token_unopened (b ∷ xs) h =
     (eq_flip equals_sign b ∙ differs is_token_character equals_sign refl b (all_head is_token_character b xs h)))
     (token_unopened xs (all_tail is_token_character b xs h))
 
-type_from : (blanks : List ℕ) (m : ℕ) (ms : List ℕ) (first : ℕ) (others rest : List ℕ) → list_all is_blank blanks ≡ true
-    → list_all is_token_character (m ∷ ms) ≡ true
-    → list_all is_token_character (first ∷ others) ≡ true → HasNoWord ((first ∷ others) ++ rest)
-    → list_all is_low ((blanks ++ ((m ∷ ms) ++ (slash ∷ (first ∷ others)))) ++ rest) ≡ true
-    → Unfolds rest → IsShown ((blanks ++ ((m ∷ ms) ++ (slash ∷ (first ∷ others)))) ++ rest)
-type_from blanks m ms first others rest all main subtype word low more =
-    let run : List ℕ = ms ++ (slash ∷ (first ∷ others)) in
-    let front = all_front is_low (blanks ++ m ∷ run) rest low in
-    let low_run = all_back is_low blanks (m ∷ run) front in
-    let inner : list_all is_inner (m ∷ run) ≡ true =
-    all_both is_inner (m ∷ ms) (slash ∷ (first ∷ others)) (all_inner is_token_character refl refl (m ∷ ms) main)
-    (all_inner is_token_character refl refl (first ∷ others) subtype) in
-    let same : (m ∷ run) ++ more.flat ≡ (m ∷ ms) ++ (slash ∷ ((first ∷ others) ++ more.flat)) =
-    append_assoc (m ∷ ms) (slash ∷ (first ∷ others)) more.flat in
-    record {
-      text = (m ∷ run) ++ more.flat;
-      shown =
-          more.shown blanks m run all
-          (dark is_token_character refl refl m (all_head is_token_character m ms main) (all_head is_low m run low_run)) inner low;
-      is =
-          record {
-            first = m;
-            main = ms;
-            second = first;
-            subtype = others;
-            rest = more.flat;
-            is_main = main;
-            is_subtype = subtype;
-            parameters = more.is;
-            made = same;
-          };
-      low = all_both is_low (m ∷ run) more.flat low_run (more.low (all_back is_low (blanks ++ m ∷ run) rest low));
-      word =
-          subst HasNoWord (sym same) (word_front (m ∷ ms) (slash ∷ ((first ∷ others) ++ more.flat)) (token_unopened (m ∷ ms) main)
-          (no_word_here refl (more.word (first ∷ others) word)));
-    }
+-- the first byte of a subtype or a disposition, and all of them
+plain_token : {name : List ℕ} {parameters : Parameters} {text : List ℕ} → (is : IsPlainOf name parameters text)
+    → list_all is_token_character (is.first ∷ is.others) ≡ true
+plain_token is =
+    are_true (is_token_character is.first) (list_all is_token_character is.others)
+    (ap (λ (t : Bool). t || is_some (byte_place (codes "!#$&-^_.+") is.first)) is.begins) is.characters
 
--- a plain type after blanks
-type_shown : (blanks value : List ℕ) → list_all is_blank blanks ≡ true → list_all is_low (blanks ++ value) ≡ true
-    → IsPlainType value → IsShown (blanks ++ value)
-type_shown blanks value all low (blank_before_plain_type {b = b} {rest = rest} is more) =
+-- a type after blanks
+pub record TypeShown (mimetype : List ℕ) (parameters : Parameters) (bytes : List ℕ) : Type 0 where
+  pub first : ℕ
+  pub main : List ℕ
+  pub second : ℕ
+  pub subtype : List ℕ
+  pub is_main : list_all is_token_character (first ∷ main) ≡ true
+  pub is_subtype : list_all is_token_character (second ∷ subtype) ≡ true
+  pub named : mimetype ≡ str_to_ascii_lowercase ((first ∷ main) ++ (slash ∷ (second ∷ subtype)))
+  pub shown : IsShown ((first ∷ main) ++ (slash ∷ (second ∷ subtype))) parameters bytes
+
+pub type_shown : {mimetype : List ℕ} {parameters : Parameters} (blanks value : List ℕ) → list_all is_blank blanks ≡ true
+    → list_all is_low (blanks ++ value) ≡ true
+    → IsTypeOf mimetype parameters value → TypeShown mimetype parameters (blanks ++ value)
+type_shown {mimetype = mimetype} {parameters = parameters} blanks value all low
+    (blank_before_type_of {b = b} {rest = rest} is more) =
     let same : (blanks ++ b ∷ []) ++ rest ≡ blanks ++ b ∷ rest = append_assoc blanks (b ∷ []) rest in
-    subst IsShown same
+    subst (TypeShown mimetype parameters) same
     (type_shown (blanks ++ b ∷ []) rest (all_both is_blank blanks (b ∷ []) all (are_true (is_blank b) true is refl))
     (subst (λ (xs : List ℕ). list_all is_low xs ≡ true) (sym same) low) more)
-type_shown blanks value all low (plain_type {text = text} main is plain made) =
+type_shown {mimetype = mimetype} {parameters = parameters} blanks value all low
+    (type_of {subtype = subtype} {text = text} main is plain named made) =
     let word = word_named main main_types known_words is in
-    by_main main word.some word.all made
+    by_main main word.some word.all named made
   where
-    begins_token : is_token_character plain.first ≡ true
-    begins_token = ap (λ (t : Bool). t || is_some (byte_place (codes "!#$&-^_.+") plain.first)) plain.begins
+    by_main : (main : List ℕ) → is_empty main ≡ false → list_all is_token_character main ≡ true
+        → mimetype ≡ str_to_ascii_lowercase main ++ (slash ∷ subtype)
+        → value ≡ main ++ (slash ∷ text) → TypeShown mimetype parameters (blanks ++ value)
+    by_main [] some tokens named made = absurd (cc)
+    by_main (m ∷ ms) some tokens named made =
+        let own : List ℕ = plain.first ∷ plain.others in
+        let run : List ℕ = ms ++ (slash ∷ own) in
+        let tokens_own = plain_token plain in
+        let cut : (m ∷ ms) ++ (slash ∷ (own ++ plain.rest)) ≡ (m ∷ run) ++ plain.rest =
+        sym (append_assoc (m ∷ ms) (slash ∷ own) plain.rest) in
+        let same : blanks ++ value ≡ blanks ++ ((m ∷ run) ++ plain.rest) =
+        ap (λ (xs : List ℕ). blanks ++ xs) (made ∙ ap (λ (xs : List ℕ). (m ∷ ms) ++ (slash ∷ xs)) plain.made ∙ cut) in
+        record {
+          first = m;
+          main = ms;
+          second = plain.first;
+          subtype = plain.others;
+          is_main = tokens;
+          is_subtype = tokens_own;
+          named = named ∙ ap (λ (xs : List ℕ). str_to_ascii_lowercase (m ∷ ms) ++ (slash ∷ xs)) plain.named
+              ∙ sym (map-append to_ascii_lowercase (m ∷ ms) (slash ∷ own));
+          shown = subst (IsShown (m ∷ run) parameters) (sym same)
+              (head_shown blanks m run plain.rest all
+              (all_both is_head (m ∷ ms) (slash ∷ own) (token_head (m ∷ ms) tokens) (token_head own tokens_own))
+              (subst HasNoWord cut (word_front (m ∷ ms) (slash ∷ (own ++ plain.rest)) (token_unopened (m ∷ ms) tokens)
+              (no_word_here refl (subst HasNoWord plain.made plain.word))))
+              (subst (λ (xs : List ℕ). list_all is_low xs ≡ true) same low) plain.parameters_of);
+        }
 
-    by_main : (main : List ℕ) → is_empty main ≡ false → list_all is_token_character main ≡ true → value ≡ main ++ (slash ∷ text)
-        → IsShown (blanks ++ value)
-    by_main [] some tokens made = absurd (cc)
-    by_main (m ∷ ms) some tokens made =
-        let subtype : List ℕ = plain.first ∷ plain.others in
-        let same : blanks ++ value ≡ (blanks ++ ((m ∷ ms) ++ (slash ∷ subtype))) ++ plain.rest =
-        ap (λ (xs : List ℕ). blanks ++ xs)
-        (made ∙ ap (λ (xs : List ℕ). (m ∷ ms) ++ (slash ∷ xs)) plain.made
-        ∙ sym (append_assoc (m ∷ ms) (slash ∷ subtype) plain.rest))
-        ∙ sym (append_assoc blanks ((m ∷ ms) ++ (slash ∷ subtype)) plain.rest) in
-        let low_here = subst (λ (xs : List ℕ). list_all is_low xs ≡ true) same low in
-        subst IsShown (sym same)
-        (type_from blanks m ms plain.first plain.others plain.rest all tokens
-        (are_true (is_token_character plain.first) (list_all is_token_character plain.others) begins_token plain.characters)
-        (subst HasNoWord plain.made plain.word) low_here
-        (parameters_unfold plain.names plain.rest
-        (all_back is_low (blanks ++ ((m ∷ ms) ++ (slash ∷ subtype))) plain.rest low_here) plain.parameters))
+-- a disposition after blanks
+pub record DispositionShown (name : List ℕ) (parameters : Parameters) (bytes : List ℕ) : Type 0 where
+  pub first : ℕ
+  pub others : List ℕ
+  pub is_token : list_all is_token_character (first ∷ others) ≡ true
+  pub named : name ≡ str_to_ascii_lowercase (first ∷ others)
+  pub shown : IsShown (first ∷ others) parameters bytes
+
+pub disposition_shown : {name : List ℕ} {parameters : Parameters} (blanks value : List ℕ) → list_all is_blank blanks ≡ true
+    → list_all is_low (blanks ++ value) ≡ true
+    → IsDispositionOf name parameters value → DispositionShown name parameters (blanks ++ value)
+disposition_shown {name = name} {parameters = parameters} blanks value all low
+    (blank_before_disposition_of {b = b} {rest = rest} is more) =
+    let same : (blanks ++ b ∷ []) ++ rest ≡ blanks ++ b ∷ rest = append_assoc blanks (b ∷ []) rest in
+    subst (DispositionShown name parameters) same
+    (disposition_shown (blanks ++ b ∷ []) rest (all_both is_blank blanks (b ∷ []) all (are_true (is_blank b) true is refl))
+    (subst (λ (xs : List ℕ). list_all is_low xs ≡ true) (sym same) low) more)
+disposition_shown {name = name} {parameters = parameters} blanks value all low (disposition_of plain) =
+    let same : blanks ++ value ≡ blanks ++ ((plain.first ∷ plain.others) ++ plain.rest) =
+    ap (λ (xs : List ℕ). blanks ++ xs) plain.made in
+    let token = plain_token plain in
+    record {
+      first = plain.first;
+      others = plain.others;
+      is_token = token;
+      named = plain.named;
+      shown = subst (IsShown (plain.first ∷ plain.others) parameters) (sym same)
+          (head_shown blanks plain.first plain.others plain.rest all (token_head (plain.first ∷ plain.others) token)
+          (subst HasNoWord plain.made plain.word) (subst (λ (xs : List ℕ). list_all is_low xs ≡ true) same low)
+          plain.parameters_of);
+    }
+
+-- the text of such a value of ASCII
+pub value_shown : {parameters : Parameters} (known : Charsets) (head value : List ℕ) → list_all is_low value ≡ true
+    → (found : IsShown head parameters value) → lenient_value_in known value ≡ head ++ found.flat
+value_shown known head value low found =
+    let text : List ℕ = head ++ found.flat in
+    lenient-utf8 known value (IsUtf8-from_ascii value (low_ascii value low))
+    ∙ sym (unfolded_value-joined known value text (sym found.shown) (place_past begins_opening text (words_past text found.word)))
 
 -- a plain type of ASCII needs no lenient reading
-pub plain_type_strict : (known : Charsets) (value : List ℕ) → list_all is_low value ≡ true → IsPlainType value
+pub plain_type_strict : {mimetype : List ℕ} {parameters : Parameters} (known : Charsets) (value : List ℕ)
+    → list_all is_low value ≡ true → IsTypeOf mimetype parameters value
     → HasBoundary (content_type_in known (lenient_value_in known value))
     → is_strict known (lenient_value_in known value) ≡ true
 plain_type_strict known value low is boundary =
-    let found = type_shown [] value refl low is in
-    let same : lenient_value_in known value ≡ found.text =
-    lenient-utf8 known value (IsUtf8-from_ascii value (low_ascii value low))
-    ∙ sym (unfolded_value-joined known value found.text (sym found.shown)
-    (place_past begins_opening found.text (words_past found.text found.word))) in
-    subst (λ (text : List ℕ). is_strict known text ≡ true) (sym same)
-    (flat_strict known found.text found.low found.is
-    (subst (λ (text : List ℕ). HasBoundary (content_type_in known text)) same boundary))
+    let type = type_shown [] value refl low is in
+    let found = type.shown in
+    let one : List ℕ = type.first ∷ type.main in
+    let two : List ℕ = type.second ∷ type.subtype in
+    let text : List ℕ = (one ++ (slash ∷ two)) ++ found.flat in
+    let same = value_shown known (one ++ (slash ∷ two)) value low found in
+    subst (λ (xs : List ℕ). is_strict known xs ≡ true) (sym same)
+    (flat_strict known text found.low
+    (record {
+      first = type.first;
+      main = type.main;
+      second = type.second;
+      subtype = type.subtype;
+      rest = found.flat;
+      is_main = type.is_main;
+      is_subtype = type.is_subtype;
+      are_flat = found.is;
+      made = append_assoc one (slash ∷ two) found.flat;
+    })
+    (subst (λ (xs : List ℕ). HasBoundary (content_type_in known xs)) same boundary))

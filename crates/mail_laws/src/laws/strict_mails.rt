@@ -3,7 +3,7 @@
 //!
 //! It is a grammar of bytes, and says nothing of how headers are searched and multiparts cut.
 ghost use Rattle.std.specs.Prelude.{◌++◌, ◌≡◌, ◌≤◌, ◌↔◌, ℕ, Bool, List, Ok};
-ghost use Rattle.std.specs.Prelude.{codes, drop, length, map, true};
+ghost use Rattle.std.specs.Prelude.{codes, drop, false, length, map, true};
 ghost use Rattle.mail_codec.specs.Charset.{Charsets};
 ghost use Rattle.mailparse.specs.Block.{read_headers};
 ghost use Rattle.mailparse.specs.Delimiters.{cut_parts};
@@ -18,6 +18,7 @@ ghost use Rattle.mail_check.specs.strict.Headers.{IsBlock};
 ghost use Rattle.mail_check.specs.strict.Levels.{HasLevels};
 ghost use Rattle.mail_check.specs.strict.Named.{Lacks, is_core};
 ghost use Rattle.mail_laws.specs.PlainOutlines.{IsPlainOutline};
+ghost use Rattle.mail_laws.specs.PlainValues.{IsMeant};
 ghost use Rattle.mail_laws.specs.Render.{IsWellFormed, OutlineTree, rendered, stands_for};
 ghost use Rattle.mail_laws.specs.StrictMails.{AreHeaders, IsMail, IsMessage, IsSplitInto};
 
@@ -74,6 +75,15 @@ pub fn clean_mails_are_of_grammar()
         Lacks is_core (findings known t (placements 0 t)) ↔ IsMail known bytes t }
     ensures clean { (known : Charsets) (bytes : List ℕ) (t : Tree) → IsMail known bytes t →
         Lacks is_core (findings known t (placements 0 t)) }
+{}
+
+/// The type of each message of a mail of the grammar is what the value of its `Content-Type` means by
+/// the grammar of plain values; without one it is `text/plain`, in a digest `message/rfc822`. Its
+/// disposition is what the value of its `Content-Disposition` means, and without one `inline`,
+/// whatever charsets are known when it is read.
+pub fn strict_types_are_meant()
+    ensures { (known : Charsets) (bytes : List ℕ) (t : Tree) → IsMail known bytes t →
+        IsMeant false t }
 {}
 
 /// A well-formed outline that is plain is written as a mail of the grammar, whatever charsets are
