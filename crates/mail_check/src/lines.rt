@@ -66,11 +66,14 @@ fn line_of(at: usize, rest: &[u8]) -> HeaderLine<'_>
     }
 }
 
-/// Returns whether the key of a header is this name, ignoring ASCII case.
+/// Returns whether the key of a header is this name, ignoring ASCII case. Most names have another
+/// length, which is compared without a call.
+#[inline(always)]
+#[tactic(auto, using(crate::proofs::lemmas::Lines::other_length))]
 pub(crate) fn is_named(name: &[u8], line: &HeaderLine<'_>) -> bool
     ensures { result ≡ is_named name.now (line_view line.now) }
 {
-    line.key.eq_ignore_ascii_case(name)
+    line.key.len() == name.len() && line.key.eq_ignore_ascii_case(name)
 }
 
 /// Returns whether a header has no colon or two, or a key that is empty or has another byte than
