@@ -1,6 +1,7 @@
 pub mod Bytes
 pub mod Delimiters
 pub mod Lines
+pub mod Singles
 pub mod Parameters
 pub mod Words
 pub mod Clean

@@ -1,3 +1,4 @@
 pub mod Patterns
 pub mod Delimiters
 pub mod Seconds
+pub mod Singles

@@ -2,7 +2,7 @@
 //! one of them.
 ghost use Rattle.std.specs.Prelude.{◌≡◌, ◌+◌, ◌^◌, ◌<◌, ◌≤◌, drop, length, map, option_map};
 ghost use Rattle.std.specs.Prelude.{IfOk};
-ghost use Rattle.std.specs.List.{list_all};
+ghost use Rattle.std.specs.List.{list_all, position_or_len};
 ghost use Rattle.mailparse.specs.Mail.{root};
 ghost use Rattle.mailparse.specs.Views.{tree_of};
 ghost use Rattle.mail_check.specs.LineViews.{line_view};
@@ -10,7 +10,8 @@ ghost use Rattle.mail_check.specs.Lines.{after_key, ends_block, has_blank_fold, 
 ghost use Rattle.mail_check.specs.Lines.{has_high_value, has_second_colon, has_value, header_lines};
 ghost use Rattle.mail_check.specs.Lines.{is_bad_encoding, is_bad_key, is_encoding, is_named};
 ghost use Rattle.mail_check.specs.Lines.{is_structured, is_visible, line_of, second_named};
-ghost use Rattle.mail_check.specs.Lines.{trimmed_value};
+ghost use Rattle.mail_check.specs.Lines.{single_names, trimmed_value};
+ghost use Rattle.mail_check.specs.private.Singles.{has_repeated, none_yet, single_number};
 
 use crate::scan::{Pattern, blank_count, first_match, from_offset, high_byte};
 use mailparse::{ParsedMail, header_places};
@@ -182,6 +183,98 @@ pub(crate) fn second_named<'m>(name: &[u8], lines: &[HeaderLine<'m>]) -> Option<
         }
     }
     None
+}
+
+/// Returns whether a name of which a message has one header occurs twice among headers.
+#[tactic(auto, using(crate::proofs::lemmas::Singles::number_past))]
+pub(crate) fn has_repeated(lines: &[HeaderLine<'_>]) -> bool
+    ensures { result ≡ has_repeated none_yet (map line_view lines.now) }
+{
+    let mut seen = [false; 17];
+    for line in lines {
+        let number = single_number(line);
+        if number >= seen.len() {
+            continue;
+        }
+        if seen[number] {
+            return true;
+        }
+        seen[number] = true;
+    }
+    false
+}
+
+/// Returns the number of the name of a header among those of which a message has one, or 17.
+#[tactic(auto, unfolding(crate::specs::private::Singles::single_number))]
+fn single_number(line: &HeaderLine<'_>) -> usize
+    ensures { result ≡ single_number (line_view line.now) }
+{
+    if is_named(b"Content-Type", line) {
+        return 0;
+    }
+    if is_named(b"Content-Transfer-Encoding", line) {
+        return 1;
+    }
+    if is_named(b"Content-Disposition", line) {
+        return 2;
+    }
+    if is_named(b"Content-ID", line) {
+        return 3;
+    }
+    if is_named(b"Content-Description", line) {
+        return 4;
+    }
+    if is_named(b"MIME-Version", line) {
+        return 5;
+    }
+    6 + address_number(line)
+}
+
+/// Returns its number among those from `From` onwards, or 11.
+fn address_number(line: &HeaderLine<'_>) -> usize
+    ensures { result ≡ position_or_len (λ name. is_named name (line_view line.now)) (drop 6 single_names) }
+{
+    if is_named(b"From", line) {
+        return 0;
+    }
+    if is_named(b"Sender", line) {
+        return 1;
+    }
+    if is_named(b"Reply-To", line) {
+        return 2;
+    }
+    if is_named(b"To", line) {
+        return 3;
+    }
+    if is_named(b"Cc", line) {
+        return 4;
+    }
+    if is_named(b"Bcc", line) {
+        return 5;
+    }
+    6 + message_number(line)
+}
+
+/// Returns its number among those from `Date` onwards, or 5.
+fn message_number(line: &HeaderLine<'_>) -> usize
+    ensures { result ≡ position_or_len (λ name. is_named name (line_view line.now)) (drop 12 single_names) }
+{
+    if is_named(b"Date", line) {
+        return 0;
+    }
+    if is_named(b"Subject", line) {
+        return 1;
+    }
+    if is_named(b"Message-ID", line) {
+        return 2;
+    }
+    if is_named(b"In-Reply-To", line) {
+        return 3;
+    }
+    if is_named(b"References", line) {
+        return 4;
+    }
+    5
 }
 
 /// Returns the value of a header without blanks before it.

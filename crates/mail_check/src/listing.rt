@@ -35,8 +35,8 @@ use crate::hidden_bits::hidden_bits;
 use crate::inside::push_inside;
 use crate::line_tests::{file_line, long_line};
 use crate::lines::{
-    HeaderLine, ends_block, has_blank_fold, has_comment_fold, has_high_value, header_lines,
-    is_bad_encoding, is_bad_key, is_encoding, second_named,
+    HeaderLine, ends_block, has_blank_fold, has_comment_fold, has_high_value, has_repeated,
+    header_lines, is_bad_encoding, is_bad_key, is_encoding, second_named,
 };
 use crate::multipart::{
     Occurrence, begins_type, dash_of, first_delimiter, is_bad_boundary, is_composite,
@@ -533,7 +533,9 @@ const SINGLE_NAMES: [&str; 17] = [
     "References",
 ];
 
-/// Appends the second header of each name that may occur once.
+/// Appends the second header of each name that may occur once. Hardly a message has one, which one
+/// pass over the headers shows.
+#[tactic(auto, using(crate::proofs::lemmas::Singles::none_repeated))]
 fn push_repeated(
     alloc: Global,
     found: &mut Vec<Finding>,
@@ -544,6 +546,9 @@ fn push_repeated(
         ≡ map finding_view found.old.items
         ++ repeated_findings (place_view place.now) (map line_view lines.now) single_names) }
 {
+    if !has_repeated(lines) {
+        return Ok(());
+    }
     push_seconds(alloc, found, place, lines, &SINGLE_NAMES)
 }
 
