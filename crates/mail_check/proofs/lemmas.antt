@@ -2,6 +2,7 @@ pub mod Bytes
 pub mod Delimiters
 pub mod Lines
 pub mod Singles
+pub mod Folds
 pub mod Parameters
 pub mod Words
 pub mod Clean

@@ -2,3 +2,4 @@ pub mod Patterns
 pub mod Delimiters
 pub mod Seconds
 pub mod Singles
+pub mod Folds

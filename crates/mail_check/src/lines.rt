@@ -11,9 +11,11 @@ ghost use Rattle.mail_check.specs.Lines.{has_high_value, has_second_colon, has_v
 ghost use Rattle.mail_check.specs.Lines.{is_bad_encoding, is_bad_key, is_encoding, is_named};
 ghost use Rattle.mail_check.specs.Lines.{is_structured, is_visible, line_of, second_named};
 ghost use Rattle.mail_check.specs.Lines.{single_names, trimmed_value};
+ghost use Rattle.mail_check.specs.private.Folds.{is_folded};
 ghost use Rattle.mail_check.specs.private.Singles.{has_repeated, none_yet, single_number};
 
 use crate::scan::{Pattern, blank_count, first_match, from_offset, high_byte};
+use mail_codec::bytescan::find_byte;
 use mailparse::{ParsedMail, header_places};
 use std::alloc::{AllocError, Global};
 
@@ -122,6 +124,17 @@ fn has_second_colon(rest: &[u8]) -> bool
     ensures { result ≡ has_second_colon rest.now }
 {
     rest[blank_count(rest)..].starts_with(b":")
+}
+
+/// Returns whether a header has more than one line.
+#[tactic(auto, unfolding(crate::specs::private::Folds::is_folded))]
+pub(crate) fn is_folded(line: &HeaderLine<'_>) -> bool
+    ensures { result ≡ is_folded (line_view line.now) }
+{
+    match find_byte(line.bytes, b'\n') {
+        Some(at) => at + 1 < line.bytes.len(),
+        None => false,
+    }
 }
 
 /// Returns whether a line of a header consists of blanks.

@@ -25,8 +25,10 @@ ghost use Rattle.mail_check.specs.Inside.{all_findings};
 ghost use Rattle.mail_check.specs.LineViews.{line_view};
 ghost use Rattle.mail_codec.specs.Ascii.{colon};
 ghost use Rattle.mail_codec.specs.Places.{byte_place};
-ghost use Rattle.mail_check.specs.Lines.{header_lines, second_named, single_names};
-ghost use Rattle.mail_check.specs.declared.names.Name.TheVariants.{Preamble, Refused, Uuencode};
+ghost use Rattle.mail_check.specs.Lines.{has_blank_fold, has_comment_fold, header_lines};
+ghost use Rattle.mail_check.specs.Lines.{second_named, single_names};
+ghost use Rattle.mail_check.specs.declared.names.Name.TheVariants.{BlankFold, CommentFold, Preamble};
+ghost use Rattle.mail_check.specs.declared.names.Name.TheVariants.{Refused, Uuencode};
 ghost use Rattle.mail_check.specs.Multiparts.{dash_of};
 
 use crate::bodies::is_base64_lines;
@@ -36,7 +38,7 @@ use crate::inside::push_inside;
 use crate::line_tests::{file_line, long_line};
 use crate::lines::{
     HeaderLine, ends_block, has_blank_fold, has_comment_fold, has_high_value, has_repeated,
-    header_lines, is_bad_encoding, is_bad_key, is_encoding, second_named,
+    header_lines, is_bad_encoding, is_bad_key, is_encoding, is_folded, second_named,
 };
 use crate::multipart::{
     Occurrence, begins_type, dash_of, first_delimiter, is_bad_boundary, is_composite,
@@ -397,6 +399,26 @@ fn push_line(
         ends_block(size, line),
     )?;
     push_if(alloc, found, spot, Name::BadKey, is_bad_key(line))?;
+    push_folds(alloc, found, spot, line)?;
+    push_if(alloc, found, spot, Name::Header8bit, has_high_value(line))
+}
+
+/// Appends the findings of the folds of a header. Most headers have one line and no fold.
+#[tactic(auto, using(crate::proofs::lemmas::Folds::no_blank_fold, crate::proofs::lemmas::Folds::no_comment_fold))]
+fn push_folds(
+    alloc: Global,
+    found: &mut Vec<Finding>,
+    spot: &Spot<'_>,
+    line: &HeaderLine<'_>,
+) -> Result<(), AllocError>
+    ensures { OnOk result (map finding_view found.new.items
+        ≡ map finding_view found.old.items
+        ++ (listed_if (spot_view spot.now) BlankFold (has_blank_fold (line_view line.now))
+        ++ listed_if (spot_view spot.now) CommentFold (has_comment_fold (line_view line.now)))) }
+{
+    if !is_folded(line) {
+        return Ok(());
+    }
     push_if(alloc, found, spot, Name::BlankFold, has_blank_fold(line))?;
     push_if(
         alloc,
@@ -404,8 +426,7 @@ fn push_line(
         spot,
         Name::CommentFold,
         has_comment_fold(line),
-    )?;
-    push_if(alloc, found, spot, Name::Header8bit, has_high_value(line))
+    )
 }
 
 /// Appends the findings of a header as a type or a disposition.
