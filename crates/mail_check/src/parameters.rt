@@ -338,19 +338,23 @@ fn may_end(state: ValueState) -> bool
 fn is_restricted(byte: u8) -> bool
     ensures { result ≡ is_restricted byte }
 {
-    byte.is_ascii_alphanumeric() || find_byte(b"!#$&-^_.+", byte).is_some()
+    byte.is_ascii_alphanumeric()
+        || matches!(
+            byte,
+            b'!' | b'#' | b'$' | b'&' | b'-' | b'^' | b'_' | b'.' | b'+'
+        )
 }
 
 /// Returns whether a byte is a character of the name of a parameter.
 fn is_attribute(byte: u8) -> bool
     ensures { result ≡ is_attribute byte }
 {
-    is_restricted(byte) || find_byte(b"`{|}~", byte).is_some()
+    is_restricted(byte) || matches!(byte, b'`' | b'{'..=b'~')
 }
 
 /// Returns whether a byte is a character of a value after a name with an asterisk.
 fn is_extended(byte: u8) -> bool
     ensures { result ≡ is_extended byte }
 {
-    is_attribute(byte) || find_byte(b"*'%", byte).is_some()
+    is_attribute(byte) || matches!(byte, b'*' | b'\'' | b'%')
 }

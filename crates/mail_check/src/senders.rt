@@ -10,7 +10,6 @@ ghost use Rattle.mail_check.specs.declared.senders.SenderState.TheVariants.{Loca
 
 use crate::lines::{HeaderLine, is_named};
 use crate::scan::{is_blank, is_control};
-use mail_codec::bytescan::find_byte;
 
 /// What was read of a sender.
 #[derive(Clone, Copy)]
@@ -236,5 +235,9 @@ fn is_address_end(state: SenderState) -> bool
 fn is_atom(byte: u8) -> bool
     ensures { result ≡ is_atom byte }
 {
-    byte.is_ascii_alphanumeric() || find_byte(b"!#$%&'*+-/=?^_`{|}~", byte).is_some()
+    byte.is_ascii_alphanumeric()
+        || matches!(
+            byte,
+            b'!' | b'#'..=b'\'' | b'*' | b'+' | b'-' | b'/' | b'=' | b'?' | b'^'..=b'`' | b'{'..=b'~'
+        )
 }

@@ -188,8 +188,8 @@ fn after_label(byte: u8) -> WordState
     ensures { result ≡ after_label byte }
 {
     match byte {
-        byte if find_byte(b"Bb", byte).is_some() => WordState::Base64Mark,
-        byte if find_byte(b"Qq", byte).is_some() => WordState::QMark,
+        b'B' | b'b' => WordState::Base64Mark,
+        b'Q' | b'q' => WordState::QMark,
         _ => WordState::Wrong,
     }
 }
@@ -233,7 +233,11 @@ fn in_q(byte: u8) -> WordState
 fn is_label_byte(byte: u8) -> bool
     ensures { result ≡ is_label_byte byte }
 {
-    byte.is_ascii_alphanumeric() || find_byte(b"!#$%&'+-^_`{|}~", byte).is_some()
+    byte.is_ascii_alphanumeric()
+        || matches!(
+            byte,
+            b'!' | b'#'..=b'\'' | b'+' | b'-' | b'^'..=b'`' | b'{'..=b'~'
+        )
 }
 
 /// Returns where the charset of a word ends, counted from its third byte.
