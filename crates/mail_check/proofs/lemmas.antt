@@ -4,6 +4,7 @@ pub mod Lines
 pub mod Singles
 pub mod Folds
 pub mod Parameters
+pub mod ParameterSteps
 pub mod Words
 pub mod Clean
 pub mod Paths

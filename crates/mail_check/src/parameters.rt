@@ -158,10 +158,11 @@ fn is_strict(bytes: &[u8]) -> bool
 
 /// Returns whether a value in quotes has a semicolon, a tab or a line end, or a space at its start
 /// or end.
+#[tactic(auto, using(crate::proofs::lemmas::ParameterSteps::no_quote))]
 pub(crate) fn has_quoted_special(bytes: &[u8]) -> bool
     ensures { result ≡ has_quoted_special bytes.now }
 {
-    has_step(Step::Special, bytes)
+    find_byte(bytes, b'"').is_some() && has_step(Step::Special, bytes)
 }
 
 /// Returns whether a backslash is in quotes.
@@ -172,10 +173,11 @@ pub(crate) fn has_quoted_pair(bytes: &[u8]) -> bool
 }
 
 /// Returns whether the name of a parameter has an asterisk.
+#[tactic(auto, using(crate::proofs::lemmas::ParameterSteps::no_star))]
 pub(crate) fn has_extended(bytes: &[u8]) -> bool
     ensures { result ≡ has_extended bytes.now }
 {
-    has_step(Step::Starred, bytes)
+    find_byte(bytes, b'*').is_some() && has_step(Step::Starred, bytes)
 }
 
 /// Returns whether a value looks as if it had an encoded word.
