@@ -6,6 +6,7 @@ pub mod Folds
 pub mod Parameters
 pub mod ParameterSteps
 pub mod Words
+pub mod WordFronts
 pub mod Clean
 pub mod Paths
 pub mod Inside

@@ -130,11 +130,11 @@ fn has_word_delimiter(piece: &[u8]) -> bool
 }
 
 /// Returns whether a piece is an encoded word of at most 75 bytes.
-#[tactic(auto, unfolding(crate::specs::Words::is_word))]
+#[tactic(auto, using(crate::proofs::lemmas::WordFronts::no_front), unfolding(crate::specs::Words::is_word))]
 pub(crate) fn is_word(piece: &[u8]) -> bool
     ensures { result ≡ is_word piece.now }
 {
-    piece.len() < 76 && is_closed_word(piece)
+    piece.len() < 76 && piece.starts_with(b"=?") && is_closed_word(piece)
 }
 
 /// Returns whether bytes are an encoded word.
