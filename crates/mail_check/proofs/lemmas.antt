@@ -3,6 +3,7 @@ pub mod Delimiters
 pub mod Lines
 pub mod Singles
 pub mod Folds
+pub mod Tested
 pub mod Parameters
 pub mod ParameterSteps
 pub mod Words

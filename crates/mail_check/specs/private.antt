@@ -3,3 +3,4 @@ pub mod Delimiters
 pub mod Seconds
 pub mod Singles
 pub mod Folds
+pub mod Tested

@@ -30,6 +30,7 @@ ghost use Rattle.mail_check.specs.Lines.{second_named, single_names};
 ghost use Rattle.mail_check.specs.declared.names.Name.TheVariants.{BlankFold, CommentFold, Preamble};
 ghost use Rattle.mail_check.specs.declared.names.Name.TheVariants.{Refused, Uuencode};
 ghost use Rattle.mail_check.specs.Multiparts.{dash_of};
+ghost use Rattle.mail_check.specs.private.Tested.{has_tested_value};
 
 use crate::bodies::is_base64_lines;
 use crate::file_names::{has_two_names, has_unsafe_name, has_untyped_name};
@@ -38,7 +39,7 @@ use crate::inside::push_inside;
 use crate::line_tests::{file_line, long_line};
 use crate::lines::{
     HeaderLine, ends_block, has_blank_fold, has_comment_fold, has_high_value, has_repeated,
-    header_lines, is_bad_encoding, is_bad_key, is_encoding, is_folded, second_named,
+    header_lines, is_bad_encoding, is_bad_key, is_encoding, is_folded, is_named, second_named,
 };
 use crate::multipart::{
     Occurrence, begins_type, dash_of, first_delimiter, is_bad_boundary, is_composite,
@@ -315,7 +316,9 @@ fn push_lines<K: KnownCharsets>(
     Ok(())
 }
 
-/// Appends the findings of one header of a message, given how many come before it.
+/// Appends the findings of one header of a message, given how many come before it. The values of
+/// most headers are not tested.
+#[tactic(auto, using(crate::proofs::lemmas::Tested::untested))]
 fn push_header<K: KnownCharsets>(
     alloc: Global,
     found: &mut Vec<Finding>,
@@ -331,11 +334,23 @@ fn push_header<K: KnownCharsets>(
     let spot = spot_in(place, line.start, line.bytes.len());
     let size = place.part.get_headers().get_raw_bytes().len();
     push_line(alloc, found, &spot, size, line)?;
+    if !has_tested_value(line) {
+        return Ok(());
+    }
     push_parameters(alloc, found, &spot, line)?;
     push_type(alloc, found, &spot, place.part, line)?;
     let is_bad = number == 0 && is_bad_sender(line);
     push_if(alloc, found, &spot, Name::FromSyntax, is_bad)?;
     push_worded(alloc, found, &spot, line, known)
+}
+
+/// Returns whether a header is one whose value is tested: a type, a disposition, a transfer encoding,
+/// a subject or a sender.
+#[tactic(auto, unfolding(crate::specs::private::Tested::has_tested_value))]
+fn has_tested_value(line: &HeaderLine<'_>) -> bool
+    ensures { result ≡ has_tested_value (line_view line.now) }
+{
+    has_parameters(line) || is_named(b"Content-Transfer-Encoding", line) || is_worded(line)
 }
 
 /// Appends the findings of a header as a subject or a sender.

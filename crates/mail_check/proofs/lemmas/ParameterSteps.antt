@@ -11,7 +11,7 @@ use Rattle.mail_check.specs.declared.parameters.ValueState.{ValueState}
 use Rattle.mail_check.specs.declared.parameters.ValueState.TheVariants.{Start, Token, Semicolon, Blank, Return, Feed, Fold, Attribute, Star, Equals, StarEquals, Text, Extended, Opened, Quoted, Space, Escaped, Closed, Wrong}
 
 -- a byte does not occur in others if it is not the first and does not occur in the rest
-lacks_next : (byte b : ℕ) (bytes : List ℕ) → is_some (byte_place (b ∷ bytes) byte) ≡ false → ((b == byte) ≡ false) × (is_some (byte_place bytes byte) ≡ false)
+pub lacks_next : (byte b : ℕ) (bytes : List ℕ) → is_some (byte_place (b ∷ bytes) byte) ≡ false → ((b == byte) ≡ false) × (is_some (byte_place bytes byte) ≡ false)
 lacks_next byte b bytes h = elim (cases_Bool (b == byte)) [
   | inl e ↦ let now = rw (e, lt-ltb 0 (suc (length bytes)) (omega arith)) at h in absurd (true≢false now)
   | inr e ↦ (
