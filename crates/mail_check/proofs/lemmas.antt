@@ -1,4 +1,5 @@
 pub mod Bytes
+pub mod Bodies
 pub mod Delimiters
 pub mod Lines
 pub mod Singles

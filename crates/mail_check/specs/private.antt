@@ -4,3 +4,4 @@ pub mod Seconds
 pub mod Singles
 pub mod Folds
 pub mod Tested
+pub mod Base64Lines

@@ -1,7 +1,12 @@
 //! Bodies in Base64 that other programs may decode differently.
-ghost use Rattle.std.specs.Prelude.{◌≡◌};
+ghost use Rattle.std.specs.Prelude.{◌≡◌, ◌≤◌, length};
 ghost use Rattle.mail_check.specs.Bodies.{after_byte, after_bytes, is_base64_lines, is_letter};
 ghost use Rattle.mail_check.specs.Bodies.{line_end_or_wrong, may_end};
+ghost use Rattle.mail_check.specs.declared.bodies.Base64State.TheVariants.{Start};
+ghost use Rattle.mail_check.specs.private.Base64Lines.{line_end_len};
+
+use crate::letters::letters_len;
+use crate::scan::byte_at;
 
 /// What was read of a body in Base64 (RFC 2045, section 6.8).
 #[derive(Clone, Copy)]
@@ -35,11 +40,47 @@ pub(crate) enum Base64State {
 pub(crate) fn is_base64_lines(bytes: &[u8]) -> bool
     ensures { result ≡ is_base64_lines bytes.now }
 {
-    let mut state = Base64State::Start;
-    for byte in bytes {
+    let (mut state, rest) = after_lines(bytes);
+    for byte in rest {
         state = after_byte(state, *byte);
     }
     may_end(state)
+}
+
+/// Skips lines of whole groups of letters, and the groups of a last line without an end. Returns
+/// the state after them, and the rest.
+#[inline(always)]
+fn after_lines(bytes: &[u8]) -> (Base64State, &[u8])
+    ensures { after_bytes result.0 result.1.now ≡ after_bytes Start bytes.now }
+{
+    let mut rest = bytes;
+    'lines: loop {
+        let len = letters_len(rest) / 4 * 4;
+        if len == 0 {
+            return (Base64State::Start, rest);
+        }
+        let after = &rest[len..];
+        let end = line_end_len(after);
+        if end == 0 {
+            return (Base64State::Whole, after);
+        }
+        rest = &after[end..];
+    }
+}
+
+/// Returns the length of the line end with which bytes begin, or 0 if there is none.
+#[inline(always)]
+fn line_end_len(bytes: &[u8]) -> usize
+    ensures value { result ≡ line_end_len bytes.now }
+    ensures bounds { result ≤ length bytes.now }
+{
+    if byte_at(bytes, 0, b'\n') {
+        return 1;
+    }
+    if byte_at(bytes, 0, b'\r') && byte_at(bytes, 1, b'\n') {
+        return 2;
+    }
+    0
 }
 
 /// Returns the state after one more byte.

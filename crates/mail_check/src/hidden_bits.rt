@@ -1,22 +1,20 @@
 //! Bits of a body in Base64 that make no byte.
 ghost use Rattle.std.specs.Prelude.{◌≡◌, ◌<◌, length};
-ghost use Rattle.mail_check.specs.HiddenBits.{hidden_bits, padding_end, spare_group};
+ghost use Rattle.mail_codec.specs.Ascii.{equals_sign};
+ghost use Rattle.mail_codec.specs.Places.{byte_place};
+ghost use Rattle.mail_check.specs.HiddenBits.{padding_end, spare_group, spare_group_of};
 
-use crate::bodies::is_base64_lines;
 use crate::scan::byte_at;
 use crate::word_bytes::has_spare_bits;
 use crate::words::up_to;
 use mail_codec::bytescan::find_byte;
 
 /// Returns the offset of the group in lines of Base64 that hides bits in its last letter.
-pub(crate) fn hidden_bits(body: &[u8]) -> Option<usize>
-    ensures { result ≡ hidden_bits body.now }
+pub(crate) fn spare_bits(lines: &[u8]) -> Option<usize>
+    ensures { result ≡ spare_group_of lines.now (byte_place lines.now equals_sign) }
 {
-    if !is_base64_lines(body) {
-        return None;
-    }
-    match find_byte(body, b'=') {
-        Some(place) => spare_group(body, padding_end(body, place)),
+    match find_byte(lines, b'=') {
+        Some(place) => spare_group(lines, padding_end(lines, place)),
         None => None,
     }
 }

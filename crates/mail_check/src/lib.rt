@@ -14,6 +14,7 @@ mod file_names;
 mod hidden_bits;
 mod inside;
 pub mod laws;
+mod letters;
 mod line_tests;
 mod lines;
 mod listing;

@@ -34,7 +34,7 @@ ghost use Rattle.mail_check.specs.private.Tested.{has_tested_value};
 
 use crate::bodies::is_base64_lines;
 use crate::file_names::{has_two_names, has_unsafe_name, has_untyped_name};
-use crate::hidden_bits::hidden_bits;
+use crate::hidden_bits::spare_bits;
 use crate::inside::push_inside;
 use crate::line_tests::{file_line, long_line};
 use crate::lines::{
@@ -857,10 +857,11 @@ fn push_base64(
     ensures { OnOk result (map finding_view found.new.items
         ≡ map finding_view found.old.items ++ base64_findings (place_view place.now) raw.now) }
 {
-    let whole = spot_of_body(place, raw.len());
-    let has_fault = !is_base64_lines(raw);
-    push_if(alloc, found, &whole, Name::Base64Syntax, has_fault)?;
-    let bits = hidden_bits(raw);
+    if !is_base64_lines(raw) {
+        let whole = spot_of_body(place, raw.len());
+        return push(alloc, found, &whole, Name::Base64Syntax, 0);
+    }
+    let bits = spare_bits(raw);
     push_at(
         alloc,
         found,

@@ -5,4 +5,4 @@ use Rattle.mail_check.specs.declared.bodies.Base64State.TheVariants.{Start}
 use Rattle.mail_check.proofs.bodies.is_base64_lines.Given as goal
 
 abbrev pub invariant-loop-byte : goal.invariant-loop-byte
-invariant-loop-byte l = after_bytes l.state (drop l.byte-index l.bytes) ≡ after_bytes Start l.bytes
+invariant-loop-byte l = after_bytes l.state (drop l.byte-index l.rest) ≡ after_bytes Start l.bytes
