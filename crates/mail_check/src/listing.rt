@@ -15,7 +15,7 @@ ghost use Rattle.mail_check.specs.Findings.{encoded_findings, file_findings, fin
 ghost use Rattle.mail_check.specs.Findings.{findings_from, header_findings, is_far};
 ghost use Rattle.mail_check.specs.Findings.{leaf_findings, line_findings, listed, listed_if};
 ghost use Rattle.mail_check.specs.Findings.{message_findings, multipart_findings};
-ghost use Rattle.mail_check.specs.Findings.{parameter_findings, part_findings};
+ghost use Rattle.mail_check.specs.Findings.{parameter_findings};
 ghost use Rattle.mail_check.specs.Findings.{has_none, is_single, quoted_findings, repeated};
 ghost use Rattle.mail_check.specs.Findings.{name_findings, repeated_findings, spot_in};
 ghost use Rattle.mail_check.specs.Findings.{spot_of_body, strict_findings};
@@ -31,6 +31,7 @@ ghost use Rattle.mail_check.specs.declared.names.Name.TheVariants.{BlankFold, Co
 ghost use Rattle.mail_check.specs.declared.names.Name.TheVariants.{Refused, Uuencode};
 ghost use Rattle.mail_check.specs.Multiparts.{dash_of};
 ghost use Rattle.mail_check.specs.private.Tested.{has_tested_value};
+ghost use Rattle.mail_check.specs.private.Delimiters.{AreFirst, part_findings_with};
 
 use crate::bodies::is_base64_lines;
 use crate::file_names::{has_two_names, has_unsafe_name, has_untyped_name};
@@ -42,7 +43,7 @@ use crate::lines::{
     header_lines, is_bad_encoding, is_bad_key, is_encoding, is_folded, is_named, second_named,
 };
 use crate::multipart::{
-    Occurrence, begins_type, dash_of, first_delimiter, is_bad_boundary, is_composite,
+    FirstDelimiters, begins_type, dash_of, first_delimiters, is_bad_boundary, is_composite,
     is_other_message, late_delimiter,
 };
 use crate::names::{Class, Name};
@@ -695,9 +696,10 @@ fn push_multipart(
     push_preamble(alloc, found, place)?;
     let size = place.part.get_headers().get_raw_bytes().len();
     let text = from_offset(place.part.raw_bytes, size);
-    push_parts(alloc, found, place, dash.as_slice(), text)?;
+    let first = first_delimiters(dash.as_slice(), text);
+    push_parts(alloc, found, place, text, first.close)?;
     let spot = spot_in(place, size, dash.len());
-    push_delimiters(alloc, found, &spot, dash.as_slice(), text)?;
+    push_delimiters(alloc, found, &spot, dash.as_slice(), text, first)?;
     Ok(())
 }
 
@@ -730,20 +732,18 @@ fn push_parts(
     alloc: Global,
     found: &mut Vec<Finding>,
     place: &Place<'_, '_>,
-    dash: &[u8],
     text: &[u8],
+    close: Option<usize>,
 ) -> Result<(), AllocError>
-    requires some { 0 < length dash.now }
     ensures { OnOk result (map finding_view found.new.items
         ≡ map finding_view found.old.items
-        ++ part_findings (place_view place.now)
-        (length (root (tree_of place.now.part.now)).block) dash.now text.now) }
+        ++ part_findings_with (place_view place.now)
+        (length (root (tree_of place.now.part.now)).block) text.now close) }
 {
     let size = place.part.get_headers().get_raw_bytes().len();
     let has_none = is_leaf(place.part);
     let spot = spot_in(place, size, 0);
     push_if(alloc, found, &spot, Name::NoDelimiter, has_none)?;
-    let close = first_delimiter(Occurrence::Close, dash, text);
     let spot = spot_in(place, size, text.len());
     push_if(
         alloc,
@@ -761,17 +761,17 @@ fn push_delimiters(
     spot: &Spot<'_>,
     dash: &[u8],
     text: &[u8],
+    first: FirstDelimiters,
 ) -> Result<(), AllocError>
-    requires some { 0 < length dash.now }
+    requires some { 1 < length dash.now }
+    requires first { AreFirst dash.now text.now first }
     ensures { OnOk result (map finding_view found.new.items
         ≡ map finding_view found.old.items
         ++ delimiter_findings (spot_view spot.now) dash.now text.now) }
 {
-    let inside = first_delimiter(Occurrence::Inside, dash, text);
-    push_at(alloc, found, spot, Name::DelimiterInside, inside)?;
-    let tailed = first_delimiter(Occurrence::Tailed, dash, text);
-    push_at(alloc, found, spot, Name::DelimiterTail, tailed)?;
-    let late = late_delimiter(dash, text);
+    push_at(alloc, found, spot, Name::DelimiterInside, first.inside)?;
+    push_at(alloc, found, spot, Name::DelimiterTail, first.tailed)?;
+    let late = late_delimiter(dash, text, first);
     push_at(alloc, found, spot, Name::LateDelimiter, late)
 }
 

@@ -1,37 +1,38 @@
 //! Boundaries and delimiters that other programs may read differently.
-ghost use Rattle.std.specs.Prelude.{◌≡◌, ◌<◌, ◌≤◌, ◌&&◌, ◌+◌, ◌++◌, codes, drop, length, option_map};
-ghost use Rattle.std.specs.Prelude.{IfOk};
+ghost use Rattle.std.specs.Prelude.{◌≡◌, ◌<◌, ◌≤◌, ◌&&◌, ◌+◌, ◌-◌, ◌++◌, codes, drop, length};
+ghost use Rattle.std.specs.Prelude.{option_map, true, IfOk};
 ghost use Rattle.std.specs.List.{list_all};
+ghost use Rattle.std.specs.Option.{unwrap_or};
+ghost use Rattle.mail_codec.specs.Places.{text_place};
 ghost use Rattle.mailparse.specs.Delimiters.{starts_line};
 ghost use Rattle.mailparse.specs.Mail.{root};
 ghost use Rattle.mailparse.specs.Views.{tree_of};
-ghost use Rattle.mail_check.specs.Bytes.{first_offset, is_line_left};
+ghost use Rattle.mail_check.specs.Bytes.{first_byte, first_offset, is_line_left};
 ghost use Rattle.mail_check.specs.Lines.{begins_type, is_composite, is_known_message};
 ghost use Rattle.mail_check.specs.Lines.{is_other_message};
-ghost use Rattle.mail_check.specs.Multiparts.{after_dash, dash_of, is_bad_boundary, is_boundary};
-ghost use Rattle.mail_check.specs.Multiparts.{is_boundary_byte, late_delimiter, without_dashes};
-ghost use Rattle.mail_check.specs.private.Delimiters.{delimiter_at};
+ghost use Rattle.mail_check.specs.Multiparts.{after_dash, dash_of, has_dash, is_bad_boundary};
+ghost use Rattle.mail_check.specs.Multiparts.{is_boundary, is_boundary_byte, is_close, is_from};
+ghost use Rattle.mail_check.specs.Multiparts.{is_inside, is_open, is_tailed, late_delimiter};
+ghost use Rattle.mail_check.specs.Multiparts.{without_dashes};
+ghost use Rattle.mail_check.specs.private.Delimiters.{AreFirst, found_or, is_other};
 
 use crate::scan::{from_offset, is_line_left};
-use mail_codec::bytescan::{find, find_byte};
+use mail_codec::bytescan::{find_byte, find_pair};
 use mailparse::ParsedMail;
 use std::alloc::{AllocError, Global};
 
-/// How a dash-boundary occurs.
+/// The first offsets in the text of a multipart at which its dash-boundary occurs, for each way in
+/// which it may occur.
 #[derive(Clone, Copy)]
-pub(crate) enum Occurrence {
+pub(crate) struct FirstDelimiters {
     /// Where no line starts.
-    Inside,
+    pub(crate) inside: Option<usize>,
     /// At the start of a line that has more than `--` after it.
-    Tailed,
+    pub(crate) tailed: Option<usize>,
     /// At the start of a line, with nothing after it.
-    Open,
+    pub(crate) opening: Option<usize>,
     /// At the start of a line, with `--` after it.
-    Close,
-    /// At an offset or after it, at the start of a line, with at most `--` after it.
-    From(usize),
-    /// The same, after an offset.
-    Past(usize),
+    pub(crate) close: Option<usize>,
 }
 
 /// Returns whether the type of a message begins with a text.
@@ -146,15 +147,89 @@ pub(crate) fn is_bad_boundary(part: &ParsedMail<'_>) -> bool
     }
 }
 
-/// Returns the first offset in the text of a multipart at which the dash-boundary occurs so.
-pub(crate) fn first_delimiter(occurrence: Occurrence, dash: &[u8], text: &[u8]) -> Option<usize>
-    requires some { 0 < length dash.now }
-    ensures { result ≡ first_offset (delimiter_at occurrence dash.now text.now) text.now }
+/// Returns the first offsets in the text of a multipart at which the dash-boundary occurs.
+pub(crate) fn first_delimiters(dash: &[u8], text: &[u8]) -> FirstDelimiters
+    requires some { 1 < length dash.now }
+    ensures { AreFirst dash.now text.now result }
 {
+    let mut found = FirstDelimiters {
+        inside: None,
+        tailed: None,
+        opening: None,
+        close: None,
+    };
+    let lead = lead(dash);
     let mut from = 0;
-    'places: while let Some(next) = find(&text[from..], dash) {
+    'places: while let Some(next) = find_dash(dash, lead, &text[from..]) {
         let place = from + next;
-        if delimiter_at(occurrence, dash, text, place) {
+        found = with_next(found, dash, text, place);
+        from = place + 1;
+    }
+    found
+}
+
+/// Returns the first offsets, given those before the dash-boundary at an offset.
+fn with_next(found: FirstDelimiters, dash: &[u8], text: &[u8], at: usize) -> FirstDelimiters
+    requires within { at < length text.now }
+    requires occurs { has_dash dash.now text.now at ≡ true }
+    ensures inside { result.inside
+        ≡ found_or found.inside at (is_inside dash.now text.now at) }
+    ensures tailed { result.tailed
+        ≡ found_or found.tailed at (is_tailed dash.now text.now at) }
+    ensures opening { result.opening
+        ≡ found_or found.opening at (is_open dash.now text.now at) }
+    ensures close { result.close ≡ found_or found.close at (is_close dash.now text.now at) }
+{
+    let starts = starts_line(text, at);
+    let rest = after_dash(dash, text, at);
+    FirstDelimiters {
+        inside: found_or(found.inside, at, !starts),
+        tailed: found_or(
+            found.tailed,
+            at,
+            starts && !is_line_left(without_dashes(rest)),
+        ),
+        opening: found_or(found.opening, at, starts && is_line_left(rest)),
+        close: found_or(found.close, at, starts && rest.starts_with(b"--")),
+    }
+}
+
+/// Returns the offset that was found, or otherwise this one if it passes.
+fn found_or(found: Option<usize>, at: usize, passes: bool) -> Option<usize>
+    ensures { result ≡ found_or found at passes }
+{
+    match found {
+        Some(place) => Some(place),
+        None if passes => Some(at),
+        None => None,
+    }
+}
+
+/// Returns the offset of the first delimiter that follows a close-delimiter, or is one that comes
+/// before all delimiters with nothing after them.
+pub(crate) fn late_delimiter(dash: &[u8], text: &[u8], first: FirstDelimiters) -> Option<usize>
+    requires some { 1 < length dash.now }
+    requires first { AreFirst dash.now text.now first }
+    ensures { result ≡ late_delimiter dash.now text.now }
+{
+    let close = first.close?;
+    match first.opening {
+        Some(opening) if opening < close => delimiter_from(dash, text, close + 1),
+        _ => delimiter_from(dash, text, close),
+    }
+}
+
+/// Returns the offset of the first delimiter at an offset or after it.
+fn delimiter_from(dash: &[u8], text: &[u8], start: usize) -> Option<usize>
+    requires some { 1 < length dash.now }
+    requires within { start ≤ length text.now }
+    ensures { result ≡ first_offset (is_from dash.now text.now start) text.now }
+{
+    let lead = lead(dash);
+    let mut from = start;
+    'places: while let Some(next) = find_dash(dash, lead, &text[from..]) {
+        let place = from + next;
+        if is_delimiter(dash, text, place) {
             return Some(place);
         }
         from = place + 1;
@@ -162,38 +237,36 @@ pub(crate) fn first_delimiter(occurrence: Occurrence, dash: &[u8], text: &[u8]) 
     None
 }
 
-/// Returns the offset of the first delimiter that follows a close-delimiter, or is one that comes
-/// before all delimiters with nothing after them.
-pub(crate) fn late_delimiter(dash: &[u8], text: &[u8]) -> Option<usize>
-    requires some { 0 < length dash.now }
-    ensures { result ≡ late_delimiter dash.now text.now }
+/// Returns the offset of the first dash-boundary in a text. Searches for two of its bytes, that at
+/// the offset `lead` and the next one, and compares the others where these occur.
+fn find_dash(dash: &[u8], lead: usize, text: &[u8]) -> Option<usize>
+    requires lead { lead + 1 < length dash.now }
+    ensures { result ≡ text_place text.now dash.now }
 {
-    let opening = first_delimiter(Occurrence::Open, dash, text);
-    let close = first_delimiter(Occurrence::Close, dash, text)?;
-    match opening {
-        Some(opening) if opening < close => first_delimiter(Occurrence::Past(close), dash, text),
-        _ => first_delimiter(Occurrence::From(close), dash, text),
+    let rest = from_offset(text, lead);
+    let mut from = 0;
+    'pairs: while let Some(next) = find_pair(&rest[from..], dash[lead], dash[lead + 1]) {
+        let place = from + next;
+        if text[place..].starts_with(dash) {
+            return Some(place);
+        }
+        from = place + 1;
     }
+    None
 }
 
-/// Returns whether the dash-boundary occurs so at an offset.
-fn delimiter_at(occurrence: Occurrence, dash: &[u8], text: &[u8], at: usize) -> bool
-    requires within { at < length text.now }
-    ensures { result ≡ delimiter_at occurrence dash.now text.now at }
+/// Returns the offset of the last of the dashes at the front of a dash-boundary, or 0 if it
+/// consists of dashes. A search for this dash and the byte after it does not stop in rows of
+/// dashes, which are frequent in texts.
+fn lead(dash: &[u8]) -> usize
+    requires some { 1 < length dash.now }
+    ensures value { result ≡ unwrap_or (first_byte is_other dash.now) 0 - 1 }
+    ensures bounds { result + 1 < length dash.now }
 {
-    if !text[at..].starts_with(dash) {
-        return false;
-    }
-    match occurrence {
-        Occurrence::Inside => !starts_line(text, at),
-        Occurrence::Tailed => {
-            starts_line(text, at) && !is_line_left(without_dashes(after_dash(dash, text, at)))
-        }
-        Occurrence::Open => starts_line(text, at) && is_line_left(after_dash(dash, text, at)),
-        Occurrence::Close => starts_line(text, at) && after_dash(dash, text, at).starts_with(b"--"),
-        Occurrence::From(start) => is_delimiter(dash, text, at) && at >= start,
-        Occurrence::Past(start) => is_delimiter(dash, text, at) && at > start,
-    }
+    dash.iter()
+        .position(|byte| *byte != b'-')
+        .unwrap_or(0)
+        .saturating_sub(1)
 }
 
 /// Returns whether a line starts at the offset of a dash-boundary, with at most `--` after that.
