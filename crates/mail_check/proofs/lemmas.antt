@@ -1,5 +1,7 @@
 pub mod Bytes
 pub mod Bodies
+pub mod Patterns
+pub mod Controls
 pub mod Delimiters
 pub mod Lines
 pub mod Singles

@@ -52,7 +52,10 @@ use crate::parameters::{
     has_extended, has_parameters, has_quoted_pair, has_quoted_special, has_word, is_type,
     strict_value,
 };
-use crate::scan::{Pattern, control_byte, earlier, first_match, from_offset, high_byte, later};
+use crate::scan::{
+    Pattern, control_byte, earlier, end_blank, first_match, from_offset, high_byte, later,
+    odd_escapes,
+};
 use crate::senders::is_bad_sender;
 use crate::texts::has_bad_text;
 use crate::word_bytes::has_bad_word;
@@ -921,12 +924,10 @@ fn push_quoted(
     ensures { OnOk result (map finding_view found.new.items
         ≡ map finding_view found.old.items ++ quoted_findings (spot_view spot.now) raw.now) }
 {
-    let syntax = earlier(first_match(Pattern::BadEscape, raw), control_byte(raw));
+    let (bad, ended) = odd_escapes(raw);
+    let syntax = earlier(bad, control_byte(raw));
     push_at(alloc, found, spot, Name::QpSyntax, syntax)?;
-    let blank = earlier(
-        first_match(Pattern::EndBlank, raw),
-        first_match(Pattern::EscapedEnd, raw),
-    );
+    let blank = earlier(end_blank(raw), ended);
     push_at(alloc, found, spot, Name::QpBlank, blank)?;
     push_at(alloc, found, spot, Name::EightBitBody, high_byte(raw))
 }

@@ -1,7 +1,8 @@
 //! Searches of bytes for what other programs may read differently.
-ghost use Rattle.std.specs.Prelude.{◌≡◌, ◌<◌, ◌≤◌, ◌==◌, ◌||◌, ◌&&◌, drop, length, not};
+ghost use Rattle.std.specs.Prelude.{◌≡◌, ◌<◌, ◌≤◌, ◌==◌, ◌||◌, ◌+◌, ◌&&◌, drop, length, not};
 ghost use Rattle.std.specs.List.{list_all};
 ghost use Rattle.mail_codec.specs.Places.{begins, first_place};
+ghost use Rattle.mail_codec.specs.private.Vectors.{lane_mask};
 ghost use Rattle.mail_codec.specs.Ascii.{carriage_return, is_blank, line_feed};
 ghost use Rattle.mail_check.specs.Bytes.{earlier, is_bad_escape, is_control, is_end_blank};
 ghost use Rattle.mail_check.specs.Bytes.{is_escape_digit};
@@ -10,12 +11,18 @@ ghost use Rattle.mail_check.specs.Bytes.{byte_at, first_byte, first_offset, is_l
 ghost use Rattle.mail_check.specs.Bytes.{is_bare_line_feed, is_blank_fold, is_comment_fold};
 ghost use Rattle.mail_check.specs.Bytes.{is_lone_return, is_return_feed};
 ghost use Rattle.mail_check.specs.LineTests.{begins_file, is_before, is_long_line};
-ghost use Rattle.mail_check.specs.private.Patterns.{first_lead, matches_at, second_lead};
+ghost use Rattle.mail_check.specs.private.Patterns.{end_offset, is_after_blank};
+ghost use Rattle.mail_check.specs.private.Patterns.{is_blank_feed, is_odd_escape};
+ghost use Rattle.mail_check.specs.private.Patterns.{last_blank, lead, matches_at};
 
 use crate::line_tests::{begins_file, is_long_line};
-use mail_codec::bytescan::find_either;
+use mail_codec::bytescan::find_byte;
+use std::simd::prelude::*;
 
-/// What is searched for. Each begins with one of two bytes.
+/// The number of bytes in a vector.
+const LANES: usize = 16;
+
+/// What is searched for. Each has one byte at its offset.
 #[derive(Clone, Copy)]
 pub(crate) enum Pattern {
     /// A NUL.
@@ -32,10 +39,12 @@ pub(crate) enum Pattern {
     CommentFold,
     /// An equals sign that begins neither an escape nor a soft line break.
     BadEscape,
-    /// A blank at the end of a line.
-    EndBlank,
+    /// A LF, and before it a blank, or a blank and a CR.
+    BlankFeed,
     /// An equals sign before nothing but line ends, or an escaped CR or LF.
     EscapedEnd,
+    /// An equals sign that is one of the two kinds above.
+    OddEscape,
     /// A LF, and after it a line of more than 998 bytes.
     LongLine,
     /// A LF, and after it a line that begins a file.
@@ -47,11 +56,7 @@ pub(crate) fn first_match(pattern: Pattern, bytes: &[u8]) -> Option<usize>
     ensures value { result ≡ first_offset (matches_at pattern bytes.now) bytes.now }
 {
     let mut from = 0;
-    'places: while let Some(next) = find_either(
-        &bytes[from..],
-        first_lead(pattern),
-        second_lead(pattern),
-    ) {
+    'places: while let Some(next) = find_byte(&bytes[from..], lead(pattern)) {
         let place = from + next;
         if matches_at(pattern, bytes, place) {
             return Some(place);
@@ -61,27 +66,20 @@ pub(crate) fn first_match(pattern: Pattern, bytes: &[u8]) -> Option<usize>
     None
 }
 
-/// Returns the first of the two bytes with which a pattern may begin.
-fn first_lead(pattern: Pattern) -> u8
-    ensures { result ≡ first_lead pattern }
+/// Returns the byte that a pattern has at its offset.
+fn lead(pattern: Pattern) -> u8
+    ensures { result ≡ lead pattern }
 {
     match pattern {
         Pattern::Nul => 0,
         Pattern::LoneReturn | Pattern::ReturnFeed => b'\r',
-        Pattern::BareLineFeed | Pattern::BlankFold | Pattern::LongLine | Pattern::FileLine => b'\n',
+        Pattern::BareLineFeed
+        | Pattern::BlankFold
+        | Pattern::BlankFeed
+        | Pattern::LongLine
+        | Pattern::FileLine => b'\n',
         Pattern::CommentFold => b')',
-        Pattern::BadEscape | Pattern::EscapedEnd => b'=',
-        Pattern::EndBlank => b' ',
-    }
-}
-
-/// Returns the second of them.
-fn second_lead(pattern: Pattern) -> u8
-    ensures { result ≡ second_lead pattern }
-{
-    match pattern {
-        Pattern::EndBlank => b'\t',
-        pattern => first_lead(pattern),
+        Pattern::BadEscape | Pattern::EscapedEnd | Pattern::OddEscape => b'=',
     }
 }
 
@@ -98,8 +96,9 @@ fn matches_at(pattern: Pattern, bytes: &[u8], at: usize) -> bool
         Pattern::BlankFold => is_blank_fold(bytes, at),
         Pattern::CommentFold => is_comment_fold(bytes, at),
         Pattern::BadEscape => is_bad_escape(bytes, at),
-        Pattern::EndBlank => is_end_blank(bytes, at),
+        Pattern::BlankFeed => is_blank_feed(bytes, at),
         Pattern::EscapedEnd => is_escaped_end(bytes, at),
+        Pattern::OddEscape => is_odd_escape(bytes, at),
         Pattern::LongLine => byte_at(bytes, at, b'\n') && is_long_line(&bytes[at + 1..]),
         Pattern::FileLine => byte_at(bytes, at, b'\n') && begins_file(&bytes[at + 1..]),
     }
@@ -208,16 +207,31 @@ pub(crate) fn is_escape_digit(byte: u8) -> bool
     (byte >= b'0' && byte <= b'9') || (byte >= b'A' && byte <= b'F')
 }
 
-/// Returns whether a blank at the end of a line is at an offset.
-fn is_end_blank(bytes: &[u8], at: usize) -> bool
+/// Returns whether a LF is at an offset, and before its line end a blank.
+fn is_blank_feed(bytes: &[u8], at: usize) -> bool
     requires within { at < length bytes.now }
-    ensures { result ≡ is_end_blank bytes.now at }
+    ensures { result ≡ is_blank_feed bytes.now at }
 {
-    let is_blank = match bytes.get(at) {
-        Some(byte) => *byte == b' ' || *byte == b'\t',
-        None => false,
-    };
-    is_blank && is_line_left(&bytes[at + 1..])
+    byte_at(bytes, at, b'\n') && is_after_blank(bytes, end_offset(bytes, at))
+}
+
+/// Returns the offset of the line end with a LF at an offset: that of a CR before it, if there is
+/// one.
+fn end_offset(bytes: &[u8], feed: usize) -> usize
+    ensures { result ≡ end_offset bytes.now feed }
+{
+    if feed > 0 && byte_at(bytes, feed - 1, b'\r') {
+        feed - 1
+    } else {
+        feed
+    }
+}
+
+/// Returns whether a blank is before an offset.
+fn is_after_blank(bytes: &[u8], at: usize) -> bool
+    ensures { result ≡ is_after_blank bytes.now at }
+{
+    at > 0 && (byte_at(bytes, at - 1, b' ') || byte_at(bytes, at - 1, b'\t'))
 }
 
 /// Returns whether an equals sign is at an offset before nothing but line ends, or one that begins
@@ -233,6 +247,29 @@ fn is_escaped_end(bytes: &[u8], at: usize) -> bool
     are_line_ends(rest) || rest.starts_with(b"0D") || rest.starts_with(b"0A")
 }
 
+/// Returns whether an equals sign is at an offset that is one of the two kinds above.
+fn is_odd_escape(bytes: &[u8], at: usize) -> bool
+    requires within { at < length bytes.now }
+    ensures { result ≡ is_odd_escape bytes.now at }
+{
+    is_bad_escape(bytes, at) || is_escaped_end(bytes, at)
+}
+
+/// Returns the offsets of the first bad escape and of the first at an end. Most texts have neither,
+/// and both are searched at once.
+pub(crate) fn odd_escapes(bytes: &[u8]) -> (Option<usize>, Option<usize>)
+    ensures bad { result.0 ≡ first_offset (is_bad_escape bytes.now) bytes.now }
+    ensures ended { result.1 ≡ first_offset (is_escaped_end bytes.now) bytes.now }
+{
+    if first_match(Pattern::OddEscape, bytes).is_none() {
+        return (None, None);
+    }
+    (
+        first_match(Pattern::BadEscape, bytes),
+        first_match(Pattern::EscapedEnd, bytes),
+    )
+}
+
 /// Returns whether all bytes are those of line ends.
 fn are_line_ends(bytes: &[u8]) -> bool
     ensures { result ≡ list_all (λ b. b == carriage_return || b == line_feed) bytes.now }
@@ -240,10 +277,36 @@ fn are_line_ends(bytes: &[u8]) -> bool
     bytes.iter().all(|byte| *byte == b'\r' || *byte == b'\n')
 }
 
-/// Returns the offset of the first byte that is not ASCII.
+/// Returns the offset of the first blank at the end of a line. Since most blanks are between words,
+/// the line ends are searched, and not the blanks.
+pub(crate) fn end_blank(bytes: &[u8]) -> Option<usize>
+    ensures { result ≡ first_offset (is_end_blank bytes.now) bytes.now }
+{
+    match first_match(Pattern::BlankFeed, bytes) {
+        Some(feed) => Some(end_offset(bytes, feed) - 1),
+        None => last_blank(bytes),
+    }
+}
+
+/// Returns the offset of the last byte, if it is a blank.
+fn last_blank(bytes: &[u8]) -> Option<usize>
+    ensures { result ≡ last_blank bytes.now }
+{
+    if is_after_blank(bytes, bytes.len()) {
+        Some(bytes.len() - 1)
+    } else {
+        None
+    }
+}
+
+/// Returns the offset of the first byte that is not ASCII. Most texts are ASCII, which is tested
+/// many bytes at once.
 pub(crate) fn high_byte(bytes: &[u8]) -> Option<usize>
     ensures { result ≡ first_byte is_high bytes.now }
 {
+    if bytes.is_ascii() {
+        return None;
+    }
     bytes.iter().position(|byte| *byte >= 128)
 }
 
@@ -251,7 +314,38 @@ pub(crate) fn high_byte(bytes: &[u8]) -> Option<usize>
 pub(crate) fn control_byte(bytes: &[u8]) -> Option<usize>
     ensures { result ≡ first_byte is_control bytes.now }
 {
-    bytes.iter().position(|byte| is_control(*byte))
+    let from = plain_len(bytes);
+    match bytes[from..].iter().position(|byte| is_control(*byte)) {
+        Some(place) => Some(from + place),
+        None => None,
+    }
+}
+
+/// Returns the number of bytes in the vectors at the front that have no such character.
+fn plain_len(bytes: &[u8]) -> usize
+    ensures passed { first_place (begins is_control) bytes.now
+        ≡ result + first_place (begins is_control) (drop result bytes.now) }
+    ensures bounds { result ≤ length bytes.now }
+{
+    let mut at = 0;
+    'vectors: while bytes.len() - at >= LANES {
+        if control_lanes(u8x16::from_slice(&bytes[at..])) != 0 {
+            break;
+        }
+        at += LANES;
+    }
+    at
+}
+
+/// Returns the mask of such characters among the bytes of a vector.
+#[inline(always)]
+fn control_lanes(bytes: u8x16) -> u64
+    ensures { result ≡ lane_mask is_control bytes }
+{
+    let low = bytes.simd_lt(u8x16::splat(9)) | bytes.simd_eq(u8x16::splat(127));
+    let feeds = bytes.simd_eq(u8x16::splat(11)) | bytes.simd_eq(u8x16::splat(12));
+    let high = bytes.simd_ge(u8x16::splat(14)) & bytes.simd_lt(u8x16::splat(32));
+    (low | feeds | high).to_bitmask()
 }
 
 /// Returns whether a byte is such a control character.

@@ -1,18 +1,19 @@
 -- Lemmas on searches of bytes.
-use Rattle.std.proofs.Common.{◌≡◌, ◌∙◌, ◌+◌, ◌-◌, ◌<◌, ◌≤◌, ℕ, Bool, true, false, cond, List, [], ◌∷◌, length, take, drop, refl, sym, ap, Option, Some, None, arith, length-drop, inl, inr}
-use Rattle.std.specs.Prelude.{nat_lt, ◌&&◌, ◌||◌, ◌==◌}
+use Rattle.std.proofs.Common.{◌≡◌, ◌∙◌, ◌+◌, ◌-◌, ◌<◌, ◌≤◌, ℕ, Bool, true, false, cond, List, length, take, drop, refl, sym, ap, subst, Option, Some, None, arith, length-drop, inl, inr}
+use Rattle.std.specs.Prelude.{nat_lt, not, option_map, ◌&&◌, ◌||◌, ◌==◌}
+use Rattle.std.specs.Str.{IsAscii}
 use Rattle.std.specs.Option.{unwrap_or}
 use Rattle.std.specs.List.{position_or_len}
 use Rattle.std.proofs.lemmas.Bool.{cases_lt, lt-ltb, le-ltb}
 use Rattle.std.proofs.lemmas.List.{take_rest, drop-drop}
-use Rattle.mail_codec.specs.Places.{begins, either_place, first_place, least, place}
-use Rattle.mail_codec.proofs.lemmas.Places.{first_place-before, first_place-begins, least-is}
+use Rattle.mail_codec.specs.Places.{begins, byte_place, first_place, least, place}
+use Rattle.mail_codec.proofs.lemmas.Places.{first_place-before, first_place-begins, first_place-passes, begins-at, least-before, least-is, least-passes}
 use Rattle.mail_codec.proofs.lemmas.PlacesSearches.{place_none, place_some}
 use Rattle.mail_codec.proofs.lemmas.Utf7.{position_unwrapped}
-use Rattle.mail_check.specs.Bytes.{first_offset}
-use Rattle.mail_check.specs.private.Patterns.{first_lead, matches_at, second_lead}
+use Rattle.mail_check.specs.Bytes.{byte_at, first_byte, first_offset, is_high}
+use Rattle.mail_check.specs.private.Patterns.{lead, matches_at}
 use Rattle.mail_check.specs.declared.scan.Pattern.{Pattern}
-use Rattle.mail_check.specs.declared.scan.Pattern.TheVariants.{Nul, LoneReturn, ReturnFeed, BareLineFeed, BlankFold, CommentFold, BadEscape, EndBlank, EscapedEnd, LongLine, FileLine}
+use Rattle.mail_check.specs.declared.scan.Pattern.TheVariants.{Nul, LoneReturn, ReturnFeed, BareLineFeed, BlankFold, CommentFold, BadEscape, BlankFeed, EscapedEnd, OddEscape, LongLine, FileLine}
 
 -- the first byte that passes, or the length
 pub first_unwrapped : (test : ℕ → Bool) (xs : List ℕ)
@@ -35,41 +36,50 @@ offset-none test bytes before =
     let is : least test (length bytes) ≡ length bytes = least-is test (length bytes) (length bytes) (omega arith) before (λ h. absurd (omega arith)) in
     rw (is, le-ltb (length bytes) (length bytes) (omega arith)) refl
 
-pub offset_within : (test : ℕ → Bool) (bytes : List ℕ) (p : ℕ) → Some p ≡ first_offset test bytes → p < length bytes
+-- what a search returns
+pub offset_some : (test : ℕ → Bool) (bytes : List ℕ) (p : ℕ) → Some p ≡ first_offset test bytes → (p < length bytes) × (test p ≡ true) × NoneBefore test p
 unfolding first_offset
-offset_within test bytes p h = elim (cases_lt (least test (length bytes)) (length bytes)) [
-  | inl l ↦ let e = lt-ltb (least test (length bytes)) (length bytes) l in let s = rw e at h in let same = ap (λ (o : Option ℕ). unwrap_or o 0) s in omega (arith, l, same)
+offset_some test bytes p h = elim (cases_lt (least test (length bytes)) (length bytes)) [
+  | inl l ↦
+      let e = lt-ltb (least test (length bytes)) (length bytes) l in
+      let s = rw e at h in
+      let same : least test (length bytes) ≡ p = sym (ap (λ (o : Option ℕ). unwrap_or o 0) s) in
+      subst (λ (n : ℕ). (n < length bytes) × (test n ≡ true) × NoneBefore test n) same
+      (l, least-passes test (length bytes) l, least-before test (length bytes))
   | inr g ↦ let e = le-ltb (least test (length bytes)) (length bytes) g in let s = rw e at h in absurd (cc)
 ]
 
--- ---- patterns
+pub offset_no : (test : ℕ → Bool) (bytes : List ℕ) → None ≡ first_offset test bytes → NoneBefore test (length bytes)
+unfolding first_offset
+offset_no test bytes h = elim (cases_lt (least test (length bytes)) (length bytes)) [
+  | inl l ↦ let e = lt-ltb (least test (length bytes)) (length bytes) l in let s = rw e at h in absurd (cc)
+  | inr g ↦ λ k low. least-before test (length bytes) k (omega (arith, g, low))
+]
 
--- what begins with neither of two bytes does not begin with the first
-not_first : (x y : ℕ) (rest : List ℕ) → begins (λ b. b == x || b == y) rest ≡ false → begins (λ b. b == x) rest ≡ false
-not_first x y [] h = refl
-not_first x y (b ∷ rest) h = by_test (b == x) (b == y) h
-  where
-    by_test : (s t : Bool) → (s || t) ≡ false → s ≡ false
-    by_test true t h = cc
-    by_test false t h = refl
+-- ---- patterns
 
 pub and_false : (s t : Bool) → s ≡ false → (s && t) ≡ false
 and_false false t h = refl
 and_false true t h = cc
 
--- a pattern occurs nowhere else than at one of its first bytes
-pub no_lead : (pattern : Pattern) (bytes : List ℕ) (p : ℕ) → begins (λ b. b == first_lead pattern || b == second_lead pattern) (drop p bytes) ≡ false → matches_at pattern bytes p ≡ false
-no_lead Nul bytes p h = not_first _ _ (drop p bytes) h
-no_lead LoneReturn bytes p h = and_false _ _ (not_first _ _ (drop p bytes) h)
-no_lead ReturnFeed bytes p h = and_false _ _ (not_first _ _ (drop p bytes) h)
-no_lead BareLineFeed bytes p h = and_false _ _ (not_first _ _ (drop p bytes) h)
-no_lead BlankFold bytes p h = and_false _ _ (not_first _ _ (drop p bytes) h)
-no_lead CommentFold bytes p h = and_false _ _ (not_first _ _ (drop p bytes) h)
-no_lead BadEscape bytes p h = and_false _ _ (not_first _ _ (drop p bytes) h)
-no_lead EndBlank bytes p h = and_false _ _ h
-no_lead EscapedEnd bytes p h = and_false _ _ (not_first _ _ (drop p bytes) h)
-no_lead LongLine bytes p h = and_false _ _ (not_first _ _ (drop p bytes) h)
-no_lead FileLine bytes p h = and_false _ _ (not_first _ _ (drop p bytes) h)
+or_false : (s t : Bool) → s ≡ false → t ≡ false → (s || t) ≡ false
+or_false true t h g = cc
+or_false false t h g = g
+
+-- a pattern occurs nowhere else than at its byte
+pub no_lead : (pattern : Pattern) (bytes : List ℕ) (p : ℕ) → byte_at bytes p (lead pattern) ≡ false → matches_at pattern bytes p ≡ false
+no_lead Nul bytes p h = h
+no_lead LoneReturn bytes p h = and_false _ _ h
+no_lead ReturnFeed bytes p h = and_false _ _ h
+no_lead BareLineFeed bytes p h = and_false _ _ h
+no_lead BlankFold bytes p h = and_false _ _ h
+no_lead CommentFold bytes p h = and_false _ _ h
+no_lead BadEscape bytes p h = and_false _ _ h
+no_lead BlankFeed bytes p h = and_false _ _ h
+no_lead EscapedEnd bytes p h = and_false _ _ h
+no_lead OddEscape bytes p h = or_false _ _ (and_false _ _ h) (and_false _ _ h)
+no_lead LongLine bytes p h = and_false _ _ h
+no_lead FileLine bytes p h = and_false _ _ h
 
 -- a search for all that passes a test has come to an offset, and finds the next place that passes a weaker one, or none
 module _ (lead : List ℕ → Bool) (test : ℕ → Bool) (bytes : List ℕ) (from : ℕ) (within : from ≤ length bytes)
@@ -96,12 +106,12 @@ module _ (lead : List ℕ → Bool) (test : ℕ → Bool) (bytes : List ℕ) (fr
 
 -- the same for a pattern
 module _ (pattern : Pattern) (bytes : List ℕ) (from : ℕ) (within : from ≤ length bytes) (before : NoneBefore (matches_at pattern bytes) from) where
-  pub next_found : (next : ℕ) → Some next ≡ either_place (take (length bytes - from) (drop from bytes)) (first_lead pattern) (second_lead pattern)
+  pub next_found : (next : ℕ) → Some next ≡ byte_place (take (length bytes - from) (drop from bytes)) (lead pattern)
       → (from + next < length bytes) × NoneBefore (matches_at pattern bytes) (from + next)
-  next_found next found = search_found (begins (λ b. b == first_lead pattern || b == second_lead pattern)) (matches_at pattern bytes) bytes from within (no_lead pattern bytes) before next found
+  next_found next found = search_found (begins (λ b. b == lead pattern)) (matches_at pattern bytes) bytes from within (no_lead pattern bytes) before next found
 
-  pub next_none : None ≡ either_place (take (length bytes - from) (drop from bytes)) (first_lead pattern) (second_lead pattern) → NoneBefore (matches_at pattern bytes) (length bytes)
-  next_none none = search_none (begins (λ b. b == first_lead pattern || b == second_lead pattern)) (matches_at pattern bytes) bytes from within (no_lead pattern bytes) before none
+  pub next_none : None ≡ byte_place (take (length bytes - from) (drop from bytes)) (lead pattern) → NoneBefore (matches_at pattern bytes) (length bytes)
+  next_none none = search_none (begins (λ b. b == lead pattern)) (matches_at pattern bytes) bytes from within (no_lead pattern bytes) before none
 
 -- an offset that fails is passed
 pub one_more : (test : ℕ → Bool) (n : ℕ) → NoneBefore test n → test n ≡ false → NoneBefore test (n + 1)
@@ -113,3 +123,26 @@ one_more test n before here k h = elim (cases_lt k n) [
 -- the position of the first byte that passes is its place
 pub position_place : (test : ℕ → Bool) (xs : List ℕ) → cond (nat_lt (position_or_len test xs) (length xs)) (Some (position_or_len test xs)) None ≡ place (begins test) xs
 position_place test xs = ap (λ (p : ℕ). cond (nat_lt p (length xs)) (Some p) None) (sym (first_place-begins test xs))
+
+-- ---- bytes that are not ASCII
+
+pub ascii_none : (bytes : List ℕ) → IsAscii bytes → None ≡ first_byte is_high bytes
+ascii_none bytes ascii = elim (cases_lt (first_place (begins is_high) bytes) (length bytes)) [
+  | inl l ↦
+      let high = sym (begins-at is_high bytes (first_place (begins is_high) bytes) l) ∙ first_place-passes (begins is_high) bytes l in
+      let low = lt-ltb _ 128 (ascii (first_place (begins is_high) bytes)) in
+      let no : not true ≡ true = rw low at high in absurd (cc)
+  | inr g ↦ ap (λ (t : Bool). cond t (Some (first_place (begins is_high) bytes)) None) (sym (le-ltb (first_place (begins is_high) bytes) (length bytes) g))
+]
+
+-- ---- a search that begins after an offset
+
+pub place_after : (test : ℕ → Bool) (bytes : List ℕ) (from : ℕ) → from ≤ length bytes → first_place (begins test) bytes ≡ from + first_place (begins test) (drop from bytes)
+    → (o : Option ℕ) → o ≡ place (begins test) (take (length bytes - from) (drop from bytes)) → option_map (λ p. from + p) o ≡ place (begins test) bytes
+place_after test bytes from within passed None h =
+    let none = place_none (begins test) (drop from bytes) (h ∙ ap (place (begins test)) (take_rest bytes from)) in
+    sym (ap (λ (t : Bool). cond t (Some (first_place (begins test) bytes)) None) (le-ltb (first_place (begins test) bytes) (length bytes) (omega (arith, passed, none, length-drop from bytes, within))))
+place_after test bytes from within passed (Some p) h =
+    let some = place_some (begins test) (drop from bytes) p (h ∙ ap (place (begins test)) (take_rest bytes from)) in
+    ap Some {x = from + p} {y = first_place (begins test) bytes} (omega (arith, passed, some.0))
+    ∙ sym (ap (λ (t : Bool). cond t (Some (first_place (begins test) bytes)) None) (lt-ltb (first_place (begins test) bytes) (length bytes) (omega (arith, passed, some.1, length-drop from bytes))))
