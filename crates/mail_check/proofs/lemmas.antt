@@ -1,6 +1,7 @@
 pub mod Bytes
 pub mod Bodies
 pub mod Patterns
+pub mod LineTests
 pub mod Controls
 pub mod Delimiters
 pub mod Lines

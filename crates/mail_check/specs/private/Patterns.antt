@@ -1,6 +1,7 @@
 -- What the patterns of the searches are.
-use Rattle.std.specs.Prelude.{ℕ, ◌-◌, Bool, ◌&&◌, ◌||◌, nat_lt, List, length, Option, Some, None, if◌then◌else◌}
+use Rattle.std.specs.Prelude.{ℕ, ◌-◌, Bool, ◌&&◌, ◌||◌, nat_lt, List, length, drop, codes, Option, Some, None, if◌then◌else◌}
 use Rattle.mail_codec.specs.Ascii.{carriage_return, closing_parenthesis, equals_sign, line_feed, space, tab}
+use Rattle.mail_codec.specs.Places.{has_prefix}
 use Rattle.mail_check.specs.Bytes.{byte_at, is_bad_escape, is_bare_line_feed, is_blank_fold, is_comment_fold, is_escaped_end}
 use Rattle.mail_check.specs.Bytes.{is_lone_return, is_nul, is_return_feed}
 use Rattle.mail_check.specs.LineTests.{begins_file, is_before, is_long_line}
@@ -26,6 +27,10 @@ last_blank bytes = if is_after_blank bytes (length bytes) then Some (length byte
 -- an equals sign that begins no escape and no soft line break, or one at an escaped or empty end
 abbrev pub is_odd_escape : List ℕ → ℕ → Bool
 is_odd_escape bytes p = is_bad_escape bytes p || is_escaped_end bytes p
+
+-- `begin` occurs with its third byte at an offset
+abbrev pub is_begin : List ℕ → ℕ → Bool
+is_begin bytes p = nat_lt 1 p && has_prefix (codes "begin") (drop (p - 2) bytes)
 
 -- the byte that a pattern has at its offset
 abbrev pub lead : Pattern → ℕ
