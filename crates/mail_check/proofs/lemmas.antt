@@ -3,6 +3,8 @@ pub mod Bodies
 pub mod Patterns
 pub mod LineTests
 pub mod Controls
+pub mod LineEnds
+pub mod Findings
 pub mod Delimiters
 pub mod Lines
 pub mod Singles

@@ -53,14 +53,14 @@ use crate::parameters::{
     strict_value,
 };
 use crate::scan::{
-    Pattern, control_byte, earlier, end_blank, first_match, from_offset, high_byte, later,
-    odd_escapes,
+    Pattern, control_byte, earlier, end_blank, first_match, from_offset, has_even_ends, high_byte,
+    later, odd_escapes,
 };
 use crate::senders::is_bad_sender;
 use crate::texts::has_bad_text;
 use crate::word_bytes::has_bad_word;
 use crate::words::{has_bad_piece, has_join, is_bad_name, is_worded, pieces};
-use mail_codec::bytescan::find_byte;
+use mail_codec::bytescan::{find_byte, find_either};
 use mail_codec::charset::KnownCharsets;
 use mail_data::files::is_leaf;
 use mail_data::places::{Place, places};
@@ -209,7 +209,8 @@ fn push_first(
     push_at(alloc, found, &spot, Name::LongLine, long)
 }
 
-/// Appends the findings of line ends and NUL bytes.
+/// Appends the findings of line ends and NUL bytes. Most mails have neither a NUL nor a CR, or each
+/// line ends in a CR and a LF.
 fn push_bytes(
     alloc: Global,
     found: &mut Vec<Finding>,
@@ -219,6 +220,9 @@ fn push_bytes(
     ensures { OnOk result (map finding_view found.new.items
         ≡ map finding_view found.old.items ++ byte_findings (spot_view spot.now) bytes.now) }
 {
+    if find_either(bytes, 0, b'\r').is_none() {
+        return Ok(());
+    }
     push_at(
         alloc,
         found,
@@ -226,6 +230,9 @@ fn push_bytes(
         Name::Nul,
         first_match(Pattern::Nul, bytes),
     )?;
+    if has_even_ends(bytes) {
+        return Ok(());
+    }
     push_at(
         alloc,
         found,

@@ -1,5 +1,6 @@
 //! Searches of bytes for what other programs may read differently.
 ghost use Rattle.std.specs.Prelude.{◌≡◌, ◌<◌, ◌≤◌, ◌==◌, ◌||◌, ◌+◌, ◌&&◌, drop, length, not};
+ghost use Rattle.std.specs.Prelude.{ℕ, false, is_some};
 ghost use Rattle.std.specs.List.{list_all};
 ghost use Rattle.mail_codec.specs.Places.{begins, first_place};
 ghost use Rattle.mail_codec.specs.private.Vectors.{lane_mask};
@@ -11,8 +12,8 @@ ghost use Rattle.mail_check.specs.Bytes.{byte_at, first_byte, first_offset, is_l
 ghost use Rattle.mail_check.specs.Bytes.{is_bare_line_feed, is_blank_fold, is_comment_fold};
 ghost use Rattle.mail_check.specs.Bytes.{is_lone_return, is_return_feed};
 ghost use Rattle.mail_check.specs.LineTests.{begins_file, is_before, is_long_line};
-ghost use Rattle.mail_check.specs.private.Patterns.{end_offset, is_after_blank};
-ghost use Rattle.mail_check.specs.private.Patterns.{is_blank_feed, is_odd_escape};
+ghost use Rattle.mail_check.specs.private.Patterns.{end_offset, has_even_ends, is_after_blank};
+ghost use Rattle.mail_check.specs.private.Patterns.{is_blank_feed, is_odd_end, is_odd_escape};
 ghost use Rattle.mail_check.specs.private.Patterns.{last_blank, lead, matches_at};
 
 use crate::line_tests::{begins_file, is_long_line};
@@ -137,6 +138,60 @@ fn is_bare_line_feed(bytes: &[u8], at: usize) -> bool
     ensures { result ≡ is_bare_line_feed bytes.now at }
 {
     byte_at(bytes, at, b'\n') && !(at > 0 && byte_at(bytes, at - 1, b'\r'))
+}
+
+/// Returns whether all line ends are a CR and a LF. It is tested for the bytes of a vector at once.
+pub(crate) fn has_even_ends(bytes: &[u8]) -> bool
+    ensures { result ≡ has_even_ends bytes.now }
+{
+    !byte_at(bytes, 0, b'\n') && !has_odd_end(bytes)
+}
+
+/// Returns whether a CR is without a LF after it, or a LF after a byte that is no CR.
+fn has_odd_end(bytes: &[u8]) -> bool
+    ensures { result ≡ is_some (first_offset (is_odd_end bytes.now) bytes.now) }
+{
+    let mut at = even_len(bytes);
+    'bytes: while at < bytes.len() {
+        if is_odd_end(bytes, at) {
+            return true;
+        }
+        at += 1;
+    }
+    false
+}
+
+/// Returns the number of bytes in the vectors at the front that have no such CR and LF.
+fn even_len(bytes: &[u8]) -> usize
+    ensures even { (p : ℕ) → p < result → is_odd_end bytes.now p ≡ false }
+    ensures bounds { result ≤ length bytes.now }
+{
+    let mut at = 0;
+    'vectors: while bytes.len() - at > LANES {
+        let returns = byte_lanes(u8x16::from_slice(&bytes[at..]), b'\r');
+        let feeds = byte_lanes(u8x16::from_slice(&bytes[at + 1..]), b'\n');
+        if returns != feeds {
+            break;
+        }
+        at += LANES;
+    }
+    at
+}
+
+/// Returns whether one of both is there: a CR at an offset, or a LF after it.
+fn is_odd_end(bytes: &[u8], at: usize) -> bool
+    requires within { at < length bytes.now }
+    ensures { result ≡ is_odd_end bytes.now at }
+{
+    is_lone_return(bytes, at) || (byte_at(bytes, at + 1, b'\n') && !byte_at(bytes, at, b'\r'))
+}
+
+/// Returns the mask of the bytes of a vector that are this one.
+#[inline(always)]
+fn byte_lanes(bytes: u8x16, byte: u8) -> u64
+    ensures { result ≡ lane_mask (λ b. b == byte) bytes }
+{
+    bytes.simd_eq(u8x16::splat(byte)).to_bitmask()
 }
 
 /// Returns whether a LF is at an offset, and after it a line that consists of blanks.

@@ -253,3 +253,34 @@ no_odd bytes None h e =
       offset-none (is_bad_escape bytes) bytes (λ k low. (or_parts (is_bad_escape bytes k) (is_escaped_end bytes k) (none k low)).0),
       offset-none (is_escaped_end bytes) bytes (λ k low. (or_parts (is_bad_escape bytes k) (is_escaped_end bytes k) (none k low)).1),
     )
+
+-- ---- bytes without a NUL and a CR
+
+pub no_ends : (bytes : List ℕ) → is_some (either_place bytes 0 carriage_return) ≡ false
+    → (None ≡ first_offset (is_nul bytes) bytes) × (None ≡ first_offset (is_lone_return bytes) bytes) × (None ≡ first_offset (is_return_feed bytes) bytes)
+no_ends bytes h = (
+  offset-none (is_nul bytes) bytes (λ k low. (free k).0),
+  offset-none (is_lone_return bytes) bytes (λ k low. and_false _ _ (free k).1),
+  offset-none (is_return_feed bytes) bytes (λ k low. and_false _ _ (free k).1),
+)
+  where
+    by_rest : (rest : List ℕ) → begins (λ b. b == 0 || b == carriage_return) rest ≡ false → (begins (λ b. b == 0) rest ≡ false) × (begins (λ b. b == carriage_return) rest ≡ false)
+    by_rest [] e = (refl, refl)
+    by_rest (b ∷ rest) e = or_parts (b == 0) (b == carriage_return) e
+
+    none : first_place (begins (λ b. b == 0 || b == carriage_return)) bytes ≡ length bytes
+    none = by_found (either_place bytes 0 carriage_return) refl h
+      where
+        by_found : (o : Option ℕ) → o ≡ either_place bytes 0 carriage_return → is_some o ≡ false → first_place (begins (λ b. b == 0 || b == carriage_return)) bytes ≡ length bytes
+        by_found None e f = place_none (begins (λ b. b == 0 || b == carriage_return)) bytes e
+        by_found (Some p) e f = absurd (cc)
+
+    past : (rest : List ℕ) → length rest ≡ 0 → begins (λ b. b == 0 || b == carriage_return) rest ≡ false
+    past [] e = refl
+    past (b ∷ rest) e = absurd (omega arith)
+
+    free : (k : ℕ) → (byte_at bytes k 0 ≡ false) × (byte_at bytes k carriage_return ≡ false)
+    free k = by_rest (drop k bytes) (elim (cases_lt k (length bytes)) [
+      | inl l ↦ first_place-before (begins (λ b. b == 0 || b == carriage_return)) bytes k (omega (arith, none, l))
+      | inr g ↦ past (drop k bytes) (omega (arith, length-drop k bytes, g))
+    ])

@@ -1,8 +1,8 @@
 -- What the patterns of the searches are.
-use Rattle.std.specs.Prelude.{ℕ, ◌-◌, Bool, ◌&&◌, ◌||◌, nat_lt, List, length, drop, codes, Option, Some, None, if◌then◌else◌}
+use Rattle.std.specs.Prelude.{ℕ, ◌+◌, ◌-◌, Bool, not, is_some, ◌&&◌, ◌||◌, nat_lt, List, length, drop, codes, Option, Some, None, if◌then◌else◌}
 use Rattle.mail_codec.specs.Ascii.{carriage_return, closing_parenthesis, equals_sign, line_feed, space, tab}
 use Rattle.mail_codec.specs.Places.{has_prefix}
-use Rattle.mail_check.specs.Bytes.{byte_at, is_bad_escape, is_bare_line_feed, is_blank_fold, is_comment_fold, is_escaped_end}
+use Rattle.mail_check.specs.Bytes.{byte_at, first_offset, is_bad_escape, is_bare_line_feed, is_blank_fold, is_comment_fold, is_escaped_end}
 use Rattle.mail_check.specs.Bytes.{is_lone_return, is_nul, is_return_feed}
 use Rattle.mail_check.specs.LineTests.{begins_file, is_before, is_long_line}
 use Rattle.mail_check.specs.declared.scan.Pattern.{Pattern}
@@ -31,6 +31,15 @@ is_odd_escape bytes p = is_bad_escape bytes p || is_escaped_end bytes p
 -- `begin` occurs with its third byte at an offset
 abbrev pub is_begin : List ℕ → ℕ → Bool
 is_begin bytes p = nat_lt 1 p && has_prefix (codes "begin") (drop (p - 2) bytes)
+
+-- one of both is there: a CR at an offset, or a LF after it
+abbrev pub is_odd_end : List ℕ → ℕ → Bool
+is_odd_end bytes p =
+    is_lone_return bytes p || (byte_at bytes (p + 1) line_feed && not (byte_at bytes p carriage_return))
+
+-- all line ends are a CR and a LF
+abbrev pub has_even_ends : List ℕ → Bool
+has_even_ends bytes = not (byte_at bytes 0 line_feed) && not (is_some (first_offset (is_odd_end bytes) bytes))
 
 -- the byte that a pattern has at its offset
 abbrev pub lead : Pattern → ℕ
