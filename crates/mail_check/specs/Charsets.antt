@@ -17,21 +17,20 @@ ascii_labels = codes "us-ascii" ∷ codes "ascii" ∷ []
 abbrev pub utf_8_labels : List (List ℕ)
 utf_8_labels = codes "utf-8" ∷ codes "utf8" ∷ []
 
--- the labels of the parts of ISO 8859
+-- the labels of the parts of ISO 8859 that all programs know
 abbrev pub iso_8859_labels : List (List ℕ)
 iso_8859_labels =
     codes "iso-8859-1" ∷ codes "iso-8859-2" ∷ codes "iso-8859-3" ∷ codes "iso-8859-4"
     ∷ codes "iso-8859-5" ∷ codes "iso-8859-6" ∷ codes "iso-8859-7" ∷ codes "iso-8859-8"
-    ∷ codes "iso-8859-9" ∷ codes "iso-8859-10" ∷ codes "iso-8859-11" ∷ codes "iso-8859-13"
-    ∷ codes "iso-8859-14" ∷ codes "iso-8859-15" ∷ codes "iso-8859-16" ∷ []
+    ∷ codes "iso-8859-9" ∷ codes "iso-8859-11" ∷ codes "iso-8859-13" ∷ codes "iso-8859-15" ∷ []
 
 -- those of other charsets that all programs know, in which bytes below 128 are ASCII
 abbrev pub other_labels : List (List ℕ)
 other_labels =
     codes "windows-1250" ∷ codes "windows-1251" ∷ codes "windows-1252" ∷ codes "windows-1253"
     ∷ codes "windows-1254" ∷ codes "windows-1255" ∷ codes "windows-1256" ∷ codes "windows-1257"
-    ∷ codes "windows-1258" ∷ codes "koi8-r" ∷ codes "koi8-u" ∷ codes "gbk" ∷ codes "gb18030"
-    ∷ codes "big5" ∷ codes "euc-jp" ∷ codes "shift_jis" ∷ []
+    ∷ codes "koi8-r" ∷ codes "koi8-u" ∷ codes "gbk" ∷ codes "gb18030" ∷ codes "big5" ∷ codes "euc-jp"
+    ∷ codes "shift_jis" ∷ []
 
 -- those of GB 2312 and KS X 1001, in which two bytes from A1 to FE are a character; larger charsets are read under these
 -- labels too

@@ -19,8 +19,8 @@ const ASCII_LABELS: [&str; 2] = ["us-ascii", "ascii"];
 /// The labels of UTF-8.
 const UTF_8_LABELS: [&str; 2] = ["utf-8", "utf8"];
 
-/// The labels of the parts of ISO 8859.
-const ISO_8859_LABELS: [&str; 15] = [
+/// The labels of the parts of ISO 8859 that all programs know.
+const ISO_8859_LABELS: [&str; 12] = [
     "iso-8859-1",
     "iso-8859-2",
     "iso-8859-3",
@@ -30,16 +30,13 @@ const ISO_8859_LABELS: [&str; 15] = [
     "iso-8859-7",
     "iso-8859-8",
     "iso-8859-9",
-    "iso-8859-10",
     "iso-8859-11",
     "iso-8859-13",
-    "iso-8859-14",
     "iso-8859-15",
-    "iso-8859-16",
 ];
 
 /// Those of other charsets that all programs know, in which bytes below 128 are ASCII.
-const OTHER_LABELS: [&str; 16] = [
+const OTHER_LABELS: [&str; 15] = [
     "windows-1250",
     "windows-1251",
     "windows-1252",
@@ -48,7 +45,6 @@ const OTHER_LABELS: [&str; 16] = [
     "windows-1255",
     "windows-1256",
     "windows-1257",
-    "windows-1258",
     "koi8-r",
     "koi8-u",
     "gbk",
