@@ -9,6 +9,8 @@ to ASCII.
 encoding_rs is given every pair of bytes, each followed by several others, every sequence of four bytes at the borders
 of the classes of bytes, and random sequences; of gb18030 also every sequence of four bytes, of EUC-JP every three that
 begin with 8F, and of ISO-2022-JP escapes in any order.
+
+Python's codecs are given every pair too: what they read otherwise has a finding of `rocktray check`.
 """
 
 import base64
@@ -22,6 +24,7 @@ import itertools
 import json
 import os
 import random
+import re
 import shutil
 import struct
 import subprocess
@@ -30,7 +33,7 @@ from dataclasses import dataclass
 
 import pytest
 
-from support import FROM, TOP, command, missing, program, run
+from support import FROM, TOP, command, missing, program, run, text_of
 
 ADDRESS = "a@example.org"
 ENDINGS = (".pdf", ".tar.gz", "-1.doc", "_v2.txt", "")
@@ -364,3 +367,63 @@ def test_sequences(label, encoding_rs, seed):
     ends = list(endings(label))
     for record, text in zip(ends, oracle_texts(encoding_rs, label, ends)):
         assert program_text(label, record) == text, f"{record.hex()} at the end"
+
+
+# Python's codecs with the labels of docs/FINDINGS.md, which do not follow the Encoding Standard
+OTHER_CODECS = {"koi8-u": "koi8_u", "windows-1255": "cp1255", "shift_jis": "shift_jis", "euc-jp": "euc_jp", "big5": "big5",
+                "euc-kr": "euc_kr", "ks_c_5601-1987": "euc_kr", "gbk": "gbk", "gb18030": "gb18030", "gb2312": "gb2312"}
+SINGLES = {"koi8-u": range(0x80, 0x100), "windows-1255": range(0x80, 0x100), "shift_jis": range(0xA0, 0xE0), "euc-jp": (0x8F,)}
+ONLY_PAIRS = ("euc-kr", "ks_c_5601-1987", "gb2312")
+
+
+def disputed_ranges(label):
+    """The ranges of bytes in the rows that the page FINDINGS.md has of a label, of which each is one range or two."""
+    section = text_of("docs/FINDINGS.md").split("\n### charset\n")[1].split("\n### ")[0]
+    rows = [line.split(" | ") for line in section.splitlines() if line.startswith("| `") and f"`{label}`" in line.split(" | ")[0]]
+    ranges = [[tuple(int(end, 16) for end in one.split("-")) for one in found.split()] for row in rows for found in re.findall("`(.*?)`", row[2])]
+    assert ranges
+    return [[range(one[0], one[-1] + 1) for one in each] for each in ranges]
+
+
+def is_disputed(data, singles, ranges):
+    """Whether one of the characters of bytes is in the ranges, or they end in half a pair."""
+    first = None
+    for byte in data:
+        if first is None and byte >= 0x80 and byte not in singles:
+            first = byte
+            continue
+        character = (byte,) if first is None else (first, byte)
+        if any(len(each) == len(character) and all(map(range.__contains__, each, character)) for each in ranges):
+            return True
+        first = None
+    return first is not None
+
+
+def short_sequences(label):
+    """The bytes from 20 on, the pairs of which the first is not ASCII, and some longer sequences."""
+    yield from (bytes((byte,)) for byte in range(0x20, 0x100))
+    if label in ("koi8-u", "windows-1255"):
+        return
+    yield from map(bytes, itertools.product(range(0x80, 0x100), range(0x30, 0x100)))
+    if label == "euc-jp":
+        yield from map(bytes, itertools.product((0x8F,), range(0xA1, 0xFF), range(0xA1, 0xFF)))
+    if label in ("gb18030", "gbk"):
+        yield from map(bytes, itertools.product((0x81, 0x82, 0x84, 0x90), range(0x30, 0x3A), range(0x81, 0xFF), range(0x30, 0x3A)))
+
+
+@pytest.mark.parametrize("label", OTHER_CODECS)
+def test_disputed(label):
+    """A text has a finding exactly if the page says so, and Python's codec reads each text without one as the standard does."""
+    sequences = list(short_sequences(label))
+    head = f"Content-Type: text/plain; charset={label}\nContent-Transfer-Encoding: base64\n\n".encode()
+    mailbox = b"".join(FROM + head + base64.b64encode(data) + b"\n\n" for data in sequences)
+    lines = run([*command("check"), "--json", "-"], mailbox).stdout.splitlines()
+    texts = program_text(label, b"\n".join(sequences)).decode().split("\n")
+    assert len(lines) == len(texts) == len(sequences)
+    singles, ranges = SINGLES.get(label, (0x80,)), disputed_ranges(label)
+    for data, line, text in zip(sequences, lines, texts):
+        is_found = any(one["name"] == "charset" for one in json.loads(line)["findings"])
+        is_lacking = not data.isascii() and bool(re.search("[\x80-\x9f\ufffd]", text))
+        is_cut = label in ONLY_PAIRS and not re.fullmatch(rb"(?:[\0-\x7f]|[\xa1-\xfe]{2})*", data)
+        assert is_found == (is_lacking or is_cut or is_disputed(data, singles, ranges)), data
+        assert is_found or data.decode(OTHER_CODECS[label]) == text, data

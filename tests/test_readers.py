@@ -5,7 +5,6 @@ The mails are those given by --real and changes to them, to the samples and to m
 readers are those of oracle/readers that are installed; tools/install_needs.sh --readers installs them.
 """
 
-import collections
 import re
 
 import pytest
@@ -14,25 +13,20 @@ from support import missing, program, text_of
 
 import mutated
 from compare_real import mails_at
-from missing_names import missing as names_of
 from other_readers import compilers, differences, read_here, version
 
 # Faults of a reader that no name is meant to cover: which reader, and a pattern of the mails. The page lists them.
 KNOWN = (
     ("python compat32", rb'(?im)^from:[^\r\n]*"[^"\r\n]*\r\n[ \t]'),
     ("mime4j", rb"(?m)^[!-9;-~]*\([!-9;-~]*\)[!-9;-~]*:"),
+    ("mime-tools", rb"(?i)=\?gb18030\?"),
+    ("email-mime", rb"(?i)=\?gb18030\?"),
 )
 
 
 def is_known(name, data):
     """Whether a fault of a reader that the page lists is why it may read a mail otherwise."""
     return any(reader == name and re.search(pattern, data) for reader, pattern in KNOWN)
-
-
-def names_missing():
-    """The names that the page says are missing."""
-    section = text_of("docs/FINDINGS.md").partition("\n## What is missing\n")[2].split("\n## ")[0]
-    return set(re.findall(r"`([a-z0-9-]+)`", section))
 
 
 @pytest.fixture(scope="module")
@@ -47,21 +41,21 @@ def mails(request, seed, tmp_path_factory):
 
 
 def test_readers(mails, tmp_path):
-    """All readers agree on each mail without a finding, but where a missing name says why not, or a known fault."""
+    """All readers agree on each mail without a finding, but where a known fault says why not."""
     commands = compilers(tmp_path) or missing("no other reader is installed: run tools/install_needs.sh --readers")
     here = read_here(program("rocktray"), str(mails))
     empty = {path: form for path, (form, names) in here.items() if not names}
     wrong = {path: found for path, found in differences(commands, empty).items() if found}
-    reasons = collections.defaultdict(list)
+    unknown = []
     for path, found in wrong.items():
         with open(path, "rb") as file:
             data = file.read()
-        why = sorted(names_of(data) & names_missing()) or ["a known fault"] * all(is_known(name, data) for name, _field in found)
-        reasons[", ".join(why)].append((path, found))
+        if not all(is_known(name, data) for name, _field in found):
+            unknown.append((path, found))
     print(*(f"{name} {version(name)}" for name in commands), sep=", ")
-    print(f"{len(here)} mails, {len(empty)} without a finding;", *(f"{why}: {len(paths)}" for why, paths in reasons.items()))
+    print(f"{len(here)} mails, {len(empty)} without a finding; known faults: {len(wrong) - len(unknown)}")
     assert len(empty) > len(here) / 4
-    assert not reasons[""], reasons[""][:10]
+    assert not unknown, unknown[:10]
 
 
 @pytest.mark.quick

@@ -46,6 +46,7 @@ pub mod StrictWords
 pub mod StrictJoins
 pub mod StrictSenderNames
 pub mod StrictCharsets
+pub mod Disputed
 pub mod StrictTexts
 pub mod StrictWordBytes
 pub mod StrictWorded

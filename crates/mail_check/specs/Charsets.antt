@@ -5,6 +5,7 @@ use Rattle.std.specs.Str.{is_utf8, str_eq_ignore_ascii_case}
 use Rattle.mail_codec.specs.Charset.{Charsets}
 use Rattle.mail_codec.specs.Places.{text_place}
 use Rattle.mail_check.specs.Bytes.{first_byte, is_high}
+use Rattle.mail_check.specs.Disputed.{has_disputed}
 use Rattle.mail_check.specs.declared.charsets.PairState.{PairState}
 use Rattle.mail_check.specs.declared.charsets.PairState.TheVariants.{Whole, Half, Cut}
 
@@ -91,9 +92,9 @@ is_foreign label octets =
     not (is_label_of label other_labels))
 
 -- Bytes are not all text in the charset that a label names, under the charsets that are known: a byte is not ASCII, for a
--- label of US-ASCII; they are not UTF-8, for one of UTF-8; for any other, one of the two above.
+-- label of US-ASCII; they are not UTF-8, for one of UTF-8; for any other, one of the two above, or one of their characters is disputed.
 abbrev pub is_lacking : Charsets → List ℕ → List ℕ → Bool
 is_lacking known label octets =
     if is_label_of label ascii_labels then is_some (first_byte is_high octets) else
     (if is_label_of label utf_8_labels then not (is_utf8 octets) else
-    is_foreign label octets || is_unread (known label) octets)
+    is_foreign label octets || (has_disputed label octets || is_unread (known label) octets))

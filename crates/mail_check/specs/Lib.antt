@@ -7,6 +7,7 @@ pub mod Multiparts
 pub mod Parameters
 pub mod Senders
 pub mod FileNames
+pub mod Disputed
 pub mod Charsets
 pub mod Words
 pub mod WordBytes

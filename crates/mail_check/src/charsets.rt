@@ -8,6 +8,7 @@ ghost use Rattle.mail_check.specs.Charsets.{is_lacking, is_pair_byte, is_unread,
 ghost use Rattle.mail_check.specs.Charsets.{utf_8_labels};
 ghost use Rattle.mail_check.specs.declared.charsets.PairState.TheVariants.{Whole};
 
+use crate::disputed::has_disputed;
 use crate::scan::high_byte;
 use mail_codec::bytescan::find;
 use mail_codec::charset::{Decode, KnownCharsets};
@@ -83,7 +84,7 @@ pub(crate) fn is_lacking<K: KnownCharsets>(
     if is_utf_8(label) {
         return Ok(!is_utf8(octets));
     }
-    if is_foreign(label, octets) {
+    if is_foreign(label, octets) || has_disputed(label, octets) {
         return Ok(true);
     }
     is_unread(alloc, label, octets, known)
@@ -188,7 +189,7 @@ fn is_label_of(label: &[u8], labels: &[&str]) -> bool
 }
 
 /// Returns whether two labels are equal, ignoring ASCII case.
-fn is_same_label(label: &[u8], known: &str) -> bool
+pub(crate) fn is_same_label(label: &[u8], known: &str) -> bool
     ensures { result ≡ str_eq_ignore_ascii_case label.now known.now }
 {
     label.eq_ignore_ascii_case(known.as_bytes())

@@ -10,6 +10,7 @@
 
 mod bodies;
 mod charsets;
+mod disputed;
 mod file_names;
 mod hidden_bits;
 mod inside;

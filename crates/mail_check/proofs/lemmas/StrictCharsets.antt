@@ -10,9 +10,11 @@ use Rattle.mail_codec.specs.Charset.{Charsets, mark_at_start}
 use Rattle.mail_codec.specs.Places.{begins, has_prefix, text_place}
 use Rattle.mail_check.specs.Bytes.{first_byte, is_high}
 use Rattle.mail_check.specs.Charsets.{after_pair_byte, after_pair_bytes, ascii_labels, has_c1_after, has_replaced, is_c1, is_foreign, is_label_of, is_lacking, is_pair_byte, is_unread, is_whole, iso_8859_labels, other_labels, pair_labels, utf_8_labels}
+use Rattle.mail_check.specs.Disputed.{Table, disputed_table, first_after, has_disputed, has_disputed_after, has_disputed_in, is_disputed, is_disputed_pair, is_first, is_in, is_in_block}
 use Rattle.mail_check.specs.declared.charsets.PairState.{PairState}
 use Rattle.mail_check.specs.declared.charsets.PairState.TheVariants.{Whole, Half, Cut}
 use Rattle.mail_check.specs.strict.Charsets.{IsOneOf, this_label, later_label, is_ascii_byte, ArePairs, no_more_pairs, ascii_byte, byte_pair, HasNoC1, no_c1, other_byte, other_after, HasNoReplacement, no_replacement, not_replaced, IsWholeText, HasNoMark}
+use Rattle.mail_check.specs.strict.Charsets.{AreAgreed, no_more_agreed, agreed_byte, agreed_pair, AreAgreedIn, no_table, by_table}
 use Rattle.mail_check.specs.strict.Charsets.{IsReadWhole, IsInCharset, in_us_ascii, in_utf_8, in_iso_8859, in_pairs, in_other}
 use Rattle.mail_check.proofs.lemmas.StrictHeaders.{are_true, both_true, cases_Bool, is_not, is_so, left_false, neither, nor, not_false, not_true, right_false, second_false}
 use Rattle.mail_check.proofs.lemmas.StrictWords.{place_next}
@@ -31,14 +33,16 @@ or_true : (s t : Bool) → t ≡ true → (s || t) ≡ true
 or_true true t e = refl
 or_true false t e = e
 
--- no byte passes a test
-pub none_passes : (test : ℕ → Bool) (bytes : List ℕ) → list_any test bytes ≡ false → list_all (λ b. not (test b)) bytes ≡ true
+-- no item passes a test
+pub none_passes : {X : Type 0} (test : X → Bool) (bytes : List X) → list_any test bytes ≡ false
+    → list_all (λ b. not (test b)) bytes ≡ true
 none_passes test [] h = refl
 none_passes test (b ∷ rest) h =
     let both = neither (test b) (list_any test rest) h in
     are_true (not (test b)) _ (is_not (test b) both.0) (none_passes test rest both.1)
 
-pub passes_none : (test : ℕ → Bool) (bytes : List ℕ) → list_all (λ b. not (test b)) bytes ≡ true → list_any test bytes ≡ false
+pub passes_none : {X : Type 0} (test : X → Bool) (bytes : List X) → list_all (λ b. not (test b)) bytes ≡ true
+    → list_any test bytes ≡ false
 passes_none test [] h = refl
 passes_none test (b ∷ rest) h =
     let both = both_true (not (test b)) (list_all (λ x. not (test x)) rest) h in
@@ -169,6 +173,84 @@ pairs_go bytes (byte_pair {first = first} {second = second} {rest = rest} e f mo
     ∙ ap (λ (t : Bool). after_pair_bytes (cond t Half Cut) (second ∷ rest)) e
     ∙ ap (λ (t : Bool). after_pair_bytes (cond t Whole Cut) rest) f ∙ pairs_go rest more
 
+-- ---- characters that programs read differently
+
+module _ (table : Table) where
+  -- the second byte of a pair, and more
+  record SecondThen (first : ℕ) (bytes : List ℕ) : Type 0 where
+    second : ℕ
+    left : List ℕ
+    pairs : list_all (λ block. not (is_in_block first second block)) table.pairs ≡ true
+    more_pairs : list_all (λ block. not (is_in_block first second block)) table.more_pairs ≡ true
+    next : AreAgreed table left
+    made : bytes ≡ second ∷ left
+
+  abbrev GoesOn : Option ℕ → List ℕ → Type 0
+  GoesOn None bytes = AreAgreed table bytes
+  GoesOn (Some first) bytes = SecondThen first bytes
+
+  one_agreed : (before : Option ℕ) (b : ℕ) (rest : List ℕ) → is_disputed table before b ≡ false
+      → GoesOn (first_after table.singles before b) rest
+      → GoesOn before (b ∷ rest)
+  one_agreed None b rest none h = elim (cases_Bool (is_first table.singles b)) [
+    | inl e ↦
+        let past : SecondThen b rest = subst (λ (t : Bool). GoesOn (cond t (Some b) None) rest) e h in
+        agreed_pair e past.pairs past.more_pairs past.next (ap (λ (xs : List ℕ). b ∷ xs) past.made)
+    | inr e ↦
+        let past : AreAgreed table rest = subst (λ (t : Bool). GoesOn (cond t (Some b) None) rest) e h in
+        agreed_byte e
+        (none_passes (is_in b) table.bytes
+        (second_false (not (is_first table.singles b)) (list_any (is_in b) table.bytes) (is_not (is_first table.singles b) e) none))
+        past
+  ]
+  one_agreed (Some first) b rest none h =
+      let both = neither (list_any (is_in_block first b) table.pairs) (list_any (is_in_block first b) table.more_pairs) none in
+      record {
+        second = b;
+        left = rest;
+        pairs = none_passes (is_in_block first b) table.pairs both.0;
+        more_pairs = none_passes (is_in_block first b) table.more_pairs both.1;
+        next = h;
+        made = refl;
+      }
+
+  agreed_after : (before : Option ℕ) (bytes : List ℕ) → has_disputed_after table before bytes ≡ false → GoesOn before bytes
+  agreed_after before (b ∷ rest) h =
+      let both =
+      neither (is_disputed table before b) (has_disputed_after table (first_after table.singles before b) rest) h in
+      one_agreed before b rest both.0 (agreed_after (first_after table.singles before b) rest both.1)
+  agreed_after None [] h = no_more_agreed
+  agreed_after (Some first) [] h = absurd (cc)
+
+  agreed_none : (bytes : List ℕ) → AreAgreed table bytes → has_disputed_after table None bytes ≡ false
+  agreed_none bytes no_more_agreed = refl
+  agreed_none bytes (agreed_byte {b = b} {rest = rest} e none more) =
+      nor (is_disputed table None b) (has_disputed_after table (first_after table.singles None b) rest)
+      (right_false (not (is_first table.singles b)) (list_any (is_in b) table.bytes) (passes_none (is_in b) table.bytes none))
+      (ap (λ (t : Bool). has_disputed_after table (cond t (Some b) None) rest) e ∙ agreed_none rest more)
+  agreed_none bytes (agreed_pair {first = first} {second = second} {rest = rest} e none others more made) =
+      ap (has_disputed_after table None) made
+      ∙ nor (is_disputed table None first) (has_disputed_after table (first_after table.singles None first) (second ∷ rest))
+      (left_false (not (is_first table.singles first)) (list_any (is_in first) table.bytes) (is_so (is_first table.singles first) e))
+      (ap (λ (t : Bool). has_disputed_after table (cond t (Some first) None) (second ∷ rest)) e
+      ∙ nor (is_disputed_pair table first second) (has_disputed_after table None rest)
+      (nor (list_any (is_in_block first second) table.pairs) (list_any (is_in_block first second) table.more_pairs)
+      (passes_none (is_in_block first second) table.pairs none) (passes_none (is_in_block first second) table.more_pairs others))
+      (agreed_none rest more))
+
+module _ (label octets : List ℕ) where
+  agreed_by : (o : Option Table) → disputed_table label ≡ o → has_disputed_in o octets ≡ false → AreAgreedIn label octets
+  agreed_by None e h = no_table e
+  agreed_by (Some table) e h = by_table e (agreed_after table None octets h)
+
+  agreed_of : has_disputed label octets ≡ false → AreAgreedIn label octets
+  agreed_of h = agreed_by (disputed_table label) refl h
+
+  of_agreed : AreAgreedIn label octets → has_disputed label octets ≡ false
+  of_agreed (no_table e) = ap (λ (o : Option Table). has_disputed_in o octets) e
+  of_agreed (by_table {table = table} e all) =
+      ap (λ (o : Option Table). has_disputed_in o octets) e ∙ agreed_none table octets all
+
 -- ---- texts
 
 c1_next : (before : ℕ) (bytes : List ℕ)
@@ -261,9 +343,11 @@ module _ (known : Charsets) (label octets : List ℕ) where
   abbrev high : Bool
   high = is_some (first_byte is_high octets)
 
-  read_of : (o : Option (List ℕ → List ℕ)) → known label ≡ o → is_unread o octets ≡ false → IsReadWhole known label octets
-  read_of None e h = absurd (cc)
-  read_of (Some reading) e h = record { reading = reading; is = e; text = by_high (cases_Bool high) }
+  read_of : (o : Option (List ℕ → List ℕ)) → known label ≡ o → AreAgreedIn label octets → is_unread o octets ≡ false
+      → IsReadWhole known label octets
+  read_of None e agreed h = absurd (cc)
+  read_of (Some reading) e agreed h =
+      record { reading = reading; is = e; text = by_high (cases_Bool high); agreed = agreed }
     where
       by_high : (high ≡ true) ⊎ (high ≡ false) → (list_all is_ascii_byte octets ≡ true) ⊎ IsWholeText (reading octets)
       by_high (inl f) = inr (whole_of (reading octets) (second_false high (has_replaced (reading octets)) f h))
@@ -291,7 +375,7 @@ module _ (known : Charsets) (label octets : List ℕ) where
   no_utf_8 = not (is_utf8 octets)
 
   abbrev past_utf_8 : Bool
-  past_utf_8 = is_foreign label octets || is_unread (known label) octets
+  past_utf_8 = is_foreign label octets || (has_disputed label octets || is_unread (known label) octets)
 
   abbrev past_ascii : Bool
   past_ascii = cond (is_label_of label utf_8_labels) no_utf_8 past_utf_8
@@ -330,9 +414,10 @@ module _ (known : Charsets) (label octets : List ℕ) where
               (subst (λ (t : Bool). cond t no_utf_8 past_utf_8 ≡ false) f past)))
           | inr f ↦
               let both =
-              neither (is_foreign label octets) (is_unread (known label) octets)
+              neither (is_foreign label octets) (has_disputed label octets || is_unread (known label) octets)
               (subst (λ (t : Bool). cond t no_utf_8 past_utf_8 ≡ false) f past) in
-              foreign (read_of (known label) refl both.1) both.0
+              let others = neither (has_disputed label octets) (is_unread (known label) octets) both.1 in
+              foreign (read_of (known label) refl (agreed_of label octets others.0) others.1) both.0
         ]
   ]
 
@@ -342,7 +427,8 @@ module _ (known : Charsets) (label octets : List ℕ) where
       → is_lacking known label octets ≡ false
   past_both e f g read =
       ap (λ (t : Bool). cond t high past_ascii) e ∙ ap (λ (t : Bool). cond t no_utf_8 past_utf_8) f
-      ∙ nor (is_foreign label octets) (is_unread (known label) octets) g (of_read read)
+      ∙ nor (is_foreign label octets) (has_disputed label octets || is_unread (known label) octets) g
+      (nor (has_disputed label octets) (is_unread (known label) octets) (of_agreed label octets read.agreed) (of_read read))
 
   pub charset_has : IsInCharset known label octets → is_lacking known label octets ≡ false
   charset_has (in_us_ascii is all) =

@@ -1,12 +1,13 @@
 -- Bytes that are text in the charset of a label, in the texts and the encoded words of strict messages. A statement of bytes,
--- which says nothing of how they are searched. Which labels there are, this takes from the findings; what the text of bytes is,
--- from the charsets that are known.
-use Rattle.std.specs.Prelude.{◌≡◌, ◌⊎◌, ℕ, Bool, true, false, not, ◌&&◌, ◌==◌, nat_lt, List, [], ◌∷◌, Some, IsUtf8}
+-- which says nothing of how they are searched. Which labels there are, and which characters are disputed, this takes from the
+-- findings; what the text of bytes is, from the charsets that are known.
+use Rattle.std.specs.Prelude.{◌≡◌, ◌⊎◌, ℕ, Bool, true, false, not, ◌&&◌, ◌==◌, nat_lt, nat_le, List, [], ◌∷◌, Some, None, IsUtf8}
 use Rattle.std.specs.List.{list_all}
 use Rattle.std.specs.Str.{str_eq_ignore_ascii_case}
 use Rattle.mail_codec.specs.Charset.{Charsets}
 use Rattle.mail_codec.specs.Places.{begins, has_prefix}
 use Rattle.mail_check.specs.Charsets.{ascii_labels, iso_8859_labels, other_labels, pair_labels, utf_8_labels}
+use Rattle.mail_check.specs.Disputed.{Block, Table, disputed_table}
 
 -- ---- labels
 
@@ -40,6 +41,40 @@ pub data ArePairs : List ℕ → Type 0 where
   -- a pair
   byte_pair : {first second : ℕ} {rest bytes : List ℕ} → is_byte_of_pair first ≡ true → is_byte_of_pair second ≡ true
       → ArePairs rest → bytes ≡ first ∷ (second ∷ rest) → ArePairs bytes
+
+-- ---- characters that programs read differently
+
+-- a byte is from the first to the last of a range
+abbrev pub is_of_range : ℕ → ℕ × ℕ → Bool
+is_of_range b range = nat_le range.0 b && nat_le b range.1
+
+-- both bytes of a pair are so for a block
+abbrev pub is_of_block : ℕ → ℕ → Block → Bool
+is_of_block first second block = is_of_range first block.0 && is_of_range second block.1
+
+-- a byte is neither ASCII nor a character by itself
+abbrev pub begins_pair : Table → ℕ → Bool
+begins_pair table b = not (is_ascii_byte b) && not (is_of_range b table.singles)
+
+-- Characters that are not disputed by a table. The cases:
+pub data AreAgreed (table : Table) : List ℕ → Type 0 where
+  -- no more bytes
+  no_more_agreed : AreAgreed table []
+  -- a character of one byte
+  agreed_byte : {b : ℕ} {rest : List ℕ} → begins_pair table b ≡ false → list_all (λ range. not (is_of_range b range)) table.bytes ≡ true
+      → AreAgreed table rest → AreAgreed table (b ∷ rest)
+  -- a pair
+  agreed_pair : {first second : ℕ} {rest bytes : List ℕ} → begins_pair table first ≡ true
+      → list_all (λ block. not (is_of_block first second block)) table.pairs ≡ true
+      → list_all (λ block. not (is_of_block first second block)) table.more_pairs ≡ true
+      → AreAgreed table rest → bytes ≡ first ∷ (second ∷ rest) → AreAgreed table bytes
+
+-- Bytes are so in the charset of a label. The cases:
+pub data AreAgreedIn (label octets : List ℕ) : Type 0 where
+  -- nothing is disputed in it
+  no_table : disputed_table label ≡ None → AreAgreedIn label octets
+  -- it has a table
+  by_table : {table : Table} → disputed_table label ≡ Some table → AreAgreed table octets → AreAgreedIn label octets
 
 -- ---- texts in UTF-8
 
@@ -75,11 +110,12 @@ pub record HasNoMark (octets : List ℕ) : Type 0 where
 
 -- ---- charsets
 
--- a charset that is known has the label, and the bytes are ASCII, or their text in it is such a text
+-- a charset that is known has the label, the bytes are ASCII, or their text in it is such a text, and they are not disputed
 pub record IsReadWhole (known : Charsets) (label octets : List ℕ) : Type 0 where
   pub reading : List ℕ → List ℕ
   pub is : known label ≡ Some reading
   pub text : (list_all is_ascii_byte octets ≡ true) ⊎ IsWholeText (reading octets)
+  pub agreed : AreAgreedIn label octets
 
 -- Bytes are text in the charset of a label, under the charsets that are known. The cases:
 pub data IsInCharset (known : Charsets) (label octets : List ℕ) : Type 0 where
