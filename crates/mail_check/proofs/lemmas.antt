@@ -14,6 +14,7 @@ pub mod Parameters
 pub mod ParameterSteps
 pub mod Words
 pub mod WordFronts
+pub mod Wordless
 pub mod Clean
 pub mod Paths
 pub mod Inside

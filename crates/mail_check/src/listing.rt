@@ -27,8 +27,10 @@ ghost use Rattle.mail_codec.specs.Ascii.{colon};
 ghost use Rattle.mail_codec.specs.Places.{byte_place};
 ghost use Rattle.mail_check.specs.Lines.{has_blank_fold, has_comment_fold, header_lines};
 ghost use Rattle.mail_check.specs.Lines.{second_named, single_names};
-ghost use Rattle.mail_check.specs.declared.names.Name.TheVariants.{BlankFold, CommentFold, Preamble};
-ghost use Rattle.mail_check.specs.declared.names.Name.TheVariants.{Refused, Uuencode};
+ghost use Rattle.mail_check.specs.declared.names.Name.TheVariants.{BlankFold, CommentFold};
+ghost use Rattle.mail_check.specs.declared.names.Name.TheVariants.{NameAddress, Preamble, Refused};
+ghost use Rattle.mail_check.specs.declared.names.Name.TheVariants.{Uuencode};
+ghost use Rattle.mail_check.specs.Words.{is_bad_name};
 ghost use Rattle.mail_check.specs.Multiparts.{dash_of};
 ghost use Rattle.mail_check.specs.private.Tested.{has_tested_value};
 ghost use Rattle.mail_check.specs.private.Delimiters.{AreFirst, part_findings_with};
@@ -329,7 +331,6 @@ fn push_lines<K: KnownCharsets>(
 
 /// Appends the findings of one header of a message, given how many come before it. The values of
 /// most headers are not tested.
-#[tactic(auto, using(crate::proofs::lemmas::Tested::untested))]
 fn push_header<K: KnownCharsets>(
     alloc: Global,
     found: &mut Vec<Finding>,
@@ -364,7 +365,8 @@ fn has_tested_value(line: &HeaderLine<'_>) -> bool
     has_parameters(line) || is_named(b"Content-Transfer-Encoding", line) || is_worded(line)
 }
 
-/// Appends the findings of a header as a subject or a sender.
+/// Appends the findings of a header as a subject or a sender. One without a question mark has no
+/// word, and is not cut into pieces.
 fn push_worded<K: KnownCharsets>(
     alloc: Global,
     found: &mut Vec<Finding>,
@@ -379,8 +381,26 @@ fn push_worded<K: KnownCharsets>(
     if !is_worded(line) {
         return Ok(());
     }
+    if find_byte(line.value, b'?').is_none() {
+        return push_wordless(alloc, found, spot, line);
+    }
     let pieces = pieces(alloc, line.value)?;
     push_words(alloc, found, spot, line, pieces.as_slice(), known)
+}
+
+/// Appends the findings of a subject or a sender without words.
+fn push_wordless(
+    alloc: Global,
+    found: &mut Vec<Finding>,
+    spot: &Spot<'_>,
+    line: &HeaderLine<'_>,
+) -> Result<(), AllocError>
+    ensures { OnOk result (map finding_view found.new.items
+        ≡ map finding_view found.old.items
+        ++ listed_if (spot_view spot.now) NameAddress (is_bad_name (line_view line.now) [])) }
+{
+    let is_bad = is_bad_name(alloc, line, &[])?;
+    push_if(alloc, found, spot, Name::NameAddress, is_bad)
 }
 
 /// Appends the findings of a subject or a sender with these pieces.
@@ -430,7 +450,6 @@ fn push_line(
 }
 
 /// Appends the findings of the folds of a header. Most headers have one line and no fold.
-#[tactic(auto, using(crate::proofs::lemmas::Folds::no_blank_fold, crate::proofs::lemmas::Folds::no_comment_fold))]
 fn push_folds(
     alloc: Global,
     found: &mut Vec<Finding>,
@@ -582,7 +601,6 @@ const SINGLE_NAMES: [&str; 17] = [
 
 /// Appends the second header of each name that may occur once. Hardly a message has one, which one
 /// pass over the headers shows.
-#[tactic(auto, using(crate::proofs::lemmas::Singles::none_repeated))]
 fn push_repeated(
     alloc: Global,
     found: &mut Vec<Finding>,

@@ -1,9 +1,8 @@
 -- The control characters of a vector.
-use Rattle.std.proofs.Common.{◌≡◌, ℕ, ◌^◌, ◌%◌, ◌≤◌, Bool, true, false, cond, ◌==◌, ◌||◌, bit_or, List, map, length, replicate, Fits, w8, refl, sym, ap, ◌∙◌, arith}
+use Rattle.std.proofs.Common.{◌≡◌, ℕ, ◌^◌, ◌%◌, ◌≤◌, Bool, true, false, cond, ◌==◌, ◌||◌, bit_or, List, map, length, replicate, Fits, w8, refl, ap, ◌∙◌, arith}
 use Rattle.std.specs.Prelude.{nat_le, nat_lt, ◌&&◌, bit_and}
 use Rattle.std.proofs.lemmas.List.{length-map}
 use Rattle.std.proofs.lemmas.Simd.{map-map, mask_l-mod, zip2_of_maps, zip2_splat, zip2_splat_left}
-use Rattle.mail_codec.specs.Places.{begins, first_place, place}
 use Rattle.mail_codec.proofs.lemmas.Vectors.{map_same}
 use Rattle.mail_check.specs.Bytes.{is_control}
 use lib.Lanes.{Each1, zip2, mask_l, top}

@@ -19,7 +19,7 @@ no_byte_findings spot bytes h =
     by_offsets : (nul lone returned : Option ℕ) → None ≡ nul → None ≡ lone → None ≡ returned
         → [] ≡ listed spot name.Nul nul ++ (listed spot name.LoneCr lone ++ listed spot name.MixedLineEnds (later returned (first_offset (is_bare_line_feed bytes) bytes)))
     by_offsets None None None a b c = refl
-    by_offsets (Some p) lone returned a b c = absurd (cc)
+    by_offsets (Some p) cr returned a b c = absurd (cc)
     by_offsets None (Some p) returned a b c = absurd (cc)
     by_offsets None None (Some p) a b c = absurd (cc)
 

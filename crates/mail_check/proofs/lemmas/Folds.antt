@@ -1,5 +1,5 @@
 -- Lemmas on headers of one line, which have no folds.
-use Rattle.std.proofs.Common.{◌≡◌, ◌∙◌, ◌+◌, ◌-◌, ◌<◌, ◌≤◌, ℕ, Bool, true, false, List, [], ◌∷◌, length, drop, refl, sym, ap, Option, Some, None, arith, inl, inr, drop_of_length-le, length-drop}
+use Rattle.std.proofs.Common.{◌≡◌, ◌∙◌, ◌+◌, ◌<◌, ℕ, Bool, true, false, List, [], ◌∷◌, length, drop, refl, sym, ap, Option, Some, None, arith, inl, inr, drop_of_length-le, length-drop}
 use Rattle.std.specs.Prelude.{◌==◌, ◌&&◌, ◌||◌, nat_lt, is_some}
 use Rattle.std.proofs.lemmas.Bool.{and_right, cases_lt, eqb-false, ltb-false, ne_eqb}
 use Rattle.std.proofs.lemmas.List.{drop-drop}
@@ -9,7 +9,7 @@ use Rattle.mail_codec.proofs.lemmas.PlacesSearches.{place_none, place_some}
 use Rattle.mail_check.specs.Bytes.{blank_count, byte_at, first_offset, is_blank_fold, is_comment_fold, is_fold, is_line_left}
 use Rattle.mail_check.specs.Lines.{HeaderLine, has_blank_fold, has_comment_fold, is_structured}
 use Rattle.mail_check.specs.private.Folds.{is_folded, is_inner}
-use Rattle.mail_check.proofs.lemmas.Bytes.{NoneBefore, and_false, offset-none}
+use Rattle.mail_check.proofs.lemmas.Bytes.{and_false, offset-none}
 
 -- no LF comes before the last byte
 abbrev pub IsLine : List ℕ → Type 0

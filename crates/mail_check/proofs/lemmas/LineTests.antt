@@ -1,15 +1,15 @@
 -- Lemmas on long lines and on lines that begin a file.
 use Rattle.std.proofs.Common.{◌≡◌, ◌∙◌, ◌+◌, ◌-◌, ◌<◌, ◌≤◌, ℕ, zero, suc, Bool, true, false, cond, List, [], ◌∷◌, ◌++◌, length, take, drop, refl, sym, ap, Option, Some, None, arith, length-drop, inl, inr}
-use Rattle.std.specs.Prelude.{nat_lt, not, codes, is_some, option_map, ◌&&◌, ◌||◌, ◌==◌}
+use Rattle.std.specs.Prelude.{nat_lt, codes, is_some, option_map, ◌&&◌, ◌==◌}
 use Rattle.std.proofs.lemmas.Bool.{and_parts, cases_Bool, cases_lt, lt-ltb, le-ltb, or_cases}
 use Rattle.std.proofs.lemmas.List.{drop-drop}
 use Rattle.mail_codec.specs.Ascii.{carriage_return, line_feed}
-use Rattle.mail_codec.specs.Places.{begins, first_place, has_prefix, place}
+use Rattle.mail_codec.specs.Places.{begins, has_prefix}
 use Rattle.mail_codec.proofs.lemmas.Places.{first_place-before, first_place-≤}
 use Rattle.mail_check.specs.Bytes.{byte_at, first_offset}
 use Rattle.mail_check.specs.LineTests.{begins_file, feed_offset, first_line, has_mode, is_before, is_long_line, line_size, next}
 use Rattle.mail_check.specs.private.Patterns.{is_begin}
-use Rattle.mail_check.proofs.lemmas.Bytes.{NoneBefore, offset-found, offset-none, offset_some, offset_no, search_found, search_none}
+use Rattle.mail_check.proofs.lemmas.Bytes.{NoneBefore, offset-found, offset-none, offset_some, offset_no}
 
 -- ---- short lines
 

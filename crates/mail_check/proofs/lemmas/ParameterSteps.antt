@@ -1,8 +1,8 @@
 -- Lemmas on steps through a value at which programs differ: those that need a byte that the value has not.
-use Rattle.std.proofs.Common.{◌≡◌, ◌∙◌, ◌<◌, ℕ, suc, Bool, true, false, not, List, [], ◌∷◌, length, refl, sym, ap, Option, None, Some, arith, inl, inr, cond}
-use Rattle.std.specs.Prelude.{◌==◌, ◌&&◌, ◌||◌, nat_lt, is_some}
+use Rattle.std.proofs.Common.{◌≡◌, ◌∙◌, ◌<◌, ℕ, suc, Bool, true, false, List, [], ◌∷◌, length, refl, sym, ap, arith, inl, inr, cond}
+use Rattle.std.specs.Prelude.{◌==◌, ◌||◌, is_some}
 use Rattle.std.proofs.lemmas.Bool.{cases_Bool, cases_lt, le-ltb, lt-ltb, true≢false}
-use Rattle.mail_codec.specs.Places.{begins, byte_place, first_place, place}
+use Rattle.mail_codec.specs.Places.{begins, byte_place, first_place}
 use Rattle.std.specs.Char.{is_ascii_alphanumeric, is_ascii_digit}
 use Rattle.mail_codec.specs.Ascii.{is_blank}
 use Rattle.mail_check.specs.Parameters.{after_byte, after_semicolon, after_value, is_attribute, is_extended, is_restricted, has_extended, has_quoted_special, has_step, is_special_step, is_star_step}

@@ -1,5 +1,5 @@
 -- Lemmas on headers whose values are not tested: only how they are written is reported.
-use Rattle.std.proofs.Common.{◌≡◌, ◌∙◌, ℕ, Bool, true, false, List, [], ◌∷◌, ◌++◌, length, refl, sym, ap}
+use Rattle.std.proofs.Common.{◌≡◌, ◌∙◌, ℕ, Bool, false, List, [], ◌++◌, length, refl, sym, ap}
 use Rattle.std.specs.Prelude.{◌==◌, ◌&&◌, ◌||◌, not, codes}
 use Rattle.std.proofs.lemmas.Bool.{and_right, or_parts}
 use Rattle.std.proofs.lemmas.List.{append-nil}
@@ -8,9 +8,9 @@ use Rattle.mailparse.specs.ContentType.{ContentType}
 use Rattle.mailparse.specs.Mail.{root}
 use Rattle.mail_data.specs.PartPlaces.{Place}
 use Rattle.mail_check.specs.Findings.{Finding, Spot, header_findings, line_findings, listed_if, parameter_findings, sender_findings, spot_in, type_findings, worded_findings}
-use Rattle.mail_check.specs.Lines.{HeaderLine, is_bad_encoding, is_encoding, is_named}
+use Rattle.mail_check.specs.Lines.{HeaderLine, is_bad_encoding, is_named}
 use Rattle.mail_check.specs.Parameters.{is_disposition, is_type}
-use Rattle.mail_check.specs.Senders.{is_bad_sender, is_plain_sender}
+use Rattle.mail_check.specs.Senders.{is_plain_sender}
 use Rattle.mail_check.specs.Words.{is_worded}
 use Rattle.mail_check.specs.declared.names.Name.TheVariants.{FromSyntax}
 use Rattle.mail_check.specs.private.Tested.{has_tested_value}
@@ -35,7 +35,7 @@ no_words known spot line w = rw w refl
 nothing_more : (some a b c d : List Finding) → a ≡ [] → b ≡ [] → c ≡ [] → d ≡ [] → some ++ (a ++ (b ++ (c ++ d))) ≡ some
 nothing_more some a b c d e f g h = rw (e, f, g, h) (append-nil some)
 
-pub untested : (known : Charsets) (number : ℕ) (place : Place) (line : HeaderLine) → has_tested_value line ≡ false
+untested : (known : Charsets) (number : ℕ) (place : Place) (line : HeaderLine) → has_tested_value line ≡ false
     → header_findings known number place line ≡ line_findings (spot_in place line.start (length line.bytes)) (length (root place.part).block) line
 unfolding has_tested_value
 untested known number place line h =
@@ -48,3 +48,11 @@ untested known number place line h =
     nothing_more (line_findings spot (length (root place.part).block) line)
     (parameter_findings spot line) (type_findings spot (root place.part).ctype line) (sender_findings number spot line) (worded_findings known spot line)
     (no_parameters spot line typed.0 shown.0) (no_type spot (root place.part).ctype line typed.0 coded.0) (no_sender number spot line from.0) (no_words known spot line coded.1)
+
+-- so nothing is added to what was found of how it is written
+pub nothing_added : (known : Charsets) (number : ℕ) (place : Place) (line : HeaderLine) (old new : List Finding) (spot : Spot) (size : ℕ)
+    → has_tested_value line ≡ false → spot ≡ spot_in place line.start (length line.bytes) → size ≡ length (root place.part).block
+    → new ≡ old ++ line_findings spot size line → new ≡ old ++ header_findings known number place line
+nothing_added known number place line old new spot size h at whole e =
+    e ∙ ap (λ (s : Spot). old ++ line_findings s size line) at ∙ ap (λ (n : ℕ). old ++ line_findings (spot_in place line.start (length line.bytes)) n line) whole
+    ∙ ap (λ (more : List Finding). old ++ more) (sym (untested known number place line h))

@@ -1,10 +1,10 @@
 -- Lemmas on the front of words.
-use Rattle.std.proofs.Common.{◌≡◌, ◌∙◌, ◌<◌, ℕ, Bool, true, false, List, [], ◌∷◌, length, refl, sym, ap, inl, inr}
-use Rattle.std.specs.Prelude.{◌==◌, ◌&&◌, nat_lt, codes}
+use Rattle.std.proofs.Common.{◌≡◌, ◌∙◌, ℕ, Bool, true, false, List, [], ◌∷◌, length, refl, sym, ap, inl, inr}
+use Rattle.std.specs.Prelude.{◌==◌, nat_lt, codes}
 use Rattle.std.proofs.lemmas.Bool.{and_right, cases_Bool, eq-eqb, eqb-false, eqb-true, ne_eqb}
 use Rattle.mail_codec.specs.Places.{has_prefix}
 use Rattle.mail_check.specs.Words.{after_word_bytes, is_closed, is_word}
-use Rattle.mail_check.specs.declared.words.WordState.TheVariants.{Equals, Front, Opened, Wrong}
+use Rattle.mail_check.specs.declared.words.WordState.TheVariants.{Front, Wrong}
 
 -- nothing follows something else
 wrong_stays : (bytes : List ℕ) → after_word_bytes Wrong bytes ≡ Wrong
