@@ -72,7 +72,7 @@ static PyObject *unused_block(const struct store *store, size_t size)
 }
 
 /* Frees unused blocks until one of this size may be kept, if they suffice. */
-static void make_space(struct store *store, size_t size)
+static void free_unused(struct store *store, size_t size)
 {
     size_t k;
     for (k = 0; k < MOST_BLOCKS && store->bytes + size > MOST_BYTES; k++)
@@ -88,7 +88,7 @@ static void keep(struct store *store, PyObject *block, size_t size)
     size_t k;
     if (size == 0 || size > MOST_BYTES || store->is_closed)
         return;
-    make_space(store, size);
+    free_unused(store, size);
     for (k = 0; k < MOST_BLOCKS && store->bytes + size <= MOST_BYTES; k++)
         if (!store->blocks[k]) {
             store->blocks[k] = Py_NewRef(block);

@@ -262,6 +262,52 @@ def file_closed(path):
         return file.fileno()
 
 
+def test_threads_read_blocks(tmp_path):
+    """Threads get blocks of their own."""
+    (tmp_path / "file").write_bytes(random.Random(1).randbytes(100_000))
+    succeeds(
+        """
+import random, rocktray, sys, threading
+store, failed, data = rocktray._engine.Store(), [], open(sys.argv[1], "rb").read()
+def read(chance):
+    with open(sys.argv[1], "rb") as file:
+        for _ in range(2000):
+            size, at, kept = chance.choice((10_000, 20_000)), chance.randrange(80_000), []
+            kept.append((store.read(file.fileno(), size, at)[0], at))
+            kept = kept[-chance.randrange(1, 4):]
+            assert all(block == data[at : at + len(block)] for block, at in kept)
+threading.excepthook = failed.append
+threads = [threading.Thread(target=read, args=(random.Random(number),)) for number in range(8)]
+for thread in threads: thread.start()
+for thread in threads: thread.join()
+assert not failed, failed
+""",
+        tmp_path / "file",
+    )
+
+
+def test_memory_of_blocks(tmp_path):
+    """At most 16 MB are kept, and nothing after the end."""
+    with (tmp_path / "file").open("wb") as file:
+        file.truncate(64 << 20)
+    succeeds(
+        """
+import rocktray, sys, tracemalloc
+tracemalloc.start()
+store, kept = rocktray._engine.Store(), []
+with open(sys.argv[1], "rb") as file:
+    for size in [*range(1, 20), *range(1, 10)]:
+        assert store.read(file.fileno(), size << 20, size)[0] == bytes(size << 20)
+        kept.append(tracemalloc.get_traced_memory()[0] >> 20)
+    assert 8 <= max(kept) <= 16 and kept[0] == 1, kept
+    store.close()
+    store.read(file.fileno(), 4 << 20, 0)
+    assert tracemalloc.get_traced_memory()[0] < 1 << 20
+""",
+        tmp_path / "file",
+    )
+
+
 def test_separators_of_blocks(tmp_path):
     """The last separator whose line and one more byte were read, with LF and with CRLF."""
     store = _mailbox._engine.Store()
