@@ -43,7 +43,7 @@ pub(crate) fn header_lines<'m>(
         map line_view lines.items ≡ header_lines (root (tree_of part.now))) }
 {
     let block = part.get_headers().get_raw_bytes();
-    let mut lines = Vec::new(alloc);
+    let mut lines = Vec::with_capacity(alloc, part.headers.len())?;
     let mut at = 0;
     for _header in &part.headers {
         let line = line_of(at, &block[at..]);

@@ -1,5 +1,5 @@
 //! The names of the parameters of a type or a disposition, and file names that differ.
-ghost use Rattle.std.specs.Prelude.{◌≡◌, IfOk, map, string_bytes};
+ghost use Rattle.std.specs.Prelude.{◌≡◌, IfOk, OnOk, map, string_bytes};
 ghost use Rattle.mail_check.specs.LineViews.{line_view};
 ghost use Rattle.mail_check.specs.Parameters.{ends_name, has_other_name, has_repeat, is_among};
 ghost use Rattle.mail_check.specs.Parameters.{is_name_state, name_with, none_seen};
@@ -24,26 +24,22 @@ pub(crate) fn parameter_names(alloc: Global, bytes: &[u8]) -> Result<Vec<String>
             names.push(name)?;
             name = String::new(alloc);
         } else {
-            name = name_with(alloc, state, name, *byte)?;
+            extend_name(state, &mut name, *byte)?;
         }
     }
     Ok(names)
 }
 
-/// Returns a name with one more byte, in lower case, if that is one of it; otherwise an empty one.
-fn name_with(
-    alloc: Global,
-    state: ValueState,
-    mut name: String,
-    byte: u8,
-) -> Result<String, AllocError>
-    ensures { IfOk result (λ next. string_bytes next ≡ name_with state (string_bytes name) byte) }
+/// Appends a byte to a name, in lower case, if that is one of it; otherwise empties the name.
+#[inline(always)]
+fn extend_name(state: ValueState, name: &mut String, byte: u8) -> Result<(), AllocError>
+    ensures { OnOk result (string_bytes name.new ≡ name_with state (string_bytes name.old) byte) }
 {
     if !is_name_state(state) {
-        return Ok(String::new(alloc));
+        name.clear();
+        return Ok(());
     }
-    name.push(byte.to_ascii_lowercase() as char)?;
-    Ok(name)
+    name.push(byte.to_ascii_lowercase() as char)
 }
 
 /// Returns whether a byte is one of a name, given the state after it.
@@ -60,10 +56,14 @@ fn ends_name(state: ValueState) -> bool
     matches!(state, ValueState::Equals | ValueState::StarEquals)
 }
 
-/// Returns whether one of some names comes after one that is equal.
+/// Returns whether one of some names comes after one that is equal. Fewer than two are not compared.
+#[tactic(auto, using(crate::proofs::lemmas::Parameters::few_repeat))]
 pub(crate) fn has_repeat(alloc: Global, names: &[String]) -> Result<bool, AllocError>
     ensures { IfOk result (λ is. is ≡ has_repeat none_seen (map string_bytes names.now)) }
 {
+    if names.len() < 2 {
+        return Ok(false);
+    }
     let mut seen = BTreeSet::new(alloc);
     for name in names {
         if !seen.insert(name.clone()?)? {

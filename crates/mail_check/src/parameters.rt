@@ -69,6 +69,7 @@ pub(crate) enum Step {
 }
 
 /// Returns whether a header is a type or a disposition.
+#[inline(always)]
 pub(crate) fn has_parameters(line: &HeaderLine<'_>) -> bool
     ensures { result ≡ (is_type (line_view line.now) || is_disposition (line_view line.now)) }
 {
@@ -242,6 +243,7 @@ fn is_star_step(state: ValueState, byte: u8) -> bool
 }
 
 /// Returns the state after one more byte.
+#[inline(always)]
 pub(crate) fn after_byte(state: ValueState, byte: u8) -> ValueState
     ensures { result ≡ after_byte state byte }
 {

@@ -62,6 +62,7 @@ pub(crate) enum WordState {
 }
 
 /// Returns whether a header is one whose encoded words matter: a subject or a sender.
+#[inline(always)]
 pub(crate) fn is_worded(line: &HeaderLine<'_>) -> bool
     ensures { result ≡ is_worded (line_view line.now) }
 {

@@ -1,5 +1,5 @@
 -- Lemmas on types.
-use Rattle.std.proofs.Common.{◌≡◌, ◌∙◌, ◌+◌, ◌<◌, ℕ, suc, Bool, true, false, not, cond, List, ◌∷◌, length, map, drop, get_or, Some, refl, sym, ap, arith, drop-cons}
+use Rattle.std.proofs.Common.{◌≡◌, ◌∙◌, ◌+◌, ◌<◌, ℕ, suc, Bool, true, false, not, cond, List, [], ◌∷◌, length, map, drop, get_or, Some, refl, sym, ap, arith, drop-cons}
 use Rattle.std.specs.Global.{Global}
 use Rattle.std.specs.Prelude.{String, string_bytes}
 use Rattle.std.specs.Prelude.{◌==◌}
@@ -7,7 +7,7 @@ use Rattle.std.specs.Str.{bytes_eq}
 use Rattle.mail_codec.specs.Ascii.{slash}
 use Rattle.mail_codec.specs.Places.{begins, byte_place}
 use Rattle.mail_codec.proofs.lemmas.PlacesSearches.{place_some}
-use Rattle.mail_check.specs.Parameters.{has_repeat}
+use Rattle.mail_check.specs.Parameters.{has_repeat, none_seen}
 
 -- a slash that was found is within the value
 pub slash_within : (value : List ℕ) (at : ℕ) → Some at ≡ byte_place value slash → at < length value
@@ -30,3 +30,9 @@ repeat_next old new key name names added same is holds step =
     by_cases : (o a : Bool) → a ≡ not o → a ≡ true → o ≡ false
     by_cases false a h g = refl
     by_cases true a h g = sym g ∙ h
+
+-- fewer than two names have no repeat
+pub few_repeat : (names : List (String Global)) → length names < 2 → has_repeat none_seen (map string_bytes names) ≡ false
+few_repeat [] h = refl
+few_repeat (a ∷ []) h = refl
+few_repeat (a ∷ (b ∷ names)) h = absurd (omega (arith, h))
