@@ -257,14 +257,16 @@ def work():
         found += [engine.unquoted(data)]
         found += [engine.header(data, b"from", 0), engine.raw_header(data, b"from", 0), engine.header(data, b"x-none", 0)]
     found += [engine.ids("<a@b>", True), engine.date("1 Jan 2000 00:00"), engine.reason(17), engine.version(), engine.safe_name("a/b")]
-    use, box = engine.Use(), b"".join(b"From a Fri Jul  8 12:08:34 2011\\n" + mail + b"\\n" for mail in (raw, large, b"A: b\\n\\n"))
+    use, store, box = engine.Use(), engine.Store(), b"".join(b"From a Fri Jul  8 12:08:34 2011\\n" + mail + b"\\n" for mail in (raw, large, b"A: b\\n\\n"))
     for _ in range(2):  # the second time the values are decoded ahead
-        mails, batch, end = engine.read_mails(rocktray.Mail, (box, 7, 0, len(box)), 10**6, use, False, 9, 10**6)
+        mails, batch, end = engine.read_mails(rocktray.Mail, (box, 7, 0, len(box)), 10**6, use, False, 9, 10**6, store)
         for mail in mails:
             found += [mail.place, mail.subject, mail.from_, mail.to, mail.date, mail.date_error, mail.error, mail.raw, end]
-    mails, batch, end = engine.read_mails(rocktray.Mail, (box, 0, 0, len(box)), 1, use, False, 2, 10**6)
+    mails, batch, end = engine.read_mails(rocktray.Mail, (box, 0, 0, len(box)), 1, use, False, 2, 10**6, store)
     batch.detach()
     found += [(mail.error, mail.raw) for mail in mails]
+    with open(sys.argv[1], "rb") as file:
+        found += [store.read(file.fileno(), size, 0) for size in (100, 100, 10**6)]
     found += [rocktray.parse(data).date, rocktray.parse(data).cc]
     return found + engine.mails(b"From a Fri Jul  8 12:08:34 2011\\nSubject: 1\\n\\n" * 3, 0, 999, False, 10)
 wanted, refused = work(), 0
