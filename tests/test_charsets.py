@@ -372,6 +372,7 @@ def test_sequences(label, encoding_rs, seed):
 # Python's codecs with the labels of docs/FINDINGS.md, which do not follow the Encoding Standard
 OTHER_CODECS = {"koi8-u": "koi8_u", "windows-1255": "cp1255", "shift_jis": "shift_jis", "euc-jp": "euc_jp", "big5": "big5",
                 "euc-kr": "euc_kr", "ks_c_5601-1987": "euc_kr", "gbk": "gbk", "gb18030": "gb18030", "gb2312": "gb2312"}
+SINGLE_BYTES = ("koi8-u", "windows-1255")
 SINGLES = {"koi8-u": range(0x80, 0x100), "windows-1255": range(0x80, 0x100), "shift_jis": range(0xA0, 0xE0), "euc-jp": (0x8F,)}
 ONLY_PAIRS = ("euc-kr", "ks_c_5601-1987", "gb2312")
 
@@ -402,13 +403,21 @@ def is_disputed(data, singles, ranges):
 def short_sequences(label):
     """The bytes from 20 on, the pairs of which the first is not ASCII, and some longer sequences."""
     yield from (bytes((byte,)) for byte in range(0x20, 0x100))
-    if label in ("koi8-u", "windows-1255"):
+    if label in SINGLE_BYTES:
         return
     yield from map(bytes, itertools.product(range(0x80, 0x100), range(0x30, 0x100)))
     if label == "euc-jp":
         yield from map(bytes, itertools.product((0x8F,), range(0xA1, 0xFF), range(0xA1, 0xFF)))
     if label in ("gb18030", "gbk"):
         yield from map(bytes, itertools.product((0x81, 0x82, 0x84, 0x90), range(0x30, 0x3A), range(0x81, 0xFF), range(0x30, 0x3A)))
+
+
+def standard_texts(label, sequences, mailbox):
+    """The texts by the Encoding Standard of bytes, which are the texts of the mails of a mailbox."""
+    if label in SINGLE_BYTES:
+        lines = run([*command("json"), "-"], mailbox).stdout.splitlines()
+        return [json.loads(line)["parts"][0]["text"] for line in lines]
+    return program_text(label, b"\n".join(sequences)).decode().split("\n")
 
 
 @pytest.mark.parametrize("label", OTHER_CODECS)
@@ -418,7 +427,7 @@ def test_disputed(label):
     head = f"Content-Type: text/plain; charset={label}\nContent-Transfer-Encoding: base64\n\n".encode()
     mailbox = b"".join(FROM + head + base64.b64encode(data) + b"\n\n" for data in sequences)
     lines = run([*command("check"), "--json", "-"], mailbox).stdout.splitlines()
-    texts = program_text(label, b"\n".join(sequences)).decode().split("\n")
+    texts = standard_texts(label, sequences, mailbox)
     assert len(lines) == len(texts) == len(sequences)
     singles, ranges = SINGLES.get(label, (0x80,)), disputed_ranges(label)
     for data, line, text in zip(sequences, lines, texts):
