@@ -11,7 +11,6 @@ pub mod Singles
 pub mod Folds
 pub mod Tested
 pub mod Parameters
-pub mod ParameterSteps
 pub mod Words
 pub mod WordFronts
 pub mod Wordless

@@ -5,3 +5,4 @@ pub mod Singles
 pub mod Folds
 pub mod Tested
 pub mod Base64Lines
+pub mod StrictValues

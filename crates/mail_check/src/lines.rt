@@ -245,7 +245,8 @@ fn single_number(line: &HeaderLine<'_>) -> usize
 
 /// Returns its number among those from `From` onwards, or 11.
 fn address_number(line: &HeaderLine<'_>) -> usize
-    ensures { result ≡ position_or_len (λ name. is_named name (line_view line.now)) (drop 6 single_names) }
+    ensures { result
+        ≡ position_or_len (λ name. is_named name (line_view line.now)) (drop 6 single_names) }
 {
     if is_named(b"From", line) {
         return 0;
@@ -270,7 +271,8 @@ fn address_number(line: &HeaderLine<'_>) -> usize
 
 /// Returns its number among those from `Date` onwards, or 5.
 fn message_number(line: &HeaderLine<'_>) -> usize
-    ensures { result ≡ position_or_len (λ name. is_named name (line_view line.now)) (drop 12 single_names) }
+    ensures { result
+        ≡ position_or_len (λ name. is_named name (line_view line.now)) (drop 12 single_names) }
 {
     if is_named(b"Date", line) {
         return 0;

@@ -18,8 +18,8 @@ ghost use Rattle.mail_check.specs.Findings.{message_findings, multipart_findings
 ghost use Rattle.mail_check.specs.Findings.{parameter_findings};
 ghost use Rattle.mail_check.specs.Findings.{has_none, is_single, quoted_findings, repeated};
 ghost use Rattle.mail_check.specs.Findings.{name_findings, repeated_findings, spot_in};
-ghost use Rattle.mail_check.specs.Findings.{spot_of_body, strict_findings};
-ghost use Rattle.mail_check.specs.Findings.{text_findings, type_findings, value_findings};
+ghost use Rattle.mail_check.specs.Findings.{spot_of_body};
+ghost use Rattle.mail_check.specs.Findings.{text_findings, type_findings};
 ghost use Rattle.mail_check.specs.Findings.{word_findings, worded_findings};
 ghost use Rattle.mail_check.specs.Inside.{all_findings};
 ghost use Rattle.mail_check.specs.LineViews.{line_view};
@@ -33,6 +33,8 @@ ghost use Rattle.mail_check.specs.declared.names.Name.TheVariants.{Uuencode};
 ghost use Rattle.mail_check.specs.Words.{is_bad_name};
 ghost use Rattle.mail_check.specs.Multiparts.{dash_of};
 ghost use Rattle.mail_check.specs.private.Tested.{has_tested_value};
+ghost use Rattle.mail_check.specs.private.StrictValues.{read_findings, reading_findings};
+ghost use Rattle.mail_check.specs.private.StrictValues.{strict_view};
 ghost use Rattle.mail_check.specs.private.Delimiters.{AreFirst, part_findings_with};
 
 use crate::bodies::is_base64_lines;
@@ -49,11 +51,8 @@ use crate::multipart::{
     is_other_message, late_delimiter,
 };
 use crate::names::{Class, Name};
-use crate::parameter_names::{has_other_name, has_repeat, parameter_names};
-use crate::parameters::{
-    has_extended, has_parameters, has_quoted_pair, has_quoted_special, has_word, is_type,
-    strict_value,
-};
+use crate::parameter_names::{StrictValue, has_other_name, has_repeat, strict_value};
+use crate::parameters::{has_parameters, has_quoted_pair, has_word, is_type};
 use crate::scan::{
     Pattern, control_byte, earlier, end_blank, first_match, from_offset, has_even_ends, high_byte,
     later, odd_escapes,
@@ -485,12 +484,9 @@ fn push_parameters(
         ≡ map finding_view found.old.items
         ++ parameter_findings (spot_view spot.now) (line_view line.now)) }
 {
-    let value = strict_value(line);
-    let is_bad = has_parameters(line) && value.is_none();
-    push_if(alloc, found, spot, Name::TypeSyntax, is_bad)?;
-    match value {
-        Some(bytes) => push_strict(alloc, found, spot, line, bytes),
-        None => Ok(()),
+    match strict_value(alloc, line)? {
+        Some(value) => push_strict(alloc, found, spot, line, &value),
+        None => push_if(alloc, found, spot, Name::TypeSyntax, has_parameters(line)),
     }
 }
 
@@ -500,15 +496,14 @@ fn push_strict(
     found: &mut Vec<Finding>,
     spot: &Spot<'_>,
     line: &HeaderLine<'_>,
-    bytes: &[u8],
+    value: &StrictValue<'_>,
 ) -> Result<(), AllocError>
     ensures { OnOk result (map finding_view found.new.items
         ≡ map finding_view found.old.items
-        ++ strict_findings (spot_view spot.now) (line_view line.now) (Some bytes.now)) }
+        ++ reading_findings (spot_view spot.now) (line_view line.now) (Some (strict_view value.now))) }
 {
-    push_value(alloc, found, spot, bytes)?;
-    let names = parameter_names(alloc, bytes)?;
-    push_names(alloc, found, spot, line, names.as_slice())
+    push_value(alloc, found, spot, value)?;
+    push_names(alloc, found, spot, line, value.names.as_slice())
 }
 
 /// Appends the findings of the names of the parameters of a type or a disposition.
@@ -536,18 +531,20 @@ fn push_value(
     alloc: Global,
     found: &mut Vec<Finding>,
     spot: &Spot<'_>,
-    bytes: &[u8],
+    value: &StrictValue<'_>,
 ) -> Result<(), AllocError>
     ensures { OnOk result (map finding_view found.new.items
         ≡ map finding_view found.old.items
-        ++ value_findings (spot_view spot.now) bytes.now) }
+        ++ read_findings (spot_view spot.now) (strict_view value.now)) }
 {
-    let has_special = has_quoted_special(bytes);
-    push_if(alloc, found, spot, Name::QuotedSpecial, has_special)?;
-    push_if(alloc, found, spot, Name::QuotedPair, has_quoted_pair(bytes))?;
-    let is_extended = has_extended(bytes);
+    let is_special = value.has_quoted_special;
+    push_if(alloc, found, spot, Name::QuotedSpecial, is_special)?;
+    let has_pair = has_quoted_pair(value.bytes);
+    push_if(alloc, found, spot, Name::QuotedPair, has_pair)?;
+    let is_extended = value.has_extended;
     push_if(alloc, found, spot, Name::ExtendedParameter, is_extended)?;
-    push_if(alloc, found, spot, Name::WordParameter, has_word(bytes))
+    let has_word = has_word(value.bytes);
+    push_if(alloc, found, spot, Name::WordParameter, has_word)
 }
 
 /// Appends the findings of what a header says of its message.

@@ -1,24 +1,62 @@
-//! The names of the parameters of a type or a disposition, and file names that differ.
-ghost use Rattle.std.specs.Prelude.{◌≡◌, IfOk, OnOk, map, string_bytes};
+//! Types and dispositions with the syntax that all programs read, the names of their parameters,
+//! and file names that differ.
+ghost use Rattle.std.specs.Prelude.{◌≡◌, IfOk, OnOk, Some, map, option_map, string_bytes};
 ghost use Rattle.mail_check.specs.LineViews.{line_view};
 ghost use Rattle.mail_check.specs.Parameters.{ends_name, has_other_name, has_repeat, is_among};
 ghost use Rattle.mail_check.specs.Parameters.{is_name_state, name_with, none_seen};
-ghost use Rattle.mail_check.specs.Parameters.{parameter_names};
+ghost use Rattle.mail_check.specs.Parameters.{strict, strict_value};
+ghost use Rattle.mail_check.specs.private.StrictValues.{reading_of, strict_view};
 
 use crate::lines::HeaderLine;
-use crate::parameters::{ValueState, after_byte, is_disposition, is_type};
+use crate::parameters::{
+    Step, ValueState, after_byte, is_disposition, is_step, is_type, may_end, value_of,
+};
 use std::alloc::{AllocError, Global};
 use std::collections::BTreeSet;
 
-/// Returns the names of the parameters of a value, in lower case.
-#[tactic(auto, unfolding(crate::specs::Parameters::parameter_names))]
-pub(crate) fn parameter_names(alloc: Global, bytes: &[u8]) -> Result<Vec<String>, AllocError>
-    ensures { IfOk result (λ names. map string_bytes names.items ≡ parameter_names bytes.now) }
+/// A type or a disposition with the syntax that all programs read.
+#[derive(Drop)]
+pub(crate) struct StrictValue<'m> {
+    /// Its bytes from the subtype or disposition onwards.
+    pub(crate) bytes: &'m [u8],
+    /// The names of its parameters, in lower case, with their asterisks.
+    pub(crate) names: Vec<String>,
+    /// Whether a value in quotes has a semicolon, a tab or a line end, or a space at its start or
+    /// end.
+    pub(crate) has_quoted_special: bool,
+    /// Whether the name of a parameter has an asterisk.
+    pub(crate) has_extended: bool,
+}
+
+/// Returns the value of a header that is a type or a disposition, if it has the syntax that all
+/// programs read.
+pub(crate) fn strict_value<'m>(
+    alloc: Global,
+    line: &HeaderLine<'m>,
+) -> Result<Option<StrictValue<'m>>, AllocError>
+    ensures { IfOk result (λ value. option_map strict_view value
+        ≡ option_map reading_of (strict_value (line_view line.now))) }
+{
+    match value_of(line) {
+        Some(bytes) => read_value(alloc, bytes),
+        None => Ok(None),
+    }
+}
+
+/// Reads a value from its subtype or disposition onwards, if it has that syntax. One pass tests the
+/// syntax and collects the names.
+fn read_value(alloc: Global, bytes: &[u8]) -> Result<Option<StrictValue<'_>>, AllocError>
+    ensures { IfOk result (λ value. option_map strict_view value
+        ≡ option_map reading_of (strict (Some bytes.now))) }
 {
     let mut names = Vec::new(alloc);
     let mut name = String::new(alloc);
+    let mut has_quoted_special = false;
+    let mut has_extended = false;
     let mut state = ValueState::Start;
     for byte in bytes {
+        has_quoted_special = has_quoted_special || is_step(Step::Special, state, *byte);
+        has_extended = has_extended || is_step(Step::Starred, state, *byte);
         state = after_byte(state, *byte);
         if ends_name(state) {
             names.push(name)?;
@@ -27,7 +65,15 @@ pub(crate) fn parameter_names(alloc: Global, bytes: &[u8]) -> Result<Vec<String>
             extend_name(state, &mut name, *byte)?;
         }
     }
-    Ok(names)
+    if !may_end(state) {
+        return Ok(None);
+    }
+    Ok(Some(StrictValue {
+        bytes,
+        names,
+        has_quoted_special,
+        has_extended,
+    }))
 }
 
 /// Appends a byte to a name, in lower case, if that is one of it; otherwise empties the name.

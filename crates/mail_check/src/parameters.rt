@@ -3,14 +3,12 @@ ghost use Rattle.std.specs.Prelude.{◌≡◌, ◌||◌, option_map};
 ghost use Rattle.mail_codec.specs.Ascii.{slash};
 ghost use Rattle.mail_codec.specs.Places.{byte_place};
 ghost use Rattle.mail_check.specs.LineViews.{line_view};
-ghost use Rattle.mail_check.specs.Parameters.{after_byte, after_bytes, after_main, after_semicolon};
-ghost use Rattle.mail_check.specs.Parameters.{after_value, has_extended, has_quoted_pair};
-ghost use Rattle.mail_check.specs.Parameters.{has_quoted_special, has_step, has_word, in_quotes};
-ghost use Rattle.mail_check.specs.Parameters.{is_attribute, is_disposition, is_extended};
-ghost use Rattle.mail_check.specs.Parameters.{is_main_type, is_restricted, is_special};
-ghost use Rattle.mail_check.specs.Parameters.{is_special_step, is_star_step, is_step, is_strict};
-ghost use Rattle.mail_check.specs.Parameters.{is_type, may_end, strict_value, value_of};
-ghost use Rattle.mail_check.specs.declared.parameters.ValueState.TheVariants.{Attribute, Start};
+ghost use Rattle.mail_check.specs.Parameters.{after_byte, after_main, after_semicolon, after_value};
+ghost use Rattle.mail_check.specs.Parameters.{has_quoted_pair, has_word, in_quotes, is_attribute};
+ghost use Rattle.mail_check.specs.Parameters.{is_disposition, is_extended, is_main_type};
+ghost use Rattle.mail_check.specs.Parameters.{is_restricted, is_special, is_special_step};
+ghost use Rattle.mail_check.specs.Parameters.{is_star_step, is_step, is_type, may_end, value_of};
+ghost use Rattle.mail_check.specs.declared.parameters.ValueState.TheVariants.{Attribute};
 
 use crate::lines::{HeaderLine, is_named, trimmed_value};
 use crate::scan::{is_blank, is_control};
@@ -90,19 +88,8 @@ pub(crate) fn is_disposition(line: &HeaderLine<'_>) -> bool
     is_named(b"Content-Disposition", line)
 }
 
-/// Returns the value of a header from its subtype or disposition onwards, if it has the syntax that
-/// all programs read.
-pub(crate) fn strict_value<'m>(line: &HeaderLine<'m>) -> Option<&'m [u8]>
-    ensures { option_map (λ bytes. bytes.now) result ≡ strict_value (line_view line.now) }
-{
-    match value_of(line) {
-        Some(bytes) if is_strict(bytes) => Some(bytes),
-        _ => None,
-    }
-}
-
 /// Returns the value of a header from its subtype or disposition onwards.
-fn value_of<'m>(line: &HeaderLine<'m>) -> Option<&'m [u8]>
+pub(crate) fn value_of<'m>(line: &HeaderLine<'m>) -> Option<&'m [u8]>
     ensures { option_map (λ bytes. bytes.now) result ≡ value_of (line_view line.now) }
 {
     let value = trimmed_value(line);
@@ -145,40 +132,11 @@ fn is_main_type(text: &[u8]) -> bool
         || text.eq_ignore_ascii_case(b"model")
 }
 
-/// Returns whether bytes are a subtype or a disposition with parameters.
-#[tactic(auto, unfolding(crate::specs::Parameters::is_strict))]
-fn is_strict(bytes: &[u8]) -> bool
-    ensures { result ≡ is_strict bytes.now }
-{
-    let mut state = ValueState::Start;
-    for byte in bytes {
-        state = after_byte(state, *byte);
-    }
-    may_end(state)
-}
-
-/// Returns whether a value in quotes has a semicolon, a tab or a line end, or a space at its start
-/// or end.
-#[tactic(auto, using(crate::proofs::lemmas::ParameterSteps::no_quote))]
-pub(crate) fn has_quoted_special(bytes: &[u8]) -> bool
-    ensures { result ≡ has_quoted_special bytes.now }
-{
-    find_byte(bytes, b'"').is_some() && has_step(Step::Special, bytes)
-}
-
 /// Returns whether a backslash is in quotes.
 pub(crate) fn has_quoted_pair(bytes: &[u8]) -> bool
     ensures { result ≡ has_quoted_pair bytes.now }
 {
     find_byte(bytes, b'\\').is_some()
-}
-
-/// Returns whether the name of a parameter has an asterisk.
-#[tactic(auto, using(crate::proofs::lemmas::ParameterSteps::no_star))]
-pub(crate) fn has_extended(bytes: &[u8]) -> bool
-    ensures { result ≡ has_extended bytes.now }
-{
-    find_byte(bytes, b'*').is_some() && has_step(Step::Starred, bytes)
 }
 
 /// Returns whether a value looks as if it had an encoded word.
@@ -188,22 +146,9 @@ pub(crate) fn has_word(bytes: &[u8]) -> bool
     find(bytes, b"=?").is_some()
 }
 
-/// Returns whether a step is among those through some bytes.
-fn has_step(step: Step, bytes: &[u8]) -> bool
-    ensures { result ≡ has_step step Start bytes.now }
-{
-    let mut state = ValueState::Start;
-    for byte in bytes {
-        if is_step(step, state, *byte) {
-            return true;
-        }
-        state = after_byte(state, *byte);
-    }
-    false
-}
-
 /// Returns whether a byte after a state is such a step.
-fn is_step(step: Step, state: ValueState, byte: u8) -> bool
+#[inline(always)]
+pub(crate) fn is_step(step: Step, state: ValueState, byte: u8) -> bool
     ensures { result ≡ is_step step state byte }
 {
     match step {
@@ -325,7 +270,7 @@ fn in_quotes(byte: u8) -> ValueState
 }
 
 /// Returns whether a value may end in a state.
-fn may_end(state: ValueState) -> bool
+pub(crate) fn may_end(state: ValueState) -> bool
     ensures { result ≡ may_end state }
 {
     matches!(

@@ -1,18 +1,32 @@
 -- Lemmas on values without a question mark: none of their pieces is a word or looks like one.
-use Rattle.std.proofs.Common.{◌≡◌, ℕ, suc, Bool, true, false, List, [], ◌∷◌, ◌++◌, length, refl, sym, ap, subst, Option, None, arith, inl, inr}
+use Rattle.std.proofs.Common.{◌≡◌, ◌<◌, ℕ, suc, Bool, true, false, List, [], ◌∷◌, ◌++◌, length, refl, sym, ap, subst, Option, None, arith, inl, inr}
 use Rattle.std.specs.Prelude.{◌==◌, ◌&&◌, ◌||◌, is_some, codes}
 use Rattle.std.specs.List.{AllByRecursion, list_any, onto_first, slice_split}
-use Rattle.std.proofs.lemmas.Bool.{and_left, and_right, cases_Bool, eqb-false, le-ltb, ne_eqb, or_from, or_parts}
+use Rattle.std.proofs.lemmas.Bool.{and_left, and_right, cases_Bool, cases_lt, eqb-false, le-ltb, lt-ltb, ne_eqb, or_from, or_parts, true≢false}
 use Rattle.std.proofs.lemmas.List.Splits.{slice_split-cons_no, slice_split-cons_yes}
-use Rattle.mail_codec.specs.Places.{byte_place, first_place, has_prefix, place}
+use Rattle.mail_codec.specs.Places.{begins, byte_place, first_place, has_prefix, place}
 use Rattle.mail_codec.specs.Charset.{Charsets}
 use Rattle.mail_check.specs.Findings.{Spot, listed_if, word_findings}
 use Rattle.mail_check.specs.Lines.{HeaderLine, is_named}
 use Rattle.mail_check.specs.WordBytes.{has_bad_octets}
 use Rattle.mail_check.specs.Words.{has_early_at, has_join, has_word_delimiter, hides_address, is_bad_name, is_bad_piece, is_gap, is_padded, is_sender, is_word, joins, later_piece, pieces}
 use Rattle.mail_check.specs.declared.names.Name.TheVariants.{NameAddress, WordBytes, WordJoin, WordSyntax}
-use Rattle.mail_check.proofs.lemmas.ParameterSteps.{lacks_next}
 use Rattle.mail_check.proofs.lemmas.WordFronts.{no_front}
+
+-- a byte does not occur in others if it is not the first and does not occur in the rest
+lacks_next : (byte b : ℕ) (bytes : List ℕ) → is_some (byte_place (b ∷ bytes) byte) ≡ false → ((b == byte) ≡ false) × (is_some (byte_place bytes byte) ≡ false)
+lacks_next byte b bytes h = elim (cases_Bool (b == byte)) [
+  | inl e ↦ let now = rw (e, lt-ltb 0 (suc (length bytes)) (omega arith)) at h in absurd (true≢false now)
+  | inr e ↦ (
+    e,
+    elim (cases_lt (first_place (begins (λ x. x == byte)) bytes) (length bytes)) [
+      | inl l ↦
+          let low : suc (first_place (begins (λ x. x == byte)) bytes) < suc (length bytes) = omega (arith, l) in
+          let now = rw (e, lt-ltb (suc (first_place (begins (λ x. x == byte)) bytes)) (suc (length bytes)) low) at h in absurd (true≢false now)
+      | inr g ↦ rw (le-ltb (first_place (begins (λ x. x == byte)) bytes) (length bytes) g) refl
+    ],
+  )
+]
 
 -- bytes without a question mark
 abbrev pub Lacks : List ℕ → Type 0
