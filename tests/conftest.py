@@ -17,7 +17,7 @@ def pytest_addoption(parser):
     group.addoption("--seed", type=int, default=1, help="the seed of made mails, values and rows (default: 1)")
     group.addoption("--oracle", metavar="PROGRAM", help="the program of oracle/crate, to compare with the Rust crate")
     group.addoption("--patched-oracle", metavar="PROGRAM", help="the same with the crate changed where this port differs")
-    group.addoption("--mails", metavar="N", type=int, default=1000, help="how many made mails other readers read (default: 1000)")
+    group.addoption("--mails", metavar="N", type=int, default=10000, help="how many made mails other readers read (default: 10000)")
     group.addoption("--real", metavar="PATH", action="append", default=[], help="mails to compare with Python's email")
 
 

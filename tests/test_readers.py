@@ -21,6 +21,7 @@ KNOWN = (
     ("mime4j", rb"(?m)^[!-9;-~]*\([!-9;-~]*\)[!-9;-~]*:"),
     ("mime-tools", rb"(?i)=\?gb18030\?"),
     ("email-mime", rb"(?i)=\?gb18030\?"),
+    ("ruby-mail", rb"\n\r?\n[ \t\r\n]*[ \t][ \t\r\n]*(?:\n--|\Z)"),
 )
 
 
