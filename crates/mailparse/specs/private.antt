@@ -1,6 +1,7 @@
 -- Words that private functions alone need; no public clause speaks of them.
 pub mod Cuts
 pub mod Unfolded
+pub mod Dashes
 pub mod Delimiters
 pub mod Segments
 pub mod Pairs

@@ -1,5 +1,5 @@
 //! Reads a message: its header block, its type, its body and its parts.
-ghost use Rattle.std.specs.Prelude.{◌≡◌, Bool, false, ◌<◌, ◌≤◌, ◌+◌, ◌^◌, ℕ, List, [], ◌∷◌, ◌++◌, length, drop, slice_range, take, Option, IfErr, IfOk, IfSome, IsErr, Ok};
+ghost use Rattle.std.specs.Prelude.{◌≡◌, Bool, false, ◌<◌, ◌≤◌, ◌+◌, ◌^◌, ℕ, List, [], ◌∷◌, ◌++◌, length, drop, slice_range, take, Option, vec_len, IfErr, IfOk, IfSome, IsErr, Ok};
 ghost use Rattle.mail_codec.specs.Charset.{four_charsets};
 ghost use Rattle.mailparse.specs.Block.{header_count, header_part, read_block, read_headers};
 ghost use Rattle.mailparse.specs.Bound.{IsBounded, items_within};
@@ -9,7 +9,7 @@ ghost use Rattle.mailparse.specs.Mail.{kept_if_refused, no_parts, or_kept, read_
 ghost use Rattle.mailparse.specs.Outcome.{Answers, AnswersOrMemory, IsRefusal, IsRefusalOrMemory};
 ghost use Rattle.mailparse.specs.Placement.{placements, placements_as};
 ghost use Rattle.mailparse.specs.Refusal.{Reads};
-ghost use Rattle.mailparse.specs.Views.{content_type, in_digest, placements_of, tree_of};
+ghost use Rattle.mailparse.specs.Views.{content_type, header_list, in_digest, placements_of, tree_of};
 ghost use Rattle.mailparse.specs.declared.mail.message.ParsedMail.{ParsedMail};
 ghost use Rattle.mailparse.specs.private.Delimiters.{IsLineDelimiter};
 ghost use Rattle.mailparse.specs.private.Parts.{HasParts, IsBegun, IsPushed, IsRead, IsSplit, reading_left};
@@ -23,7 +23,7 @@ use crate::content_type::ParsedContentType;
 use crate::error::MailParseError;
 use crate::header::MailHeader;
 use crate::headers::block::parse_headers;
-use crate::headers::dashes::before_dash_line;
+use crate::headers::dashes::{before_dash_line, parse_headers_before_dashes};
 use crate::manner::{ReadingManner, Strict};
 use delimiters::{cut_part, cut_preamble};
 use limit::{check_headers, less};
@@ -479,9 +479,8 @@ fn read_message<'a, M: ReadingManner>(
         let whole = refused_or_kept(alloc, source, refusal, manner)?;
         return Ok((whole, None));
     }
-    let head = header_part(source.raw, manner);
-    check_headers(*left, head)?;
-    let (headers, body_offset) = match parse_headers(alloc, head) {
+    check_headers(*left, source.raw, manner)?;
+    let (headers, body_offset) = match parse_block(alloc, *left, source.raw, manner) {
         Ok(block) => block,
         Err(refusal) => {
             let whole = refused_or_kept(alloc, source, refusal, manner)?;
@@ -506,6 +505,35 @@ fn read_message<'a, M: ReadingManner>(
         first,
     };
     Ok((mail, Some(split)))
+}
+
+/// Reads the headers of a message, from all of its bytes or from those before a line that looks
+/// like a delimiter.
+///
+/// Reads no more headers than are left, which `check_headers` did not refuse.
+// It is not inlined, so that the frame of the reader of a message, which calls itself, stays small.
+#[inline(never)]
+fn parse_block<'a, M: ReadingManner>(
+    alloc: Global,
+    left: Option<usize>,
+    raw: &'a [u8],
+    manner: &M,
+) -> Result<(Vec<MailHeader<'a>>, usize), MailParseError>
+    ensures read { AnswersOrMemory header_list result
+        (read_block (M.manner manner.now).ends_at_dashes raw.now) }
+    ensures bounds { IfOk result (λ found.
+        (vec_len found.0 ≤ found.1) × (found.1 ≤ length raw.now)) }
+    ensures no_alloc { header_count (header_part (M.manner manner.now).ends_at_dashes raw.now) ≡ 0 →
+        Answers header_list result (read_block (M.manner manner.now).ends_at_dashes raw.now) }
+{
+    if !manner.ends_at_dashes() {
+        return parse_headers(alloc, raw);
+    }
+    match left {
+        // All bytes could have more headers than those before such a line, and than are left.
+        Some(most) if most < raw.len() => parse_headers(alloc, before_dash_line(raw)),
+        _ => parse_headers_before_dashes(alloc, raw),
+    }
 }
 
 /// Returns the refusal of a message; if the manner keeps refused messages, the message as plain

@@ -80,7 +80,7 @@ before_dash_line-at raw feed t at e =
     let same : suc (first_place ends_header_lines raw) ≡ feed + 1 = omega (arith, at) in
     ap (λ n. cond (is_dash_line (drop n raw)) (take n raw) raw) same ∙ ap (λ v. cond v (take (feed + 1) raw) raw) e
 
-no_dash_line : is_dash_line [] ≡ false
+pub no_dash_line : is_dash_line [] ≡ false
 unfolding is_dash_line
 no_dash_line = refl
 

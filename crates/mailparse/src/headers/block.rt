@@ -12,7 +12,7 @@ use std::alloc::{AllocError, Global};
 
 /// The number of headers that the list has capacity for, at most, after the first one. Few blocks
 /// have more, so the list seldom grows.
-const FIRST_HEADERS: usize = 16;
+const FIRST_HEADERS: usize = 32;
 
 /// The list has capacity for one header for each `HEADER_BYTES` bytes of the message. Few headers
 /// are shorter, so that many small parts take little memory.

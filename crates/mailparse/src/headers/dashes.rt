@@ -1,9 +1,61 @@
 //! Headers that end before a line that looks like a delimiter, where the blank line is missing.
-ghost use Rattle.std.specs.Prelude.{◌≡◌, ◌≤◌, ◌||◌, drop, length};
+ghost use Rattle.std.specs.Prelude.{◌≡◌, ◌≤◌, ◌||◌, drop, length, vec_len, IfOk};
+ghost use Rattle.std.specs.List.{list_all};
 ghost use Rattle.mail_codec.specs.Places.{first_place};
-ghost use Rattle.mailparse.specs.Block.{before_dash_line, ends_header_lines, headers_end, is_dash_line};
+ghost use Rattle.mailparse.specs.Block.{before_dash_line, ends_header_lines, header_count};
+ghost use Rattle.mailparse.specs.Block.{headers_end, is_dash_line, read_headers};
+ghost use Rattle.mailparse.specs.Outcome.{Answers, AnswersOrMemory};
+ghost use Rattle.mailparse.specs.Views.{header_list};
+ghost use Rattle.mailparse.specs.private.Dashes.{is_dashless};
 
+use super::block::parse_headers;
+use crate::error::MailParseError;
+use crate::header::MailHeader;
 use crate::header::parse::{has_colon, line_feed_from};
+use std::alloc::Global;
+
+/// Reads the headers in the bytes that `before_dash_line` returns.
+///
+/// Few messages have such a line. So all bytes are read first, and those before such a line only if
+/// the key of a header begins with `--`, or there is no header.
+pub(crate) fn parse_headers_before_dashes(
+    alloc: Global,
+    raw: &[u8],
+) -> Result<(Vec<MailHeader<'_>>, usize), MailParseError>
+    ensures read { AnswersOrMemory header_list result (read_headers (before_dash_line raw.now)) }
+    ensures bounds { IfOk result (λ found.
+        (vec_len found.0 ≤ found.1) × (found.1 ≤ length raw.now)) }
+    ensures no_alloc { header_count (before_dash_line raw.now) ≡ 0 →
+        Answers header_list result (read_headers (before_dash_line raw.now)) }
+{
+    match parse_headers(alloc, raw) {
+        Ok((headers, body)) => {
+            if !headers.is_empty() && are_dashless(headers.as_slice()) {
+                return Ok((headers, body));
+            }
+        }
+        Err(refusal) => {
+            if let MailParseError::Memory(e) = refusal {
+                return Err(MailParseError::Memory(e));
+            }
+        }
+    }
+    parse_headers(alloc, before_dash_line(raw))
+}
+
+/// Returns whether no key begins with `--`.
+fn are_dashless(headers: &[MailHeader<'_>]) -> bool
+    ensures { result ≡ list_all is_dashless headers.now }
+{
+    headers.iter().all(|header| is_dashless(header))
+}
+
+/// Returns whether the key of a header does not begin with `--`.
+fn is_dashless(header: &MailHeader<'_>) -> bool
+    ensures { result ≡ is_dashless header.now }
+{
+    !header.get_key_raw().starts_with(b"--")
+}
 
 /// Returns the bytes before the first line that begins with `--` and has no colon, or all bytes if
 /// there is none before the blank line that ends the headers (RFC 5322, section 2.1).
@@ -21,7 +73,7 @@ use crate::header::parse::{has_colon, line_feed_from};
 /// assert_eq!(rt; part, b"Content-Type: multipart/mixed; boundary=b\n \n".as_slice());
 /// assert_eq!(rt; before_dash_line(b"A: b\n\n--b\n"), b"A: b\n\n--b\n".as_slice());
 /// ```
-// It is not inlined, so that the frame of the reader of a message, which calls itself, stays small.
+// It is seldom called.
 #[inline(never)]
 pub fn before_dash_line(raw: &[u8]) -> &[u8]
     ensures { result.now ≡ before_dash_line raw.now }

@@ -1,12 +1,12 @@
-use Rattle.std.proofs.Common.{◌≡◌, ℕ, Bool, ◌+◌, ◌<◌, ◌≤◌, ◌∷◌, [], List, Option, Some, None, option_map, length, take, drop, slice_range, IfOk, Ok, Err, Result, refl, sym, ap, ◌∙◌, subst, arith}
+use Rattle.std.proofs.Common.{◌≡◌, ℕ, ◌+◌, ◌<◌, ◌≤◌, ◌∷◌, [], List, Option, Some, None, option_map, length, take, drop, slice_range, IfOk, Ok, Err, Result, refl, sym, ap, ◌∙◌, subst, arith}
 use Rattle.std.specs.Global.{Vec}
 use Rattle.std.specs.Vec.{vec_len}
 use Rattle.std.proofs.lemmas.Option.{IfSome_then}
 use Rattle.std.proofs.lemmas.Result.{err_from_is_err_and}
 use Rattle.mailparse.specs.Delimiters.{first_part_as, preamble_end_as}
-use Rattle.mailparse.specs.Block.{HeaderList, header_count, header_part, read_block, read_headers}
+use Rattle.mailparse.specs.Block.{HeaderList, read_block}
 use Rattle.mailparse.specs.Mail.{Tree, tree, no_parts, dash_boundary_of, or_kept, read_levels}
-use Rattle.mailparse.specs.Outcome.{Answers, AnswersOrMemory, IsRefusal, IsRefusalOrMemory}
+use Rattle.mailparse.specs.Outcome.{Answers, AnswersOrMemory, IsRefusalOrMemory}
 use Rattle.mailparse.specs.Refusal.{recursion_limit, Reads}
 use Rattle.mailparse.specs.Views.{content_type, header_list, in_digest}
 use Rattle.mailparse.specs.declared.error.MailParseError.{MailParseError}
@@ -20,11 +20,6 @@ use Rattle.mailparse.specs.Placement.{Placement, placements_as}
 use Rattle.mailparse.proofs.lemmas.Parts.{placement_first}
 use Rattle.mailparse.proofs.lemmas.Placement.{placed_leaf}
 use Rattle.mailparse.proofs.mail.read_message.Goals as goal
-
--- the block that was read
-part_read : (result : Result (Vec Header × ℕ) MailParseError) (at_dashes : Bool) (raw part : List ℕ) → part ≡ header_part at_dashes raw
-    → AnswersOrMemory header_list result (read_headers part) → AnswersOrMemory header_list result (read_block at_dashes raw)
-part_read result at_dashes raw part e h = subst (λ (p : List ℕ). AnswersOrMemory header_list result (read_headers p)) e h
 
 -- the line delimiter that was made
 made : (o : Option (Vec ℕ)) (line_delimiter : Vec ℕ) (r : Option (List ℕ)) → o ≡ Some line_delimiter → option_map (λ l. l.items) o ≡ r → Some line_delimiter.items ≡ r
@@ -92,7 +87,7 @@ returns-in_err-check_headers-clause-refused g c =
     let after = met_after_own manner c.args.levels (in_digest c.args.source.now.default) raw in
     let left = leaves_spent c.args.left.now all c.args.left.now c.in_ok-left.field-0 1 (headers + after) (leaves_all c.args.left.now all (1 + (headers + after)) (items_met-headers manner c.args.levels (in_digest c.args.source.now.default) raw some)) c.in_ok-left.ensures in
     rw (p.1, p.2) (IsRefusalOrMemory-from c.in_err-check_headers.field-0.0 (limited c.args.left.now all reading)
-    (leaves_refused c.args.left.now all c.in_ok-left.field-0 headers after (tt {0}) reading c.in_err-check_headers.field-0.0 left (subst (λ (p : List ℕ). IsRefusal c.in_err-check_headers.field-0.0 (limited c.in_ok-left.field-0 (headers_met (read_headers p)) (Ok (tt {0})))) c.header_part-head.ensures.value c.in_err-check_headers.ensures)))
+    (leaves_refused c.args.left.now all c.in_ok-left.field-0 headers after (tt {0}) reading c.in_err-check_headers.field-0.0 left c.in_err-check_headers.ensures))
 
 pub returns-in_err-check_headers-clause-no_alloc : goal.returns-in_err-check_headers-clause-no_alloc
 returns-in_err-check_headers-clause-no_alloc g c = λ refuses levels none refused.
@@ -105,7 +100,7 @@ returns-in_err-check_headers-clause-no_alloc g c = λ refuses levels none refuse
     let headers = headers_met (read_block manner.ends_at_dashes raw) in
     let after = met_after_own manner c.args.levels (in_digest c.args.source.now.default) raw in
     let left = leaves_spent c.args.left.now all c.args.left.now c.in_ok-left.field-0 1 (headers + after) (leaves_all c.args.left.now all (1 + (headers + after)) (items_met-headers manner c.args.levels (in_digest c.args.source.now.default) raw some)) c.in_ok-left.ensures in
-    rw (p.1, p.2) (leaves_refused c.args.left.now all c.in_ok-left.field-0 headers after (tt {0}) reading c.in_err-check_headers.field-0.0 left (subst (λ (p : List ℕ). IsRefusal c.in_err-check_headers.field-0.0 (limited c.in_ok-left.field-0 (headers_met (read_headers p)) (Ok (tt {0})))) c.header_part-head.ensures.value c.in_err-check_headers.ensures))
+    rw (p.1, p.2) (leaves_refused c.args.left.now all c.in_ok-left.field-0 headers after (tt {0}) reading c.in_err-check_headers.field-0.0 left c.in_err-check_headers.ensures)
 
 -- one that is refused for its own headers
 pub returns-in_err-whole-in-Err-clause-refused : goal.returns-in_err-whole-in-Err-clause-refused
@@ -115,7 +110,7 @@ returns-in_err-whole-in-Err-clause-refused g c =
     let digest = in_digest c.args.source.now.default in
     let p = err_from_is_err_and c.from_residual-in_err-whole-in-Err.result c.from_residual-in_err-whole-in-Err.ensures.1 in
     let some : 0 < c.args.levels = omega (arith, c.if-levels-eq0.false) in
-    let h : AnswersOrMemory header_list (Err c.in-Err.refusal) (read_block manner.ends_at_dashes raw) = subst (λ r. AnswersOrMemory header_list r (read_block manner.ends_at_dashes raw)) c.in-Err.is (part_read c.parse_headers.result manner.ends_at_dashes raw c.header_part-head.result.now c.header_part-head.ensures.value c.parse_headers.ensures.read) in
+    let h : AnswersOrMemory header_list (Err c.in-Err.refusal) (read_block manner.ends_at_dashes raw) = subst (λ r. AnswersOrMemory header_list r (read_block manner.ends_at_dashes raw)) c.in-Err.is c.parse_block.ensures.read in
     let limit = c.args.left.now in
     let all = items_met manner c.args.levels digest raw in
     let whole = read_levels manner c.args.levels digest raw in
@@ -131,7 +126,7 @@ returns-in_err-whole-in-Err-clause-no_alloc g c = λ refuses some none refused.
     let digest = in_digest c.args.source.now.default in
     let p = err_from_is_err_and c.from_residual-in_err-whole-in-Err.result c.from_residual-in_err-whole-in-Err.ensures.1 in
     let own = reading manner c.args.levels digest raw in
-    let h : Answers header_list (Err c.in-Err.refusal) (read_block manner.ends_at_dashes raw) = subst (λ r. Answers header_list r (read_block manner.ends_at_dashes raw)) c.in-Err.is (subst (λ (p : List ℕ). Answers header_list c.parse_headers.result (read_headers p)) c.header_part-head.ensures.value (c.parse_headers.ensures.no_alloc (ap header_count c.header_part-head.ensures.value ∙ none))) in
+    let h : Answers header_list (Err c.in-Err.refusal) (read_block manner.ends_at_dashes raw) = subst (λ r. Answers header_list r (read_block manner.ends_at_dashes raw)) c.in-Err.is (c.parse_block.ensures.no_alloc none) in
     let limit = c.args.left.now in
     let all = items_met manner c.args.levels digest raw in
     let whole = read_levels manner c.args.levels digest raw in
@@ -146,7 +141,7 @@ returns-in-Err-clause-read g c =
     let raw = c.args.source.now.raw.now in
     let digest = in_digest c.args.source.now.default in
     let some : 0 < c.args.levels = omega (arith, c.if-levels-eq0.false) in
-    let h : AnswersOrMemory header_list (Err c.in-Err.refusal) (read_block manner.ends_at_dashes raw) = subst (λ r. AnswersOrMemory header_list r (read_block manner.ends_at_dashes raw)) c.in-Err.is (part_read c.parse_headers.result manner.ends_at_dashes raw c.header_part-head.result.now c.header_part-head.ensures.value c.parse_headers.ensures.read) in
+    let h : AnswersOrMemory header_list (Err c.in-Err.refusal) (read_block manner.ends_at_dashes raw) = subst (λ r. AnswersOrMemory header_list r (read_block manner.ends_at_dashes raw)) c.in-Err.is c.parse_block.ensures.read in
     let limit = c.args.left.now in
     let all = items_met manner c.args.levels digest raw in
     let whole = read_levels manner c.args.levels digest raw in
@@ -177,7 +172,7 @@ returns-in_err-left-2-clause-refused g c =
     let headers = c.in-Ok.block.0.items in
     let many : c.len.result ≡ length headers = omega (arith, c.len.ensures, c.in-Ok.block.0.ok.0) in
     let after = met_after_own manner c.args.levels (in_digest c.args.source.now.default) raw in
-    let read = block_read c.parse_headers.result c.in-Ok.block (read_block manner.ends_at_dashes raw) c.in-Ok.is (part_read c.parse_headers.result manner.ends_at_dashes raw c.header_part-head.result.now c.header_part-head.ensures.value c.parse_headers.ensures.read) in
+    let read = block_read c.parse_block.result c.in-Ok.block (read_block manner.ends_at_dashes raw) c.in-Ok.is c.parse_block.ensures.read in
     let same : headers_met (read_block manner.ends_at_dashes raw) ≡ c.len.result = ap headers_met read ∙ sym many in
     let left = leaves_spent c.args.left.now all c.args.left.now c.in_ok-left.field-0 1 (c.len.result + after)
     (leaves_all c.args.left.now all (1 + (c.len.result + after)) (items_met-headers manner c.args.levels (in_digest c.args.source.now.default) raw some ∙ ap (λ n. 1 + (n + after)) same)) c.in_ok-left.ensures in
@@ -197,14 +192,14 @@ returns-in_default-clause-read g c =
     let type = sym c.in_ok-ctype.ensures in
     let nothing : None ≡ option_map (λ dash_boundary. 10 ∷ dash_boundary) (dash_boundary_of ctype) = sym (ap (option_map (λ (l : Vec ℕ). l.items)) c.in_default.is) ∙ c.in_ok-line_delimiter.ensures in
     let none = line_delimiter_none (dash_boundary_of ctype) nothing in
-    let read = block_read c.parse_headers.result c.in-Ok.block (read_block manner.ends_at_dashes raw) c.in-Ok.is (part_read c.parse_headers.result manner.ends_at_dashes raw c.header_part-head.result.now c.header_part-head.ensures.value c.parse_headers.ensures.read) in
+    let read = block_read c.parse_block.result c.in-Ok.block (read_block manner.ends_at_dashes raw) c.in-Ok.is c.parse_block.ensures.read in
     let many : c.len.result ≡ length headers = omega (arith, c.len.ensures, c.in-Ok.block.0.ok.0) in
     let limit = c.args.left.now in
     let all = items_met manner c.args.levels digest raw in
     let met : all ≡ 1 + (c.len.result + 0) = items_met-leaf manner c.args.levels digest raw headers body_offset ctype some read type none ∙ ap (λ n. 1 + (n + 0)) (sym many) in
     let left = leaves_two limit all c.in_ok-left.field-0 c.in_ok-left-2.field-0 c.len.result 0 met c.in_ok-left.ensures c.in_ok-left-2.ensures in
-    let bounds = subst (λ r. IfOk r (λ found. (vec_len found.0 ≤ found.1) × (found.1 ≤ length c.header_part-head.result.now))) c.in-Ok.is c.parse_headers.ensures.bounds in
-    let within : body_offset ≤ length raw = omega (arith, bounds.1, c.header_part-head.ensures.within) in
+    let bounds = subst (λ r. IfOk r (λ found. (vec_len found.0 ≤ found.1) × (found.1 ≤ length raw))) c.in-Ok.is c.parse_block.ensures.bounds in
+    let within : body_offset ≤ length raw = bounds.1 in
     record {
       read = leaves_read limit all c.in_ok-left-2.field-0 (read_levels manner c.args.levels digest raw) left
           ∙ read_levels-leaf manner c.args.levels digest raw headers body_offset ctype some read type none
@@ -230,7 +225,7 @@ returns-clause-read g c =
     let line_delimiter = c.in-Some.line_delimiter.items in
     let whole = c.has_whole_lines-whole.result in
     let many : c.len.result ≡ length headers = omega (arith, c.len.ensures, c.in-Ok.block.0.ok.0) in
-    let bounds = subst (λ r. IfOk r (λ found. (vec_len found.0 ≤ found.1) × (found.1 ≤ length c.header_part-head.result.now))) c.in-Ok.is c.parse_headers.ensures.bounds in
+    let bounds = subst (λ r. IfOk r (λ found. (vec_len found.0 ≤ found.1) × (found.1 ≤ length raw))) c.in-Ok.is c.parse_block.ensures.bounds in
     let own : ℕ → Placement = λ end. record { whole = record { start = c.args.source.now.offset; end = c.args.source.now.offset + length raw }; body = record { start = c.args.source.now.offset + body_offset; end = c.args.source.now.offset + end } } in
     let ends : c.cut_preamble-end.result.0 ≡ preamble_end_as whole (drop 1 line_delimiter) raw body_offset = c.cut_preamble-end.ensures.end ∙ ap (λ (l : List ℕ). preamble_end_as whole (drop 1 l) raw body_offset) c.as_slice.ensures.value in
     record {
@@ -239,8 +234,8 @@ returns-clause-read g c =
       ctype = ctype;
       own = c.in_ok-left.field-0;
       some = omega (arith, c.if-levels-eq0.false);
-      read = block_read c.parse_headers.result c.in-Ok.block (read_block manner.ends_at_dashes raw) c.in-Ok.is (part_read c.parse_headers.result manner.ends_at_dashes raw c.header_part-head.result.now c.header_part-head.ensures.value c.parse_headers.ensures.read);
-      within = omega (arith, bounds.1, c.header_part-head.ensures.within);
+      read = block_read c.parse_block.result c.in-Ok.block (read_block manner.ends_at_dashes raw) c.in-Ok.is c.parse_block.ensures.read;
+      within = bounds.1;
       type = sym c.in_ok-ctype.ensures;
       delimiter = made c.in_ok-line_delimiter.field-0 c.in-Some.line_delimiter _ c.in-Some.is c.in_ok-line_delimiter.ensures;
       lines = c.has_whole_lines-whole.ensures;
