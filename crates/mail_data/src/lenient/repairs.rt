@@ -77,6 +77,7 @@ fn lacks_nothing(text: &str) -> bool
 }
 
 /// Returns whether nothing is missing before a character with this position.
+#[inline(always)]
 fn may_follow(position: Position, c: char) -> bool
     ensures { result ≡ may_follow position c }
 {
@@ -283,6 +284,7 @@ fn missing_at_end(position: Position) -> &'static str
 }
 
 /// Returns the position after a character with this position.
+#[inline(always)]
 fn after(position: Position, c: char) -> Position
     ensures { result ≡ after position c }
 {
