@@ -50,3 +50,5 @@ pub mod Disputed
 pub mod StrictTexts
 pub mod StrictWordBytes
 pub mod StrictWorded
+pub mod SameTexts
+pub mod Unmoved

@@ -6,3 +6,4 @@ pub mod Folds
 pub mod Tested
 pub mod Base64Lines
 pub mod StrictValues
+pub mod Unmoved

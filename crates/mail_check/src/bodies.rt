@@ -119,6 +119,7 @@ fn line_end_or_wrong(byte: u8, feed: Base64State, after_return: Base64State) -> 
 }
 
 /// Returns whether a byte is a letter of Base64.
+#[inline(always)]
 pub(crate) fn is_letter(byte: u8) -> bool
     ensures { result ≡ is_letter byte }
 {

@@ -9,7 +9,7 @@ ghost use Rattle.mail_check.specs.Charsets.{utf_8_labels};
 ghost use Rattle.mail_check.specs.declared.charsets.PairState.TheVariants.{Whole};
 
 use crate::disputed::has_disputed;
-use crate::scan::high_byte;
+use crate::scan::{high_byte, is_same};
 use mail_codec::bytescan::find;
 use mail_codec::charset::{Decode, KnownCharsets};
 use std::alloc::{AllocError, Global};
@@ -192,7 +192,7 @@ fn is_label_of(label: &[u8], labels: &[&str]) -> bool
 pub(crate) fn is_same_label(label: &[u8], known: &str) -> bool
     ensures { result ≡ str_eq_ignore_ascii_case label.now known.now }
 {
-    label.eq_ignore_ascii_case(known.as_bytes())
+    is_same(label, known.as_bytes())
 }
 
 /// Returns whether bytes are UTF-8.

@@ -14,7 +14,7 @@ ghost use Rattle.mail_check.specs.Lines.{single_names, trimmed_value};
 ghost use Rattle.mail_check.specs.private.Folds.{is_folded};
 ghost use Rattle.mail_check.specs.private.Singles.{has_repeated, none_yet, single_number};
 
-use crate::scan::{Pattern, blank_count, first_match, from_offset, high_byte};
+use crate::scan::{Pattern, blank_count, first_match, from_offset, high_byte, is_same};
 use mail_codec::bytescan::find_byte;
 use mailparse::{ParsedMail, header_places};
 use std::alloc::{AllocError, Global};
@@ -69,14 +69,12 @@ fn line_of(at: usize, rest: &[u8]) -> HeaderLine<'_>
     }
 }
 
-/// Returns whether the key of a header is this name, ignoring ASCII case. Most names have another
-/// length, which is compared without a call.
+/// Returns whether the key of a header is this name, ignoring ASCII case.
 #[inline(always)]
-#[tactic(auto, using(crate::proofs::lemmas::Lines::other_length))]
 pub(crate) fn is_named(name: &[u8], line: &HeaderLine<'_>) -> bool
     ensures { result ≡ is_named name.now (line_view line.now) }
 {
-    line.key.len() == name.len() && line.key.eq_ignore_ascii_case(name)
+    is_same(line.key, name)
 }
 
 /// Returns whether a header has no colon or two, or a key that is empty or has another byte than
@@ -92,6 +90,7 @@ pub(crate) fn is_bad_key(line: &HeaderLine<'_>) -> bool
 }
 
 /// Returns the bytes after the key.
+#[inline(always)]
 fn after_key<'m>(line: &HeaderLine<'m>) -> &'m [u8]
     ensures { result.now ≡ after_key (line_view line.now) }
 {
@@ -99,6 +98,7 @@ fn after_key<'m>(line: &HeaderLine<'m>) -> &'m [u8]
 }
 
 /// Returns the bytes without the first.
+#[inline(always)]
 fn without_first(bytes: &[u8]) -> &[u8]
     ensures { result.now ≡ drop 1 bytes.now }
 {
@@ -113,6 +113,7 @@ fn are_visible(bytes: &[u8]) -> bool
 }
 
 /// Returns whether a byte is visible ASCII.
+#[inline(always)]
 pub(crate) fn is_visible(byte: u8) -> bool
     ensures { result ≡ is_visible byte }
 {
@@ -120,6 +121,7 @@ pub(crate) fn is_visible(byte: u8) -> bool
 }
 
 /// Returns whether a colon comes after blanks.
+#[inline(always)]
 fn has_second_colon(rest: &[u8]) -> bool
     ensures { result ≡ has_second_colon rest.now }
 {
@@ -175,6 +177,7 @@ pub(crate) fn has_high_value(line: &HeaderLine<'_>) -> bool
 }
 
 /// Returns whether a header ends where its block of this size ends.
+#[inline(always)]
 pub(crate) fn ends_block(size: usize, line: &HeaderLine<'_>) -> bool
     ensures { result ≡ ends_block size (line_view line.now) }
 {
@@ -293,6 +296,7 @@ fn message_number(line: &HeaderLine<'_>) -> usize
 }
 
 /// Returns the value of a header without blanks before it.
+#[inline(always)]
 pub(crate) fn trimmed_value<'m>(line: &HeaderLine<'m>) -> &'m [u8]
     ensures { result.now ≡ trimmed_value (line_view line.now) }
 {
@@ -300,10 +304,11 @@ pub(crate) fn trimmed_value<'m>(line: &HeaderLine<'m>) -> &'m [u8]
 }
 
 /// Returns whether the value of a header is a text, ignoring ASCII case.
+#[inline(always)]
 fn has_value(text: &[u8], line: &HeaderLine<'_>) -> bool
     ensures { result ≡ has_value text.now (line_view line.now) }
 {
-    trimmed_value(line).eq_ignore_ascii_case(text)
+    is_same(trimmed_value(line), text)
 }
 
 /// Returns whether a header names a transfer encoding that has to be decoded.

@@ -500,7 +500,8 @@ fn push_strict(
 ) -> Result<(), AllocError>
     ensures { OnOk result (map finding_view found.new.items
         ≡ map finding_view found.old.items
-        ++ reading_findings (spot_view spot.now) (line_view line.now) (Some (strict_view value.now))) }
+        ++ reading_findings (spot_view spot.now) (line_view line.now)
+        (Some (strict_view value.now))) }
 {
     push_value(alloc, found, spot, value)?;
     push_names(alloc, found, spot, line, value.names.as_slice())
@@ -980,6 +981,7 @@ pub(crate) fn push_refused(
 }
 
 /// Returns where findings of a message may be, at an offset after its first byte.
+#[inline(always)]
 fn spot_in<'p>(place: &'p Place<'_, '_>, offset: usize, size: usize) -> Spot<'p>
     ensures { spot_view result ≡ spot_in (place_view place.now) offset size }
 {
@@ -991,6 +993,7 @@ fn spot_in<'p>(place: &'p Place<'_, '_>, offset: usize, size: usize) -> Spot<'p>
 }
 
 /// Returns where findings of the body of a message may be.
+#[inline(always)]
 fn spot_of_body<'p>(place: &'p Place<'_, '_>, size: usize) -> Spot<'p>
     ensures { spot_view result ≡ spot_of_body (place_view place.now) size }
 {
@@ -1002,6 +1005,7 @@ fn spot_of_body<'p>(place: &'p Place<'_, '_>, size: usize) -> Spot<'p>
 }
 
 /// Appends the finding at an offset, if there is one.
+#[inline(always)]
 fn push_at(
     alloc: Global,
     found: &mut Vec<Finding>,
@@ -1019,6 +1023,7 @@ fn push_at(
 }
 
 /// Appends the finding of a whole spot, if it is to be.
+#[inline(always)]
 fn push_if(
     alloc: Global,
     found: &mut Vec<Finding>,
@@ -1036,6 +1041,7 @@ fn push_if(
 }
 
 /// Appends a finding.
+#[cold]
 fn push(
     alloc: Global,
     found: &mut Vec<Finding>,

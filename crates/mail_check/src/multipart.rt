@@ -17,7 +17,7 @@ ghost use Rattle.mail_check.specs.Multiparts.{without_dashes};
 ghost use Rattle.mail_check.specs.private.Delimiters.{AreFirst, found_or, is_other};
 
 use crate::scan::{from_offset, is_line_left};
-use mail_codec::bytescan::{find_byte, find_pair};
+use mail_codec::bytescan::find_pair;
 use mailparse::ParsedMail;
 use std::alloc::{AllocError, Global};
 
@@ -132,7 +132,11 @@ fn are_boundary_bytes(text: &[u8]) -> bool
 fn is_boundary_byte(byte: u8) -> bool
     ensures { result ≡ is_boundary_byte byte }
 {
-    byte.is_ascii_alphanumeric() || find_byte(b"'()+_,-./:=? ", byte).is_some()
+    byte.is_ascii_alphanumeric()
+        || matches!(
+            byte,
+            b'\'' | b'(' | b')' | b'+' | b'_' | b','..=b'/' | b':' | b'=' | b'?' | b' '
+        )
 }
 
 /// Returns whether a multipart has no boundary, or a message of another type has one.

@@ -6,10 +6,12 @@ ghost use Rattle.mail_check.specs.Parameters.{ends_name, has_other_name, has_rep
 ghost use Rattle.mail_check.specs.Parameters.{is_name_state, name_with, none_seen};
 ghost use Rattle.mail_check.specs.Parameters.{strict, strict_value};
 ghost use Rattle.mail_check.specs.private.StrictValues.{reading_of, strict_view};
+ghost use Rattle.mail_check.specs.private.Unmoved.{is_unmoved};
 
 use crate::lines::HeaderLine;
 use crate::parameters::{
-    Step, ValueState, after_byte, is_disposition, is_step, is_type, may_end, value_of,
+    Step, ValueState, after_byte, is_disposition, is_restricted, is_step, is_type, may_end,
+    value_of,
 };
 use std::alloc::{AllocError, Global};
 use std::collections::BTreeSet;
@@ -44,7 +46,7 @@ pub(crate) fn strict_value<'m>(
 }
 
 /// Reads a value from its subtype or disposition onwards, if it has that syntax. One pass tests the
-/// syntax and collects the names.
+/// syntax and collects the names. Most bytes of a value change nothing.
 fn read_value(alloc: Global, bytes: &[u8]) -> Result<Option<StrictValue<'_>>, AllocError>
     ensures { IfOk result (λ value. option_map strict_view value
         ≡ option_map reading_of (strict (Some bytes.now))) }
@@ -55,6 +57,9 @@ fn read_value(alloc: Global, bytes: &[u8]) -> Result<Option<StrictValue<'_>>, Al
     let mut has_extended = false;
     let mut state = ValueState::Start;
     for byte in bytes {
+        if is_unmoved(state, *byte) {
+            continue;
+        }
         has_quoted_special = has_quoted_special || is_step(Step::Special, state, *byte);
         has_extended = has_extended || is_step(Step::Starred, state, *byte);
         state = after_byte(state, *byte);
@@ -76,6 +81,19 @@ fn read_value(alloc: Global, bytes: &[u8]) -> Result<Option<StrictValue<'_>>, Al
     }))
 }
 
+/// Returns whether a byte changes nothing of what was read of a value: one of a subtype, a
+/// disposition or the value of a parameter, after another one.
+#[inline(always)]
+#[tactic(auto, unfolding(crate::specs::private::Unmoved::is_unmoved))]
+fn is_unmoved(state: ValueState, byte: u8) -> bool
+    ensures { result ≡ is_unmoved state byte }
+{
+    match state {
+        ValueState::Token | ValueState::Text | ValueState::Quoted => is_restricted(byte),
+        _ => false,
+    }
+}
+
 /// Appends a byte to a name, in lower case, if that is one of it; otherwise empties the name.
 #[inline(always)]
 fn extend_name(state: ValueState, name: &mut String, byte: u8) -> Result<(), AllocError>
@@ -89,6 +107,7 @@ fn extend_name(state: ValueState, name: &mut String, byte: u8) -> Result<(), All
 }
 
 /// Returns whether a byte is one of a name, given the state after it.
+#[inline(always)]
 fn is_name_state(state: ValueState) -> bool
     ensures { result ≡ is_name_state state }
 {
@@ -96,6 +115,7 @@ fn is_name_state(state: ValueState) -> bool
 }
 
 /// Returns whether it is the equals sign after a name.
+#[inline(always)]
 fn ends_name(state: ValueState) -> bool
     ensures { result ≡ ends_name state }
 {

@@ -11,7 +11,7 @@ ghost use Rattle.mail_check.specs.Parameters.{is_star_step, is_step, is_type, ma
 ghost use Rattle.mail_check.specs.declared.parameters.ValueState.TheVariants.{Attribute};
 
 use crate::lines::{HeaderLine, is_named, trimmed_value};
-use crate::scan::{is_blank, is_control};
+use crate::scan::{is_blank, is_control, is_same};
 use mail_codec::bytescan::{find, find_byte};
 
 /// What was read of a value with parameters, from its subtype or disposition onwards.
@@ -121,15 +121,15 @@ fn subtype_of(value: &[u8]) -> Option<&[u8]>
 fn is_main_type(text: &[u8]) -> bool
     ensures { result ≡ is_main_type text.now }
 {
-    text.eq_ignore_ascii_case(b"text")
-        || text.eq_ignore_ascii_case(b"image")
-        || text.eq_ignore_ascii_case(b"audio")
-        || text.eq_ignore_ascii_case(b"video")
-        || text.eq_ignore_ascii_case(b"application")
-        || text.eq_ignore_ascii_case(b"multipart")
-        || text.eq_ignore_ascii_case(b"message")
-        || text.eq_ignore_ascii_case(b"font")
-        || text.eq_ignore_ascii_case(b"model")
+    is_same(text, b"text")
+        || is_same(text, b"image")
+        || is_same(text, b"audio")
+        || is_same(text, b"video")
+        || is_same(text, b"application")
+        || is_same(text, b"multipart")
+        || is_same(text, b"message")
+        || is_same(text, b"font")
+        || is_same(text, b"model")
 }
 
 /// Returns whether a backslash is in quotes.
@@ -159,6 +159,7 @@ pub(crate) fn is_step(step: Step, state: ValueState, byte: u8) -> bool
 
 /// Returns whether a byte after a state is one in quotes that is special, or a space at their start
 /// or end.
+#[inline(always)]
 fn is_special_step(state: ValueState, byte: u8) -> bool
     ensures { result ≡ is_special_step state byte }
 {
@@ -171,6 +172,7 @@ fn is_special_step(state: ValueState, byte: u8) -> bool
 }
 
 /// Returns whether a byte is a semicolon, a tab or one of a line end.
+#[inline(always)]
 fn is_special(byte: u8) -> bool
     ensures { result ≡ is_special byte }
 {
@@ -178,6 +180,7 @@ fn is_special(byte: u8) -> bool
 }
 
 /// Returns whether a byte after a state is the asterisk of a name.
+#[inline(always)]
 fn is_star_step(state: ValueState, byte: u8) -> bool
     ensures { result ≡ is_star_step state byte }
 {
@@ -218,6 +221,7 @@ pub(crate) fn after_byte(state: ValueState, byte: u8) -> ValueState
 }
 
 /// Returns the state after a value and a byte.
+#[inline(always)]
 fn after_value(byte: u8) -> ValueState
     ensures { result ≡ after_value byte }
 {
@@ -228,6 +232,7 @@ fn after_value(byte: u8) -> ValueState
 }
 
 /// Returns the state after a semicolon, blanks and a byte.
+#[inline(always)]
 fn after_semicolon(byte: u8) -> ValueState
     ensures { result ≡ after_semicolon byte }
 {
@@ -243,6 +248,7 @@ fn after_semicolon(byte: u8) -> ValueState
 }
 
 /// Returns the state after a part of a name and a byte.
+#[inline(always)]
 fn after_attribute(byte: u8) -> ValueState
     ensures { result ≡ after_byte Attribute byte }
 {
@@ -257,6 +263,7 @@ fn after_attribute(byte: u8) -> ValueState
 }
 
 /// Returns the state after a quotation mark, a part of a value and a byte.
+#[inline(always)]
 fn in_quotes(byte: u8) -> ValueState
     ensures { result ≡ in_quotes byte }
 {
@@ -284,7 +291,8 @@ pub(crate) fn may_end(state: ValueState) -> bool
 }
 
 /// Returns whether a byte is a character of a subtype or a disposition.
-fn is_restricted(byte: u8) -> bool
+#[inline(always)]
+pub(crate) fn is_restricted(byte: u8) -> bool
     ensures { result ≡ is_restricted byte }
 {
     byte.is_ascii_alphanumeric()
@@ -295,6 +303,7 @@ fn is_restricted(byte: u8) -> bool
 }
 
 /// Returns whether a byte is a character of the name of a parameter.
+#[inline(always)]
 fn is_attribute(byte: u8) -> bool
     ensures { result ≡ is_attribute byte }
 {
@@ -302,6 +311,7 @@ fn is_attribute(byte: u8) -> bool
 }
 
 /// Returns whether a byte is a character of a value after a name with an asterisk.
+#[inline(always)]
 fn is_extended(byte: u8) -> bool
     ensures { result ≡ is_extended byte }
 {

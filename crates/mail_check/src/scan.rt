@@ -2,6 +2,7 @@
 ghost use Rattle.std.specs.Prelude.{◌≡◌, ◌<◌, ◌≤◌, ◌==◌, ◌||◌, ◌+◌, ◌&&◌, drop, length, not};
 ghost use Rattle.std.specs.Prelude.{ℕ, false, is_some};
 ghost use Rattle.std.specs.List.{list_all};
+ghost use Rattle.std.specs.Str.{str_eq_ignore_ascii_case};
 ghost use Rattle.mail_codec.specs.Places.{begins, first_place};
 ghost use Rattle.mail_codec.specs.private.Vectors.{lane_mask};
 ghost use Rattle.mail_codec.specs.Ascii.{carriage_return, is_blank, line_feed};
@@ -53,6 +54,7 @@ pub(crate) enum Pattern {
 }
 
 /// Returns the offset of the first occurrence of a pattern.
+#[inline(always)]
 pub(crate) fn first_match(pattern: Pattern, bytes: &[u8]) -> Option<usize>
     ensures value { result ≡ first_offset (matches_at pattern bytes.now) bytes.now }
 {
@@ -68,6 +70,7 @@ pub(crate) fn first_match(pattern: Pattern, bytes: &[u8]) -> Option<usize>
 }
 
 /// Returns the byte that a pattern has at its offset.
+#[inline(always)]
 fn lead(pattern: Pattern) -> u8
     ensures { result ≡ lead pattern }
 {
@@ -256,6 +259,7 @@ fn digit_at(bytes: &[u8], at: usize) -> bool
 }
 
 /// Returns whether a byte is a digit of an escape.
+#[inline(always)]
 pub(crate) fn is_escape_digit(byte: u8) -> bool
     ensures { result ≡ is_escape_digit byte }
 {
@@ -404,6 +408,7 @@ fn control_lanes(bytes: u8x16) -> u64
 }
 
 /// Returns whether a byte is such a control character.
+#[inline(always)]
 pub(crate) fn is_control(byte: u8) -> bool
     ensures { result ≡ is_control byte }
 {
@@ -431,7 +436,18 @@ pub(crate) fn later(first: Option<usize>, second: Option<usize>) -> Option<usize
     }
 }
 
+/// Returns whether two texts are equal, ignoring ASCII case. Most have other lengths, which are
+/// compared without a call, and most that are equal are spelled in the same way.
+#[inline(always)]
+#[tactic(auto, using(crate::proofs::lemmas::SameTexts::other_length, crate::proofs::lemmas::SameTexts::same_spelling))]
+pub(crate) fn is_same(text: &[u8], other: &[u8]) -> bool
+    ensures { result ≡ str_eq_ignore_ascii_case text.now other.now }
+{
+    text.len() == other.len() && (text == other || text.eq_ignore_ascii_case(other))
+}
+
 /// Returns the bytes from an offset onwards, or none if there are fewer.
+#[inline(always)]
 pub(crate) fn from_offset(bytes: &[u8], at: usize) -> &[u8]
     ensures { result.now ≡ drop at bytes.now }
 {
@@ -443,6 +459,7 @@ pub(crate) fn from_offset(bytes: &[u8], at: usize) -> &[u8]
 }
 
 /// Returns the number of blanks at the front.
+#[inline(always)]
 pub(crate) fn blank_count(bytes: &[u8]) -> usize
     ensures value { result ≡ first_place (begins (λ b. not (is_blank b))) bytes.now }
     ensures bounds { result ≤ length bytes.now }
@@ -455,6 +472,7 @@ pub(crate) fn blank_count(bytes: &[u8]) -> usize
 
 /// Returns whether nothing of a line is left: whether the bytes begin with a line end or are at
 /// their end.
+#[inline(always)]
 pub(crate) fn is_line_left(rest: &[u8]) -> bool
     ensures { result ≡ is_line_left rest.now }
 {
@@ -462,6 +480,7 @@ pub(crate) fn is_line_left(rest: &[u8]) -> bool
 }
 
 /// Returns whether a byte is a blank.
+#[inline(always)]
 pub(crate) fn is_blank(byte: u8) -> bool
     ensures { result ≡ is_blank byte }
 {

@@ -83,6 +83,7 @@ fn is_plain_sender(bytes: &[u8]) -> bool
 }
 
 /// Returns the state after one more byte.
+#[inline(always)]
 fn after_sender_byte(state: SenderState, byte: u8) -> SenderState
     ensures { result ≡ after_sender_byte state byte }
 {
@@ -117,6 +118,7 @@ fn after_sender_byte(state: SenderState, byte: u8) -> SenderState
 }
 
 /// Returns the state after blanks at the front and a byte.
+#[inline(always)]
 fn after_front(byte: u8) -> SenderState
     ensures { result ≡ after_sender_byte Front byte }
 {
@@ -130,6 +132,7 @@ fn after_front(byte: u8) -> SenderState
 
 /// Returns the state after a byte that begins a word, a text in quotes or an address in angle
 /// brackets.
+#[inline(always)]
 fn after_gap(word: SenderState, byte: u8) -> SenderState
     ensures { result ≡ after_gap word byte }
 {
@@ -144,6 +147,7 @@ fn after_gap(word: SenderState, byte: u8) -> SenderState
 }
 
 /// Returns the state after a word, blanks and a byte.
+#[inline(always)]
 fn after_word(byte: u8) -> SenderState
     ensures { result ≡ after_word byte }
 {
@@ -156,6 +160,7 @@ fn after_word(byte: u8) -> SenderState
 }
 
 /// Returns the state after a part of the first word and a byte.
+#[inline(always)]
 fn after_atom(byte: u8) -> SenderState
     ensures { result ≡ after_sender_byte Atom byte }
 {
@@ -168,6 +173,7 @@ fn after_atom(byte: u8) -> SenderState
 }
 
 /// Returns the state after a part of the first word that ends with a dot and a byte.
+#[inline(always)]
 fn after_dot(byte: u8) -> SenderState
     ensures { result ≡ after_sender_byte Dot byte }
 {
@@ -179,6 +185,7 @@ fn after_dot(byte: u8) -> SenderState
 }
 
 /// Returns the state after a part of a text in quotes and a byte.
+#[inline(always)]
 fn in_quotes(byte: u8) -> SenderState
     ensures { result ≡ after_sender_byte Quoted byte }
 {
@@ -191,6 +198,7 @@ fn in_quotes(byte: u8) -> SenderState
 }
 
 /// Returns the state after a part of an address before its at sign and a byte.
+#[inline(always)]
 fn after_local(byte: u8) -> SenderState
     ensures { result ≡ after_sender_byte Local byte }
 {
@@ -203,6 +211,7 @@ fn after_local(byte: u8) -> SenderState
 }
 
 /// Returns the state after a part of a label and a byte.
+#[inline(always)]
 fn after_label(byte: u8) -> SenderState
     ensures { result ≡ after_sender_byte Label byte }
 {
@@ -214,6 +223,7 @@ fn after_label(byte: u8) -> SenderState
 }
 
 /// Returns the state after a part of a label, which may end with a hyphen, and a byte.
+#[inline(always)]
 fn after_hyphen(label: SenderState, hyphens: SenderState, byte: u8) -> SenderState
     ensures { result ≡ after_hyphen label hyphens byte }
 {
@@ -232,6 +242,7 @@ fn is_address_end(state: SenderState) -> bool
 }
 
 /// Returns whether a byte is a character of an atom.
+#[inline(always)]
 fn is_atom(byte: u8) -> bool
     ensures { result ≡ is_atom byte }
 {

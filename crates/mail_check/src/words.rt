@@ -98,6 +98,7 @@ fn gap_offset(bytes: &[u8]) -> Option<usize>
 }
 
 /// Returns whether a byte is a blank or one of a line end.
+#[inline(always)]
 fn is_gap(byte: u8) -> bool
     ensures { result ≡ is_gap byte }
 {
@@ -150,6 +151,7 @@ fn is_closed_word(bytes: &[u8]) -> bool
 }
 
 /// Returns the state after one more byte.
+#[inline(always)]
 fn after_word_byte(state: WordState, byte: u8) -> WordState
     ensures { result ≡ after_word_byte state byte }
 {
@@ -174,6 +176,7 @@ fn after_word_byte(state: WordState, byte: u8) -> WordState
 }
 
 /// Returns the state after a part of the charset and a byte.
+#[inline(always)]
 fn after_label_byte(byte: u8) -> WordState
     ensures { result ≡ after_word_byte Charset byte }
 {
@@ -185,6 +188,7 @@ fn after_label_byte(byte: u8) -> WordState
 }
 
 /// Returns the state after the question mark of a charset and a byte.
+#[inline(always)]
 fn after_label(byte: u8) -> WordState
     ensures { result ≡ after_label byte }
 {
@@ -196,6 +200,7 @@ fn after_label(byte: u8) -> WordState
 }
 
 /// Returns the state after letters of Base64 and a byte.
+#[inline(always)]
 fn after_letter(byte: u8) -> WordState
     ensures { result ≡ after_word_byte Base64 byte }
 {
@@ -208,6 +213,7 @@ fn after_letter(byte: u8) -> WordState
 }
 
 /// Returns the state after equals signs of Base64 and a byte.
+#[inline(always)]
 fn after_padding(byte: u8) -> WordState
     ensures { result ≡ after_word_byte Padding byte }
 {
@@ -219,6 +225,7 @@ fn after_padding(byte: u8) -> WordState
 }
 
 /// Returns the state after the next byte of a text in the encoding Q.
+#[inline(always)]
 fn in_q(byte: u8) -> WordState
     ensures { result ≡ in_q byte }
 {
@@ -231,6 +238,7 @@ fn in_q(byte: u8) -> WordState
 }
 
 /// Returns whether a byte is a character of the name of a charset.
+#[inline(always)]
 fn is_label_byte(byte: u8) -> bool
     ensures { result ≡ is_label_byte byte }
 {
@@ -396,7 +404,10 @@ fn has_sender_mark(octets: &[u8]) -> bool
 fn is_sender_mark(byte: u8) -> bool
     ensures { result ≡ is_sender_mark byte }
 {
-    find_byte(b"@<>,:;\"()[]\\", byte).is_some()
+    matches!(
+        byte,
+        b'@' | b'<' | b'>' | b',' | b':' | b';' | b'"' | b'(' | b')' | b'[' | b']' | b'\\'
+    )
 }
 
 /// Returns the bytes of a word.

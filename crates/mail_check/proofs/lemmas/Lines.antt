@@ -1,12 +1,7 @@
 -- Lemmas on the headers of a message.
-use Rattle.std.proofs.Common.{◌≡◌, ℕ, Bool, true, false, List, [], ◌∷◌, ◌∙◌, length, map, refl, sym, Some}
+use Rattle.std.proofs.Common.{◌≡◌, ℕ, Bool, true, false, List, [], ◌∷◌, length, map, refl, Some}
 use Rattle.std.specs.Prelude.{filter, nat_eq}
-use Rattle.std.specs.Char.{to_ascii_lowercase}
-use Rattle.std.specs.Cmp.Lexicographic.{unequal}
-use Rattle.std.specs.Str.{str_to_ascii_lowercase}
 use Rattle.std.proofs.Math.Dec.{eqb-suc-zero}
-use Rattle.std.proofs.lemmas.Bool.{eqb-false}
-use Rattle.std.proofs.lemmas.List.{length-map}
 use Rattle.mail_check.specs.Findings.{has_none}
 use Rattle.mail_check.specs.LineViews.{line_view}
 use Rattle.mail_check.specs.declared.lines.HeaderLine as code
@@ -38,11 +33,3 @@ second_passed name seen line lines h = rw h refl
 pub none_counted : (lines : List code.HeaderLine) → nat_eq (length lines) 0 ≡ has_none (map line_view lines)
 none_counted [] = refl
 none_counted (line ∷ lines) = eqb-suc-zero (length lines)
-
--- ---- names
-
--- a name of another length
-pub other_length : (name : List ℕ) (line : HeaderLine) → nat_eq (length line.key) (length name) ≡ false → is_named name line ≡ false
-other_length name line h =
-    unequal nat_eq (str_to_ascii_lowercase line.key) (str_to_ascii_lowercase name)
-    (λ e. eqb-false _ _ h (sym (length-map line.key to_ascii_lowercase) ∙ e ∙ length-map name to_ascii_lowercase))

@@ -58,7 +58,7 @@ listed_low b xs all h = elim (cases_lt b 128) [
               absurd (cc)
         ]
 
-attribute_low : (b : ℕ) → is_attribute b ≡ true → b < 128
+pub attribute_low : (b : ℕ) → is_attribute b ≡ true → b < 128
 attribute_low b h = elim (either_true (is_restricted b) _ h) [
   | inr e ↦ listed_low b (codes "`{|}~") refl e
   | inl e ↦ elim (either_true (is_ascii_alphanumeric b) _ e) [
