@@ -18,7 +18,7 @@ ghost use Rattle.mail_check.specs.Findings.{message_findings, multipart_findings
 ghost use Rattle.mail_check.specs.Findings.{parameter_findings};
 ghost use Rattle.mail_check.specs.Findings.{has_none, is_single, quoted_findings, repeated};
 ghost use Rattle.mail_check.specs.Findings.{name_findings, repeated_findings, spot_in};
-ghost use Rattle.mail_check.specs.Findings.{spot_of_body};
+ghost use Rattle.mail_check.specs.Findings.{spot_of_body, strict_findings, value_findings};
 ghost use Rattle.mail_check.specs.Findings.{text_findings, type_findings};
 ghost use Rattle.mail_check.specs.Findings.{word_findings, worded_findings};
 ghost use Rattle.mail_check.specs.Inside.{all_findings};
@@ -30,11 +30,10 @@ ghost use Rattle.mail_check.specs.Lines.{second_named, single_names};
 ghost use Rattle.mail_check.specs.declared.names.Name.TheVariants.{BlankFold, CommentFold};
 ghost use Rattle.mail_check.specs.declared.names.Name.TheVariants.{NameAddress, Preamble, Refused};
 ghost use Rattle.mail_check.specs.declared.names.Name.TheVariants.{Uuencode};
+ghost use Rattle.mail_check.specs.Parameters.{has_extended, has_quoted_special, parameter_names};
 ghost use Rattle.mail_check.specs.Words.{is_bad_name};
 ghost use Rattle.mail_check.specs.Multiparts.{dash_of};
 ghost use Rattle.mail_check.specs.private.Tested.{has_tested_value};
-ghost use Rattle.mail_check.specs.private.StrictValues.{read_findings, reading_findings};
-ghost use Rattle.mail_check.specs.private.StrictValues.{strict_view};
 ghost use Rattle.mail_check.specs.private.Delimiters.{AreFirst, part_findings_with};
 
 use crate::bodies::is_base64_lines;
@@ -498,10 +497,13 @@ fn push_strict(
     line: &HeaderLine<'_>,
     value: &StrictValue<'_>,
 ) -> Result<(), AllocError>
+    requires special { value.now.has_quoted_special ≡ has_quoted_special value.now.bytes.now }
+    requires extended { value.now.has_extended ≡ has_extended value.now.bytes.now }
+    requires names { map string_bytes value.now.names.items ≡ parameter_names value.now.bytes.now }
     ensures { OnOk result (map finding_view found.new.items
         ≡ map finding_view found.old.items
-        ++ reading_findings (spot_view spot.now) (line_view line.now)
-        (Some (strict_view value.now))) }
+        ++ strict_findings (spot_view spot.now) (line_view line.now)
+        (Some value.now.bytes.now)) }
 {
     push_value(alloc, found, spot, value)?;
     push_names(alloc, found, spot, line, value.names.as_slice())
@@ -534,9 +536,11 @@ fn push_value(
     spot: &Spot<'_>,
     value: &StrictValue<'_>,
 ) -> Result<(), AllocError>
+    requires special { value.now.has_quoted_special ≡ has_quoted_special value.now.bytes.now }
+    requires extended { value.now.has_extended ≡ has_extended value.now.bytes.now }
     ensures { OnOk result (map finding_view found.new.items
         ≡ map finding_view found.old.items
-        ++ read_findings (spot_view spot.now) (strict_view value.now)) }
+        ++ value_findings (spot_view spot.now) value.now.bytes.now) }
 {
     let is_special = value.has_quoted_special;
     push_if(alloc, found, spot, Name::QuotedSpecial, is_special)?;

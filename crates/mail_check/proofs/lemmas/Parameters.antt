@@ -3,6 +3,7 @@ use Rattle.std.proofs.Common.{◌≡◌, ◌∙◌, ◌+◌, ◌<◌, ℕ, suc, 
 use Rattle.std.specs.Global.{Global}
 use Rattle.std.specs.Prelude.{String, string_bytes}
 use Rattle.std.specs.Prelude.{◌==◌, ◌||◌, ◌&&◌, Option, is_none, is_some, option_map}
+use Rattle.std.specs.Option.{unwrap_or}
 use Rattle.std.specs.Str.{bytes_eq}
 use Rattle.std.proofs.lemmas.Bool.{and_right, true≢false}
 use Rattle.std.proofs.lemmas.List.{append-nil}
@@ -12,7 +13,7 @@ use Rattle.mail_codec.proofs.lemmas.PlacesSearches.{place_some}
 use Rattle.mail_check.specs.Findings.{Spot, listed_if, parameter_findings, strict_findings}
 use Rattle.mail_check.specs.Lines.{HeaderLine}
 use Rattle.mail_check.specs.Parameters.{after_bytes, has_repeat, has_step, is_disposition, is_strict, is_type, may_end, names_after, none_seen, parameter_names, strict, strict_value}
-use Rattle.mail_check.specs.private.StrictValues.{Reading, reading_findings, reading_of}
+use Rattle.mail_check.specs.private.StrictValues.{Reading, reading_of}
 use Rattle.mail_check.specs.declared.names.Name.TheVariants.{TypeSyntax}
 use Rattle.mail_check.specs.declared.parameters.Step.{Step}
 use Rattle.mail_check.specs.declared.parameters.Step.TheVariants.{Special, Starred}
@@ -86,14 +87,15 @@ read_whole state name rest bytes names special extended none e s x n ends =
     } in
     rw (sym (state_at state rest bytes none e) ∙ ends) (ap (λ (v : Reading). Some v) read)
 
--- the findings of a value that was read are those of its bytes
-as_read : (spot : Spot) (line : HeaderLine) (is : Bool) (value : Reading) (bytes : Option (List ℕ)) → Some value ≡ option_map reading_of bytes
-    → reading_findings spot line (Some value) ≡ listed_if spot TypeSyntax (is && is_none bytes) ++ strict_findings spot line bytes
-as_read spot line is value None e = absurd (true≢false (ap (λ (o : Option Reading). is_some o) e))
-as_read spot line is value (Some bytes) e =
-    ap (reading_findings spot line) e
-    ∙ ap (λ (t : Bool). listed_if spot TypeSyntax t ++ strict_findings spot line (Some bytes)) (sym (and_right is false refl))
+-- the bytes of a value that was read, whose findings are its own
+bytes_read : (value : Reading) (bytes : Option (List ℕ)) → Some value ≡ option_map reading_of bytes → Some value.bytes ≡ bytes
+bytes_read value None e = absurd (true≢false (ap (λ (o : Option Reading). is_some o) e))
+bytes_read value (Some bytes) e = ap (λ (o : Option Reading). Some (unwrap_or o value).bytes) e
 
 pub strict_is_listed : (spot : Spot) (line : HeaderLine) (value : Reading) → Some value ≡ option_map reading_of (strict_value line)
-    → reading_findings spot line (Some value) ≡ parameter_findings spot line
-strict_is_listed spot line value e = as_read spot line (is_type line || is_disposition line) value (strict_value line) e
+    → strict_findings spot line (Some value.bytes) ≡ parameter_findings spot line
+strict_is_listed spot line value e =
+    ap (λ (t : Bool). listed_if spot TypeSyntax t ++ strict_findings spot line (Some value.bytes))
+    (sym (and_right (is_type line || is_disposition line) false refl))
+    ∙ ap (λ (o : Option (List ℕ)). listed_if spot TypeSyntax ((is_type line || is_disposition line) && is_none o) ++ strict_findings spot line o)
+    (bytes_read value (strict_value line) e)

@@ -33,10 +33,10 @@ no_odd b h =
 abbrev Outside : ValueState → Type 0
 Outside state = (ends_name state ≡ false) × (is_name_state state ≡ false)
 
-after_token : (token : ValueState) → Outside token → (s t : Bool) → Outside (cond s token (cond t Semicolon Wrong))
-after_token token h true t = h
-after_token token h false true = (refl, refl)
-after_token token h false false = (refl, refl)
+after_token : (state : ValueState) → Outside state → (s t : Bool) → Outside (cond s state (cond t Semicolon Wrong))
+after_token state h true t = h
+after_token state h false true = (refl, refl)
+after_token state h false false = (refl, refl)
 
 after_quoted : (s t u v : Bool) → Outside (cond s Closed (cond t Escaped (cond u Wrong (cond v Space Quoted))))
 after_quoted true t u v = (refl, refl)

@@ -1,9 +1,6 @@
--- Types and dispositions as one pass reads them, and their findings.
-use Rattle.std.specs.Prelude.{ℕ, Bool, List, [], ◌++◌, Option, Some, None, map, string_bytes}
-use Rattle.mail_check.specs.Findings.{Finding, Spot, listed_if, name_findings}
-use Rattle.mail_check.specs.Lines.{HeaderLine}
-use Rattle.mail_check.specs.Parameters.{has_extended, has_quoted_pair, has_quoted_special, has_word, parameter_names}
-use Rattle.mail_check.specs.declared.names.Name.TheVariants as name
+-- Types and dispositions as one pass reads them.
+use Rattle.std.specs.Prelude.{ℕ, Bool, List, map, string_bytes}
+use Rattle.mail_check.specs.Parameters.{has_extended, has_quoted_special, parameter_names}
 use Rattle.mail_check.specs.declared.parameter_names.StrictValue.{StrictValue}
 
 -- what the pass finds of a value
@@ -28,16 +25,3 @@ strict_view value = record {
   is_special = value.has_quoted_special;
   is_extended = value.has_extended;
 }
-
--- the findings of its parameters
-abbrev pub read_findings : Spot → Reading → List Finding
-read_findings spot value =
-    listed_if spot name.QuotedSpecial value.is_special
-    ++ (listed_if spot name.QuotedPair (has_quoted_pair value.bytes)
-    ++ (listed_if spot name.ExtendedParameter value.is_extended
-    ++ listed_if spot name.WordParameter (has_word value.bytes)))
-
--- these, and those of their names, if the value is strict
-abbrev pub reading_findings : Spot → HeaderLine → Option Reading → List Finding
-reading_findings spot line None = []
-reading_findings spot line (Some value) = read_findings spot value ++ name_findings spot line value.names
