@@ -5,11 +5,11 @@ ghost use Rattle.mail_codec.specs.Places.{begins, place_from};
 ghost use Rattle.mailparse.specs.Header.{header_length, header_of, is_line_feed};
 ghost use Rattle.mailparse.specs.Header.{key_end, value_end, value_start};
 
-use mail_codec::bytescan::find_byte;
 use mailparse::{HeaderPlaces, MailHeader};
 
 /// Returns the offsets in the header that was read at the front of `raw`. Its key and its value are
 /// not searched.
+#[inline(always)]
 #[tactic(auto, using(crate::proofs::lemmas::HeaderLengths::lengths))]
 pub(crate) fn places_of(raw: &[u8], header: &MailHeader<'_>) -> HeaderPlaces
     requires { header.now ≡ header_of raw.now }
@@ -33,6 +33,7 @@ pub(crate) fn places_of(raw: &[u8], header: &MailHeader<'_>) -> HeaderPlaces
 }
 
 /// Returns the start of the value of a header whose key ends at `key`.
+#[inline(always)]
 #[tactic(auto, using(crate::proofs::lemmas::HeaderLengths::starts))]
 fn value_start(raw: &[u8], key: usize) -> usize
     requires { key ≡ key_end raw.now }
@@ -46,6 +47,7 @@ fn value_start(raw: &[u8], key: usize) -> usize
 
 /// Returns the offset of the first byte at or after `from` that is not a space, or the length if
 /// all are spaces.
+#[inline(always)]
 fn after_spaces(raw: &[u8], from: usize) -> usize
     requires within { from ≤ length raw.now }
     ensures { result ≡ place_from (begins (λ b. not (b == space))) raw.now from }
@@ -58,6 +60,7 @@ fn after_spaces(raw: &[u8], from: usize) -> usize
 }
 
 /// Returns whether this byte is at `offset`.
+#[inline(always)]
 fn is_at(raw: &[u8], offset: usize, byte: u8) -> bool
     ensures { result ≡ begins (λ b. b == byte) (drop offset raw.now) }
 {
@@ -67,20 +70,34 @@ fn is_at(raw: &[u8], offset: usize, byte: u8) -> bool
     }
 }
 
-/// Returns the offset of the first LF at or after `from`, or the length if there is none.
-#[tactic(auto, using(crate::proofs::lemmas::HeaderLengths::searches))]
+/// Returns the offset of the first LF at or after `from`, or the length if there is none. Only CRs
+/// come between a value and its LF, mostly one or none, so that each byte is compared.
+#[inline(always)]
 fn line_feed_from(raw: &[u8], from: usize) -> usize
     requires within { from ≤ length raw.now }
     ensures least { result ≡ place_from (begins is_line_feed) raw.now from }
     ensures bounds { result ≤ length raw.now }
 {
-    match find_byte(&raw[from..], b'\n') {
-        Some(distance) => from + distance,
-        None => raw.len(),
+    let mut at = from;
+    while is_other_at(raw, at, b'\n') {
+        at += 1;
+    }
+    at
+}
+
+/// Returns whether another byte than this is at `offset`.
+#[inline(always)]
+fn is_other_at(raw: &[u8], offset: usize, byte: u8) -> bool
+    ensures { result ≡ begins (λ b. not (b == byte)) (drop offset raw.now) }
+{
+    match raw.get(offset) {
+        Some(found) => *found != byte,
+        None => false,
     }
 }
 
 /// Returns the length of a header that ends at `end`, including its LF.
+#[inline(always)]
 fn length_to(raw: &[u8], end: usize) -> usize
     requires within { end ≤ length raw.now }
     ensures { result ≡ min (suc end) (length raw.now) }

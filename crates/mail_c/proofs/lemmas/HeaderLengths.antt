@@ -1,14 +1,13 @@
 -- The offsets of a header from the lengths of its key and of its value.
 use Rattle.std.proofs.Common.{◌≡◌, ℕ, suc, ◌+◌, ◌-◌, ◌<◌, ◌≤◌, Bool, true, false, ◌&&◌, ◌||◌, not, eqb, min, List, [], ◌∷◌, ◌++◌, length, take, drop, inl, inr, ⊎_elim, refl, sym, ap, subst, ◌∙◌, arith, length-drop, length-take}
 use Rattle.std.proofs.lemmas.Bool.{and_parts, cases_Bool, cases_lt, eqb-true, false≢true}
-use Rattle.std.proofs.lemmas.List.{drop-append-le, drop-drop, length-take-le, take-append-drop, take_rest}
+use Rattle.std.proofs.lemmas.List.{drop-append-le, drop-drop, length-take-le, take-append-drop}
 use Rattle.std.proofs.Math.ListN.{drop_of_length-le}
 use Rattle.std.specs.List.{list_all}
 use Rattle.mail_codec.specs.Ascii.{is_blank}
 use Rattle.mail_codec.specs.Places.{begins, first_place, place_from}
 use Rattle.mail_codec.proofs.lemmas.Places.{first_place-here, first_place-past, first_place-passes, first_place-before, place_from_bounds, place_from_here, place_from_next, place_from_passes}
 use Rattle.mailparse.specs.Header.{Header, ends_header, ends_key, has_colon, header_end, header_length, header_of, is_line_end, is_line_feed, key_end, value_end, value_start}
-use Rattle.mailparse.proofs.lemmas.Places.{place_from_none}
 use Rattle.mailparse.proofs.lemmas.Header.{ends_header_is_feed, header_end->, header_end-≤, header_end-key, header_length-≤, key_end-≤, places-in_order, value-in_order, value_end-key}
 
 -- ---- searches that other bytes follow
@@ -266,29 +265,32 @@ pub ruleset lengths = (key-read, value-read, stop-≤, length-read, places-in_or
 -- the start of its value
 pub ruleset starts = (start-without, start-with, colon-within)
 
--- ---- the spaces before its value
+-- ---- a search that skips bytes of one kind
 
-space-failed : (rest : List ℕ) → begins (λ b. eqb b 32) rest ≡ true → no_space rest ≡ false
-space-failed [] e = refl
-space-failed (b ∷ rest) e = ap not e
+module _ (skips ends : ℕ → Bool) (other : (b : ℕ) → ends b ≡ not (skips b)) where
+  skip-failed : (rest : List ℕ) → begins skips rest ≡ true → begins ends rest ≡ false
+  skip-failed [] e = refl
+  skip-failed (b ∷ rest) e = other b ∙ ap not e
 
-space-passed : (rest : List ℕ) → 0 < length rest → begins (λ b. eqb b 32) rest ≡ false → no_space rest ≡ true
-space-passed [] some e = absurd (omega arith)
-space-passed (b ∷ rest) some e = ap not e
+  skip-passed : (rest : List ℕ) → 0 < length rest → begins skips rest ≡ false → begins ends rest ≡ true
+  skip-passed [] some e = absurd (omega arith)
+  skip-passed (b ∷ rest) some e = other b ∙ ap not e
 
--- a space is skipped
-pub space-skipped : (raw : List ℕ) (at : ℕ) → begins (λ b. eqb b 32) (drop at raw) ≡ true → (at < length raw) × (place_from no_space raw at ≡ place_from no_space raw (at + 1))
-space-skipped raw at is =
-    let below : at < length raw =
-    ⊎_elim (λ low. low) (λ past. absurd (false≢true (subst (λ (xs : List ℕ). begins (λ b. eqb b 32) xs ≡ true) (drop_of_length-le raw past) is))) (cases_lt at (length raw)) in
-    (below, place_from_next no_space raw at below (space-failed (drop at raw) is))
+  -- such a byte is skipped
+  pub byte-skipped : (raw : List ℕ) (at : ℕ) → begins skips (drop at raw) ≡ true → (at < length raw) × (place_from (begins ends) raw at ≡ place_from (begins ends) raw (at + 1))
+  byte-skipped raw at is =
+      let below : at < length raw =
+      ⊎_elim (λ low. low) (λ past. absurd (false≢true (subst (λ (xs : List ℕ). begins skips xs ≡ true) (drop_of_length-le raw past) is))) (cases_lt at (length raw)) in
+      (below, place_from_next (begins ends) raw at below (skip-failed (drop at raw) is))
 
--- and any other byte ends them
-pub spaces-end : (raw : List ℕ) (at : ℕ) → at ≤ length raw → begins (λ b. eqb b 32) (drop at raw) ≡ false → place_from no_space raw at ≡ at
-spaces-end raw at within lacks =
-    let size = length-drop at raw in
-    ⊎_elim (λ low. place_from_here no_space raw at low (space-passed (drop at raw) (omega arith) lacks))
-    (λ past. ap (λ (xs : List ℕ). at + first_place no_space xs) (drop_of_length-le raw past) ∙ omega arith) (cases_lt at (length raw))
+  -- and any other byte ends them
+  pub bytes-end : (raw : List ℕ) (at : ℕ) → at ≤ length raw → begins skips (drop at raw) ≡ false → place_from (begins ends) raw at ≡ at
+  bytes-end raw at within lacks =
+      let size = length-drop at raw in
+      ⊎_elim (λ low. place_from_here (begins ends) raw at low (skip-passed (drop at raw) (omega arith) lacks))
+      (λ past. ap (λ (xs : List ℕ). at + first_place (begins ends) xs) (drop_of_length-le raw past) ∙ omega arith) (cases_lt at (length raw))
 
--- a search from an offset
-pub ruleset searches = (take_rest, place_from_none)
+-- the bytes that are skipped up to a LF
+pub not_not : (v : Bool) → v ≡ not (not v)
+not_not true = refl
+not_not false = refl

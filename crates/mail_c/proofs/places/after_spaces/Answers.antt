@@ -1,6 +1,6 @@
-use Rattle.std.proofs.Common.{◌≡◌, true, false, eqb, drop, sym, ◌∙◌, arith}
+use Rattle.std.proofs.Common.{◌≡◌, true, false, not, eqb, drop, refl, sym, ◌∙◌, arith}
 use Rattle.mail_codec.specs.Places.{begins}
-use Rattle.mail_c.proofs.lemmas.HeaderLengths.{space-skipped, spaces-end}
+use Rattle.mail_c.proofs.lemmas.HeaderLengths.{byte-skipped, bytes-end}
 use Rattle.mail_c.proofs.places.after_spaces.Goals as goal
 
 pub loop-at-preserved : goal.loop-at-preserved
@@ -8,7 +8,7 @@ loop-at-preserved c =
     let raw = c.args.raw.now in
     let at = c.loop-at.at in
     let is : begins (λ b. eqb b 32) (drop at raw) ≡ true = sym c.is_at.ensures ∙ c.loop-at-test.true in
-    let next = space-skipped raw at is in
+    let next = byte-skipped (λ b. eqb b 32) (λ b. not (eqb b 32)) (λ b. refl) raw at is in
     let low = next.0 in
     record { within = omega arith; same = sym next.1 ∙ c.loop-at.invariant.same }
 
@@ -17,4 +17,4 @@ returns c =
     let raw = c.args.raw.now in
     let at = c.loop-at.at in
     let lacks : begins (λ b. eqb b 32) (drop at raw) ≡ false = sym c.is_at.ensures ∙ c.loop-at-test.false in
-    sym (spaces-end raw at c.loop-at.invariant.within lacks) ∙ c.loop-at.invariant.same
+    sym (bytes-end (λ b. eqb b 32) (λ b. not (eqb b 32)) (λ b. refl) raw at c.loop-at.invariant.within lacks) ∙ c.loop-at.invariant.same
