@@ -226,6 +226,7 @@ fn bracketed(alloc: Global, ids: &[String]) -> Result<Vec<u8>, AllocError>
 fn push_id(bytes: &mut Vec<u8>, id: &[u8]) -> Result<(), AllocError>
     ensures { OnOk result (bytes.new.items ≡ bytes.old.items ++ bracketed id.now) }
 {
+    bytes.reserve(id.len() + 2)?;
     bytes.push(b'<')?;
     bytes.extend_from_slice(id)?;
     bytes.push(b'>')?;
