@@ -1,3 +1,4 @@
+pub mod Dispositions
 pub mod Base64
 pub mod Encoding
 pub mod Comments

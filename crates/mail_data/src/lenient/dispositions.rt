@@ -1,5 +1,6 @@
 //! Dispositions, read leniently.
-ghost use Rattle.std.specs.Prelude.{◌≡◌, option_map, Ok};
+ghost use Rattle.std.specs.Prelude.{◌≡◌, option_map, IfSome, Ok};
+ghost use Rattle.mailparse.specs.Disposition.{disposition_of};
 ghost use Rattle.mailparse.specs.Mail.{root};
 ghost use Rattle.mailparse.specs.Outcome.{AnswersOrMemory};
 ghost use Rattle.mailparse.specs.Views.{kind, tree_of};
@@ -57,5 +58,23 @@ fn lenient_kind(alloc: Global, text: &str) -> Result<DispositionType, MailParseE
     ensures { AnswersOrMemory kind result (Ok (lenient_kind text.now)) }
 {
     let plain = without_comments(alloc, text)?;
+    if let Some(kind) = plain_kind(plain.as_str()) {
+        return Ok(kind);
+    }
     Ok(parse_content_disposition(alloc, plain.as_str())?.disposition)
+}
+
+/// Returns the kind of a disposition that is in lower case and has parameters, as most are. These
+/// are not read.
+#[tactic(auto, using(crate::proofs::lemmas::lenient::Dispositions::plain_kinds))]
+fn plain_kind(text: &str) -> Option<DispositionType>
+    ensures { IfSome result (λ found. kind found ≡ (disposition_of text.now).kind) }
+{
+    if text.starts_with("attachment;") {
+        return Some(DispositionType::Attachment);
+    }
+    if text.starts_with("inline;") {
+        return Some(DispositionType::Inline);
+    }
+    None
 }
