@@ -73,7 +73,7 @@ fn is_dashless(header: &MailHeader<'_>) -> bool
 /// assert_eq!(rt; part, b"Content-Type: multipart/mixed; boundary=b\n \n".as_slice());
 /// assert_eq!(rt; before_dash_line(b"A: b\n\n--b\n"), b"A: b\n\n--b\n".as_slice());
 /// ```
-// It is seldom called.
+// Not inlined, since the reader seldom calls it.
 #[inline(never)]
 pub fn before_dash_line(raw: &[u8]) -> &[u8]
     ensures { result.now ≡ before_dash_line raw.now }
