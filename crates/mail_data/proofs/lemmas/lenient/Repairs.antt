@@ -1,8 +1,10 @@
 -- Lemmas on what is missing in values with parameters.
-use Rattle.std.proofs.Common.{◌≡◌, ◌≢◌, ℕ, zero, suc, ◌-◌, Bool, true, false, eqb, cond, not, ◌&&◌, ◌||◌, List, [], ◌∷◌, ◌++◌, length, arith, refl, sym, ap, ◌∙◌, append_assoc}
-use Rattle.std.proofs.lemmas.Bool.{cond-true, cond-false, eq-eqb, false≢true, ne_eqb}
+use Rattle.std.proofs.Common.{◌≡◌, ◌≢◌, ◌<◌, ◌≤◌, ℕ, zero, suc, ◌-◌, Bool, true, false, eqb, leb, cond, not, ◌&&◌, ◌||◌, inl, inr, List, [], ◌∷◌, ◌++◌, length, arith, refl, sym, ap, ◌∙◌, append_assoc}
+use Rattle.std.proofs.Math.Bool.{and-false}
+use Rattle.std.proofs.lemmas.Bool.{cases_Bool, cond-true, cond-false, eq-eqb, false≢true, leb-true, ne_eqb}
 use Rattle.std.proofs.lemmas.Str.{chars-nil, chars_past_char, encodes-chars}
-use Rattle.std.specs.Char.{encode_utf8, is_ascii_alphabetic}
+use Rattle.std.specs.Char.{encode_utf8, is_ascii_alphabetic, is_ascii_whitespace}
+use Rattle.std.specs.Int.{is_in_range}
 use Rattle.std.specs.Str.{chars, encode_utf8_all, IsUtf8}
 use Rattle.mail_codec.specs.Ascii.{apostrophe, equals_sign, semicolon}
 use Rattle.mail_codec.specs.Places.{is_empty}
@@ -244,3 +246,29 @@ pub lacks-next : (rest next : List ℕ) (position next_position : Position) (c :
 lacks-next rest next position next_position c utf8 e may moved =
     ap (λ (p : Position). lacks_nothing p (chars next)) moved
     ∙ sym (ap (lacks_nothing position) (chars_past_char rest next c utf8 e) ∙ cond-true (may_follow position c) _ _ may)
+
+-- ---- characters after which the position is the same
+
+module _ (c : ℕ) (low : 45 ≤ c) (no_slash : c ≢ 47) (no_semicolon : c ≢ 59) (no_equals : c ≢ 61) (no_backslash : c ≢ 92) where
+  no_range : (least most : ℕ) → most < 45 → is_in_range least most c ≡ false
+  no_range least most above = elim (cases_Bool (leb c most)) [
+    | inl e ↦ absurd (omega (arith, leb-true c most e))
+    | inr e ↦ ap (λ t. leb least c && t) e ∙ and-false (leb least c)
+  ]
+
+  no_white : is_ascii_whitespace c ≡ false
+  no_white = rw (no_range 9 10 (omega arith), no_range 12 13 (omega arith), no_range 32 32 (omega arith)) refl
+
+  pub same-word : (may_follow InWord c ≡ true) × (after InWord c ≡ InWord)
+  same-word = (refl, rw (no_white, ne_eqb c 59 no_semicolon, ne_eqb c 47 no_slash, ne_eqb c 34 (λ e. absurd (omega arith))) refl)
+
+  pub same-name : (may_follow InName c ≡ true) × (after InName c ≡ InName)
+  same-name = (refl, rw (ne_eqb c 61 no_equals, ne_eqb c 42 (λ e. absurd (omega arith)), ne_eqb c 34 (λ e. absurd (omega arith))) refl)
+
+  pub same-text : (may_follow InText c ≡ true) × (after InText c ≡ InText)
+  same-text = (refl, rw (ne_eqb c 59 no_semicolon, ne_eqb c 34 (λ e. absurd (omega arith)), no_white) refl)
+
+  pub same-quoted : (may_follow InQuotes c ≡ true) × (after InQuotes c ≡ InQuotes)
+  same-quoted = (refl, rw (ne_eqb c 34 (λ e. absurd (omega arith)), ne_eqb c 92 no_backslash) refl)
+
+pub ruleset same_places = (same-word, same-name, same-text, same-quoted)
