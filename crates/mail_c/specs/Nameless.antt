@@ -1,6 +1,6 @@
 -- Headers that clearly give no file name. The parameters that give one are `name` and `filename`, with or without a star, so their
 -- names contain `am`. A text with a `*` or with bytes that are not ASCII counts as one that may give a name; the crate's own rule.
-use Rattle.std.specs.Prelude.{ℕ, Bool, true, not, ◌&&◌, ◌||◌, ◌==◌, nat_lt, List, [], ◌∷◌, codes}
+use Rattle.std.specs.Prelude.{ℕ, Bool, false, true, not, ◌&&◌, ◌||◌, ◌==◌, nat_lt, List, [], ◌∷◌, codes}
 use Rattle.std.specs.Option.{option_map_or}
 use Rattle.mail_codec.specs.Ascii.{asterisk}
 use Rattle.mailparse.specs.Mail.{Node}
@@ -19,6 +19,11 @@ is_m b = b == 109 || b == 77
 -- a byte may follow the byte `last`: it is ASCII and no `*`, and the two are not `am`
 abbrev pub may_follow : ℕ → ℕ → Bool
 may_follow last b = nat_lt b 128 && (not (b == asterisk) && not (is_m b && is_a last))
+
+-- the bytes contain `am`, where the byte before them is `last`
+abbrev pub has_am_after : ℕ → List ℕ → Bool
+has_am_after last [] = false
+has_am_after last (b ∷ bytes) = (is_m b && is_a last) || has_am_after b bytes
 
 -- each of the bytes may follow the one before it, and the first the byte `last`
 abbrev pub is_nameless_after : ℕ → List ℕ → Bool

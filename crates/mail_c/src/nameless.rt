@@ -1,11 +1,12 @@
 //! Headers that clearly give no file name, so that their parameters need not be read.
-ghost use Rattle.std.specs.Prelude.{◌≡◌, true, false, codes, IfOk, Ok};
+ghost use Rattle.std.specs.Prelude.{◌≡◌, ◌≤◌, ◌∷◌, true, false, codes, get_or, length, IfOk, Ok};
 ghost use Rattle.mailparse.specs.Mail.{root};
 ghost use Rattle.mailparse.specs.Outcome.{AnswersOrMemory};
 ghost use Rattle.mailparse.specs.Views.{tree_of};
-ghost use Rattle.mail_c.specs.Nameless.{is_a, is_m, is_nameless, is_nameless_part};
-ghost use Rattle.mail_c.specs.Nameless.{is_nameless_value, lacks_name, may_follow};
+ghost use Rattle.mail_c.specs.Nameless.{has_am_after, is_a, is_nameless, is_nameless_part};
+ghost use Rattle.mail_c.specs.Nameless.{is_nameless_value, lacks_name};
 
+use mail_codec::bytescan::{find_byte, find_either};
 use mail_data::files::NoCharsets;
 use mailparse::{MailHeaderMap, MailParseError, ParsedMail, value_text_in};
 use std::alloc::{AllocError, Global};
@@ -52,38 +53,37 @@ pub(crate) fn is_nameless_value(alloc: Global, raw: &[u8]) -> Result<bool, MailP
     Ok(is_nameless(text.as_bytes()))
 }
 
-/// Returns whether a text clearly gives no file name.
+/// Returns whether a text clearly gives no file name: it is ASCII and contains neither `*` nor `am`.
 fn is_nameless(text: &[u8]) -> bool
     ensures { result ≡ is_nameless text.now }
 {
-    let mut last = 0;
-    for byte in text {
-        if !may_follow(last, *byte) {
-            return false;
-        }
-        last = *byte;
+    if !text.is_ascii() {
+        return false;
     }
-    true
+    if find_byte(text, b'*').is_some() {
+        return false;
+    }
+    !has_am(text)
 }
 
-/// Returns whether a byte may follow the byte `last`: it is ASCII and no `*`, and the two are not
-/// `am`, as in `name`.
-fn may_follow(last: u8, byte: u8) -> bool
-    ensures { result ≡ may_follow last byte }
+/// Returns whether a text contains `am` in any case, as `name` does.
+fn has_am(text: &[u8]) -> bool
+    ensures { result ≡ has_am_after 0 text.now }
 {
-    byte < 128 && byte != b'*' && !(is_m(byte) && is_a(last))
+    let mut rest = text;
+    'letters: while let Some(place) = find_either(rest, b'm', b'M') {
+        if is_a_before(rest, place) {
+            return true;
+        }
+        rest = &rest[place + 1..];
+    }
+    false
 }
 
-/// Returns whether a byte is `a` or `A`.
-fn is_a(byte: u8) -> bool
-    ensures { result ≡ is_a byte }
+/// Returns whether the byte before `place` is `a` or `A`.
+fn is_a_before(text: &[u8], place: usize) -> bool
+    requires { place ≤ length text.now }
+    ensures { result ≡ is_a (get_or (0 ∷ text.now) place 0) }
 {
-    byte == b'a' || byte == b'A'
-}
-
-/// Returns whether a byte is `m` or `M`.
-fn is_m(byte: u8) -> bool
-    ensures { result ≡ is_m byte }
-{
-    byte == b'm' || byte == b'M'
+    place > 0 && matches!(text[place - 1], b'a' | b'A')
 }

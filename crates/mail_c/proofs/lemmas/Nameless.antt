@@ -1,15 +1,17 @@
 -- Lemmas on headers that clearly give no file name.
-use Rattle.std.proofs.Common.{◌≡◌, ℕ, zero, suc, ◌<◌, Bool, true, false, cond, not, ◌&&◌, ◌||◌, eqb, ltb, List, [], ◌∷◌, ◌++◌, take, drop, Option, Some, None, Ok, refl, sym, ap, ◌∙◌, arith}
-use Rattle.std.proofs.lemmas.Bool.{agree_below, agree_below_at, and_from, and_parts, and_right, false_from_ne_true, false≢true, ltb-true, not-true, or_from}
+use Rattle.std.proofs.Common.{◌≡◌, ℕ, zero, suc, ◌+◌, ◌<◌, ◌≤◌, Bool, true, false, cond, not, ◌&&◌, ◌||◌, eqb, ltb, List, [], ◌∷◌, ◌++◌, length, get_or, take, drop, Option, Some, None, Ok, refl, sym, ap, ◌∙◌, arith}
+use Rattle.std.proofs.lemmas.Bool.{agree_below, agree_below_at, and_from, and_parts, and_right, false_from_ne_true, false≢true, lt-ltb, ltb-true, ne_eqb, not-true, or_from, or_parts}
 use Rattle.std.proofs.lemmas.Slice.Eq.{bytes_eq-Decides}
 use Rattle.std.proofs.lemmas.Str.{chars-IsAscii, encodes-IsAscii}
 use Rattle.std.specs.Char.{is_ascii_whitespace, is_whitespace, to_ascii_lowercase}
 use Rattle.std.specs.List.{before_first, after_first, position_or_len}
 use Rattle.std.specs.Map.{update, update_all}
 use Rattle.std.specs.Option.{is_some, option_and_then, option_map, option_map_or, option_to_list}
-use Rattle.std.specs.Prelude.{codes, encode_utf8_all, length}
+use Rattle.std.specs.Prelude.{codes, encode_utf8_all, ◌==◌}
 use Rattle.std.specs.Str.{IsAscii, bytes_eq, drop_trailing_whitespace, skip_leading_whitespace, str_to_ascii_lowercase, trim, trim_end, trim_start}
 use Rattle.mail_codec.specs.Charset.{Charsets}
+use Rattle.mail_codec.proofs.lemmas.PlacesSearches.{place_none, place_some}
+use Rattle.mail_codec.specs.Places.{begins, either_place, first_place}
 use Rattle.mailparse.proofs.lemmas.StarFree.{parameters_are_pairs}
 use Rattle.mailparse.specs.Continuations.{parameters_in}
 use Rattle.mailparse.specs.Pairs.{Texts, is_equals, last_of, no_texts, pair_of, pairs_in, pairs_of}
@@ -31,7 +33,7 @@ use Rattle.mailparse.specs.Views.{kind}
 use Rattle.mailparse.specs.declared.disposition.DispositionType.{DispositionType}
 use Rattle.mailparse.specs.Value.{lenient_value_in}
 use Rattle.mail_c.specs.Ranges.{file_name}
-use Rattle.mail_c.specs.Nameless.{is_a, is_m, is_nameless, is_nameless_after, is_nameless_part, is_nameless_value, lacks_name, may_follow}
+use Rattle.mail_c.specs.Nameless.{has_am_after, is_a, is_m, is_nameless, is_nameless_after, is_nameless_part, is_nameless_value, lacks_name, may_follow}
 use Rattle.mail_data.specs.lenient.Repairs as repairs
 use Rattle.mail_data.specs.lenient.Repairs.{after_name, after_quoted, after_run, after_value, apostrophes, begins_parameter, extended_are_alone, for_extended, lacking, missing, repaired, repaired_from, semicolon_unless}
 
@@ -69,6 +71,87 @@ ascii : (last : ℕ) (bytes : List ℕ) → is_nameless_after last bytes ≡ tru
 ascii last [] h i = omega arith
 ascii last (b ∷ bytes) h zero = ltb-true b 128 (and_parts _ _ (and_parts _ _ h).0).0
 ascii last (b ∷ bytes) h (suc i) = ascii b bytes (and_parts _ _ h).1 i
+
+-- ---- the test for such a text
+
+m_no_a : (b : ℕ) → is_m b ≡ true → is_a b ≡ false
+m_no_a b h = or_from _ _ (ne_eqb b 97 (λ e. false≢true (sym (ap is_m e) ∙ h))) (ne_eqb b 65 (λ e. false≢true (sym (ap is_m e) ∙ h)))
+
+am_after_other : (last other : ℕ) (bytes : List ℕ) → is_a last ≡ false → is_a other ≡ false → has_am_after last bytes ≡ has_am_after other bytes
+am_after_other last other [] h k = refl
+am_after_other last other (b ∷ bytes) h k = ap (λ t. (is_m b && t) || has_am_after b bytes) (h ∙ sym k)
+
+-- the offset of the first `m`, in any case
+abbrev m_place : List ℕ → ℕ
+m_place text = first_place (begins (λ b. b == 109 || b == 77)) text
+
+am-without : (text : List ℕ) (last : ℕ) → m_place text ≡ length text → has_am_after last text ≡ false
+am-without [] last h = refl
+am-without (b ∷ bytes) last h = go (is_m b) refl h (am-without bytes b)
+  where
+    go : (t : Bool) → is_m b ≡ t → cond t 0 (suc (m_place bytes)) ≡ suc (length bytes) → (m_place bytes ≡ length bytes → has_am_after b bytes ≡ false)
+        → has_am_after last (b ∷ bytes) ≡ false
+    go true e f ih = absurd (omega (arith, f))
+    go false e f ih = or_from _ _ (ap (λ t. t && is_a last) e) (ih (omega (arith, f)))
+
+am-at : (text : List ℕ) (last : ℕ) → m_place text < length text
+    → has_am_after last text ≡ (is_a (get_or (last ∷ text) (m_place text) 0) || has_am_after 0 (drop (suc (m_place text)) text))
+am-at [] last h = absurd (omega (arith, h))
+am-at (b ∷ bytes) last h = go (is_m b) refl h (am-at bytes b)
+  where
+    go : (t : Bool) → is_m b ≡ t → cond t 0 (suc (m_place bytes)) < suc (length bytes)
+        → (m_place bytes < length bytes → has_am_after b bytes ≡ (is_a (get_or (b ∷ bytes) (m_place bytes) 0) || has_am_after 0 (drop (suc (m_place bytes)) bytes)))
+        → has_am_after last (b ∷ bytes)
+        ≡ (is_a (get_or (last ∷ b ∷ bytes) (cond t 0 (suc (m_place bytes))) 0) || has_am_after 0 (drop (suc (cond t 0 (suc (m_place bytes)))) (b ∷ bytes)))
+    go true e f ih = ap (λ t. (t && is_a last) || has_am_after b bytes) e ∙ ap (λ t. is_a last || t) (am_after_other b 0 bytes (m_no_a b e) refl)
+    go false e f ih = ap (λ t. (t && is_a last) || has_am_after b bytes) e ∙ ih (omega (arith, f))
+
+-- a search for it, in what is left of a text
+pub am-found : (text rest : List ℕ) (place : ℕ) → Some place ≡ either_place rest 109 77 → has_am_after 0 rest ≡ has_am_after 0 text
+    → (has_am_after 0 text ≡ (is_a (get_or (0 ∷ rest) place 0) || has_am_after 0 (drop (place + 1) rest))) × (place < length rest)
+am-found text rest place found same =
+    let at = place_some (begins (λ b. b == 109 || b == 77)) rest place found in
+    let next : suc (m_place rest) ≡ place + 1 = omega (arith, at.0) in (
+      sym same ∙ am-at rest 0 at.1
+          ∙ ap (λ p. is_a (get_or (0 ∷ rest) p 0) || has_am_after 0 (drop (suc (m_place rest)) rest)) (sym at.0)
+          ∙ ap (λ n. is_a (get_or (0 ∷ rest) place 0) || has_am_after 0 (drop n rest)) next,
+      omega (arith, at.0, at.1),
+    )
+
+pub am-not_found : (text rest : List ℕ) → None ≡ either_place rest 109 77 → has_am_after 0 rest ≡ has_am_after 0 text → false ≡ has_am_after 0 text
+am-not_found text rest none same = sym (am-without rest 0 (place_none (begins (λ b. b == 109 || b == 77)) rest none)) ∙ same
+
+am_free : (last : ℕ) (text : List ℕ) → is_nameless_after last text ≡ true → has_am_after last text ≡ false
+am_free last [] h = refl
+am_free last (b ∷ bytes) h =
+    let parts = and_parts _ _ h in
+    or_from _ _ (not-true _ (and_parts _ _ (and_parts _ _ parts.0).1).1) (am_free b bytes parts.1)
+
+star_free : (last : ℕ) (text : List ℕ) → is_nameless_after last text ≡ true → has_star text ≡ false
+star_free last [] h = refl
+star_free last (b ∷ text) h =
+    let parts = and_parts _ _ h in
+    or_from _ _ (not-true _ (and_parts _ _ (and_parts _ _ parts.0).1).0) (star_free b text parts.1)
+
+without_all : (last : ℕ) (text : List ℕ) → IsAscii text → has_star text ≡ false → has_am_after last text ≡ false → is_nameless_after last text ≡ true
+without_all last [] low star am = refl
+without_all last (b ∷ bytes) low star am =
+    let stars = or_parts _ _ star in
+    let ams = or_parts _ _ am in
+    and_from _ _ (and_from _ _ (lt-ltb b 128 (low 0)) (and_from _ _ (ap not stars.0) (ap not ams.0))) (without_all b bytes (λ i. low (suc i)) stars.1 ams.1)
+
+pub nameless-by_am : (text : List ℕ) → IsAscii text → has_star text ≡ false → not (has_am_after 0 text) ≡ is_nameless text
+nameless-by_am text low star = go (has_am_after 0 text) refl
+  where
+    go : (t : Bool) → has_am_after 0 text ≡ t → not t ≡ is_nameless text
+    go true e = sym (false_from_ne_true _ (λ h. false≢true (sym (am_free 0 text h) ∙ e)))
+    go false e = sym (without_all 0 text low star e)
+
+pub named-by_star : (text : List ℕ) → has_star text ≡ true → false ≡ is_nameless text
+named-by_star text star = sym (false_from_ne_true _ (λ h. false≢true (sym (star_free 0 text h) ∙ star)))
+
+pub named-high : (text : List ℕ) (i : ℕ) → 128 ≤ get_or text i 0 → false ≡ is_nameless text
+named-high text i high = sym (false_from_ne_true _ (λ h. absurd (omega (arith, ascii 0 text h i, high))))
 
 -- ---- a text with what it lacks
 
@@ -340,12 +423,6 @@ nothing [] texts name are other none = none
 nothing (p ∷ ps) texts name are other none =
     let apart = false_from_ne_true (bytes_eq p.0 name) (λ e. false≢true (sym other ∙ ap is_nameless (sym ((bytes_eq-Decides p.0 name).0 e)) ∙ are.0)) in
     nothing ps (update bytes_eq texts p.0 (Some p.1)) name are.1 other (ap (λ t. cond t (Some p.1) (texts name)) apart ∙ none)
-
-star_free : (last : ℕ) (name : List ℕ) → is_nameless_after last name ≡ true → has_star name ≡ false
-star_free last [] h = refl
-star_free last (b ∷ name) h =
-    let parts = and_parts _ _ h in
-    or_from _ _ (not-true _ (and_parts _ _ (and_parts _ _ parts.0).1).0) (star_free b name parts.1)
 
 no_parameter : (known : Charsets) (text name : List ℕ) → is_nameless text ≡ true → is_nameless name ≡ false → parameters_in known (pairs_of text) name ≡ None
 unfolding pairs_of segments
