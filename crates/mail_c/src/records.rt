@@ -2,6 +2,7 @@
 ghost use Rattle.std.specs.Prelude.{Ok, Some, ◌≡◌, ◌≤◌, ◌<◌, ◌+◌, ◌^◌, ◌++◌, [], ◌∷◌, length, map, vec_len, IfOk, IfSome, OnOk, option_map};
 ghost use Rattle.mailparse.specs.BodyViews.{Content};
 ghost use Rattle.mailparse.specs.Mail.{root, trees_within};
+ghost use Rattle.mailparse.specs.Value.{lenient_value};
 ghost use Rattle.mailparse.specs.Views as views;
 ghost use Rattle.mailparse.specs.Views.{placement_of, placements_of, tree_of};
 ghost use Rattle.mail_c.specs.Codes.{IsCoded};
@@ -375,8 +376,8 @@ fn push_headers(
     Ok(())
 }
 
-/// Returns the number of the transfer encoding of a part. A header that is a name and nothing else,
-/// as nearly every one is, is read once and in place.
+/// Returns the number of the transfer encoding of a part. Nearly every header is a name and nothing
+/// else, so its bytes are compared first.
 #[tactic(auto, unfolding(mail_data::specs::lenient::Encoding::lenient_kind, mail_data::specs::lenient::Encoding::lenient_kind_named, mailparse::specs::Body::kind_named))]
 fn encoding_of(alloc: Global, part: &ParsedMail<'_>) -> Result<u64, MailParseError>
     ensures { IfOk result (λ number.
@@ -385,17 +386,18 @@ fn encoding_of(alloc: Global, part: &ParsedMail<'_>) -> Result<u64, MailParseErr
     let Some(header) = part.headers.get_first_header("Content-Transfer-Encoding") else {
         return Ok(0);
     };
-    let name = header.get_value_ref(alloc)?;
-    if let Some(number) = number_named(name.as_str().as_bytes()) {
+    if let Some(number) = number_named(header.get_value_raw()) {
         return Ok(number);
     }
     let body = lenient_body(alloc, part)?;
     Ok(encoding_number(&body))
 }
 
-/// Returns the number of the transfer encoding with this name, or `None` if no encoding has it.
+/// Returns the number of the transfer encoding with this name, the raw value of a header, or `None`
+/// if no encoding has it.
 fn number_named(name: &[u8]) -> Option<u64>
-    ensures { IfSome result (λ number. number ≡ encoding_number (lenient_kind (Some name.now))) }
+    ensures { IfSome result (λ number.
+        number ≡ encoding_number (lenient_kind (Some (lenient_value name.now)))) }
 {
     if name.eq_ignore_ascii_case(b"7bit") {
         return Some(0);
