@@ -35,6 +35,13 @@ use std::alloc::{AllocError, Global};
 /// The parent of a mail itself.
 pub(crate) const NONE: u64 = 0xFFFF_FFFF_FFFF_FFFF;
 
+/// The number of headers of each message that the list of records has capacity for, besides those
+/// of the mail. Few parts have more, so the list seldom grows.
+const PART_HEADERS: usize = 4;
+
+/// The number of messages, at most, for which it has that capacity.
+const MANY_PARTS: usize = 32;
+
 /// A mail or a part of it, as `struct rocktray_part`.
 #[repr(C)]
 #[derive(Clone, Copy)]
@@ -178,13 +185,16 @@ fn records_of<K: KnownCharsets>(
 {
     let mut nodes = Vec::new(alloc);
     push_nodes(&mut nodes, mail, NONE, 0)?;
-    records_in(alloc, nodes.as_slice(), known)
+    let spare = PART_HEADERS * nodes.len().min(MANY_PARTS);
+    let capacity = header_count(mail).saturating_add(spare);
+    records_in(alloc, nodes.as_slice(), capacity, known)
 }
 
-/// Returns the records of messages.
+/// Returns the records of messages. The list of headers has this capacity at first.
 fn records_in<K: KnownCharsets>(
     alloc: Global,
     nodes: &[Node<'_, '_>],
+    capacity: usize,
     known: &K,
 ) -> Result<Records, MailParseError>
     requires { AllOwn (map (λ node. tree_of node.part.now) nodes.now) }
@@ -193,7 +203,7 @@ fn records_in<K: KnownCharsets>(
 {
     let mut records = Records {
         parts: Vec::with_capacity(alloc, nodes.len())?,
-        headers: Vec::new(alloc),
+        headers: Vec::with_capacity(alloc, capacity)?,
     };
     for node in nodes {
         push_record(alloc, &mut records, node, known)?;
@@ -393,8 +403,8 @@ fn encoding_of(alloc: Global, part: &ParsedMail<'_>) -> Result<u64, MailParseErr
     Ok(encoding_number(&body))
 }
 
-/// Returns the number of the transfer encoding with this name, the raw value of a header, or `None`
-/// if no encoding has it.
+/// Returns the number of the transfer encoding that the raw value of a header names, or `None` if it
+/// is not the name alone.
 fn number_named(name: &[u8]) -> Option<u64>
     ensures { IfSome result (λ number.
         number ≡ encoding_number (lenient_kind (Some (lenient_value name.now)))) }
