@@ -1,5 +1,5 @@
 -- What is read of ranges of a mail: of raw values, of names and of bodies; the crate's own form.
-use Rattle.std.specs.Prelude.{◌≡◌, ◌⊎◌, ℕ, Bool, ◌==◌, List, Option, Some, is_some, Result, Ok, Err, if◌then◌else◌}
+use Rattle.std.specs.Prelude.{◌≡◌, ◌⊎◌, ℕ, Bool, ◌==◌, List, Some, is_some, Result, Ok, Err, if◌then◌else◌}
 use Rattle.mail_codec.specs.Charset.{Charsets}
 use Rattle.mailparse.specs.Body.{in_base64, in_quoted_printable, in_7bit}
 use Rattle.mailparse.specs.ContentType.{ContentType}

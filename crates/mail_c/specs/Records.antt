@@ -7,7 +7,7 @@ use Rattle.mailparse.specs.Block.{HeaderList, before_dash_line, header_place, re
 use Rattle.mailparse.specs.Body.{in_base64, in_quoted_printable, in_7bit, in_8bit, in_binary}
 use Rattle.mailparse.specs.Disposition.{Kind, inline, attachment, form_data, extension}
 use Rattle.mailparse.specs.Header.{header_length, key_end, value_end, value_start}
-use Rattle.mailparse.specs.Mail.{Forest, Node, Tree, no_parts, part_and, root, tree, trees_within}
+use Rattle.mailparse.specs.Mail.{Forest, Tree, no_parts, part_and, root, tree, trees_within}
 use Rattle.mailparse.specs.Placement.{Placement}
 use Rattle.mail_data.specs.Files.{is_leaf, is_shown}
 use Rattle.mail_data.specs.InnerMails.{forwards}
