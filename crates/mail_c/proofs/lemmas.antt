@@ -5,6 +5,7 @@ pub mod Texts
 pub mod FirstHeaders
 pub mod OwnHeaders
 pub mod HeaderLengths
+pub mod Lookup
 pub mod Nameless
 pub mod Encodings
 pub mod Records

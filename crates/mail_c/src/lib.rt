@@ -34,6 +34,7 @@ mod buffer;
 mod codes;
 mod findings;
 mod laws;
+mod lookup;
 mod nameless;
 mod numbers;
 mod places;

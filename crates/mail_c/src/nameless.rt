@@ -1,14 +1,16 @@
 //! Headers that clearly give no file name, so that their parameters need not be read.
 ghost use Rattle.std.specs.Prelude.{◌≡◌, ◌≤◌, ◌∷◌, true, false, codes, get_or, length, IfOk, Ok};
+ghost use Rattle.std.specs.Str.{IsAscii};
 ghost use Rattle.mailparse.specs.Mail.{root};
 ghost use Rattle.mailparse.specs.Outcome.{AnswersOrMemory};
 ghost use Rattle.mailparse.specs.Views.{tree_of};
 ghost use Rattle.mail_c.specs.Nameless.{has_am_after, is_a, is_nameless, is_nameless_part};
 ghost use Rattle.mail_c.specs.Nameless.{is_nameless_value, lacks_name};
 
+use crate::lookup::first_header;
 use mail_codec::bytescan::{find_byte, find_either};
 use mail_data::files::NoCharsets;
-use mailparse::{MailHeaderMap, MailParseError, ParsedMail, value_text_in};
+use mailparse::{MailParseError, ParsedMail, value_text_in};
 use std::alloc::{AllocError, Global};
 
 /// Returns whether a part clearly has no file name: neither its disposition, if it has one, nor its
@@ -34,9 +36,10 @@ pub(crate) fn is_nameless_part(
 /// Returns whether the first header of a part with this name clearly gives no file name, or there
 /// is no such header.
 fn lacks_name(alloc: Global, part: &ParsedMail<'_>, header: &str) -> Result<bool, AllocError>
+    requires { IsAscii header.now }
     ensures { IfOk result (λ is. is ≡ lacks_name header.now (root (tree_of part.now))) }
 {
-    match part.headers.get_first_header(header) {
+    match first_header(part, header) {
         Some(found) => {
             let text = found.get_value_ref_in(alloc, &NoCharsets)?;
             Ok(is_nameless(text.as_str().as_bytes()))

@@ -2,6 +2,7 @@
 ghost use Rattle.std.specs.Prelude.{Ok, Some, ◌≡◌, ◌≤◌, ◌<◌, ◌+◌, ◌^◌, ◌++◌, [], ◌∷◌, length, map, vec_len, IfOk, IfSome, OnOk, option_map};
 ghost use Rattle.mailparse.specs.BodyViews.{Content};
 ghost use Rattle.mailparse.specs.Mail.{root, trees_within};
+ghost use Rattle.mailparse.specs.Outcome.{AnswersOrMemory};
 ghost use Rattle.mailparse.specs.Value.{lenient_value};
 ghost use Rattle.mailparse.specs.Views as views;
 ghost use Rattle.mailparse.specs.Views.{placement_of, placements_of, tree_of};
@@ -18,6 +19,7 @@ ghost use Rattle.mail_c.specs.RecordViews.{family_view, item_view, lists};
 ghost use Rattle.mail_json.specs.Part.{is_attachment};
 
 use crate::codes::{NO_MEMORY, TOO_MANY, code_of};
+use crate::lookup::first_header;
 use crate::nameless::is_nameless_part;
 use crate::places::places_of;
 use mail_data::files::{is_attachment_disposition, is_leaf, is_shown};
@@ -27,8 +29,8 @@ use mail_data::reading::read_mail;
 use mail_json::is_read;
 use mailparse::body::Body;
 use mailparse::{
-    DispositionType, KnownCharsets, MailHeader, MailHeaderMap, MailParseError, ParsedMail,
-    before_dash_line, count_headers, header_places, parse_headers,
+    DispositionType, KnownCharsets, MailHeader, MailParseError, ParsedMail, before_dash_line,
+    count_headers, header_places, parse_headers,
 };
 use std::alloc::{AllocError, Global};
 
@@ -393,7 +395,7 @@ fn encoding_of(alloc: Global, part: &ParsedMail<'_>) -> Result<u64, MailParseErr
     ensures { IfOk result (λ number.
         number ≡ encoding_number (lenient_body_kind (root (tree_of part.now)))) }
 {
-    let Some(header) = part.headers.get_first_header("Content-Transfer-Encoding") else {
+    let Some(header) = first_header(part, "Content-Transfer-Encoding") else {
         return Ok(0);
     };
     if let Some(number) = number_named(header.get_value_raw()) {
@@ -455,9 +457,24 @@ fn disposition_of<K: KnownCharsets>(
           flags t disposition (lenient_file_name (K.known known.now) (root t)),
         )) }
 {
-    let disposition = lenient_disposition(alloc, part, known)?;
+    let disposition = shown_disposition(alloc, part, known)?;
     let flags = flags(alloc, part, &disposition, known)?;
     Ok((disposition_number(&disposition), flags))
+}
+
+/// Returns the disposition of a part, if it has one. Most parts have no such header.
+fn shown_disposition<K: KnownCharsets>(
+    alloc: Global,
+    part: &ParsedMail<'_>,
+    known: &K,
+) -> Result<Option<DispositionType>, MailParseError>
+    ensures { AnswersOrMemory (λ found. option_map views.kind found) result
+        (Ok (lenient_disposition (K.known known.now) (root (tree_of part.now)))) }
+{
+    if first_header(part, "Content-Disposition").is_none() {
+        return Ok(None);
+    }
+    lenient_disposition(alloc, part, known)
 }
 
 /// Returns the number of a disposition, 0 if there is none.
