@@ -28,6 +28,7 @@ use std::alloc::{AllocError, Global};
 /// assert_eq!(rt; find_byte(b"a: b", b':'), Some(1));
 /// assert_eq!(rt; find_byte(b"a: b", b';'), None);
 /// ```
+#[inline(always)]
 pub fn find_byte(haystack: &[u8], byte: u8) -> Option<usize>
     ensures { result ≡ byte_place haystack.now byte }
 {

@@ -1,5 +1,5 @@
 //! Searches for a single byte, by vectors, or by words if there are few bytes.
-ghost use Rattle.std.specs.Prelude.{◌≡◌, ◌≤◌, ◌+◌, ◌==◌, length, take, drop};
+ghost use Rattle.std.specs.Prelude.{◌≡◌, ◌<◌, ◌≤◌, ◌+◌, ◌==◌, length, take, drop};
 ghost use Rattle.mail_codec.specs.Places.{begins, first_place};
 
 use crate::vectors::LANES;
@@ -9,32 +9,55 @@ use std::simd::prelude::*;
 /// The number of bytes searched vector by vector before the search goes on by blocks.
 const NEAR: usize = 512;
 
+/// The number of bytes that are tested at once at first.
+const WIDE: usize = 64;
+
+/// The number of bytes in a word.
+const WORD: usize = 8;
+
 /// The number of bytes in two vectors of 64.
 const BLOCK: usize = 128;
 
-/// Returns the offset of the first `wanted`, or the length if it does not occur. The first bytes
-/// are searched vector by vector. After them, blocks without `wanted` are skipped, and the rest is
-/// searched vector by vector.
+/// Returns the offset of the first `wanted`, or the length if it does not occur. The first 64 bytes
+/// are tested at once, with one branch that is mostly taken, since most lines of a mail end within
+/// them.
 #[inline(always)]
 pub(super) fn byte_len(bytes: &[u8], wanted: u8) -> usize
     ensures least { result ≡ first_place (begins (λ b. b == wanted)) bytes.now }
     ensures bounds { result ≤ length bytes.now }
 {
-    if bytes.len() <= NEAR {
-        return near_len(bytes, wanted);
+    if bytes.len() < WIDE {
+        return few_len(bytes, wanted);
     }
-    let place = near_len(&bytes[..NEAR], wanted);
+    let mask = equal_lanes(u8x64::from_slice(bytes), wanted);
+    if mask != 0 {
+        return first_match(mask);
+    }
+    WIDE + rest_len(&bytes[WIDE..], wanted)
+}
+
+/// Returns the same. The first bytes are searched vector by vector. After them, blocks without
+/// `wanted` are skipped, and the rest is searched vector by vector.
+#[inline(never)]
+fn rest_len(bytes: &[u8], wanted: u8) -> usize
+    ensures least { result ≡ first_place (begins (λ b. b == wanted)) bytes.now }
+    ensures bounds { result ≤ length bytes.now }
+{
+    if bytes.len() <= NEAR {
+        return few_len(bytes, wanted);
+    }
+    let place = few_len(&bytes[..NEAR], wanted);
     if place != NEAR {
         return place;
     }
     let next = NEAR + free_len(&bytes[NEAR..], wanted);
-    let rest = near_len(&bytes[next..], wanted);
+    let rest = few_len(&bytes[next..], wanted);
     next + rest
 }
 
-/// Returns the same by vectors, or by words if there are fewer bytes than one vector has.
-#[inline(always)]
-fn near_len(bytes: &[u8], wanted: u8) -> usize
+/// Returns the same by vectors of 16, or by words if there are fewer bytes than one vector has.
+#[inline(never)]
+fn few_len(bytes: &[u8], wanted: u8) -> usize
     ensures least { result ≡ first_place (begins (λ b. b == wanted)) bytes.now }
     ensures bounds { result ≤ length bytes.now }
 {
@@ -95,22 +118,27 @@ fn is_free(bytes: &[u8], at: usize, wanted: u8) -> bool
     first | second == 0
 }
 
-/// Returns the same by words of eight bytes.
+/// Returns the same for fewer bytes than one vector has, by words of eight bytes. The second word
+/// ends with the bytes, some of which may have been searched before.
 #[inline(always)]
 fn words_len(bytes: &[u8], wanted: u8) -> usize
+    requires { length bytes.now < 16 }
     ensures least { result ≡ first_place (begins (λ b. b == wanted)) bytes.now }
     ensures bounds { result ≤ length bytes.now }
 {
-    let (words, tail) = bytes.as_chunks::<8>();
-    let mut at = 0;
-    for word in words {
-        let mask = equal_lanes(u8x8::from_array(*word), wanted);
-        if mask != 0 {
-            return at + first_match(mask);
-        }
-        at += 8;
+    if bytes.len() < WORD {
+        return tail_len(bytes, wanted);
     }
-    at + tail_len(tail, wanted)
+    let front = equal_lanes(u8x8::from_slice(bytes), wanted);
+    if front != 0 {
+        return first_match(front);
+    }
+    let last = bytes.len() - WORD;
+    let back = equal_lanes(u8x8::from_slice(&bytes[last..]), wanted);
+    if back == 0 {
+        return bytes.len();
+    }
+    last + first_match(back)
 }
 
 /// Returns the same, byte by byte.

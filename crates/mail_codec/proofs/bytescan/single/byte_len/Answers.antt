@@ -1,31 +1,23 @@
-use Rattle.std.proofs.Common.{◌≡◌, ℕ, List, ◌==◌, ◌+◌, drop, ap, arith}
-use Rattle.std.proofs.lemmas.List.{drop-drop, length-take-le, take_rest}
+use Rattle.std.proofs.Common.{ℕ, Bool, ◌==◌, take, ap, sym, ◌∙◌, arith}
+use Rattle.std.proofs.lemmas.List.{length-take-le, take_rest}
 use Rattle.mail_codec.specs.Places.{begins, first_place}
 use Rattle.mail_codec.proofs.lemmas.PlacesSearches.{found_front, free_front}
+use Rattle.mail_codec.proofs.lemmas.Vectors.{no_match}
 use Rattle.mail_codec.proofs.bytescan.single.byte_len.Goals as goal
 
-pub returns-then-place-ne-NEAR-clause-least : goal.returns-then-place-ne-NEAR-clause-least
-returns-then-place-ne-NEAR-clause-least c =
-    let e = c.near_len-place.ensures in
-    let long = length-take-le 512 c.args.bytes.now (omega arith) in
-    let same = found_front (λ b. b == c.args.wanted) 512 c.args.bytes.now (omega (arith, e.least, e.bounds, long, c.if-place-ne-NEAR.true)) (omega arith) in
-    omega (arith, e.least, same)
-
-pub returns-then-place-ne-NEAR-clause-bounds : goal.returns-then-place-ne-NEAR-clause-bounds
-returns-then-place-ne-NEAR-clause-bounds c =
-    omega (arith, c.near_len-place.ensures.bounds, length-take-le 512 c.args.bytes.now (omega arith))
-
-pub slice_bounds-near_len-end : goal.slice_bounds-near_len-end
-slice_bounds-near_len-end c = omega (arith, length-take-le 512 c.args.bytes.now (omega arith))
+pub returns-then-mask-ne0-clause-least : goal.returns-then-mask-ne0-clause-least
+returns-then-mask-ne0-clause-least c =
+    let test : ℕ → Bool = λ b. b == c.args.wanted in
+    let bytes = c.args.bytes.now in
+    let long = length-take-le 64 bytes (omega arith) in
+    let first = c.first_match.ensures.least test (take 64 bytes) (omega (arith, long)) c.equal_lanes-mask.ensures in
+    omega (arith, first.0, found_front test 64 bytes (omega (arith, first.0, first.1, long)) (omega arith))
 
 pub returns-clause-least : goal.returns-clause-least
 returns-clause-least c =
-    let test = begins (λ b. b == c.args.wanted) in
+    let test : ℕ → Bool = λ b. b == c.args.wanted in
     let bytes = c.args.bytes.now in
-    let near = free_front (λ b. b == c.args.wanted) 512 bytes (omega arith) (omega (arith, c.near_len-place.ensures.least, c.if-place-ne-NEAR.false)) in
-    let free = c.free_len-next.ensures.passed in
-    let there : first_place test (drop c.free_len-next.result (drop 512 bytes)) ≡ first_place test (drop (512 + c.free_len-next.result) bytes) = ap (first_place test) (drop-drop c.free_len-next.result 512 bytes) in
-    let slice = ap (first_place test) (take_rest bytes 512) in
-    let after = ap (λ (xs : List ℕ). first_place test (drop c.free_len-next.result xs)) (take_rest bytes 512) in
-    let last = ap (first_place test) (take_rest bytes (512 + c.free_len-next.result)) in
-    omega (arith, near, free, slice, after, there, last, c.near_len-rest.ensures.least)
+    let none = no_match test (take 64 bytes) c.equal_lanes-mask.result c.equal_lanes-mask.ensures c.if-mask-ne0.false in
+    let passed = free_front test 64 bytes (omega arith) (sym none ∙ length-take-le 64 bytes (omega arith)) in
+    let rest = ap (first_place (begins test)) (take_rest bytes 64) in
+    omega (arith, passed, rest, c.rest_len.ensures.least)

@@ -1,7 +1,7 @@
 use Rattle.std.proofs.Common.{◌==◌, ◌||◌, length, ◌-◌}
 use Rattle.mail_codec.specs.Places.{begins, first_place}
 use Rattle.mail_codec.proofs.lemmas.Places.{PassedTo}
-use Rattle.mail_codec.proofs.bytescan.alternatives.far_len.Given as goal
+use Rattle.mail_codec.proofs.bytescan.alternatives.vectors_len.Given as goal
 
 abbrev pub invariant-vectors : goal.invariant-vectors
 invariant-vectors l =
