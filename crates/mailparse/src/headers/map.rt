@@ -277,7 +277,7 @@ impl<'n> Name<'n> {
             return is_spelled_by(key, self.text);
         }
         let wanted = self.text.as_bytes();
-        key == wanted || key.eq_ignore_ascii_case(wanted)
+        key.len() == wanted.len() && key.eq_ignore_ascii_case(wanted)
     }
 }
 
