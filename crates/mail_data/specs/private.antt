@@ -1,2 +1,3 @@
 -- Words that only private functions need; no public clause uses them.
 pub mod LineEnds
+pub mod Usual

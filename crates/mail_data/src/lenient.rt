@@ -15,6 +15,7 @@ mod refused;
 mod repairs;
 mod shown;
 mod texts;
+mod usual;
 mod values;
 
 pub use base64::{Base64Front, base64_front};

@@ -8,6 +8,7 @@ pub mod Ids
 pub mod Manner
 pub mod Repairs
 pub mod Texts
+pub mod Usual
 pub mod Agreement
 pub mod Shown
 pub mod Folding

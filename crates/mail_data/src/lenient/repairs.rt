@@ -1,7 +1,6 @@
 //! What is missing in a value with parameters (RFC 2045, section 5.1; RFC 2231, section 4).
-ghost use Rattle.std.specs.Prelude.{◌≡◌, ◌≢◌, ◌≤◌, ◌++◌, ◌∷◌, [], chars, encode_utf8, is_some, true, IfOk, string_bytes};
+ghost use Rattle.std.specs.Prelude.{◌≡◌, ◌++◌, ◌∷◌, [], chars, encode_utf8, is_some, IfOk, string_bytes};
 ghost use Rattle.std.specs.Cow.{cow_str_bytes};
-ghost use Rattle.mail_codec.specs.Ascii.{backslash, equals_sign, semicolon, slash};
 ghost use Rattle.mail_data.specs.lenient.Repairs.{after, after_end, after_name, after_quoted, after_run, after_star};
 ghost use Rattle.mail_data.specs.lenient.Repairs.{after_text, after_word, before_text, in_value};
 ghost use Rattle.mail_data.specs.lenient.Repairs.{apostrophes, begins_parameter, begins_with_label};
@@ -12,6 +11,7 @@ ghost use Rattle.mail_data.specs.lenient.Repairs.{semicolon_unless, settled};
 ghost use Rattle.mail_data.specs.declared.lenient.repairs.Position.TheVariants.{BeforeWord};
 
 use super::file_names::label_in;
+use super::usual::is_usual;
 use mail_codec::bytescan::find;
 use mail_codec::charset::Charset;
 use std::alloc::{AllocError, Global};
@@ -57,6 +57,9 @@ pub(crate) enum Position {
 pub(crate) fn repaired(alloc: Global, text: &str) -> Result<CowStr<'_>, AllocError>
     ensures { IfOk result (λ made. cow_str_bytes made ≡ repaired text.now) }
 {
+    if is_usual(text) {
+        return Ok(CowStr::Borrowed(text));
+    }
     if lacks_nothing(text) {
         return Ok(CowStr::Borrowed(text));
     }
@@ -69,38 +72,12 @@ fn lacks_nothing(text: &str) -> bool
 {
     let mut position = Position::BeforeWord;
     for c in text.chars() {
-        if is_unmoved(position, c) {
-            continue;
-        }
         if !may_follow(position, c) {
             return false;
         }
         position = after(position, c);
     }
     missing_at_end(position).is_empty()
-}
-
-/// Returns whether nothing is missing before a character of a word, a name or a text after which
-/// the position is the same, as that of most characters is.
-#[inline(always)]
-#[tactic(auto, using(crate::proofs::lemmas::lenient::Repairs::same_places))]
-fn is_unmoved(position: Position, c: char) -> bool
-    ensures { result ≡ true → (may_follow position c ≡ true) × (after position c ≡ position) }
-{
-    match position {
-        Position::InWord | Position::InName | Position::InText | Position::InQuotes => is_plain(c),
-        _ => false,
-    }
-}
-
-/// Returns whether a character is none that ends a word, a name or a text, or begins a quoted one:
-/// it comes after `,` in ASCII, and is no `/`, `;`, `=` and backslash.
-#[inline(always)]
-fn is_plain(c: char) -> bool
-    ensures { result ≡ true → (45 ≤ c) × (c ≢ slash) × (c ≢ semicolon) × (c ≢ equals_sign)
-        × (c ≢ backslash) }
-{
-    c >= '-' && !matches!(c, '/' | ';' | '=' | '\\')
 }
 
 /// Returns whether nothing is missing before a character with this position.

@@ -268,7 +268,8 @@ module _ (c : ℕ) (low : 45 ≤ c) (no_slash : c ≢ 47) (no_semicolon : c ≢ 
   pub same-text : (may_follow InText c ≡ true) × (after InText c ≡ InText)
   same-text = (refl, rw (ne_eqb c 59 no_semicolon, ne_eqb c 34 (λ e. absurd (omega arith)), no_white) refl)
 
-  pub same-quoted : (may_follow InQuotes c ≡ true) × (after InQuotes c ≡ InQuotes)
-  same-quoted = (refl, rw (ne_eqb c 34 (λ e. absurd (omega arith)), ne_eqb c 92 no_backslash) refl)
+  pub enter-word : (may_follow BeforeWord c ≡ true) × (after BeforeWord c ≡ InWord)
+  enter-word = (refl, rw (no_white, ne_eqb c 59 no_semicolon, ne_eqb c 47 no_slash, ne_eqb c 34 (λ e. absurd (omega arith))) refl)
 
-pub ruleset same_places = (same-word, same-name, same-text, same-quoted)
+  pub enter-text : (may_follow BeforeText c ≡ true) × (after BeforeText c ≡ InText)
+  enter-text = (refl, rw (no_white, ne_eqb c 59 no_semicolon, ne_eqb c 34 (λ e. absurd (omega arith))) refl)

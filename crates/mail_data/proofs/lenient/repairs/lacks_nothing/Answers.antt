@@ -12,18 +12,6 @@ returns-then-not-may_follow c =
     let other : may_follow c.loop-c.position c.in-Some.c ≡ false = sym c.may_follow.ensures ∙ c.if-not-may_follow.true in
     sym (lacks-stop rest next c.loop-c.position c.in-Some.c c.loop-c.invariant.utf8 c.in-Some.ensures.steps.0 other) ∙ c.loop-c.invariant.same
 
--- a character after which the position is the same
-pub loop-c-preserved-then-is_unmoved : goal.loop-c-preserved-then-is_unmoved
-loop-c-preserved-then-is_unmoved c =
-    let rest = c.loop-c.c-iterator.rest.now in
-    let next = c.next.new.self.rest.now in
-    let is = c.is_unmoved.ensures c.if-is_unmoved.true in
-    record {
-      utf8 = IsUtf8-past_char rest next c.in-Some.c c.loop-c.invariant.utf8 c.in-Some.ensures.steps.0;
-      same = lacks-next rest next c.loop-c.position _ c.in-Some.c c.loop-c.invariant.utf8 c.in-Some.ensures.steps.0 is.0 (sym is.1)
-          ∙ c.loop-c.invariant.same;
-    }
-
 pub loop-c-preserved : goal.loop-c-preserved
 loop-c-preserved c =
     let rest = c.loop-c.c-iterator.rest.now in

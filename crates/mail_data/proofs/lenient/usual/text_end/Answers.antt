@@ -1,0 +1,29 @@
+use Rattle.std.proofs.Common.{◌+◌, ◌-◌, ◌||◌, ◌==◌, take, drop, get_or, length, ap, sym, ◌∙◌, arith, length-drop}
+use Rattle.std.proofs.lemmas.Bool.{eq-eqb}
+use Rattle.std.proofs.lemmas.List.{drop_more, take_rest}
+use Rattle.mail_codec.specs.Places.{begins}
+use Rattle.mail_codec.proofs.lemmas.PlacesSearches.{place_some}
+use Rattle.mail_data.proofs.lemmas.lenient.Usual.{usual-quoted, usual-word}
+use Rattle.mail_data.proofs.lenient.usual.text_end.Goals as goal
+
+pub returns-then-not-is_at : goal.returns-then-not-is_at
+returns-then-not-is_at c =
+    let end = c.run_end.ensures in
+    (omega (arith, end.end), end.bounds, usual-word c.args.bytes.now c.args.from c.run_end.result end.end)
+
+pub returns : goal.returns
+returns c =
+    let bytes = c.args.bytes.now in
+    let from = c.args.from in
+    let count = c.in_ok-length.length in
+    let found = sym c.in_ok-length.was ∙ c.find_either.ensures in
+    let rest = take (length bytes - (from + 1)) (drop (from + 1) bytes) in
+    let same = take_rest bytes (from + 1) in
+    let low = place_some (begins (λ b. b == 34 || b == 92)) rest count found in
+    let size = length-drop (from + 1) bytes in
+    let inside = ap (λ xs. length xs) same in
+    let quote = ap (begins (λ b. b == 34)) (drop_more bytes (from + 1 + count) 0 (omega (arith, low.0, low.1, size, inside))) ∙ eq-eqb (get_or bytes (from + 1 + count) 0) 34 c.if-bytes-at-ne34.false in (
+      omega arith,
+      omega (arith, low.0, low.1, size, inside),
+      usual-quoted bytes rest from count (sym c.is_at.ensures ∙ c.if-not-is_at.false) same found quote,
+    )
