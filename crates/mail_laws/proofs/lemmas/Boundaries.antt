@@ -1,63 +1,21 @@
 -- The text `multipart/mixed; boundary=B`, where B is letters and digits.
-use Rattle.std.proofs.Common.{◌≡◌, ◌≢◌, ◌⊎◌, ℕ, zero, suc, ◌≤◌, Bool, true, false, eqb, not, ◌&&◌, List, [], ◌∷◌, ◌++◌, length, Some, codes, refl, ap, ◌∙◌, ⊎_elim, arith, length-append}
-use Rattle.std.proofs.lemmas.Bool.{cond-false, ne_eqb, eqb-false, and_left, and_right, and_parts, cases_lt, not-true}
-use Rattle.std.proofs.lemmas.List.{get_or_past}
-use Rattle.std.proofs.lemmas.List.Elements.{All-head, All-tail}
-use Rattle.std.proofs.lemmas.Str.{chars-IsAscii, encodes-IsAscii}
+use Rattle.std.proofs.Common.{◌≡◌, ◌≢◌, ◌⊎◌, ℕ, zero, suc, ◌≤◌, Bool, true, eqb, not, ◌&&◌, List, [], ◌∷◌, ◌++◌, Some, codes, refl, ap, ◌∙◌, ⊎_elim, arith, length-append}
+use Rattle.std.proofs.lemmas.Bool.{cond-false, ne_eqb, eqb-false, and_left, and_right, and_parts, not-true}
 use lib.Utf8.{encode}
-use Rattle.std.specs.Char.{is_whitespace}
-use Rattle.std.specs.List.{All, list_all}
-use Rattle.std.specs.Str.{IsAscii, chars, encode_utf8_all, trim, trim_start, trim_end, skip_leading_whitespace, drop_trailing_whitespace, str_to_ascii_lowercase}
+use Rattle.std.specs.List.{list_all}
+use Rattle.std.specs.Str.{chars, trim, trim_start, trim_end, str_to_ascii_lowercase}
 use Rattle.mail_codec.specs.Ascii.{quote, semicolon}
 use Rattle.mailparse.specs.Pairs.{pair_of, pairs_of, value_of}
 use Rattle.mailparse.specs.Segments.{outside, with_front, segments, segments_from, unescape}
 use Rattle.mailparse.proofs.lemmas.Pairs.{pair_of-some, pairs_in-some, pairs_of-later, value_of-first}
 use Rattle.mailparse.proofs.lemmas.Segments.{at_other}
-use Rattle.mailparse.proofs.lemmas.ValuePlain.{graphic_no_whitespace}
 use Rattle.mail_codec.specs.Charset.{Charsets}
+use Rattle.mail_data.proofs.lemmas.Graphic.{Graphic, trim-graphic}
 use Rattle.mail_laws.specs.Boundaries.{IsAlphanumeric, boundary_type, one_text}
 use Rattle.mailparse.specs.ContentType.{content_type_in, type_with}
 use Rattle.mailparse.specs.Continuations.{parameters_in}
 use Rattle.mail_laws.specs.StarFree.{AreStarFree}
 use Rattle.mail_laws.proofs.lemmas.StarFree.{star_free_pairs_are_parameters}
-
--- ---- graphic bytes
-
-abbrev Graphic : List ℕ → Type 0
-Graphic text = All (λ b. (33 ≤ b) × (b ≤ 126)) text
-
-graphic_ascii : (text : List ℕ) → Graphic text → IsAscii text
-graphic_ascii text h i =
-    ⊎_elim (λ lt. omega (arith, (h i 0 lt).1)) (λ past. omega (arith, get_or_past text i 0 past)) (cases_lt i (length text))
-
-free_of_whitespace : (b : ℕ) (text : List ℕ) → Graphic (b ∷ text) → is_whitespace b ≡ false
-free_of_whitespace b text h =
-    let first = All-head (λ b. (33 ≤ b) × (b ≤ 126)) b text h in
-    graphic_no_whitespace b first.0 first.1
-
-nothing_trailing : (text : List ℕ) → Graphic text → drop_trailing_whitespace text ≡ text
-nothing_trailing [] h = refl
-nothing_trailing (b ∷ text) h =
-    cond-false _ _ _ (and_left _ _ (free_of_whitespace b text h))
-    ∙ ap (λ x. b ∷ x) (nothing_trailing text (All-tail (λ b. (33 ≤ b) × (b ≤ 126)) b text h))
-
-nothing_leading : (text : List ℕ) → Graphic text → skip_leading_whitespace text ≡ text
-nothing_leading [] h = refl
-nothing_leading (b ∷ text) h = cond-false _ _ _ (free_of_whitespace b text h)
-
--- loses nothing at either end
-pub trim-graphic : (text : List ℕ) → Graphic text → trim text ≡ text
-unfolding trim_start trim_end
-trim-graphic text h =
-    let ascii = graphic_ascii text h in
-    let same : encode_utf8_all text ≡ text = encodes-IsAscii text ascii in
-    let all : chars text ≡ text = chars-IsAscii text ascii in
-    ap (λ cs. encode_utf8_all (drop_trailing_whitespace (chars (encode_utf8_all (skip_leading_whitespace cs))))) all
-    ∙ ap (λ cs. encode_utf8_all (drop_trailing_whitespace (chars (encode_utf8_all cs)))) (nothing_leading text h)
-    ∙ ap (λ cs. encode_utf8_all (drop_trailing_whitespace (chars cs))) same
-    ∙ ap (λ cs. encode_utf8_all (drop_trailing_whitespace cs)) all
-    ∙ ap encode_utf8_all (nothing_trailing text h)
-    ∙ same
 
 -- ---- letters and digits
 
