@@ -37,13 +37,6 @@ use std::alloc::{AllocError, Global};
 /// The parent of a mail itself.
 pub(crate) const NONE: u64 = 0xFFFF_FFFF_FFFF_FFFF;
 
-/// The number of headers of each message that the list of records has capacity for, besides those
-/// of the mail. Few parts have more, so the list seldom grows.
-const PART_HEADERS: usize = 4;
-
-/// The number of messages, at most, for which it has that capacity.
-const MANY_PARTS: usize = 32;
-
 /// A mail or a part of it, as `struct rocktray_part`.
 #[repr(C)]
 #[derive(Clone, Copy)]
@@ -187,16 +180,13 @@ fn records_of<K: KnownCharsets>(
 {
     let mut nodes = Vec::new(alloc);
     push_nodes(&mut nodes, mail, NONE, 0)?;
-    let spare = PART_HEADERS * nodes.len().min(MANY_PARTS);
-    let capacity = header_count(mail).saturating_add(spare);
-    records_in(alloc, nodes.as_slice(), capacity, known)
+    records_in(alloc, nodes.as_slice(), known)
 }
 
-/// Returns the records of messages. The list of headers has this capacity at first.
+/// Returns the records of messages.
 fn records_in<K: KnownCharsets>(
     alloc: Global,
     nodes: &[Node<'_, '_>],
-    capacity: usize,
     known: &K,
 ) -> Result<Records, MailParseError>
     requires { AllOwn (map (λ node. tree_of node.part.now) nodes.now) }
@@ -205,12 +195,21 @@ fn records_in<K: KnownCharsets>(
 {
     let mut records = Records {
         parts: Vec::with_capacity(alloc, nodes.len())?,
-        headers: Vec::with_capacity(alloc, capacity)?,
+        headers: Vec::with_capacity(alloc, header_total(nodes))?,
     };
     for node in nodes {
         push_record(alloc, &mut records, node, known)?;
     }
     Ok(records)
+}
+
+/// Returns the number of headers of messages, which is the capacity for their records.
+fn header_total(nodes: &[Node<'_, '_>]) -> usize {
+    let mut total: usize = 0;
+    for node in nodes {
+        total = total.saturating_add(header_count(node.part));
+    }
+    total
 }
 
 /// Appends a message with this parent and level, and then its parts.
