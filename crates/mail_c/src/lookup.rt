@@ -27,12 +27,15 @@ pub(crate) fn first_header<'m, 'a>(
     None
 }
 
-/// Returns whether a key is this name, ignoring case.
+/// Returns whether a key is this name, ignoring case. Most keys are written as the name is.
 #[inline(always)]
 fn is_named(key: &[u8], name: &str) -> bool
     requires { IsAscii name.now }
     ensures { result ≡ str_eq_ignore_ascii_case (latin1_text key.now) name.now }
 {
     let wanted = name.as_bytes();
-    key.len() == wanted.len() && key.eq_ignore_ascii_case(wanted)
+    if key.len() != wanted.len() {
+        return false;
+    }
+    key == wanted || key.eq_ignore_ascii_case(wanted)
 }
