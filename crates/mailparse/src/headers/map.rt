@@ -277,7 +277,10 @@ impl<'n> Name<'n> {
             return is_spelled_by(key, self.text);
         }
         let wanted = self.text.as_bytes();
-        key.len() == wanted.len() && key.eq_ignore_ascii_case(wanted)
+        if key.len() != wanted.len() {
+            return false;
+        }
+        key == wanted || key.eq_ignore_ascii_case(wanted)
     }
 }
 
