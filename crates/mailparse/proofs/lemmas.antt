@@ -14,6 +14,7 @@ pub mod Value
 pub mod ValuePlain
 pub mod ValueBare
 pub mod ValueJoined
+pub mod Trims
 pub mod ValueLines
 pub mod Delimiters
 pub mod Mail

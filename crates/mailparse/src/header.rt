@@ -7,7 +7,7 @@ ghost use Rattle.mailparse.specs.Value.{IsPlain, lenient_value, lenient_value_in
 
 mod encoded_word;
 pub(crate) mod parse;
-mod plain;
+pub(crate) mod plain;
 mod tokens;
 mod unfolded;
 mod value;

@@ -8,6 +8,7 @@ mod extended_values;
 mod pairs;
 mod sections;
 mod segments;
+mod trimmed;
 
 use continuations::resolve;
 use mail_codec::charset::KnownCharsets;
@@ -15,6 +16,7 @@ use pairs::pairs;
 use segments::cut_segment;
 use std::alloc::{AllocError, Global};
 use std::collections::BTreeMap;
+use trimmed::trimmed;
 
 /// Reads a text with parameters: returns its value, trimmed, and the parameters by name.
 #[tactic(auto, using(crate::proofs::lemmas::Pairs::values_and_pairs))]
@@ -29,5 +31,5 @@ pub(crate) fn parameters<'p, K: KnownCharsets>(
 {
     let (value, rest) = cut_segment(text);
     let pairs = pairs(alloc, rest)?;
-    Ok((value.trim(), resolve(alloc, pairs, known)?))
+    Ok((trimmed(value), resolve(alloc, pairs, known)?))
 }

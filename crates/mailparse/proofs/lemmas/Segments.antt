@@ -260,23 +260,5 @@ reaches_after text at n next w v b goes lt is e turns kept here =
     ∙ ap (λ x. with_front x tail) (sym front)
     ∙ ap (λ x. with_front (take next text) (segments_from v x)) (sym back)
 
--- two searches find where they end
-pub plain_len-searched : (bytes : List ℕ)
-    → first_place (begins (λ b. eqb b quote)) (take (first_place (begins (λ b. eqb b semicolon)) bytes) bytes) ≡ plain_len bytes
-plain_len-searched [] = refl
-plain_len-searched (b ∷ bytes) = by_test (eqb b semicolon) (eqb b quote) refl (plain_len-searched bytes)
-  where
-    m : ℕ
-    m = first_place (begins (λ x. eqb x semicolon)) bytes
-
-    by_test : (s q : Bool) → eqb b quote ≡ q → first_place (begins (λ x. eqb x quote)) (take m bytes) ≡ plain_len bytes
-        → first_place (begins (λ x. eqb x quote)) (take (cond s 0 (suc m)) (b ∷ bytes)) ≡ cond (s || q) 0 (suc (plain_len bytes))
-    by_test true q f rest = refl
-    by_test false true f rest = cond-true _ _ _ f
-    by_test false false f rest = cond-false _ _ _ f ∙ ap suc rest
-
 -- where a segment is cut
 pub ruleset segment_cuts = (IsCharBoundary-after_ascii, reaches_plain, reaches_semicolon, semicolon_ends)
-
--- the bytes before a quote or semicolon
-pub ruleset plain_lens = (plain_len-searched)

@@ -16,11 +16,11 @@ use Rattle.mailparse.specs.private.Plain.{IsBare, cuts_value}
 use Rattle.mailparse.proofs.lemmas.ValuePlain.{graphic_no_whitespace, unfolded_value-line, trim_start-whole}
 use Rattle.mailparse.proofs.lemmas.Places.{not_some}
 
-graphic : (b : ℕ) → is_ascii_graphic b ≡ true → (33 ≤ b) × (b ≤ 126)
+pub graphic : (b : ℕ) → is_ascii_graphic b ≡ true → (33 ≤ b) × (b ≤ 126)
 graphic b h = let range = and_parts (leb 33 b) (leb b 126) h in (leb-true 33 b range.0, leb-true b 126 range.1)
 
 -- nothing is trimmed if the first character is visible
-trim_start-visible : (text : List ℕ) → IsUtf8 text → begins is_ascii_graphic text ≡ true → trim_start text ≡ text
+pub trim_start-visible : (text : List ℕ) → IsUtf8 text → begins is_ascii_graphic text ≡ true → trim_start text ≡ text
 unfolding trim_start
 trim_start-visible [] utf8 h = absurd (false≢true h)
 trim_start-visible (b ∷ text) utf8 h =

@@ -1,7 +1,8 @@
 -- The state of a byte in the code, the segments of the rest of a text, and the bytes before all quotes and semicolons.
-use Rattle.std.specs.Prelude.{ℕ, suc, ◌||◌, ◌==◌, List, [], ◌∷◌, Option, Some, None, if◌then◌else◌}
+use Rattle.std.specs.Prelude.{ℕ, ◌||◌, ◌==◌, List, [], Option, Some, None}
 use Rattle.std.specs.Borrow.{Bor}
 use Rattle.mail_codec.specs.Ascii.{quote, semicolon}
+use Rattle.mail_codec.specs.Places.{begins, first_place}
 use Rattle.mailparse.specs.Segments.{QuoteState, outside, quoted, escaped, segments}
 use Rattle.mailparse.specs.declared.parameters.segments.QuoteState.{QuoteState as CodeQuoteState}
 use Rattle.mailparse.specs.declared.parameters.segments.QuoteState.TheVariants as code
@@ -19,5 +20,4 @@ segments_of_rest (Some rest) = segments rest.now
 
 -- the number of leading bytes that are neither a quote nor a semicolon
 abbrev pub plain_len : List ℕ → ℕ
-plain_len [] = 0
-plain_len (b ∷ bytes) = if b == semicolon || b == quote then 0 else suc (plain_len bytes)
+plain_len = first_place (begins (λ b. b == semicolon || b == quote))

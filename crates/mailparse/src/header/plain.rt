@@ -19,7 +19,7 @@ pub(super) fn is_bare(bytes: &[u8]) -> bool
 }
 
 /// Whether the first byte is a visible ASCII character.
-fn begins_visibly(bytes: &[u8]) -> bool
+pub(crate) fn begins_visibly(bytes: &[u8]) -> bool
     ensures { result ≡ begins is_ascii_graphic bytes.now }
 {
     match bytes.first() {

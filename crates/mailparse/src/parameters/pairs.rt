@@ -5,6 +5,7 @@ ghost use Rattle.mailparse.specs.private.Pairs.{pair_view};
 ghost use Rattle.mailparse.specs.private.Segments.{segments_of_rest};
 
 use super::segments::{cut_segment, unescape};
+use super::trimmed::trimmed;
 use crate::ascii_case::lower_case;
 use std::alloc::{AllocError, Global};
 use std::collections::BTreeMap;
@@ -17,8 +18,8 @@ fn pair(alloc: Global, segment: &str) -> Result<Option<(String, String)>, AllocE
     let Some((key, value)) = segment.split_once('=') else {
         return Ok(None);
     };
-    let key = lower_case(alloc, key.trim())?;
-    Ok(Some((key, unescape(alloc, value.trim())?)))
+    let key = lower_case(alloc, trimmed(key))?;
+    Ok(Some((key, unescape(alloc, trimmed(value))?)))
 }
 
 /// Reads the pairs of the segments in `rest`, by key. Of equal keys the last is kept.

@@ -71,26 +71,16 @@ impl QuoteState {
     }
 }
 
-/// Returns the offset of the first `byte`, or the length if it is absent.
-#[tactic(auto, using(crate::proofs::lemmas::Places::searches_in_vain))]
-fn length_before(bytes: &[u8], byte: u8) -> usize
-    ensures least { result ≡ first_place (begins (λ b. b == byte)) bytes.now }
-    ensures bounds { result ≤ length bytes.now }
-{
-    match find_byte(bytes, byte) {
-        Some(offset) => offset,
-        None => bytes.len(),
-    }
-}
-
 /// Returns the number of leading bytes that are neither a quote nor a semicolon.
-#[tactic(auto, using(crate::proofs::lemmas::Segments::plain_lens))]
+#[tactic(auto, using(crate::proofs::lemmas::Places::searches))]
 fn plain_len(bytes: &[u8]) -> usize
     ensures plain { result ≡ plain_len bytes.now }
     ensures bounds { result ≤ length bytes.now }
 {
-    let end = length_before(bytes, b';');
-    length_before(&bytes[..end], b'"')
+    match find_either(bytes, b';', b'"') {
+        Some(offset) => offset,
+        None => bytes.len(),
+    }
 }
 
 /// Returns the number of leading bytes that are neither a quote nor a backslash.
@@ -129,7 +119,8 @@ fn inside_quotes(text: &str) -> Option<&str>
     ensures { MatchOption result (is_quoted text.now ≡ false)
         (λ inside. (is_quoted text.now ≡ true) × (inside.now ≡ inside_quotes text.now)) }
 {
-    if text.len() < 2 || !text.starts_with('"') || !text.ends_with('"') {
+    let bytes = text.as_bytes();
+    if bytes.len() < 2 || bytes[0] != b'"' || bytes[bytes.len() - 1] != b'"' {
         return None;
     }
     Some(&text[1..text.len() - 1])
