@@ -10,7 +10,6 @@ pub mod TextFiles
 pub mod Flowed
 pub mod InnerMails
 pub mod LineEnds
-pub mod Graphic
 pub mod lenient
 pub mod Mailbox
 pub mod MailboxSearch

@@ -1,7 +1,5 @@
 //! The manner in which mail is read leniently.
 ghost use Rattle.std.specs.Prelude.{◌≡◌, ◌&&◌, IfOk, not, string_bytes, true};
-ghost use Rattle.std.specs.Char.{is_ascii_graphic};
-ghost use Rattle.std.specs.List.{list_all};
 ghost use Rattle.std.specs.Str.{bytes_eq, trim};
 ghost use Rattle.mail_codec.specs.Places.{is_empty};
 ghost use Rattle.mailparse.specs.Pairs.{HasTexts, text_at};
@@ -200,25 +198,17 @@ fn has_two_parts(name: &str) -> bool
     }
 }
 
-/// Returns whether a text is not empty and clearly has no whitespace around it: it is printable
-/// ASCII without spaces.
+/// Returns whether a text is not empty and clearly has no whitespace around it: it begins and ends
+/// with a visible ASCII character.
 fn is_trimmed(text: &str) -> bool
     ensures { result ≡ true →
         (not (is_empty text.now) && bytes_eq (trim text.now) text.now) ≡ true }
 {
-    !text.is_empty() && is_graphic(text.as_bytes())
-}
-
-/// Returns whether all bytes are printable ASCII, without spaces.
-fn is_graphic(bytes: &[u8]) -> bool
-    ensures { result ≡ list_all is_ascii_graphic bytes.now }
-{
-    for byte in bytes {
-        if !byte.is_ascii_graphic() {
-            return false;
-        }
+    let bytes = text.as_bytes();
+    if bytes.is_empty() {
+        return false;
     }
-    true
+    bytes[0].is_ascii_graphic() && bytes[bytes.len() - 1].is_ascii_graphic()
 }
 
 /// Returns the name of a type, read leniently.

@@ -1,16 +1,19 @@
 -- The text `multipart/mixed; boundary=B`, where B is letters and digits.
-use Rattle.std.proofs.Common.{◌≡◌, ◌≢◌, ◌⊎◌, ℕ, zero, suc, ◌≤◌, Bool, true, eqb, not, ◌&&◌, List, [], ◌∷◌, ◌++◌, Some, codes, refl, ap, ◌∙◌, ⊎_elim, arith, length-append}
-use Rattle.std.proofs.lemmas.Bool.{cond-false, ne_eqb, eqb-false, and_left, and_right, and_parts, not-true}
+use Rattle.std.proofs.Common.{◌≡◌, ◌≢◌, ◌⊎◌, ℕ, zero, suc, ◌-◌, ◌<◌, ◌≤◌, Bool, true, eqb, not, ◌&&◌, List, [], ◌∷◌, ◌++◌, Some, codes, length, get_or, refl, ap, ◌∙◌, ⊎_elim, arith, length-append}
+use Rattle.std.proofs.lemmas.Bool.{cases_lt, cond-false, ne_eqb, eqb-false, and_from, and_left, and_right, and_parts, le-leb, not-true}
+use Rattle.std.proofs.lemmas.List.{get_or_past}
+use Rattle.std.proofs.lemmas.Str.{IsUtf8-from_ascii}
+use Rattle.std.specs.Char.{is_ascii_graphic}
 use lib.Utf8.{encode}
 use Rattle.std.specs.List.{list_all}
-use Rattle.std.specs.Str.{chars, trim, trim_start, trim_end, str_to_ascii_lowercase}
+use Rattle.std.specs.Str.{IsAscii, chars, trim, trim_start, trim_end, str_to_ascii_lowercase}
 use Rattle.mail_codec.specs.Ascii.{quote, semicolon}
 use Rattle.mailparse.specs.Pairs.{pair_of, pairs_of, value_of}
 use Rattle.mailparse.specs.Segments.{outside, with_front, segments, segments_from, unescape}
 use Rattle.mailparse.proofs.lemmas.Pairs.{pair_of-some, pairs_in-some, pairs_of-later, value_of-first}
 use Rattle.mailparse.proofs.lemmas.Segments.{at_other}
 use Rattle.mail_codec.specs.Charset.{Charsets}
-use Rattle.mail_data.proofs.lemmas.Graphic.{Graphic, trim-graphic}
+use Rattle.mailparse.proofs.lemmas.Trims.{trim-visible}
 use Rattle.mail_laws.specs.Boundaries.{IsAlphanumeric, boundary_type, one_text}
 use Rattle.mailparse.specs.ContentType.{content_type_in, type_with}
 use Rattle.mailparse.specs.Continuations.{parameters_in}
@@ -24,8 +27,21 @@ bounds b h =
     ⊎_elim (λ d. (omega (arith, d.0), omega (arith, d.1), λ e. absurd (omega (arith, d.1))))
     (λ l. ⊎_elim (λ d. (omega (arith, d.0), omega (arith, d.1), λ e. absurd (omega (arith, d.0)))) (λ d. (omega (arith, d.0), omega (arith, d.1), λ e. absurd (omega (arith, d.0)))) l) h
 
-graphic : (text : List ℕ) → IsAlphanumeric text → Graphic text
-graphic text h = λ i d lt. let at = bounds _ (h i d lt) in (omega (arith, at.0), omega (arith, at.1))
+ascii : (text : List ℕ) → IsAlphanumeric text → IsAscii text
+ascii text h i =
+    ⊎_elim (λ lt. let at = bounds _ (h i 0 lt) in omega (arith, at.1)) (λ past. omega (arith, get_or_past text i 0 past)) (cases_lt i (length text))
+
+visible : (text : List ℕ) (i : ℕ) → IsAlphanumeric text → i < length text → is_ascii_graphic (get_or text i 0) ≡ true
+visible text i h lt =
+    let at = bounds _ (h i 0 lt) in
+    and_from _ _ (le-leb 33 (get_or text i 0) (omega (arith, at.0))) (le-leb (get_or text i 0) 126 (omega (arith, at.1)))
+
+trim-alphanumeric : (text : List ℕ) → IsAlphanumeric text → trim text ≡ text
+unfolding trim_start trim_end chars
+trim-alphanumeric [] h = refl
+trim-alphanumeric (b ∷ text) h =
+    trim-visible (b ∷ text) (IsUtf8-from_ascii (b ∷ text) (ascii (b ∷ text) h)) (omega arith) (visible (b ∷ text) 0 h (omega arith))
+    (visible (b ∷ text) (length (b ∷ text) - 1) h (omega arith))
 
 one_segment : (text : List ℕ) → IsAlphanumeric text → segments_from outside text ≡ text ∷ []
 one_segment [] h = refl
@@ -78,7 +94,7 @@ boundary_pair boundary h =
     let len = length-append (codes " boundary=") boundary in
     pair_of-some (codes " boundary=" ++ boundary) (omega arith)
     ∙ ap (λ key. Some (str_to_ascii_lowercase key, unescape (trim boundary))) trim_key
-    ∙ ap (λ value. Some (codes "boundary", unescape value)) (trim-graphic boundary (graphic boundary h))
+    ∙ ap (λ value. Some (codes "boundary", unescape value)) (trim-alphanumeric boundary h)
     ∙ ap (λ value. Some (codes "boundary", value)) (unescape-alphanumeric boundary h)
 
 pub boundary_value : (boundary : List ℕ) → IsAlphanumeric boundary → value_of (boundary_type boundary) ≡ codes "multipart/mixed"

@@ -1,13 +1,15 @@
 -- Lemmas on types, read leniently.
-use Rattle.std.proofs.Common.{◌≡◌, ◌<◌, ℕ, Bool, true, false, not, ◌&&◌, List, ◌∷◌, ◌++◌, length, get_or, refl, sym, ap, ◌∙◌, arith}
+use Rattle.std.proofs.Common.{◌≡◌, ◌<◌, ◌-◌, ℕ, Bool, true, false, eqb, not, ◌&&◌, List, [], ◌∷◌, ◌++◌, length, get_or, refl, sym, ap, ◌∙◌, arith}
 use Rattle.std.specs.Prelude.{nat_eq}
 use Rattle.std.specs.List.{after_first, before_first, position_or_len}
-use Rattle.std.specs.Str.{bytes_eq, trim}
-use Rattle.std.proofs.lemmas.Bool.{and_parts, cond-false, cond-true, eqb-true, le-ltb, lt-ltb, or_from}
+use Rattle.std.specs.Char.{is_ascii_graphic}
+use Rattle.std.specs.Str.{IsUtf8, bytes_eq, trim}
+use Rattle.std.proofs.lemmas.Bool.{and_parts, cond-false, cond-true, eqb-true, false≢true, le-ltb, lt-ltb, or_from}
 use Rattle.std.proofs.lemmas.List.Sums.{passes_at_first, split_at_first}
 use Rattle.std.proofs.lemmas.Slice.Eq.{bytes_eq-Decides}
 use Rattle.mail_codec.specs.Places.{is_empty}
 use Rattle.mailparse.proofs.lemmas.EncodedWord.{any_from_place}
+use Rattle.mailparse.proofs.lemmas.Trims.{trim-visible}
 use Rattle.mailparse.specs.ContentType.{ContentType}
 use Rattle.mailparse.specs.Pairs.{Texts}
 use Rattle.mail_data.specs.lenient.Manner.{has_broken_boundary, lenient_name, made_lenient, name_of_one, name_of_two, with_whole_boundary, without_boundary}
@@ -24,6 +26,13 @@ lenient_name-none name h = sym (cond-false _ _ _ (any_from_place (λ b. nat_eq b
 -- a text is not empty and has no whitespace around it
 abbrev pub is_trimmed : List ℕ → Bool
 is_trimmed text = not (is_empty text) && bytes_eq (trim text) text
+
+-- it begins and ends with a visible character
+pub trimmed-visible : (text : List ℕ) → IsUtf8 text → eqb (length text) 0 ≡ false → is_ascii_graphic (get_or text 0 0) ≡ true
+    → is_ascii_graphic (get_or text (length text - 1) 0) ≡ true → is_trimmed text ≡ true
+trimmed-visible [] utf8 some first last = absurd (false≢true (sym some))
+trimmed-visible (b ∷ text) utf8 some first last =
+    (bytes_eq-Decides (trim (b ∷ text)) (b ∷ text)).1 (trim-visible (b ∷ text) utf8 (omega arith) first last)
 
 two_trimmed : (type subtype : List ℕ) → is_trimmed type ≡ true → is_trimmed subtype ≡ true → name_of_two (trim type) (trim subtype) ≡ type ++ 47 ∷ subtype
 two_trimmed type subtype first second =

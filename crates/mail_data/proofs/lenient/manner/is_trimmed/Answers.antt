@@ -1,10 +1,10 @@
-use Rattle.std.proofs.Common.{ap, sym, ◌∙◌}
-use Rattle.std.specs.Char.{is_ascii_graphic}
-use Rattle.std.specs.List.{list_all}
-use Rattle.mail_data.proofs.lemmas.Graphic.{trimmed-graphic}
+use Rattle.std.proofs.Common.{◌≡◌, ◌-◌, ℕ, List, length, get_or, true, sym, subst, ◌∙◌}
+use Rattle.mail_data.proofs.lemmas.lenient.Manner.{is_trimmed, trimmed-visible}
 use Rattle.mail_data.proofs.lenient.manner.is_trimmed.Goals as goal
 
-pub returns-then-not-is_empty : goal.returns-then-not-is_empty
-returns-then-not-is_empty c = λ is.
-    trimmed-graphic c.args.text.now (sym c.is_empty.ensures ∙ c.if-not-is_empty.true)
-    (sym (ap (list_all is_ascii_graphic) c.as_bytes.ensures.value) ∙ sym c.is_graphic.ensures ∙ is)
+pub returns-then-is_ascii_graphic : goal.returns-then-is_ascii_graphic
+returns-then-is_ascii_graphic c = λ last.
+    subst (λ (text : List ℕ). is_trimmed text ≡ true) c.as_bytes-bytes.ensures.value
+    (trimmed-visible c.as_bytes-bytes.result.now c.as_bytes-bytes.ensures.utf8 (sym c.is_empty.ensures ∙ c.if-is_empty.false)
+    (sym c.is_ascii_graphic.ensures.value ∙ c.if-is_ascii_graphic.true)
+    (sym c.is_ascii_graphic-then-is_ascii_graphic.ensures.value ∙ last))
