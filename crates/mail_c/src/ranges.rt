@@ -12,7 +12,7 @@ ghost use Rattle.mail_c.specs.Ranges.{unquoted, value};
 
 use crate::buffer::write_items;
 use crate::codes::NO_MEMORY;
-use crate::nameless::is_nameless_value;
+use crate::nameless::is_nameless;
 use crate::results::{NO_LIMIT, text_in};
 use mail_data::bounce::original_message_id;
 use mail_data::files::safe_file_name;
@@ -62,7 +62,7 @@ pub(crate) fn file_name<K: KnownCharsets>(
     ensures { AnswersOrMemory bytes_found result
         (file_name (K.known known.now) disposition.now ctype.now) }
 {
-    if is_nameless_value(alloc, disposition)? && is_nameless_value(alloc, ctype)? {
+    if is_nameless(disposition) && is_nameless(ctype) {
         return Ok(None);
     }
     match lenient_named_file(alloc, disposition, ctype, known)? {

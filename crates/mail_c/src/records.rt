@@ -539,7 +539,7 @@ fn is_attachment<K: KnownCharsets>(
     if is_attachment_disposition(disposition) {
         return Ok(true);
     }
-    if is_nameless_part(alloc, part, disposition.is_some())? {
+    if is_nameless_part(part, disposition.is_some()) {
         return Ok(false);
     }
     Ok(lenient_file_name(alloc, part, known)?.is_some())

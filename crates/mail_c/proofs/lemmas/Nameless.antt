@@ -1,18 +1,25 @@
 -- Lemmas on headers that clearly give no file name.
-use Rattle.std.proofs.Common.{◌≡◌, ℕ, zero, suc, ◌+◌, ◌<◌, ◌≤◌, Bool, true, false, cond, not, ◌&&◌, ◌||◌, eqb, ltb, List, [], ◌∷◌, ◌++◌, length, get_or, take, drop, Option, Some, None, Ok, refl, sym, ap, ◌∙◌, arith}
-use Rattle.std.proofs.lemmas.Bool.{agree_below, agree_below_at, and_from, and_parts, and_right, false_from_ne_true, false≢true, lt-ltb, ltb-true, ne_eqb, not-true, or_from, or_parts}
+use Rattle.std.proofs.Common.{◌≡◌, ℕ, zero, suc, ◌+◌, ◌-◌, ◌<◌, ◌≤◌, Bool, true, false, cond, not, ◌&&◌, ◌||◌, eqb, ltb, List, [], ◌∷◌, ◌++◌, length, map, get_or, take, drop, Option, Some, None, Ok, refl, sym, ap, ◌∙◌, arith}
+use Rattle.std.proofs.lemmas.Bool.{agree_below, agree_below_at, and_from, and_left, and_parts, and_right, cond-true, eqb-false, false_from_ne_true, false≢true, lt-ltb, ltb-true, ne_eqb, not-true, or_from, or_parts}
 use Rattle.std.proofs.lemmas.Slice.Eq.{bytes_eq-Decides}
-use Rattle.std.proofs.lemmas.Str.{chars-IsAscii, encodes-IsAscii}
+use Rattle.std.proofs.lemmas.List.{append-nil}
+use Rattle.std.proofs.lemmas.Str.{IsUtf8-from_ascii, chars-IsAscii, encodes-IsAscii, is_utf8-from_IsUtf8}
 use Rattle.std.specs.Char.{is_ascii_whitespace, is_whitespace, to_ascii_lowercase}
-use Rattle.std.specs.List.{before_first, after_first, position_or_len}
+use Rattle.std.specs.List.{before_first, after_first, list_any, onto_first, position_or_len, slice_split}
 use Rattle.std.specs.Map.{update, update_all}
 use Rattle.std.specs.Option.{is_some, option_and_then, option_map, option_map_or, option_to_list}
-use Rattle.std.specs.Prelude.{codes, encode_utf8_all, ◌==◌}
-use Rattle.std.specs.Str.{IsAscii, bytes_eq, drop_trailing_whitespace, skip_leading_whitespace, str_to_ascii_lowercase, trim, trim_end, trim_start}
+use Rattle.std.specs.Prelude.{codes, encode_utf8_all, slice_index, ◌==◌}
+use Rattle.std.specs.Str.Lines.{lines, lines_of_parts, strip_carriage_return}
+use Rattle.std.specs.Str.{IsAscii, bytes_eq, drop_trailing_whitespace, is_utf8, skip_leading_whitespace, str_to_ascii_lowercase, trim, trim_end, trim_start}
 use Rattle.mail_codec.specs.Charset.{Charsets}
+use Rattle.mail_codec.proofs.lemmas.Places.{first_place-begins}
 use Rattle.mail_codec.proofs.lemmas.PlacesSearches.{place_none, place_some}
+use Rattle.mail_codec.specs.Latin1.{latin1_text}
 use Rattle.mail_codec.specs.Places.{begins, either_place, first_place}
+use Rattle.mailparse.proofs.lemmas.EncodedWord.{any_from_place}
+use Rattle.mailparse.proofs.lemmas.ExtendedValues.{is_some_where}
 use Rattle.mailparse.proofs.lemmas.StarFree.{parameters_are_pairs}
+use Rattle.mailparse.proofs.lemmas.ValuePlain.{line_tokens-plain}
 use Rattle.mailparse.specs.Continuations.{parameters_in}
 use Rattle.mailparse.specs.Pairs.{Texts, is_equals, last_of, no_texts, pair_of, pairs_in, pairs_of}
 use Rattle.mailparse.specs.Segments.{QuoteState, outside, after, ends, segments, segments_from, with_front, unescape}
@@ -28,12 +35,13 @@ use Rattle.mailparse.specs.ContentType.{content_type_in}
 use Rattle.mailparse.specs.Disposition.{Kind, disposition_in}
 use Rattle.mailparse.specs.Mail.{Node, Tree, root}
 use Rattle.mailparse.specs.Header.{Header}
-use Rattle.mailparse.specs.Map.{first_value_in, first_with_key}
+use Rattle.mailparse.specs.Map.{first_with_key}
 use Rattle.mailparse.specs.Views.{kind}
 use Rattle.mailparse.specs.declared.disposition.DispositionType.{DispositionType}
-use Rattle.mailparse.specs.Value.{lenient_value_in}
+use Rattle.mailparse.specs.Tokens.{TokenKind, begins_opening, is_all_whitespace, line_end, plain_text, whitespace}
+use Rattle.mailparse.specs.Value.{is_released, is_whitespace_token, is_word, kinds, lenient_value_in, newline, outside_token, shown_after, shown_tokens, shows, tokens_of_lines, unfolded_value, value_tokens}
 use Rattle.mail_c.specs.Ranges.{file_name}
-use Rattle.mail_c.specs.Nameless.{has_am_after, is_a, is_m, is_nameless, is_nameless_after, is_nameless_part, is_nameless_value, lacks_name, may_follow}
+use Rattle.mail_c.specs.Nameless.{has_am_after, is_a, is_m, is_nameless, is_nameless_after, is_nameless_part, lacks_name, may_encode, may_follow}
 use Rattle.mail_data.specs.lenient.Repairs as repairs
 use Rattle.mail_data.specs.lenient.Repairs.{after_name, after_quoted, after_run, after_value, apostrophes, begins_parameter, extended_are_alone, for_extended, lacking, missing, repaired, repaired_from, semicolon_unless}
 
@@ -127,28 +135,37 @@ am_free last (b ∷ bytes) h =
     let parts = and_parts _ _ h in
     or_from _ _ (not-true _ (and_parts _ _ (and_parts _ _ parts.0).1).1) (am_free b bytes parts.1)
 
+not_encoded : (last : ℕ) (text : List ℕ) → is_nameless_after last text ≡ true → list_any may_encode text ≡ false
+not_encoded last [] h = refl
+not_encoded last (b ∷ text) h =
+    let parts = and_parts _ _ h in
+    or_from _ _ (not-true _ (and_parts _ _ (and_parts _ _ parts.0).1).0) (not_encoded b text parts.1)
+
 star_free : (last : ℕ) (text : List ℕ) → is_nameless_after last text ≡ true → has_star text ≡ false
 star_free last [] h = refl
 star_free last (b ∷ text) h =
     let parts = and_parts _ _ h in
-    or_from _ _ (not-true _ (and_parts _ _ (and_parts _ _ parts.0).1).0) (star_free b text parts.1)
+    or_from _ _ (or_parts _ _ (not-true _ (and_parts _ _ (and_parts _ _ parts.0).1).0)).0 (star_free b text parts.1)
 
-without_all : (last : ℕ) (text : List ℕ) → IsAscii text → has_star text ≡ false → has_am_after last text ≡ false → is_nameless_after last text ≡ true
-without_all last [] low star am = refl
-without_all last (b ∷ bytes) low star am =
-    let stars = or_parts _ _ star in
+without_all : (last : ℕ) (text : List ℕ) → IsAscii text → list_any may_encode text ≡ false → has_am_after last text ≡ false → is_nameless_after last text ≡ true
+without_all last [] low plain am = refl
+without_all last (b ∷ bytes) low plain am =
+    let stars = or_parts _ _ plain in
     let ams = or_parts _ _ am in
     and_from _ _ (and_from _ _ (lt-ltb b 128 (low 0)) (and_from _ _ (ap not stars.0) (ap not ams.0))) (without_all b bytes (λ i. low (suc i)) stars.1 ams.1)
 
-pub nameless-by_am : (text : List ℕ) → IsAscii text → has_star text ≡ false → not (has_am_after 0 text) ≡ is_nameless text
-nameless-by_am text low star = go (has_am_after 0 text) refl
+pub encoding_found : (text : List ℕ) → is_some (either_place text 42 63) ≡ list_any may_encode text
+encoding_found text = is_some_where _ _ ∙ ap (λ n. ltb n (length text)) (first_place-begins may_encode text) ∙ sym (any_from_place may_encode text)
+
+pub nameless-by_am : (text : List ℕ) → IsAscii text → list_any may_encode text ≡ false → not (has_am_after 0 text) ≡ is_nameless text
+nameless-by_am text low plain = go (has_am_after 0 text) refl
   where
     go : (t : Bool) → has_am_after 0 text ≡ t → not t ≡ is_nameless text
     go true e = sym (false_from_ne_true _ (λ h. false≢true (sym (am_free 0 text h) ∙ e)))
-    go false e = sym (without_all 0 text low star e)
+    go false e = sym (without_all 0 text low plain e)
 
-pub named-by_star : (text : List ℕ) → has_star text ≡ true → false ≡ is_nameless text
-named-by_star text star = sym (false_from_ne_true _ (λ h. false≢true (sym (star_free 0 text h) ∙ star)))
+pub named-encoded : (text : List ℕ) → list_any may_encode text ≡ true → false ≡ is_nameless text
+named-encoded text is = sym (false_from_ne_true _ (λ h. false≢true (sym (not_encoded 0 text h) ∙ is)))
 
 pub named-high : (text : List ℕ) (i : ℕ) → 128 ≤ get_or text i 0 → false ≡ is_nameless text
 named-high text i high = sym (false_from_ne_true _ (λ h. absurd (omega (arith, ascii 0 text h i, high))))
@@ -373,8 +390,8 @@ trimmed_end text h =
 low_ascii : agree_below (λ b. ltb (to_ascii_lowercase b) 128) (λ b. ltb b 128) 128 ≡ true
 low_ascii = refl
 
-low_star : agree_below (λ b. eqb (to_ascii_lowercase b) 42) (λ b. eqb b 42) 128 ≡ true
-low_star = refl
+low_encode : agree_below (λ b. may_encode (to_ascii_lowercase b)) may_encode 128 ≡ true
+low_encode = refl
 
 low_a : agree_below (λ b. is_a (to_ascii_lowercase b)) is_a 128 ≡ true
 low_a = refl
@@ -388,7 +405,7 @@ lowered last low (b ∷ text) same h =
     let parts = and_parts _ _ h in
     let small : b < 128 = ltb-true b 128 (and_parts _ _ parts.0).0 in
     let one = agree_below_at (λ b. ltb (to_ascii_lowercase b) 128) (λ b. ltb b 128) 128 b low_ascii small in
-    let two = agree_below_at (λ b. eqb (to_ascii_lowercase b) 42) (λ b. eqb b 42) 128 b low_star small in
+    let two = agree_below_at (λ b. may_encode (to_ascii_lowercase b)) may_encode 128 b low_encode small in
     let three = agree_below_at (λ b. is_m (to_ascii_lowercase b)) is_m 128 b low_m small in
     let here : may_follow low (to_ascii_lowercase b) ≡ may_follow last b = λ i. one i && (not (two i) && not (three i && same i)) in
     and_from _ _ (here ∙ parts.0)
@@ -433,6 +450,92 @@ no_parameter known text name h other =
     λ n star. nothing (pairs_in parts) no_texts n are (false_from_ne_true _ (λ e. false≢true (sym (star_free 0 n e) ∙ star))) refl in
     parameters_are_pairs known (pairs_in parts) starred name ∙ nothing (pairs_in parts) no_texts name are other refl
 
+-- ---- the text of its raw value
+
+nameless-stripped : (line : List ℕ) → is_nameless line ≡ true → is_nameless (strip_carriage_return line) ≡ true
+nameless-stripped line h =
+    either 0 (eqb (slice_index line (length line - 1)) 13) (take (length line - 1) line) line (front_of (length line - 1) 0 line h) h
+
+on_first : (last b : ℕ) (parts : List (List ℕ)) → may_follow last b ≡ true → AreNameless b parts → AreNameless last (onto_first b parts)
+on_first last b [] here are = (and_from _ _ here refl, tt)
+on_first last b (s ∷ more) here are = (and_from _ _ here are.0, are.1)
+
+parts_after : (last : ℕ) (text : List ℕ) → is_nameless_after last text ≡ true → AreNameless last (slice_split (λ b. eqb b 10) text)
+parts_after last [] h = (refl, tt)
+parts_after last (b ∷ text) h =
+    let parts = and_parts _ _ h in
+    either_list last (eqb b 10) ([] ∷ slice_split (λ b. eqb b 10) text) (onto_first b (slice_split (λ b. eqb b 10) text))
+    (refl, parts_after 0 text (after_other b 0 text refl parts.1))
+    (on_first last b (slice_split (λ b. eqb b 10) text) parts.0 (parts_after b text parts.1))
+
+nameless-lines : (parts : List (List ℕ)) → AreNameless 0 parts → AreNameless 0 (lines_of_parts parts)
+nameless-lines [] are = tt
+nameless-lines (x ∷ []) are = either_list 0 (eqb (length x) 0) [] (x ∷ []) tt are
+nameless-lines (x ∷ y ∷ more) are = (nameless-stripped x are.0, nameless-lines (y ∷ more) are.1)
+
+nameless-trimmed : (lines : List (List ℕ)) → AreNameless 0 lines → AreNameless 0 (map trim_start lines)
+nameless-trimmed [] are = tt
+nameless-trimmed (line ∷ more) are = (trimmed_start line are.0, nameless-trimmed more are.1)
+
+no_opening : (last : ℕ) (line : List ℕ) → is_nameless_after last line ≡ true → begins_opening line ≡ false
+no_opening last [] h = refl
+no_opening last (x ∷ []) h = and_right (eqb 61 x) false refl
+no_opening last (x ∷ y ∷ line) h =
+    let rest : is_nameless_after x (y ∷ line) ≡ true = (and_parts (may_follow last x) (is_nameless_after x (y ∷ line)) h).1 in
+    let next : may_follow x y ≡ true = (and_parts (may_follow x y) (is_nameless_after y line) rest).0 in
+    let plain : (not (may_encode y) && not (is_m y && is_a x)) ≡ true = (and_parts (ltb y 128) (not (may_encode y) && not (is_m y && is_a x)) next).1 in
+    let other : eqb y 63 ≡ false =
+    (or_parts (eqb y 42) (eqb y 63) (not-true (may_encode y) (and_parts (not (may_encode y)) (not (is_m y && is_a x)) plain).0)).1 in
+    and_right (eqb 61 x) _ (and_left (eqb 63 y) _ (ne_eqb 63 y (λ e. eqb-false y 63 other (sym e))))
+
+no_opening_at : (line : List ℕ) → is_nameless line ≡ true → (k : ℕ) → begins_opening (drop k line) ≡ false
+no_opening_at line h zero = no_opening 0 line h
+no_opening_at [] h (suc k) = refl
+no_opening_at (b ∷ line) h (suc k) = no_opening_at line (rest_of 0 b line h) k
+
+-- a space between two texts
+spaced : (last : ℕ) (xs ys : List ℕ) → is_nameless_after last xs ≡ true → is_nameless ys ≡ true → is_nameless_after last (xs ++ 32 ∷ ys) ≡ true
+spaced last [] ys h k = and_from _ _ refl (after_other 0 32 ys refl k)
+spaced last (x ∷ xs) ys h k = let parts = and_parts _ _ h in and_from _ _ parts.0 (spaced x xs ys parts.1 k)
+
+-- the kind of the token of a line
+abbrev kind_of : Bool → Option TokenKind
+kind_of blank = Some (cond blank whitespace plain_text)
+
+no_word : (t : Bool) → is_word (kind_of t) ≡ false
+no_word true = refl
+no_word false = refl
+
+-- the end of a line after such a token is shown
+end_shows : (before : Option TokenKind) (t : Bool) (after : List TokenKind) → is_word before ≡ false → shows before (kind_of t) line_end after ≡ true
+end_shows before t after none =
+    ap (λ held. not held || is_released line_end after) (or_from _ _ (no_word t) (and_right (is_whitespace_token (kind_of t)) (is_word before) none))
+
+module _ (known : Charsets) where
+  shown : (earlier before : Option TokenKind) (lines : List (List ℕ)) → is_word before ≡ false → AreNameless 0 lines
+      → is_nameless (shown_after earlier before (tokens_of_lines known lines)) ≡ true
+  shown earlier before [] none are = refl
+  shown earlier before (line ∷ []) none are =
+      ap (λ tokens. is_nameless (shown_after earlier before tokens)) (line_tokens-plain known line (no_opening_at line are.0))
+      ∙ ap is_nameless (append-nil (cond (shows earlier before (outside_token line).kind []) line []))
+      ∙ either 0 (shows earlier before (outside_token line).kind []) line [] are.0 refl
+  shown earlier before (line ∷ next ∷ more) none are =
+      let blank = is_all_whitespace line in
+      let rest = tokens_of_lines known (next ∷ more) in
+      let here = shows earlier before (outside_token line).kind (kinds (newline ∷ rest)) in
+      let after = shown_after (kind_of blank) (Some line_end) rest in
+      ap (λ tokens. is_nameless (shown_after earlier before (tokens ++ (newline ∷ rest)))) (line_tokens-plain known line (no_opening_at line are.0))
+      ∙ ap (λ t. is_nameless (cond here line [] ++ (cond t (32 ∷ []) [] ++ after))) (end_shows before blank (kinds rest) none)
+      ∙ spaced 0 (cond here line []) after (either 0 here line [] are.0 refl) (shown (kind_of blank) (Some line_end) (next ∷ more) refl are.1)
+
+  nameless-decoded : (raw : List ℕ) → is_nameless raw ≡ true → is_nameless (lenient_value_in known raw) ≡ true
+  unfolding lenient_value_in unfolded_value value_tokens
+  nameless-decoded raw h =
+      ap (λ text. is_nameless (shown_tokens (tokens_of_lines known (map trim_start (lines text)))))
+      (cond-true (is_utf8 raw) raw (latin1_text raw) (is_utf8-from_IsUtf8 raw (IsUtf8-from_ascii raw (ascii 0 raw h))))
+      ∙ shown None None (map trim_start (lines raw)) refl
+      (nameless-trimmed (lines raw) (nameless-lines (slice_split (λ b. eqb b 10) raw) (parts_after 0 raw h)))
+
 -- ---- the file name
 
 -- a text that has no name in a disposition or in a type
@@ -466,9 +569,10 @@ none_found known one other e f =
     ap (λ t. option_and_then (λ name. filled (Some (lenient_value_in known name))) (first_text t other)) e
     ∙ ap (λ t. option_and_then (λ name. filled (Some (lenient_value_in known name))) t) f
 
-none_read : (read : List ℕ → Option (List ℕ)) (value : Option (List ℕ)) → Nameless read → option_map_or is_nameless value true ≡ true → option_and_then read value ≡ None
+none_read : (read : List ℕ → Option (List ℕ)) (header : Option Header) → Nameless read → option_map_or (λ h. is_nameless h.value) header true ≡ true
+    → option_and_then read (option_map (λ h. lenient_value_in no_charsets h.value) header) ≡ None
 none_read read None less h = refl
-none_read read (Some text) less h = less text h
+none_read read (Some header) less h = less (lenient_value_in no_charsets header.value) (nameless-decoded no_charsets header.value h)
 
 -- a part has none
 pub nameless-part : (known : Charsets) (node : Node) → is_nameless_part node ≡ true → lenient_file_name known node ≡ None
@@ -476,8 +580,8 @@ unfolding lenient_file_name
 nameless-part known node h =
     let parts = and_parts _ _ h in
     none_found known (name_from (shown_name known) (codes "Content-Disposition") node) (name_from (typed_name known) (codes "Content-Type") node)
-    (none_read (shown_name known) (first_value_in no_charsets (codes "Content-Disposition") node.headers) (none_shown known) parts.0)
-    (none_read (typed_name known) (first_value_in no_charsets (codes "Content-Type") node.headers) (none_typed known) parts.1)
+    (none_read (shown_name known) (first_with_key (codes "Content-Disposition") node.headers) (none_shown known) parts.0)
+    (none_read (typed_name known) (first_with_key (codes "Content-Type") node.headers) (none_typed known) parts.1)
 
 -- a part without a disposition has none in that
 pub no_disposition : (known : Charsets) (node : Node) (found : Option DispositionType) → option_map kind found ≡ lenient_disposition known node → is_some found ≡ false
@@ -487,7 +591,7 @@ no_disposition known node (Some shown) same none = absurd (false≢true (sym non
 no_disposition known node None same none = by_header (first_with_key (codes "Content-Disposition") node.headers) same
   where
     by_header : (header : Option Header) → None ≡ option_map lenient_kind (option_map (λ h. header_text known h.value) header)
-        → option_map_or is_nameless (option_map (λ h. lenient_value_in no_charsets h.value) header) true ≡ true
+        → option_map_or (λ h. is_nameless h.value) header true ≡ true
     by_header None same = refl
     by_header (Some h) same = absurd (cc)
 
@@ -498,10 +602,11 @@ nameless-attachment known t disposition shown h =
     sym (and_right (is_leaf t) _ (or_from _ _ shown (ap (λ (name : Option (List ℕ)). is_some name) (nameless-part known (root t) h))))
 
 -- two raw values have none
-pub nameless-values : (known : Charsets) (disposition ctype : List ℕ) → is_nameless_value disposition ≡ true → is_nameless_value ctype ≡ true
+pub nameless-values : (known : Charsets) (disposition ctype : List ℕ) → is_nameless disposition ≡ true → is_nameless ctype ≡ true
     → file_name known disposition ctype ≡ Ok None
 unfolding file_name lenient_name_in
 nameless-values known disposition ctype h k =
     ap (λ (name : Option (List ℕ)). Ok name)
     (none_found known (shown_name known (lenient_value_in no_charsets disposition)) (typed_name known (lenient_value_in no_charsets ctype))
-    (none_shown known (lenient_value_in no_charsets disposition) h) (none_typed known (lenient_value_in no_charsets ctype) k))
+    (none_shown known (lenient_value_in no_charsets disposition) (nameless-decoded no_charsets disposition h))
+    (none_typed known (lenient_value_in no_charsets ctype) (nameless-decoded no_charsets ctype k)))

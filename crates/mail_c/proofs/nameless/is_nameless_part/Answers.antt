@@ -1,5 +1,5 @@
-use Rattle.std.proofs.Common.{◌≡◌, Bool, ◌&&◌, sym, subst}
-use Rattle.std.specs.Prelude.{IfOk, codes}
+use Rattle.std.proofs.Common.{Bool, ◌&&◌, sym, ap, ◌∙◌}
+use Rattle.std.specs.Prelude.{codes}
 use Rattle.mailparse.specs.Mail.{root}
 use Rattle.mailparse.specs.Views.{tree_of}
 use Rattle.mail_c.specs.Nameless.{lacks_name}
@@ -7,5 +7,4 @@ use Rattle.mail_c.proofs.nameless.is_nameless_part.Goals as goal
 
 pub returns-then-not-has_disposition : goal.returns-then-not-has_disposition
 returns-then-not-has_disposition c =
-    subst (λ (t : Bool). IfOk c.lacks_name.result (λ is. is ≡ (t && lacks_name (codes "Content-Type") (root (tree_of c.args.part.now)))))
-    (sym (c.requires c.if-not-has_disposition.true)) c.lacks_name.ensures
+    c.lacks_name.ensures ∙ ap (λ (t : Bool). t && lacks_name (codes "Content-Type") (root (tree_of c.args.part.now))) (sym (c.requires c.if-not-has_disposition.true))

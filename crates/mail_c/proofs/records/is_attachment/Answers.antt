@@ -4,10 +4,10 @@ use Rattle.mailparse.specs.Mail.{root}
 use Rattle.mail_c.proofs.lemmas.Nameless.{nameless-attachment, no_disposition}
 use Rattle.mail_c.proofs.records.is_attachment.Goals as goal
 
-pub returns-then-branch : goal.returns-then-branch
-returns-then-branch g c =
+pub returns-then-is_nameless_part : goal.returns-then-is_nameless_part
+returns-then-is_nameless_part g c =
     nameless-attachment (g.K.KnownCharsets.known c.args.known.now) (tree_of c.args.part.now) (option_map kind c.args.disposition.now)
-    (sym c.is_attachment_disposition.ensures ∙ c.if-is_attachment_disposition.false) (sym c.in_ok-is_nameless_part.ensures ∙ c.if-branch.true)
+    (sym c.is_attachment_disposition.ensures ∙ c.if-is_attachment_disposition.false) (sym c.is_nameless_part.ensures ∙ c.if-is_nameless_part.true)
 
 pub is_nameless_part-requires : goal.is_nameless_part-requires
 is_nameless_part-requires g c = λ none.
