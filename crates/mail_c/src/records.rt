@@ -1,5 +1,6 @@
 //! Records of a mail, of its parts and of their headers.
-ghost use Rattle.std.specs.Prelude.{Ok, Some, ◌≡◌, ◌≤◌, ◌<◌, ◌+◌, ◌^◌, ◌++◌, [], ◌∷◌, length, map, vec_len, IfOk, IfSome, OnOk, option_map};
+ghost use Rattle.std.specs.Prelude.{Ok, Some, ◌≡◌, ◌≤◌, ◌<◌, ◌+◌, ◌^◌, ◌++◌, [], ◌∷◌, length, map, true, vec_len, IfOk, IfSome, OnOk, option_map};
+ghost use Rattle.std.specs.Char.{to_ascii_lowercase};
 ghost use Rattle.mailparse.specs.BodyViews.{Content};
 ghost use Rattle.mailparse.specs.Mail.{root, trees_within};
 ghost use Rattle.mailparse.specs.Outcome.{AnswersOrMemory};
@@ -410,22 +411,31 @@ fn number_named(name: &[u8]) -> Option<u64>
     ensures { IfSome result (λ number.
         number ≡ encoding_number (lenient_kind (Some (lenient_value name.now)))) }
 {
-    if name.eq_ignore_ascii_case(b"7bit") {
+    if is_name(name, b"7bit") {
         return Some(0);
     }
-    if name.eq_ignore_ascii_case(b"quoted-printable") {
+    if is_name(name, b"quoted-printable") {
         return Some(3);
     }
-    if name.eq_ignore_ascii_case(b"base64") {
+    if is_name(name, b"base64") {
         return Some(4);
     }
-    if name.eq_ignore_ascii_case(b"8bit") {
+    if is_name(name, b"8bit") {
         return Some(1);
     }
-    if name.eq_ignore_ascii_case(b"binary") {
+    if is_name(name, b"binary") {
         return Some(2);
     }
     None
+}
+
+/// Returns whether a raw value is this name, ignoring case. Most are in lower case, as the name is.
+#[inline(always)]
+fn is_name(value: &[u8], name: &[u8]) -> bool
+    ensures { result ≡ true →
+        map to_ascii_lowercase value.now ≡ map to_ascii_lowercase name.now }
+{
+    value == name || value.eq_ignore_ascii_case(name)
 }
 
 /// Returns the number of the transfer encoding of a body.
