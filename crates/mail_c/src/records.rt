@@ -179,6 +179,15 @@ fn records_of<K: KnownCharsets>(
         ≡ records_in (K.known known.now)
         (items_of (trees_within t) (placements_of mail.now) (families 0 none 0 t))) }
 {
+    // Most mails have no parts, and need no list.
+    if is_leaf(mail) {
+        let alone = [Node {
+            part: mail,
+            parent: NONE,
+            level: 0,
+        }];
+        return records_in(alloc, &alone, known);
+    }
     let mut nodes = Vec::new(alloc);
     push_nodes(&mut nodes, mail, NONE, 0)?;
     records_in(alloc, nodes.as_slice(), known)

@@ -1,14 +1,19 @@
 -- Lemmas on records.
-use Rattle.std.proofs.Common.{◌≡◌, ℕ, zero, suc, ◌+◌, ◌<◌, ◌⊎◌, List, [], ◌∷◌, ◌++◌, length, drop, map, Result, Ok, Err, inl, inr, ⊎_elim, refl, sym, ap, subst, ◌∙◌, append_assoc, add-one, arith}
+use Rattle.std.proofs.Common.{◌≡◌, ℕ, zero, suc, ◌+◌, ◌<◌, ◌⊎◌, true, List, [], ◌∷◌, ◌++◌, length, drop, map, Result, Ok, Err, inl, inr, ⊎_elim, refl, sym, ap, subst, ◌∙◌, append_assoc, add-one, arith}
+use Rattle.std.proofs.lemmas.Bool.{false≢true}
 use Rattle.std.proofs.lemmas.List.{append-nil}
 use Rattle.std.specs.List.{flat_map}
-use Rattle.mailparse.specs.Mail.{Tree, trees_within}
+use Rattle.mailparse.specs.Mail.{Tree, no_parts, part_and, tree, trees_within}
+use Rattle.mail_data.specs.Files.{is_leaf}
 use Rattle.mailparse.specs.Limit.{headers_met}
 use Rattle.mailparse.specs.Placement.{Placement}
 use Rattle.mailparse.specs.Ranges.{Range}
 use Rattle.mail_data.specs.Reading.{mail_placements, mail_reading}
 use Rattle.mail_data.specs.lenient.Encoding.{lenient_body_kind}
-use Rattle.mailparse.specs.Views.{placement_of, tree_of}
+use Rattle.mailparse.specs.Views.{placement_of, placements_of, placements_step, tree_of}
+use Rattle.mailparse.specs.declared.mail.message.ParsedMail.{ParsedMail}
+use Rattle.mailparse.specs.declared.mail.message.ParsedMail.TheFolds.{fold_out-ParsedMail}
+use Rattle.mailparse.specs.declared.mail.message.ParsedMail.TheViews.{out-ParsedMail}
 use Rattle.mail_codec.specs.Charset.{Charsets}
 use Rattle.mail_c.specs.Buffer.{EndsBoth, EndsItems, Output, WritesBoth, WritesItems, seen}
 use Rattle.mailparse.specs.Block.{HeaderList, before_dash_line, read_headers}
@@ -125,11 +130,28 @@ pub items-first : (old nodes : List Node) (t : Tree) (ranges : List Placement) (
 items-first old nodes t ranges parent count none empty are places have =
     items-added old nodes (trees_within t) ranges (families 0 parent 0 t) none are places (have ∙ ap (λ n. map family_view old ++ families n parent 0 t) empty)
 
+-- a mail without parts is the only one
+item-alone : (t : Tree) (range : Placement) (ranges : List Placement) (parent : ℕ) → is_leaf t ≡ true
+    → record { part = t; placement = range; family = record { parent = parent; level = 0 } } ∷ [] ≡ items_of (trees_within t) (range ∷ ranges) (families 0 parent 0 t)
+item-alone (tree node no_parts) range ranges parent h = refl
+item-alone (tree node (part_and t ts)) range ranges parent h = absurd (false≢true h)
+
+pub items-alone : (mail : ParsedMail) (parent : ℕ) → is_leaf (tree_of mail) ≡ true
+    → record { part = tree_of mail; placement = placement_of mail; family = record { parent = parent; level = 0 } } ∷ []
+    ≡ items_of (trees_within (tree_of mail)) (placements_of mail) (families 0 parent 0 (tree_of mail))
+items-alone mail parent h =
+    item-alone (tree_of mail) (placement_of mail) (flat_map (λ places. places) (map placements_of (out-ParsedMail mail).subparts.items)) parent h
+    ∙ ap (λ (places : List Placement). items_of (trees_within (tree_of mail)) places (families 0 parent 0 (tree_of mail)))
+    (sym (fold_out-ParsedMail (List Placement) placements_step mail))
+
 -- each has its own headers
 pub own-added : (old nodes : List Node) (t : Tree) → old ≡ [] → map (λ node. tree_of node.part.now) nodes ≡ map (λ node. tree_of node.part.now) old ++ trees_within t
     → AllOwn (trees_within t) → AllOwn (map (λ node. tree_of node.part.now) nodes)
 own-added old nodes t none are own =
     subst AllOwn (sym (are ∙ ap (λ (items : List Node). map (λ node. tree_of node.part.now) items ++ trees_within t) none)) own
+
+pub own-alone : (t : Tree) → AllOwn (trees_within t) → AllOwn (t ∷ [])
+own-alone (tree node parts) own = (own.0, tt)
 
 pub own-at : (nodes : List Node) (i : ℕ) (node : Node) (rest : List Node) → AllOwn (map (λ node. tree_of node.part.now) nodes) → drop i nodes ≡ node ∷ rest
     → HasOwnHeaders (tree_of node.part.now)
