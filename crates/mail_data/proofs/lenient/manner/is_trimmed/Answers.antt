@@ -1,4 +1,4 @@
-use Rattle.std.proofs.Common.{◌≡◌, ◌-◌, ℕ, List, length, get_or, true, sym, subst, ◌∙◌}
+use Rattle.std.proofs.Common.{◌≡◌, ◌-◌, ℕ, List, true, sym, subst, ◌∙◌}
 use Rattle.mail_data.proofs.lemmas.lenient.Manner.{is_trimmed, trimmed-visible}
 use Rattle.mail_data.proofs.lenient.manner.is_trimmed.Goals as goal
 

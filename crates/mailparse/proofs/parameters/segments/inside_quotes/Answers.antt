@@ -1,4 +1,4 @@
-use Rattle.std.proofs.Common.{◌≡◌, ℕ, List, length, get_or, ap, ◌∙◌, arith}
+use Rattle.std.proofs.Common.{ℕ, List, length, get_or, ap, arith}
 use Rattle.std.proofs.lemmas.Str.{lead_after_ascii}
 use Rattle.mailparse.proofs.parameters.segments.inside_quotes.Goals as goal
 
