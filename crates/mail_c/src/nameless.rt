@@ -1,5 +1,5 @@
 //! Headers that clearly give no file name, so that their values need not be read.
-ghost use Rattle.std.specs.Prelude.{◌≡◌, ◌≤◌, ◌∷◌, false, true, codes, get_or, length};
+ghost use Rattle.std.specs.Prelude.{◌≡◌, ◌≤◌, ◌∷◌, false, true, codes, get_or, is_some, length};
 ghost use Rattle.std.specs.Str.{IsAscii};
 ghost use Rattle.mailparse.specs.Mail.{root};
 ghost use Rattle.mailparse.specs.Views.{tree_of};
@@ -8,16 +8,16 @@ ghost use Rattle.mail_c.specs.Nameless.{lacks_name};
 
 use crate::lookup::first_header;
 use mail_codec::bytescan::find_either;
-use mailparse::ParsedMail;
+use mailparse::{DispositionType, ParsedMail};
 
-/// Returns whether a part clearly has no file name: neither its disposition, if it has one, nor its
-/// type gives one.
-pub(crate) fn is_nameless_part(part: &ParsedMail<'_>, has_disposition: bool) -> bool
-    requires { has_disposition ≡ false →
+/// Returns whether a part with this disposition clearly has no file name: neither the header of its
+/// disposition, which is read only if the part has one, nor its type gives one.
+pub(crate) fn is_nameless_part(part: &ParsedMail<'_>, disposition: &Option<DispositionType>) -> bool
+    requires { is_some disposition.now ≡ false →
         lacks_name (codes "Content-Disposition") (root (tree_of part.now)) ≡ true }
     ensures { result ≡ is_nameless_part (root (tree_of part.now)) }
 {
-    if !has_disposition {
+    if disposition.is_none() {
         return lacks_name(part, "Content-Type");
     }
     if !lacks_name(part, "Content-Disposition") {

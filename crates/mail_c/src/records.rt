@@ -1,5 +1,5 @@
 //! Records of a mail, of its parts and of their headers.
-ghost use Rattle.std.specs.Prelude.{Ok, Some, ◌≡◌, ◌≤◌, ◌<◌, ◌+◌, ◌^◌, ◌++◌, [], ◌∷◌, length, map, true, vec_len, IfOk, IfSome, OnOk, option_map};
+ghost use Rattle.std.specs.Prelude.{Ok, Some, ◌≡◌, ◌≤◌, ◌<◌, ◌+◌, ◌++◌, [], ◌∷◌, length, map, true, vec_len, IfOk, IfSome, OnOk, option_map};
 ghost use Rattle.std.specs.Char.{to_ascii_lowercase};
 ghost use Rattle.mailparse.specs.BodyViews.{Content};
 ghost use Rattle.mailparse.specs.Mail.{root, trees_within};
@@ -558,7 +558,7 @@ fn is_attachment<K: KnownCharsets>(
     if is_attachment_disposition(disposition) {
         return Ok(true);
     }
-    if is_nameless_part(part, disposition.is_some()) {
+    if is_nameless_part(part, disposition) {
         return Ok(false);
     }
     Ok(lenient_file_name(alloc, part, known)?.is_some())

@@ -10,6 +10,5 @@ returns-then-is_nameless_part g c =
     (sym c.is_attachment_disposition.ensures ∙ c.if-is_attachment_disposition.false) (sym c.is_nameless_part.ensures ∙ c.if-is_nameless_part.true)
 
 pub is_nameless_part-requires : goal.is_nameless_part-requires
-is_nameless_part-requires g c = λ none.
+is_nameless_part-requires g c =
     no_disposition (g.K.KnownCharsets.known c.args.known.now) (root (tree_of c.args.part.now)) c.args.disposition.now c.requires
-    (sym c.is_some.ensures ∙ none)
