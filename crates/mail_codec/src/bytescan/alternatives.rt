@@ -1,5 +1,5 @@
 //! Searches for either of two bytes, by vectors.
-ghost use Rattle.std.specs.Prelude.{◌≡◌, ◌≤◌, ◌==◌, ◌||◌, length, take};
+ghost use Rattle.std.specs.Prelude.{◌≡◌, ◌≤◌, ◌+◌, ◌==◌, ◌||◌, length, take};
 ghost use Rattle.mail_codec.specs.Places.{begins, first_place};
 
 use crate::vectors::LANES;
@@ -26,16 +26,19 @@ pub(super) fn either_len(bytes: &[u8], first: u8, second: u8) -> usize
     WIDE + few_len(&bytes[WIDE..], first, second)
 }
 
-/// Returns the same by vectors of 16, or byte by byte if there are fewer bytes than one vector has.
+/// Returns the same. Fewer than eight bytes are searched one by one, up to 64 by two vectors that
+/// overlap, and more by vectors of 16.
 #[inline(never)]
 fn few_len(bytes: &[u8], first: u8, second: u8) -> usize
     ensures least { result ≡ first_place (begins (λ b. b == first || b == second)) bytes.now }
     ensures bounds { result ≤ length bytes.now }
 {
-    if bytes.len() < LANES {
-        short_len(bytes, first, second)
-    } else {
-        vectors_len(bytes, first, second)
+    match bytes.len() {
+        0..8 => short_len(bytes, first, second),
+        8..=16 => overlapping_len::<8>(bytes, first, second),
+        17..=32 => overlapping_len::<16>(bytes, first, second),
+        33..=64 => overlapping_len::<32>(bytes, first, second),
+        _ => vectors_len(bytes, first, second),
     }
 }
 
@@ -57,6 +60,28 @@ fn vectors_len(bytes: &[u8], first: u8, second: u8) -> usize
         at += LANES;
     }
     last + first_lane(either_lanes(u8x16::from_slice(&bytes[last..]), first, second))
+}
+
+/// Returns the same for as many bytes as one vector to two have. The second vector ends with the
+/// bytes, some of which may have been searched before.
+#[inline(always)]
+fn overlapping_len<const N: usize>(bytes: &[u8], first: u8, second: u8) -> usize
+    requires size { N ≤ 64 }
+    requires fits { N ≤ length bytes.now }
+    requires covers { length bytes.now ≤ N + N }
+    ensures least { result ≡ first_place (begins (λ b. b == first || b == second)) bytes.now }
+    ensures bounds { result ≤ length bytes.now }
+{
+    let front = either_lanes(Simd::<u8, N>::from_slice(bytes), first, second);
+    if front != 0 {
+        return first_match(front);
+    }
+    let last = bytes.len() - N;
+    let back = either_lanes(Simd::<u8, N>::from_slice(&bytes[last..]), first, second);
+    if back == 0 {
+        return bytes.len();
+    }
+    last + first_match(back)
 }
 
 /// Returns the same, byte by byte.

@@ -1,4 +1,4 @@
-//! Searches for a single byte, by vectors, or by words if there are few bytes.
+//! Searches for a single byte, by vectors.
 ghost use Rattle.std.specs.Prelude.{◌≡◌, ◌<◌, ◌≤◌, ◌+◌, ◌==◌, length, take, drop};
 ghost use Rattle.mail_codec.specs.Places.{begins, first_place};
 
@@ -11,9 +11,6 @@ const NEAR: usize = 512;
 
 /// The number of bytes that are tested at once at first.
 const WIDE: usize = 64;
-
-/// The number of bytes in a word.
-const WORD: usize = 8;
 
 /// The number of bytes in two vectors of 64.
 const BLOCK: usize = 128;
@@ -55,16 +52,19 @@ fn rest_len(bytes: &[u8], wanted: u8) -> usize
     next + rest
 }
 
-/// Returns the same by vectors of 16, or by words if there are fewer bytes than one vector has.
+/// Returns the same. Fewer than eight bytes are searched one by one, up to 64 by two vectors that
+/// overlap, and more by vectors of 16.
 #[inline(never)]
 fn few_len(bytes: &[u8], wanted: u8) -> usize
     ensures least { result ≡ first_place (begins (λ b. b == wanted)) bytes.now }
     ensures bounds { result ≤ length bytes.now }
 {
-    if bytes.len() < LANES {
-        words_len(bytes, wanted)
-    } else {
-        vectors_len(bytes, wanted)
+    match bytes.len() {
+        0..8 => tail_len(bytes, wanted),
+        8..=16 => overlapping_len::<8>(bytes, wanted),
+        17..=32 => overlapping_len::<16>(bytes, wanted),
+        33..=64 => overlapping_len::<32>(bytes, wanted),
+        _ => vectors_len(bytes, wanted),
     }
 }
 
@@ -118,23 +118,22 @@ fn is_free(bytes: &[u8], at: usize, wanted: u8) -> bool
     first | second == 0
 }
 
-/// Returns the same for fewer bytes than one vector has, by words of eight bytes. The second word
-/// ends with the bytes, some of which may have been searched before.
+/// Returns the same for as many bytes as one vector to two have. The second vector ends with the
+/// bytes, some of which may have been searched before.
 #[inline(always)]
-fn words_len(bytes: &[u8], wanted: u8) -> usize
-    requires { length bytes.now < 16 }
+fn overlapping_len<const N: usize>(bytes: &[u8], wanted: u8) -> usize
+    requires size { N ≤ 64 }
+    requires fits { N ≤ length bytes.now }
+    requires covers { length bytes.now ≤ N + N }
     ensures least { result ≡ first_place (begins (λ b. b == wanted)) bytes.now }
     ensures bounds { result ≤ length bytes.now }
 {
-    if bytes.len() < WORD {
-        return tail_len(bytes, wanted);
-    }
-    let front = equal_lanes(u8x8::from_slice(bytes), wanted);
+    let front = equal_lanes(Simd::<u8, N>::from_slice(bytes), wanted);
     if front != 0 {
         return first_match(front);
     }
-    let last = bytes.len() - WORD;
-    let back = equal_lanes(u8x8::from_slice(&bytes[last..]), wanted);
+    let last = bytes.len() - N;
+    let back = equal_lanes(Simd::<u8, N>::from_slice(&bytes[last..]), wanted);
     if back == 0 {
         return bytes.len();
     }
