@@ -9,6 +9,7 @@ pub mod Manner
 pub mod Repairs
 pub mod Texts
 pub mod Usual
+pub mod UsualTypes
 pub mod Agreement
 pub mod Shown
 pub mod Folding

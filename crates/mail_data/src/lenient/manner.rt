@@ -10,6 +10,7 @@ ghost use Rattle.mail_data.specs.lenient.Manner.{made_lenient, name_of_one, name
 use super::comments::without_comments;
 use super::guess::OrGuess;
 use super::repairs::repaired;
+use super::usual::usual_type;
 use mail_codec::bytescan::find_either;
 use mail_codec::charset::KnownCharsets;
 use mailparse::{
@@ -123,6 +124,9 @@ pub fn lenient_type<K: KnownCharsets>(
         ≡ lenient_type_in (K.known known.now) text.now) }
 {
     let plain = without_comments(alloc, text)?;
+    if let Some(ctype) = usual_type(alloc, plain.as_str())? {
+        return made_lenient(alloc, ctype);
+    }
     let whole = repaired(alloc, plain.as_str())?;
     match parse_content_type_in(alloc, whole.as_str(), &OrGuess(known)) {
         Ok(ctype) => made_lenient(alloc, ctype),

@@ -1,5 +1,5 @@
 -- Lemmas on values in the usual form.
-use Rattle.std.proofs.Common.{◌≡◌, ◌≢◌, ◌<◌, ◌≤◌, ◌+◌, ℕ, suc, Bool, true, false, cond, eqb, not, ◌||◌, ◌==◌, List, [], ◌∷◌, Some, length, drop, refl, sym, ap, ◌∙◌, ⊎_elim, arith, length-drop}
+use Rattle.std.proofs.Common.{◌≡◌, ◌≢◌, ◌<◌, ◌≤◌, ◌+◌, ℕ, suc, Bool, true, false, cond, eqb, ltb, not, ◌||◌, ◌==◌, List, [], ◌∷◌, Some, length, drop, refl, sym, ap, ◌∙◌, ⊎_elim, arith, length-drop}
 use Rattle.std.proofs.lemmas.Bool.{and_parts, cases_lt, cond-true, eqb-false, eqb-true, false≢true, ltb-false, not-true, or_parts}
 use Rattle.std.proofs.lemmas.List.{drop-drop}
 use Rattle.std.proofs.Math.ListN.{drop_of_length-le}
@@ -14,13 +14,14 @@ use Rattle.mail_data.proofs.lemmas.lenient.Repairs.{enter-text, enter-word, same
 
 -- ---- runs of bytes
 
-others : (c : ℕ) → ends_run c ≡ false → (45 ≤ c) × (c ≢ 47) × (c ≢ 59) × (c ≢ 61) × (c ≢ 92)
+pub others : (c : ℕ) → ends_run c ≡ false → (45 ≤ c) × (c ≤ 126) × (c ≢ 47) × (c ≢ 59) × (c ≢ 61) × (c ≢ 92)
 others c h =
-    let low = or_parts _ _ h in
-    let all = or_parts _ _ low.1 in
-    let one = or_parts _ _ all.0 in
-    let two = or_parts _ _ all.1 in
-    (ltb-false c 45 low.0, eqb-false c 47 one.0, eqb-false c 59 one.1, eqb-false c 61 two.0, eqb-false c 92 two.1)
+    let all = or_parts (ltb c 45 || ltb 126 c) _ h in
+    let ends = or_parts (ltb c 45) (ltb 126 c) all.0 in
+    let bytes = or_parts _ _ all.1 in
+    let one = or_parts _ _ bytes.0 in
+    let two = or_parts _ _ bytes.1 in
+    (ltb-false c 45 ends.0, ltb-false 126 c ends.1, eqb-false c 47 one.0, eqb-false c 59 one.1, eqb-false c 61 two.0, eqb-false c 92 two.1)
 
 -- after a byte of a run the position is this one
 abbrev Moves : (ℕ → Bool) → Position → Position → Type 0
@@ -54,19 +55,19 @@ entered test position next enter same (c ∷ cs) one other = go (test c) refl on
     go false e one other on = moved test position next c cs enter e ∙ sym on ∙ other
 
 in_word : Moves ends_run InWord InWord
-in_word c h = let o = others c h in same-word c o.0 o.1 o.2 o.3 o.4
+in_word c h = let o = others c h in same-word c o.0 o.2 o.3 o.4 o.5
 
 in_name : Moves ends_run InName InName
-in_name c h = let o = others c h in same-name c o.0 o.1 o.2 o.3 o.4
+in_name c h = let o = others c h in same-name c o.0 o.2 o.3 o.4 o.5
 
 in_text : Moves ends_run InText InText
-in_text c h = let o = others c h in same-text c o.0 o.1 o.2 o.3 o.4
+in_text c h = let o = others c h in same-text c o.0 o.2 o.3 o.4 o.5
 
 to_word : Moves ends_run BeforeWord InWord
-to_word c h = let o = others c h in enter-word c o.0 o.1 o.2 o.3 o.4
+to_word c h = let o = others c h in enter-word c o.0 o.2 o.3 o.4 o.5
 
 to_text : Moves ends_run BeforeText InText
-to_text c h = let o = others c h in enter-text c o.0 o.1 o.2 o.3 o.4
+to_text c h = let o = others c h in enter-text c o.0 o.2 o.3 o.4 o.5
 
 -- in quotes
 in_quotes : Moves (λ b. b == 34 || b == 92) InQuotes InQuotes
@@ -115,7 +116,7 @@ head : (byte : ℕ) (xs : List ℕ) → begins (λ b. b == byte) xs ≡ true →
 head byte [] h = absurd (false≢true h)
 head byte (x ∷ xs) h = ap (λ b. b ∷ xs) (eqb-true x byte h)
 
-at_byte : (byte : ℕ) (bytes : List ℕ) (at : ℕ) → begins (λ b. b == byte) (drop at bytes) ≡ true → drop at bytes ≡ byte ∷ drop (at + 1) bytes
+pub at_byte : (byte : ℕ) (bytes : List ℕ) (at : ℕ) → begins (λ b. b == byte) (drop at bytes) ≡ true → drop at bytes ≡ byte ∷ drop (at + 1) bytes
 at_byte byte bytes at h = head byte (drop at bytes) h ∙ ap (λ xs. byte ∷ xs) (drop-drop 1 at bytes)
 
 at_end : (test : List ℕ → Bool) (bytes : List ℕ) (from end : ℕ) → end ≡ place_from test bytes from

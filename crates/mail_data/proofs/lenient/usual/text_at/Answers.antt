@@ -4,12 +4,18 @@ use Rattle.std.proofs.lemmas.List.{drop_more, take_rest}
 use Rattle.mail_codec.specs.Places.{begins}
 use Rattle.mail_codec.proofs.lemmas.PlacesSearches.{place_some}
 use Rattle.mail_data.proofs.lemmas.lenient.Usual.{usual-quoted, usual-word}
-use Rattle.mail_data.proofs.lenient.usual.text_end.Goals as goal
+use Rattle.mail_data.proofs.lemmas.lenient.UsualTypes.{reads-quoted, reads-run}
+use Rattle.mail_data.proofs.lenient.usual.text_at.Goals as goal
 
 pub returns-then-not-is_at : goal.returns-then-not-is_at
 returns-then-not-is_at c =
-    let end = c.run_end.ensures in
-    (omega (arith, end.end), end.bounds, usual-word c.args.bytes.now c.args.from c.run_end.result end.end)
+    let bytes = c.args.bytes.now in
+    let end = c.run_end-end.ensures in
+    record {
+      order = (omega arith, omega (arith, end.end), omega arith, end.bounds);
+      ends = usual-word bytes c.args.from c.run_end-end.result end.end;
+      means = λ _. reads-run bytes c.args.from c.run_end-end.result end.end;
+    }
 
 pub returns : goal.returns
 returns c =
@@ -22,8 +28,10 @@ returns c =
     let low = place_some (begins (λ b. b == 34 || b == 92)) rest count found in
     let size = length-drop (from + 1) bytes in
     let inside = ap (λ xs. length xs) same in
-    let quote = ap (begins (λ b. b == 34)) (drop_more bytes (from + 1 + count) 0 (omega (arith, low.0, low.1, size, inside))) ∙ eq-eqb (get_or bytes (from + 1 + count) 0) 34 c.if-bytes-at-ne34.false in (
-      omega arith,
-      omega (arith, low.0, low.1, size, inside),
-      usual-quoted bytes rest from count (sym c.is_at.ensures ∙ c.if-not-is_at.false) same found quote,
-    )
+    let is = sym c.is_at.ensures ∙ c.if-not-is_at.false in
+    let quote = ap (begins (λ b. b == 34)) (drop_more bytes (from + 1 + count) 0 (omega (arith, low.0, low.1, size, inside))) ∙ eq-eqb (get_or bytes (from + 1 + count) 0) 34 c.if-bytes-stop-ne34.false in
+    record {
+      order = (omega arith, omega arith, omega arith, omega (arith, low.0, low.1, size, inside));
+      ends = usual-quoted bytes rest from count is same found quote;
+      means = reads-quoted bytes rest from count is same found quote;
+    }
