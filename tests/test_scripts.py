@@ -132,8 +132,21 @@ def test_show_before_the_program_is_built(arguments, last, status, said, tmp_pat
     mail = (copy / "samples" / "plain.eml").read_bytes()
     ended = run(["./rocktray", "show", *arguments], mail, cwd=copy, env={"PATH": f"{path}:/usr/bin:/bin"})
     first, _, output = ended.stdout.partition(b"\n")
-    assert (first.decode(), output) == (f"{copy}/crates/rocktray try -- show -", mail)
+    assert (first.decode(), output) == (f"{copy}/crates/mail_glance try", mail)
     assert ended.returncode == status and f"tools/program.sh rocktray\n{said}" in ended.stderr.decode()
+
+
+@pytest.mark.quick
+def test_show_says_that_it_runs(tmp_path):
+    """While rt try takes its time, ./rocktray show says every ten seconds that it runs."""
+    copy, path = tmp_path / "copy", tmp_path / "path"
+    shutil.copytree(TOP, copy, ignore=shutil.ignore_patterns("out", ".git", "data"), symlinks=True)
+    path.mkdir()
+    (path / "rt").write_text("#!/bin/sh\nsleep 12\necho run=ended >&2\necho 'run=ended status=0' >&2\n")
+    (path / "rt").chmod(0o755)
+    ended = run(["./rocktray", "show", "-"], MAIL, cwd=copy, env={"PATH": f"{path}:/usr/bin:/bin"})
+    assert (ended.returncode, ended.stdout) == (0, b"")
+    assert "\nrocktray: 10 s\n" in ended.stderr.decode()
 
 
 @pytest.mark.quick

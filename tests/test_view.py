@@ -101,6 +101,14 @@ def is_safe(output):
     return not any(is_hidden(c) for line in lines for c in line) and all(not it or it.startswith(PREFIXES) for it in lines)
 
 
+@pytest.mark.parametrize("path", SAMPLES, ids=lambda it: it.stem)
+def test_glance(path):
+    """The program that ./rocktray tries until something is built shows what `rocktray show` does."""
+    mail = path.read_bytes()
+    glance, show = run(command("mail_glance"), mail), run([*command("show"), "-"], mail)
+    assert (glance.returncode, glance.stdout, glance.stderr) == (show.returncode, show.stdout, show.stderr)
+
+
 @pytest.mark.parametrize("path", [path for path in SAMPLES if path.stem not in ("bounce", "digest")], ids=lambda it: it.stem)
 def test_samples(path):
     """Each sample that Python reads as this project does: it enters forwarded mails and keeps text around parts."""
