@@ -7,14 +7,18 @@ where it is a constant that they use) and pairs of lines `old:`, whose text occu
 
 The edits of a crate are tried together, provided that no two change one function: a body is proved against the contracts
 of what it calls, so such edits do not touch one another. A check proves what they change and what that calls, over
-libraries that are proved here, from what `rt check` kept, or with --ci over those that a run of `rt ci` leaves. An
+libraries that are proved here, from what `rt check` kept, or with --libraries over those of prove_all.py. An
 edit passes if each of its functions is refused for a goal, and not only because its proof names what is gone; all
 others have to be proved or to wait, so that not every function is taken for a refused one. Try an edit alone where it
-fails beside others. With --archive the static library is built over the same libraries. The last line is
+fails beside others. With --archive the static library is built over the same libraries.
+
+An edit that was refused is kept on this machine, by the sums of all that it read: its text, the sources of its crate
+and of those below, this script and the kit. Later runs pass it without a try; --anew tries all. The last line is
 `N passed, N failed`.
 """
 
 import argparse
+import hashlib
 import os
 import re
 import shutil
@@ -40,6 +44,8 @@ FOLLOWS = re.compile(r"depends? on `[^`]+`, which was (?:rejected|not admitted)"
 # the texts of errors in proofs that only name something that an edit removed
 IS_GONE = re.compile(r"has no field|is not in scope|has no `|was not admitted")
 Edit = namedtuple("Edit", "crate name functions changes")  # each change is a file, an old text and a new one
+KEPT = Path(os.environ.get("XDG_CACHE_HOME") or "~/.cache").expanduser() / "rocktray" / "edits"
+KEPT_DAYS = 60  # an edit that no run asked for in that time is tried again
 
 
 def edits_in(crate, text):
@@ -132,15 +138,55 @@ def stamps_in(top):
         return {}
 
 
+class Kept:
+    """The edits that earlier runs on this machine saw refused: an empty file for each."""
+
+    def __init__(self, stamps, is_anew):
+        self.stamps, self.is_anew = stamps, is_anew
+        said = subprocess.run(["rt", "version"], stdout=subprocess.PIPE, check=True).stdout
+        self.sum = hashlib.sha256(said + Path(__file__).read_bytes())
+        if KEPT.is_dir():
+            for old in KEPT.iterdir():
+                if old.stat().st_mtime < time.time() - KEPT_DAYS * 86400:
+                    old.unlink(missing_ok=True)
+
+    def file(self, edit):
+        """The file of an edit, or None if the kit does not say by what it recognizes sources."""
+        if edit.crate not in self.stamps:
+            return None
+        found = self.sum.copy()
+        found.update(repr((self.stamps[edit.crate], edit)).encode())
+        return KEPT / found.hexdigest()
+
+    def has(self, edit):
+        """Whether an earlier run saw this edit refused."""
+        file = None if self.is_anew else self.file(edit)
+        if not file or not file.exists():
+            return False
+        os.utime(file)
+        return True
+
+    def keep(self, edit):
+        """Notes that this edit was refused, if that can be written."""
+        file = self.file(edit)
+        try:
+            if file:
+                KEPT.mkdir(parents=True, exist_ok=True)
+                file.touch()
+        except OSError:
+            pass
+
+
 class Run:
     """A copy of the repository with its libraries; and of each edit whether it passed."""
 
-    def __init__(self, scratch, jobs, ci):
+    def __init__(self, scratch, jobs, libraries, is_anew):
         listed = dict(re.findall(r"^(\w+)[^:#\n]*:(.*)", (TOP / "crates.txt").read_text("utf-8"), re.M))
         self.deps = {name: [it for it in below.split() if it in listed] for name, below in listed.items()}
         self.scratch, self.lanes, self.libraries = scratch, threading.Semaphore(jobs), {}
-        self.copy(TOP, f"{scratch}/base", [] if ci else self.deps, shutil.copy2)
-        self.ci, self.stamps, self.passed = ci, stamps_in(f"{scratch}/base") if ci else {}, []
+        self.copy(TOP, f"{scratch}/base", [] if libraries else self.deps, shutil.copy2)
+        self.given, self.stamps, self.passed = libraries, stamps_in(f"{scratch}/base"), []
+        self.kept = Kept(self.stamps, is_anew)
 
     def below(self, crate):
         """All that the crate depends on."""
@@ -165,14 +211,15 @@ class Run:
         return said
 
     def make_library(self, crate):
-        """Has a library in the base, once those below it are there: that of `rt ci`, or one that is proved here."""
+        """Has a library in the base, once those below it are there: one that is given, or one that is proved here."""
         for it in self.deps[crate]:
             self.libraries[it].result()
-        made, has_ended = Path(f"{self.scratch}/base/crates/{crate}/out/rlib"), crate not in self.stamps
+        made = Path(f"{self.scratch}/base/crates/{crate}/out/rlib")
+        has_ended = not self.given or crate not in self.stamps
         while not has_ended:
-            has_ended = os.path.exists(f"{self.ci}.status")
-            if re.search(rf"^rt: {crate} (proved$|is kept)", Path(f"{self.ci}.log").read_text("utf-8", "replace"), re.M):
-                shutil.copytree(TOP / f"crates/{crate}/out/rlib", made)
+            has_ended = (self.given / "ended").exists()
+            if (self.given / crate).exists():
+                shutil.copytree(self.given / crate, made)
                 (made / "stamp").write_text(self.stamps[crate], "utf-8")
                 return
             time.sleep(2)
@@ -199,11 +246,13 @@ class Run:
             path.write_text(text, "utf-8")
         for edit, text in told.items():
             self.passed.append(text.startswith("refused"))
+            if self.passed[-1]:
+                self.kept.keep(edit)
             print(f"{'passed' if self.passed[-1] else 'FAILED'} {edit.name}: {text}", flush=True)
 
     def try_crate(self, crate, edits, archive):
         """Tries the edits of a crate, each batch over what was proved before it; builds the crate first for an archive."""
-        proved, top = self.below(crate) | (set() if self.ci else {crate} & set(self.libraries)), f"{self.scratch}/{crate}"
+        proved, top = self.below(crate) | (set() if self.given else {crate} & set(self.libraries)), f"{self.scratch}/{crate}"
         for it in proved:
             self.libraries[it].result()
         self.copy(f"{self.scratch}/base", top, proved, os.link)
@@ -216,10 +265,15 @@ class Run:
         shutil.rmtree(top)
 
     def try_all(self, edits, archive):
-        """Tries the edits, those of each crate beside those of others, over the libraries that they need."""
-        of = {crate: its for crate in self.deps if (its := [it for it in edits if it.crate == crate])}
+        """Tries the edits that no earlier run saw refused, those of each crate beside those of others, over the libraries
+        that they need."""
+        left = [it for it in edits if not self.kept.has(it)]
+        self.passed += [True] * (len(edits) - len(left))
+        print(f"{len(self.passed)} of {len(edits)} edits are kept: an earlier run on this machine saw them refused", flush=True)
+        wanted = {it.crate for it in left} | {it for it in self.deps if archive and Path(archive).name == f"lib{it}.a"}
+        of = {crate: [it for it in left if it.crate == crate] for crate in self.deps if crate in wanted}
         needed = set().union(*map(self.below, of))
-        with ThreadPoolExecutor(len(needed) + len(of)) as pool:
+        with ThreadPoolExecutor(max(1, len(needed) + len(of))) as pool:
             for it in [it for it in self.deps if it in needed]:
                 self.libraries[it] = pool.submit(self.make_library, it)
             for it in [pool.submit(self.try_crate, crate, its, archive) for crate, its in of.items()]:
@@ -248,7 +302,8 @@ def main():
     self_test()
     reader = argparse.ArgumentParser(description=__doc__, formatter_class=argparse.RawDescriptionHelpFormatter)
     reader.add_argument("--archive", metavar="FILE", help="where the static library libCRATE.a of a crate with edits goes")
-    reader.add_argument("--ci", metavar="PATH", help="`rt ci` writes to PATH.log, and PATH.status is there when it has ended")
+    reader.add_argument("--anew", action="store_true", help="try all, whatever was kept")
+    reader.add_argument("--libraries", metavar="DIRECTORY", type=Path, help="where prove_all.py puts the libraries")
     reader.add_argument("--jobs", type=int, default=2, help="how many checks at once, 2 if left out; each takes up to 4 GB")
     reader.add_argument("names", nargs="*", metavar="NAME", help="a crate, or an edit as CRATE/NAME; without any, all")
     given, paths = reader.parse_args(), sorted(TOP.glob("crates/*/edits/*.txt"))
@@ -260,7 +315,7 @@ def main():
         return 2
     with tempfile.TemporaryDirectory(prefix="try-edits-") as scratch:
         signal.signal(signal.SIGTERM, lambda *_: (shutil.rmtree(scratch, ignore_errors=True), os._exit(1)))
-        run = Run(scratch, given.jobs, given.ci)
+        run = Run(scratch, given.jobs, given.libraries, given.anew)
         run.try_all([it for it in edits if not given.names or {it.crate, it.name} & set(given.names)], given.archive)
     print(f"{run.passed.count(True)} passed, {run.passed.count(False)} failed")
     return 1 if False in run.passed else 0
