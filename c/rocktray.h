@@ -69,7 +69,7 @@ enum rocktray_code {
     /* Why a body, a name or a text is refused. */
     ROCKTRAY_NOT_BASE64 = 19,
     ROCKTRAY_NOT_UTF8 = 20,
-    /* Any other refusal. No call of this version returns it. */
+    /* Any other refusal: rocktray_content has it for a body in uuencode without a whole uuencoded file. */
     ROCKTRAY_REFUSED = 21,
     /* The mail has more parts and headers than the caller allows. */
     ROCKTRAY_TOO_MANY = 22,
