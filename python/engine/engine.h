@@ -30,6 +30,9 @@ PyAPI_FUNC(void) PyBuffer_Release(Py_buffer *view);
 #define PyBUF_SIMPLE 0
 #endif
 
+/* the most mails of a mailbox that one call finds */
+#define MOST_MAILS 10000
+
 /* the bytes of an object that a call reads */
 struct input {
     PyObject *object;

@@ -10,8 +10,6 @@
 /* The first and the last second that a datetime can have. */
 #define FIRST_SECOND (-62135596800)
 #define LAST_SECOND 253402300799
-/* the most mails that are read together */
-#define MOST_MAILS 10000
 
 /* the values that were used of mails of a mailbox, which are decoded ahead; READ is for a mail that was read at all */
 #define READ (1u << VALUES)

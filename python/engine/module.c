@@ -436,7 +436,8 @@ static PyObject *mails(PyObject *module, PyObject *const *arguments, Py_ssize_t 
         take_size(&search.count, arguments[4]) < 0 || take(&search.input, arguments[0]) < 0)
         return NULL;
     search.is_counted = arguments[3] == Py_True;
-    search.found = malloc(search.count * sizeof *search.found);
+    search.count = search.count < MOST_MAILS ? search.count : MOST_MAILS; /* so that the size below cannot overflow */
+    search.found = malloc(search.count * sizeof *search.found + 1);
     if (!search.found || search.at > search.input.length) {
         give_back(&search.input);
         free(search.found);

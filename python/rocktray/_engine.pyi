@@ -33,8 +33,8 @@ def date(text: str, /) -> Tuple[int, Optional[int]]: ...
 def unquoted(mail: Bytes, /) -> bytes: ...
 def safe_name(name: str, /) -> str: ...
 def mails(mailbox: Bytes, at: int, last: int, is_counted: bool, most: int, /) -> List[Tuple[int, int, int]]:
-    """Of each of the next mails, but at most `most`, whose separator begins at `last` or before: where it begins and
-    ends, and where the next separator begins.
+    """Of each of the next mails, but at most `most` and 10,000, whose separator begins at `last` or before: where it
+    begins and ends, and where the next separator begins.
     """
 
 @overload

@@ -18,6 +18,8 @@ RAW = (
     b"Content-Transfer-Encoding: base64\n\nJVBERg==\n--b\nContent-Type: message/rfc822\n\nSubject: in\n\n--b--\n"
 )
 
+BOX = b"From a Fri Jul  8 12:08:34 2011\nSubject: 1\n\n" * 3
+
 # the start of a script: `data` is the file that its argument names, in an mmap, and 100 MB are left to allocate
 IN_100_MB = """
 import mmap, re, resource, rocktray, sys
@@ -123,6 +125,15 @@ def test_bytes_that_become_fewer():
             call()
     data += b"x" * 10_000
     assert isinstance(mail.subject, str) or mail.subject is None
+
+
+def test_counts_of_mails():
+    """A count of mails whose records have more bytes than a size can say finds what a small one finds."""
+    wanted = _engine.mails(BOX, 0, len(BOX), False, 10)
+    assert len(wanted) == 3 and _engine.mails(BOX, 0, len(BOX), False, 0) == []
+    for count in (2**64 // 24 + 1, 2**64 // 12 + 2, 2**61, 2**64 - 1):
+        assert _engine.mails(BOX, 0, len(BOX), False, count) == wanted
+    assert len(_engine.mails(BOX * 4000, 0, len(BOX) * 4000, False, 2**64 - 1)) == 10_000
 
 
 def test_closed_map(mapped):
