@@ -790,7 +790,13 @@ static int take_found(struct search *search, PyObject *found)
         PyErr_SetString(PyExc_TypeError, "a tuple is needed");
         return -1;
     }
-    if (!PyArg_ParseTuple(found, "Snnn", &data, &offset, &at, &last) || take(&search->input, data) < 0)
+    if (!PyArg_ParseTuple(found, "Snnn", &data, &offset, &at, &last))
+        return -1;
+    if (offset < 0 || at < 0 || last < 0) {
+        PyErr_SetString(PyExc_ValueError, "an offset is negative");
+        return -1;
+    }
+    if (take(&search->input, data) < 0)
         return -1;
     search->offset = (size_t)offset;
     search->at = (size_t)at;

@@ -437,10 +437,14 @@ static PyObject *mails(PyObject *module, PyObject *const *arguments, Py_ssize_t 
         return NULL;
     search.is_counted = arguments[3] == Py_True;
     search.count = search.count < MOST_MAILS ? search.count : MOST_MAILS; /* so that the size below cannot overflow */
-    search.found = malloc(search.count * sizeof *search.found + 1);
-    if (!search.found || search.at > search.input.length) {
+    if (search.at > search.input.length) {
         give_back(&search.input);
-        free(search.found);
+        PyErr_SetString(PyExc_ValueError, "the first mail begins after the data");
+        return NULL;
+    }
+    search.found = malloc(search.count * sizeof *search.found + 1);
+    if (!search.found) {
+        give_back(&search.input);
         return PyErr_NoMemory();
     }
     if (is_constant(&search.input)) {

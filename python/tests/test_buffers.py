@@ -136,6 +136,18 @@ def test_counts_of_mails():
     assert len(_engine.mails(BOX * 4000, 0, len(BOX) * 4000, False, 2**64 - 1)) == 10_000
 
 
+def test_offsets_of_mails():
+    """Offsets that no data has are a ValueError, and a mail that would begin at the end is none."""
+    assert _engine.mails(BOX, len(BOX), len(BOX), False, 3) == []
+    with pytest.raises(ValueError, match="begins after the data"):
+        _engine.mails(BOX, len(BOX) + 1, len(BOX), False, 3)
+    for found in ((BOX, -1, 0, len(BOX)), (BOX, 0, -1, len(BOX)), (BOX, 0, 0, -1)):
+        with pytest.raises(ValueError, match="negative"):
+            _engine.read_mails(rocktray.Mail, found, 10, _engine.Use(), False, 3, 10**6, _engine.Store())
+    found = (BOX, 0, len(BOX) + 1, len(BOX))
+    assert _engine.read_mails(rocktray.Mail, found, 10, _engine.Use(), False, 3, 10**6, _engine.Store())[0] == []
+
+
 def test_closed_map(mapped):
     data = mapped(RAW)
     mail = rocktray.parse(data)
