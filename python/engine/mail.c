@@ -642,16 +642,21 @@ size_t separator_in(const uint8_t *at, size_t length)
     return 0;
 }
 
+/* Whether an object is bytes, and of no type made of theirs, which may give another buffer (PEP 688); otherwise sets a
+ * TypeError. */
+static bool is_bytes(PyObject *object)
+{
+    if (!PyBytes_CheckExact(object))
+        PyErr_SetString(PyExc_TypeError, "bytes are needed");
+    return PyBytes_CheckExact(object);
+}
+
 PyObject *last_separator(PyObject *module, PyObject *data)
 {
     struct input input;
     size_t found;
     (void)module;
-    if (!PyBytes_Check(data)) {
-        PyErr_SetString(PyExc_TypeError, "bytes are needed");
-        return NULL;
-    }
-    if (take(&input, data) < 0)
+    if (!is_bytes(data) || take(&input, data) < 0)
         return NULL;
     Py_BEGIN_ALLOW_THREADS
     found = separator_in(input.at, input.length);
@@ -790,13 +795,13 @@ static int take_found(struct search *search, PyObject *found)
         PyErr_SetString(PyExc_TypeError, "a tuple is needed");
         return -1;
     }
-    if (!PyArg_ParseTuple(found, "Snnn", &data, &offset, &at, &last))
+    if (!PyArg_ParseTuple(found, "Onnn", &data, &offset, &at, &last))
         return -1;
     if (offset < 0 || at < 0 || last < 0) {
         PyErr_SetString(PyExc_ValueError, "an offset is negative");
         return -1;
     }
-    if (take(&search->input, data) < 0)
+    if (!is_bytes(data) || take(&search->input, data) < 0)
         return -1;
     search->offset = (size_t)offset;
     search->at = (size_t)at;

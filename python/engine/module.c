@@ -58,16 +58,17 @@ static int is_map(PyObject *object)
     return found;
 }
 
-/* Whether no thread can change the bytes: they are those of bytes, or of an mmap for reading alone. */
+/* Whether no thread can change the bytes: they are those of bytes, or of an mmap for reading alone. A type made of that of
+ * bytes may give another buffer (PEP 688). */
 static bool is_constant(const struct input *input)
 {
     PyObject *owner;
     int found;
-    if (PyBytes_Check(input->object) || !input->view.readonly)
+    if (PyBytes_CheckExact(input->object) || !input->view.readonly)
         return input->view.readonly;
     owner = Py_TYPE(input->object) == &PyMemoryView_Type ? PyObject_GetAttrString(input->object, "obj")
                                                          : Py_NewRef(input->object);
-    found = !owner ? -1 : PyBytes_Check(owner) ? 1 : is_map(owner);
+    found = !owner ? -1 : PyBytes_CheckExact(owner) ? 1 : is_map(owner);
     Py_XDECREF(owner);
     if (found < 0)
         PyErr_Clear();

@@ -148,6 +148,34 @@ def test_offsets_of_mails():
     assert _engine.read_mails(rocktray.Mail, found, 10, _engine.Use(), False, 3, 10**6, _engine.Store())[0] == []
 
 
+class OtherBytes(bytes):
+    """Bytes whose buffer is another one, from Python 3.12 on."""
+
+    def __buffer__(self, flags):
+        return memoryview(bytearray(BOX * 2))
+
+
+def test_types_made_of_bytes(tmp_path):
+    """The offsets of one buffer are not used in another: such bytes are copied, read by their buffer, or refused."""
+    other, wanted = OtherBytes(BOX), memoryview(OtherBytes(BOX)).tobytes()
+    with pytest.raises(TypeError, match="bytes are needed"):
+        _engine.read_mails(rocktray.Mail, (other, 0, 0, len(BOX)), 10, _engine.Use(), False, 3, 10**6, _engine.Store())
+    with pytest.raises(TypeError, match="bytes are needed"):
+        _engine.last_separator(other)
+    assert _engine.mails(other, 0, 10**6, False, 9) == _engine.mails(wanted, 0, 10**6, False, 9)
+    with open(tmp_path / "box", "w+b") as file:
+        file.write(BOX)
+        file.seek(0)
+
+        class Others:
+            """A file object that returns such bytes."""
+
+            def read(self, size):
+                return OtherBytes(file.read(size))
+
+        assert [mail.subject for mail in rocktray.open_mailbox(Others())] == ["1"] * wanted.count(b"Subject")
+
+
 def test_closed_map(mapped):
     data = mapped(RAW)
     mail = rocktray.parse(data)
