@@ -170,6 +170,10 @@ PyObject *bytes_and_back(struct request *request, size_t guess);
 /* The same for bytes of this size, which are not copied. If it is wrong, nothing but time is lost. */
 PyObject *sized_bytes_and_back(struct request *request, size_t size);
 
+/* Keeps what was found, which it takes over, unless another thread has kept something meanwhile: then it is freed, or if
+ * it is NULL, its error is cleared. Returns what is kept, a borrowed reference, or NULL with the error. */
+PyObject *keep_first(PyObject **kept, PyObject *found);
+
 /* Appends an item, which it takes over, to a list. Returns 0, or -1 for an error, also if the item is NULL. */
 int append(PyObject *list, PyObject *item);
 

@@ -186,14 +186,9 @@ static int mail_set_data(PyObject *self, PyObject *data, void *unused)
 static PyObject *mail_raw(PyObject *self, void *unused)
 {
     struct mail *mail = (struct mail *)self;
-    PyObject *data = mail_data(self, unused), *raw;
-    if (data && !mail->raw) {
-        raw = PyBytes_Check(data) ? Py_NewRef(data) : PyBytes_FromObject(data);
-        if (mail->raw)
-            Py_XDECREF(raw);
-        else
-            mail->raw = raw;
-    }
+    PyObject *data = mail_data(self, unused);
+    if (data && !mail->raw)
+        keep_first(&mail->raw, PyBytes_Check(data) ? Py_NewRef(data) : PyBytes_FromObject(data));
     Py_XDECREF(data);
     return Py_XNewRef(data ? mail->raw : NULL);
 }
@@ -320,12 +315,7 @@ static PyObject *value_in(PyObject *self, const struct finder *finder)
     batch = begin_use(mail->batch);
     found = ahead || reading_in(self, true) ? finder->find(mail, ahead, finder->value) : NULL;
     end_use(batch);
-    /* another thread may have found it meanwhile */
-    if (mail->values[finder->value])
-        Py_XDECREF(found);
-    else
-        mail->values[finder->value] = found;
-    return mail->values[finder->value];
+    return keep_first(&mail->values[finder->value], found);
 }
 
 static PyObject *find_text(struct mail *mail, const struct ahead *ahead, enum value value)

@@ -212,6 +212,17 @@ PyObject *sized_bytes_and_back(struct request *request, size_t size)
     return bytes;
 }
 
+PyObject *keep_first(PyObject **kept, PyObject *found)
+{
+    if (!*kept)
+        *kept = found;
+    else if (found)
+        Py_DECREF(found);
+    else
+        PyErr_Clear();
+    return *kept;
+}
+
 int append(PyObject *list, PyObject *item)
 {
     int result = item ? PyList_Append(list, item) : -1;

@@ -63,16 +63,8 @@ static PyObject *node_decoded(PyObject *self, void *closure)
 {
     const struct decoded *decoded = closure;
     struct node *node = (struct node *)self;
-    PyObject **kept = (PyObject **)((char *)self + decoded->offset), *found;
-    if (!*kept) {
-        found = decoded->find(node->reading, &node->record);
-        /* another thread may have found it meanwhile */
-        if (*kept)
-            Py_XDECREF(found);
-        else
-            *kept = found;
-    }
-    return Py_XNewRef(*kept);
+    PyObject **kept = (PyObject **)((char *)self + decoded->offset);
+    return Py_XNewRef(*kept ? *kept : keep_first(kept, decoded->find(node->reading, &node->record)));
 }
 
 static struct decoded type = { offsetof(struct node, type), type_of_part };

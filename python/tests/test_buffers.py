@@ -7,11 +7,12 @@ import pickle
 import subprocess
 import sys
 import threading
+from datetime import timedelta, timezone
 
 import pytest
 
 import rocktray
-from rocktray import _engine
+from rocktray import _engine, _values
 
 RAW = (
     b"Subject: Hi\nContent-Type: multipart/mixed; boundary=b\n\n--b\n\ntext\n--b\nContent-Disposition: attachment; filename=a\n"
@@ -254,6 +255,25 @@ def test_threads_share_a_mail(samples, hostile):
         for thread in threads:
             thread.join()
         assert found == [wanted] * 4
+
+
+def test_found_meanwhile():
+    """A value that cannot be found, but was found by another call meanwhile, is returned without the error."""
+    zone, calls = timezone(timedelta(minutes=67)), []
+
+    def zone_of(offset):
+        calls.append(offset)
+        if len(calls) == 1:
+            assert mail.date.utcoffset() == timedelta(minutes=67)
+            raise MemoryError
+        return zone
+
+    mail = rocktray.parse(b"Date: 1 Jan 2000 00:00:00 +0107\n\n")
+    _engine.values(rocktray.Address, zone_of)
+    try:
+        assert mail.date is mail.date and mail.date.tzinfo is zone and calls == [67 * 60] * 2
+    finally:
+        _engine.values(rocktray.Address, _values.zone_of)
 
 
 def all_of_parts(mail):
