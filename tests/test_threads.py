@@ -2,7 +2,9 @@
 
 import os
 import random
+import re
 import sys
+import time
 
 import pytest
 
@@ -76,6 +78,44 @@ def test_trees(mails, wanted):
 def test_subjects(subject, wanted):
     """Subjects without `Re:` and the like."""
     assert base_subject(subject) == wanted
+
+
+LONG = 400_000
+
+
+@pytest.mark.parametrize(
+    "subject, wanted",
+    [
+        pytest.param("Re" + " " * LONG + "x", ("re x", False), id="spaces, and no colon"),
+        pytest.param("Re" + " " * LONG + "[1]" + " " * LONG + "x", ("re [1] x", False), id="spaces around a count, and no colon"),
+        pytest.param("Re" + " " * LONG + ": a", ("a", True), id="spaces before a colon"),
+        pytest.param("Re[" + "1" * LONG + "a", ("re[" + "1" * LONG + "a", False), id="a count without an end"),
+        pytest.param("Re^" + "1" * LONG + "a", ("re^" + "1" * LONG + "a", False), id="a count, and no colon"),
+        pytest.param(" " * LONG + "a", ("a", False), id="spaces before a subject"),
+        pytest.param("[]" * (LONG // 2) + "a", ("a", False), id="many names of lists"),
+        pytest.param("Re:" * (LONG // 3) + "a", ("a", True), id="many prefixes"),
+        pytest.param("[" * LONG, ("[" * LONG, False), id="brackets without an end"),
+        pytest.param("[ ] " * (LONG // 4) + "Re" + " " * LONG, ("re", False), id="names of lists before spaces"),
+    ],
+)
+def test_long_subjects(subject, wanted):
+    """Subjects of 400 kB and more, for which a search that goes back over whitespace or copies the rest takes minutes."""
+    begun = time.process_time()
+    assert base_subject(subject) == wanted
+    assert time.process_time() - begun < 5
+
+
+def test_subjects_of_pieces(pytestconfig):
+    """A subject of any pieces is read as the definition by one prefix after another says."""
+    prefix = re.compile(r"\s*((re|aw|sv|vs|antw|odp|ref|rv|res|r|fwd?|wg|tr|i)\s*(\[\d+\]|\(\d+\)|\^\d+)?\s*[:\uff1a]|\[[^]]*\])\s*", re.IGNORECASE)
+    pieces = ("re", "Re", "R", "fw", "fwd", "res", "ref", "i", " ", "\t", "\u3000", "\u0130", ":", "\uff1a", "[", "]", "[2]", "(3)", "^4", "(", "a", "1", "[l x]")
+    source = random.Random(pytestconfig.getoption("--seed"))
+    for _ in range(20_000):
+        subject = rest = "".join(source.choices(pieces, k=source.randrange(12)))
+        is_reply = False
+        while found := prefix.match(rest):
+            is_reply, rest = is_reply or not found[1].startswith("["), rest[found.end() :]
+        assert base_subject(subject) == (" ".join(rest.split()).casefold(), is_reply), subject
 
 
 def test_long_threads():

@@ -8,8 +8,9 @@ import collections
 import re
 from typing import NamedTuple
 
-# `Re:`, `Fwd:` and the like, also as other languages have them, with a count, and the names of lists in brackets
-REPLY = re.compile(r"\s*((re|aw|sv|vs|antw|odp|ref|rv|res|r|fwd?|wg|tr|i)\s*(\[\d+\]|\(\d+\)|\^\d+)?\s*[:\uff1a]|\[[^]]*\])\s*", re.IGNORECASE)
+# `Re:`, `Fwd:` and the like, also as other languages have them, with a count, and the names of lists in brackets. A match
+# takes linear time: nothing that may be empty is between two runs of whitespace
+REPLY = re.compile(r"\s*((re|aw|sv|vs|antw|odp|ref|rv|res|r|fwd?|wg|tr|i)(\s*(\[\d+\]|\(\d+\)|\^\d+))?\s*[:\uff1a]|\[[^]]*\])\s*", re.IGNORECASE)
 NEVER = float("inf")
 
 
@@ -31,11 +32,11 @@ def order_of(mail):
 
 def base_subject(subject):
     """Returns a subject without `Re:` and the like, and whether it is one of a reply."""
-    rest, is_reply = subject, False
-    while found := REPLY.match(rest):
+    at, is_reply = 0, False
+    while found := REPLY.match(subject, at):
         is_reply = is_reply or not found[1].startswith("[")
-        rest = rest[found.end() :]
-    return " ".join(rest.split()).casefold(), is_reply
+        at = found.end()
+    return " ".join(subject[at:].split()).casefold(), is_reply
 
 
 def linked(mails):
