@@ -459,6 +459,89 @@ def test_older_database(runs):
     assert runs.search("okapi") == ["Changed"], "a database that is loaded anew"
 
 
+def line_of(message_id, **members):
+    """A line of a mail with a text, as rocktray json writes it, with these members."""
+    part = {"path": "1", "type": "text/plain", "extracted": False, "file_name": None, "text": "word", "text_files": [], "headers": [], "start": 0, "end": 9}
+    line = {"schema": 6, "file": "box", "number": 1, "start": 0, "end": 9, "subject": "Zebra", "date": 1_000_000_000}
+    line.update({name: [] for name in ("from", "to", "cc", "bcc", "in_reply_to", "references", "forwarded")}, parts=[part])
+    return {**line, "message_id": [message_id] if message_id is not None else [], **members}
+
+
+def write_shards(directory, *shards):
+    """Writes an index of shards, each a list of lines."""
+    names = [f"{number:032x}.jsonl" for number in range(len(shards))]
+    for name, lines in zip(names, shards):
+        write(f"{directory}/out/{name}", b"".join(json.dumps(line).encode() + b"\n" for line in lines))
+    write(f"{directory}/out/MANIFEST", b"".join(json.dumps({"shard": name}).encode() + b"\n" for name in names))
+
+
+def called(directory, name, *arguments):
+    """What a program of the archive returns."""
+    return subprocess.run([sys.executable, os.path.join(EXAMPLES, name), *arguments], capture_output=True, text=True, cwd=directory, check=False)
+
+
+def rows_of(directory, query):
+    """The rows of a query in all slices."""
+    rows = []
+    for path in glob.glob(f"{directory}/db/[0-9]*.sqlite"):
+        with contextlib.closing(sqlite3.connect(path)) as db:
+            rows += db.execute(query)
+    return sorted(rows)
+
+
+@pytest.mark.quick
+def test_ids_with_nul(tmp_path):
+    """Ids that contain a NUL are other ids than their beginnings, in later shards, in threads and in a second run too."""
+    ids = ("a\0b@c", "a", "a\0", "\0")
+    lines = [line_of(one, start=start, references=ids[:1], subject=repr(one)) for start, one in enumerate(ids)]
+    write_shards(tmp_path, lines, [{**line, "file": "copy"} for line in lines])
+    for arguments in (["--slices", "2"], []):
+        ended = called(tmp_path, "load_sqlite.py", "out", "db", *arguments)
+        assert ended.returncode == 0, ended.stderr
+    assert rows_of(tmp_path, "select message_id, (select count(*) from copies where mail = id) from mails") == sorted((one, 2) for one in ids)
+    write_shards(tmp_path, lines, lines, [{**line, "file": "third"} for line in lines])
+    assert called(tmp_path, "load_sqlite.py", "out", "db").returncode == 0
+    assert {copies for copies, in rows_of(tmp_path, "select (select count(*) from copies where mail = id) from mails")} == {3}
+    for arguments in (["zebra", "--threads"], ["--threads", "--id", "a"], ["--thread", "a"]):
+        ended = called(tmp_path, "search.py", "db", *arguments)
+        found = {line.split("\t")[2].strip() for line in ended.stdout.splitlines()}
+        assert found == ({repr(one) for one in ids} if arguments[0] != "zebra" else set()) and ended.returncode < 2, ended
+
+
+@pytest.mark.quick
+def test_mails_that_sqlite_refuses(tmp_path):
+    """A mail with a value that SQLite does not take is refused with the reason, and all others are loaded."""
+    bad = {"date": 2**63}, {"subject": "\ud800"}, {"date": -(2**63) - 1}
+    lines = [line_of(f"{number}@x", start=number, **(bad[number // 10] if number % 10 == 7 and number < 30 else {})) for number in range(50)]
+    write_shards(tmp_path, lines[:40], lines[40:])
+    ended = called(tmp_path, "load_sqlite.py", "out", "db", "--slices", "2")
+    assert ended.returncode == 0 and "50 mails loaded" in ended.stderr and "3 of the mails were refused" in ended.stderr, ended.stderr
+    refused = rows_of(tmp_path, 'select start, "end", error from refused')
+    assert [row[:2] for row in refused] == [(7, 9), (17, 9), (27, 9)]
+    assert all(error.startswith("SQLite does not take this mail: ") for _, _, error in refused)
+    ids = rows_of(tmp_path, "select message_id from mails")
+    assert ids == sorted((f"{number}@x",) for number in range(50) if number not in (7, 17, 27))
+
+
+@pytest.mark.quick
+def test_shard_that_cannot_be_loaded(tmp_path):
+    """If a slice takes no rows of a shard, a line says so, and the next run loads it."""
+    shards = [[line_of(f"{number}@x", start=number)] for number in range(3)]
+    write_shards(tmp_path, *shards[:1])
+    assert called(tmp_path, "load_sqlite.py", "out", "db", "--slices", "1").returncode == 0
+    with contextlib.closing(sqlite3.connect(f"{tmp_path}/db/000.sqlite")) as db:
+        db.executescript("create trigger stop before insert on shards when new.name like '%1.jsonl' begin select raise(abort, 'no more'); end")
+    write_shards(tmp_path, *shards)
+    ended = called(tmp_path, "load_sqlite.py", "out", "db")
+    wanted = f"load_sqlite.py: {1:032x}.jsonl is not loaded into db/000.sqlite: no more; the next run tries it again"
+    assert ended.returncode == 1 and ended.stderr.splitlines()[1:] == [wanted], ended.stderr
+    assert rows_of(tmp_path, "select message_id from mails") == [("0@x",), ("2@x",)]
+    with contextlib.closing(sqlite3.connect(f"{tmp_path}/db/000.sqlite")) as db:
+        db.executescript("drop trigger stop")
+    assert called(tmp_path, "load_sqlite.py", "out", "db").returncode == 0
+    assert rows_of(tmp_path, "select message_id from mails") == [("0@x",), ("1@x",), ("2@x",)]
+
+
 @pytest.mark.quick
 @pytest.mark.parametrize("common", [0, 10**9])
 @pytest.mark.parametrize("cost", [0, 10**9])

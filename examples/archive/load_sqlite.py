@@ -95,6 +95,8 @@ WORDS = "id, subject, sender, recipients, body from mails"
 WORDED = 100_000
 # the number of the form of the lines
 LINES = 6
+# what is raised for values that SQLite does not take, such as a number of more than 64 bits
+UNFIT = (sqlite3.DataError, sqlite3.IntegrityError, sqlite3.InterfaceError, OverflowError, UnicodeEncodeError)
 FLAGS = re.compile(r":2,([A-Za-z]+)$")
 LIST_ID = re.compile(r"<([^<>\s]+)>\s*$")
 
@@ -186,7 +188,7 @@ def deal(path, shard, count, scratch):
                 raise ValueError(f"{path} has lines of schema {line['schema']}, not {LINES}: repeat index_archive.py")
             origin = (line["file"], line["start"], line["end"])
             key = line.get("message_id") or [f"{origin[0]}:{origin[1]}"]
-            mails, refused = dealt[zlib.crc32(key[0].encode()) % count]
+            mails, refused = dealt[zlib.crc32(key[0].encode("utf-8", "surrogatepass")) % count]
             if "error" in line:
                 refused.append((shard, *origin, line["error"]))
             else:
@@ -217,10 +219,17 @@ def remove(db, shard):
     db.execute("delete from shards where name = ?", (shard,))
 
 
+def known_of(db, mails):
+    """Returns the numbers of those mails that a slice has, by their ids."""
+    known = {}
+    for one in {row[0] for _, (row, *_) in mails if row[0] is not None}:
+        known.update(db.execute("select message_id, id from mails where message_id = ?", (one,)))
+    return known
+
+
 def insert(db, shard, mails, refused):
     """Inserts what a slice gets of a shard. Returns the number of copies."""
-    ids = json.dumps([row[0] for _, (row, *_) in mails if row[0] is not None])
-    known = dict(db.execute("select message_id, id from mails where message_id in (select value from json_each(?))", (ids,)))
+    known = known_of(db, mails)
     fresh = db.execute("select max((select coalesce(max(id), 0) from mails), mail) + 1 from indexed").fetchone()[0]
     rows, copies, recipients, links, files = [], [], [], [], []
     for origin, (row, to, ids, attached) in mails:
@@ -238,6 +247,41 @@ def insert(db, shard, mails, refused):
     db.executemany("insert into refused values(?, ?, ?, ?, ?)", refused)
     db.execute("insert into shards values(?)", (shard,))
     return len(copies) + len(refused)
+
+
+def fault_of(db, shard, mails):
+    """Returns why SQLite does not take some mails, or None. Nothing is inserted."""
+    try:
+        insert(db, shard, mails, [])
+    except UNFIT as fault:
+        return str(fault)
+    finally:
+        db.rollback()
+    return None
+
+
+def parted(db, shard, mails):
+    """Returns those of some mails that SQLite takes, and a row for each other, which is refused."""
+    fault = fault_of(db, shard, mails)
+    if fault is None:
+        return mails, []
+    if len(mails) == 1:
+        return [], [(shard, *mails[0][0][:3], f"SQLite does not take this mail: {fault}")]
+    half = len(mails) // 2
+    (first, second), (unfit, more) = zip(parted(db, shard, mails[:half]), parted(db, shard, mails[half:]))
+    return first + second, unfit + more
+
+
+def insert_fit(db, shard, mails, refused):
+    """Inserts what a slice gets of a shard in one transaction. A mail that SQLite does not take is refused, and the others
+    are there. Returns the number of copies."""
+    try:
+        with db:
+            return insert(db, shard, mails, refused)
+    except UNFIT:
+        mails, unfit = parted(db, shard, mails)
+    with db:
+        return insert(db, shard, mails, refused + unfit)
 
 
 def insert_words(db):
@@ -275,8 +319,8 @@ def refused_in(path):
 
 def load(path, stale, fresh):
     """Removes shards from a slice, and inserts others: names, each with the file of what the slice gets. Returns the number
-    of copies that were inserted."""
-    total = 0
+    of copies that were inserted, and a line for each shard that could not be."""
+    total, faults = 0, []
     with contextlib.closing(opened(path)) as db:
         if stale:
             insert_words(db)  # since those of the mails that are removed must be there
@@ -286,9 +330,11 @@ def load(path, stale, fresh):
         for shard, name in fresh:
             with open(name, "rb") as file:
                 mails, refused = marshal.loads(file.read())
-            with db:
-                total += insert(db, shard, mails, refused)
-    return total
+            try:
+                total += insert_fit(db, shard, mails, refused)
+            except sqlite3.Error as fault:
+                faults.append(f"{shard} is not loaded into {path}: {fault}; the next run tries it again")
+    return total, faults
 
 
 def load_words(path):
@@ -344,7 +390,8 @@ def load_threads(path, overviews):
 
 
 def load_all(given, named, paths, trees, pool, scratch):
-    """Loads all slices in parallel. Returns the number of copies that were inserted."""
+    """Loads all slices in parallel. Returns the number of copies that were inserted, and a line for each shard that could
+    not be."""
     there = list(map(loaded, paths))
     stale = [names - set(named) for names in there]
     fresh = [[name for name in named if name not in names] for names in there]
@@ -354,7 +401,8 @@ def load_all(given, named, paths, trees, pool, scratch):
     files = [os.path.join(given.out, name) for name in wanted]
     dealt = dict(zip(wanted, pool.map(deal, files, wanted, [len(paths)] * len(wanted), [scratch] * len(wanted))))
     parts = [[(name, dealt[name][number]) for name in names] for number, names in enumerate(fresh)]
-    return sum(pool.map(load, paths, stale, parts))
+    loads = list(pool.map(load, paths, stale, parts))
+    return sum(total for total, _ in loads), [fault for _, faults in loads for fault in faults]
 
 
 def replace_slices(paths, fresh):
@@ -368,20 +416,20 @@ def replace_slices(paths, fresh):
 
 def load_index(given, named, paths, pool, scratch):
     """Loads the shards, then their words, and makes the threads anew if something has changed. Returns the number of copies
-    that were inserted."""
+    that were inserted, and a line for each shard that could not be."""
     trees = os.path.join(given.database, "threads.sqlite")
     is_older = any(os.path.exists(path) and version_of(path) != VERSION for path in paths)
     loaded_into = [f"{path}.new" for path in paths] if is_older else paths
-    total = load_all(given, named, loaded_into, trees, pool, scratch)
+    total, faults = load_all(given, named, loaded_into, trees, pool, scratch)
     is_changed = version_of(trees) != VERSION
     overviews = pool.map(overview, loaded_into if is_changed else ())
     words = pool.map(load_words, loaded_into)  # while the threads are made here
     if is_changed:
         load_threads(trees, overviews)
     collections.deque(words, maxlen=0)  # raises what a call has raised
-    if is_older:
+    if is_older and not faults:
         replace_slices(paths, loaded_into)
-    return total
+    return total, faults
 
 
 def prepare():
@@ -418,8 +466,8 @@ def main():
     paths = sorted(glob.glob(os.path.join(glob.escape(given.database), "[0-9]*.sqlite")))
     paths = paths or [os.path.join(given.database, f"{number:03}.sqlite") for number in range(max(1, given.slices))]
     try:
-        total = interruptible(given, named, paths)
-    except (ValueError, OSError) as fault:
+        total, faults = interruptible(given, named, paths)
+    except (ValueError, OSError, sqlite3.Error) as fault:
         sys.exit(f"load_sqlite.py: {fault}")
     except KeyboardInterrupt:
         print("load_sqlite.py: interrupted; the next run goes on from here", file=sys.stderr)
@@ -428,6 +476,9 @@ def main():
     print(f"{total} mails loaded in {seconds:.1f} s, {total / seconds:.0f} a second", file=sys.stderr)
     if refused:
         print(f"load_sqlite.py: {refused} of the mails were refused: the table `refused` and the pages name them", file=sys.stderr)
+    for fault in faults:
+        print(f"load_sqlite.py: {fault}", file=sys.stderr)
+    sys.exit(1 if faults else 0)
 
 
 if __name__ == "__main__":

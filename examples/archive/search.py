@@ -125,9 +125,15 @@ def conditions(given):
         yield in_order(given.order)
 
 
+def hexadecimal(texts):
+    """Returns texts as a value of `json_each`, which ends a text at a NUL: their bytes in hexadecimal digits, of which
+    `text_of` of a slice makes the texts."""
+    return json.dumps([one.encode().hex() for one in texts])
+
+
 def in_order(order):
     """Returns the condition that a mail is among those of a thread."""
-    return "message_id in (select value from json_each(?))", json.dumps([one for one, _ in order])
+    return "message_id in (select text_of(value) from json_each(?))", hexadecimal(one for one, _ in order)
 
 
 def tree_of(database, message_id):
@@ -167,7 +173,9 @@ def in_tree(found, order):
 
 def opened(path):
     """Opens a slice for reading only, in any thread."""
-    return sqlite3.connect(f"file:{urllib.parse.quote(path)}?mode=ro", uri=True, check_same_thread=False)
+    db = sqlite3.connect(f"file:{urllib.parse.quote(path)}?mode=ro", uri=True, check_same_thread=False)
+    db.create_function("text_of", 1, lambda digits: bytes.fromhex(digits).decode(), deterministic=True)
+    return db
 
 
 def in_all(slices, ask):

@@ -135,11 +135,11 @@ def facets_of(slices, chosen):
 def tree(archive, message_id):
     """Returns the mails of a thread, each with its level, and ids that no mail has."""
     order = search.tree_of(archive.directory, message_id)
-    ids, found = json.dumps([one for one, _ in order]), {}
+    ids, found = search.hexadecimal(one for one, _ in order), {}
     with archive.slices() as slices:
         for number, db in enumerate(slices):
             columns = "id, message_id, datetime(date, 'unixepoch') as time, sender, subject"
-            for row in db.execute(f"select {columns} from mails where message_id in (select value from json_each(?))", (ids,)):
+            for row in db.execute(f"select {columns} from mails where message_id in (select text_of(value) from json_each(?))", (ids,)):
                 found[row["message_id"]] = {**row, "slice": number}
     return [{**found.get(one, {"id": None, "message_id": one}), "level": min(level, 12)} for one, level in order]
 
