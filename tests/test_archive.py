@@ -47,7 +47,7 @@ PART = "all.mbox (--part 9/30)"
 STAND_IN = """#!/bin/sh
 [ ! -e '{directory}/slow' ] || sleep 0.1
 case $* in
-    'json --html-text --part 9/30 '*)
+    'json --html-text --hash --part 9/30 '*)
         if [ -e '{directory}/deadly' ]; then
             [ -e '{directory}/always' ] || rm '{directory}/deadly'
             '{json}' "$@" | head -c 100000
@@ -198,7 +198,7 @@ def stack():
 def wanted(directory):
     """The lines of one process over the archive."""
     calls = make_archive(directory)
-    lines = b"".join(run([program("rocktray"), "json", "--html-text", *arguments]).stdout for arguments in calls)
+    lines = b"".join(run([program("rocktray"), "json", "--html-text", "--hash", *arguments]).stdout for arguments in calls)
     assert lines.count(b"\n") == MAILS + 11
     write(os.path.join(directory, "rocktray"), STAND_IN.format(directory=directory, json=program("rocktray")).encode())
     os.chmod(os.path.join(directory, "rocktray"), 0o755)
@@ -445,7 +445,7 @@ def test_older_database(runs):
     with contextlib.closing(sqlite3.connect(path)) as db:
         db.executescript("drop table copies; pragma user_version = 1")
     ended = runs.call("search.py", "db", "zebra")
-    wanted = b"search.py: db is of another version than 4: run load_sqlite.py again\n"
+    wanted = b"search.py: db is of another version than 5: run load_sqlite.py again\n"
     assert (ended.returncode, ended.stdout, ended.stderr) == (2, b"", wanted), "an older database is searched"
     shard = next(iter(shards(runs.path("killed"))))
     with open(shard, "rb") as file:
@@ -506,6 +506,37 @@ def test_ids_with_nul(tmp_path):
         ended = called(tmp_path, "search.py", "db", *arguments)
         found = {line.split("\t")[2].strip() for line in ended.stdout.splitlines()}
         assert found == ({repr(one) for one in ids} if arguments[0] != "zebra" else set()) and ended.returncode < 2, ended
+
+
+@pytest.mark.quick
+def test_mails_with_one_id(tmp_path):
+    """Mails with one id that differ are all there, whichever came first, and copies with the same bytes are one mail."""
+    file = {"path": "2", "type": "application/pdf", "extracted": True, "file_name": "a.pdf", "text": None, "text_files": [], "headers": []}
+    text, forwarded = line_of("1@x")["parts"][0], {"path": "2", "start": 100, "error": None}
+
+    def mail(start, file_name, **members):
+        parts = [{**text, "start": start, "end": start + 9}, {**file, "start": start + 9, "end": start + 20, **members.pop("pdf", {})}]
+        inside = [{**forwarded, "start": start + 15}]
+        return line_of("1@x", **{"file": file_name, "number": start, "start": start, "end": start + 20, "parts": parts, "forwarded": inside, **members})
+
+    first, again, none = mail(0, "a"), mail(700, "b"), line_of(None, start=5, end=14, parts=[{**text, "start": 5, "end": 14}])
+    others = [mail(1, "c", subject="Okapi"), mail(2, "c", pdf={"sha256": "ab"}), mail(3, "c", end=24), mail(4, "c", date=None)]
+    for names, shards in (("first", [[first, again], [*others, none], [mail(9, "d"), {**none, "file": "e"}]]), ("last", [[*others, none], [mail(9, "d"), {**none, "file": "e"}], [again, first]])):
+        directory = tmp_path / names
+        write_shards(directory, *shards)
+        assert called(directory, "load_sqlite.py", "out", "db", "--slices", "3").returncode == 0
+        counts = rows_of(directory, "select message_id is null, subject, (select count(*) from copies where mail = id) from mails")
+        assert counts == [(0, "Okapi", 1), (0, "Zebra", 1), (0, "Zebra", 1), (0, "Zebra", 1), (0, "Zebra", 3), (1, "Zebra", 2)], names
+        found = called(directory, "search.py", "db", "--id", "1@x", "--json")
+        assert [json.loads(line)["same_id"] for line in found.stdout.splitlines()] == [5] * 5
+        assert called(directory, "search.py", "db", "okapi").returncode == 0, "a later mail is found by its words"
+        thread = called(directory, "search.py", "db", "--thread", "1@x").stdout.splitlines()
+        assert len(thread) == 5 and not any(line.split("\t")[2].startswith(" ") for line in thread)
+        raw = called(directory, "search.py", "db", "--id", "1@x", "--raw")
+        assert raw.returncode == 1 and "5 are found" in raw.stderr
+        write_shards(directory, *shards[:1])
+        assert called(directory, "load_sqlite.py", "out", "db").returncode == 0
+        assert sum(count for count, in rows_of(directory, "select count(*) from mails")) == len(shards[0]) - (names == "first"), "those without a copy are gone"
 
 
 @pytest.mark.quick

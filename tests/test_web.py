@@ -6,6 +6,7 @@ downloads. The browser is Chromium without a window; screenshots go to the direc
 
 import base64
 import contextlib
+import importlib
 import json
 import os
 import re
@@ -25,6 +26,7 @@ from support import FROM, TOP, missing, program
 
 pytestmark = pytest.mark.xdist_group("web")
 EXAMPLES = os.path.join(TOP, "examples", "archive")
+sys.path.insert(0, EXAMPLES)
 EVIL = "<script>alert(1)</script><img src=http://198.51.100.7/x onerror=alert(2)>"
 WORD = f"=?utf-8?B?{base64.b64encode(EVIL.encode()).decode()}?="
 MAILS = (
@@ -69,6 +71,44 @@ def address(database):
             time.sleep(0.05)
         yield f"http://127.0.0.1:{port}"
         server.send_signal(signal.SIGTERM)
+
+
+def made(directory, program, *mails):
+    """A client of web.py, whose pages show mails, each a dictionary of members of its line beside a text of one word; the
+    files are what the lines of `program`, a script of sh, put into the directory "$4"."""
+    if subprocess.run([sys.executable, "-c", "import flask, pygal"], stderr=subprocess.DEVNULL, check=False).returncode:
+        missing("Flask or pygal is missing (Debian: python3-flask, python3-pygal)")
+    (directory / "box").write_bytes(b"Subject: Zebra\n\nword\n")
+    size = (directory / "box").stat().st_size
+    part = {"path": "1", "type": "text/plain", "extracted": False, "file_name": None, "text": "word", "text_files": [], "headers": []}
+    line = {"schema": 6, "file": str(directory / "box"), "number": None, "start": 0, "end": size, "subject": "Zebra", "date": 1_000_000_000}
+    line.update({name: [] for name in ("from", "to", "cc", "bcc", "message_id", "in_reply_to", "references", "forwarded")})
+    lines = [{**line, **mail, "parts": [{**part, **one} for one in mail.get("parts", [{}])]} for mail in mails]
+    (directory / "out").mkdir()
+    (directory / "out" / "a.jsonl").write_text("".join(json.dumps(one) + "\n" for one in lines))
+    (directory / "out" / "MANIFEST").write_text('{"shard": "a.jsonl"}\n')
+    loader = [sys.executable, os.path.join(EXAMPLES, "load_sqlite.py"), "out", "db", "--slices", "1"]
+    subprocess.run(loader, cwd=directory, stderr=subprocess.PIPE, check=True)
+    (directory / "rocktray").write_text(f"#!/bin/sh\n{program}\n")
+    (directory / "rocktray").chmod(0o755)
+    app = importlib.import_module("web").create_app(str(directory / "db"), str(directory / "rocktray"))
+    app.config["PROPAGATE_EXCEPTIONS"] = False
+    return app.test_client()
+
+
+@pytest.mark.quick
+def test_mails_with_one_id(tmp_path):
+    """Mails with one id that differ are all on the pages of search, of the thread and of each of them."""
+    subjects = ("Zebra first", "Zebra later", "Zebra last")
+    client = made(tmp_path, "", *({"message_id": ["1@x"], "subject": subject} for subject in subjects), {"message_id": ["2@x"]})
+    assert client.get("/?q=zebra").text.count("3 mails with this id, which differ") == 3
+    thread = client.get("/thread?id=1@x").text
+    assert "<h1>Thread of 3 mails</h1>" in thread and all(f">{subject}<" in thread for subject in subjects)
+    for number in (1, 2, 3):
+        page = client.get(f"/mail/0/{number}").text
+        assert "<h2>3 mails with this id, which differ</h2>" in page and page.count("This mail") == 1
+        assert all((f">{subject}</a>" in page) == (at != number) for at, subject in enumerate(subjects, 1))
+    assert "with this id" not in client.get("/mail/0/4").text
 
 
 def get(address, path, host=None):

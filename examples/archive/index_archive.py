@@ -25,8 +25,8 @@ import zlib
 
 from program import rocktray
 
-# how a part is read
-JSON = ["json", "--html-text"]
+# how a part is read: with the hashes of files, by which load_sqlite.py distinguishes mails with one message id
+JSON = ["json", "--html-text", "--hash"]
 OURS = re.compile(r"[0-9a-f]{32}\.jsonl|\.part-[0-9a-f]{32}")
 NO_TEXT = re.compile("[\udc80-\udcff]")
 # what packed files begin with, and the programs that unpack them
@@ -254,12 +254,12 @@ def run_there(scheduler, wanted, places):
             yield results[future.key] if future.key in results else [(part, repr(future.exception()))]
 
 
-def parts_of(found, paths, most, options):
+def parts_of(found, paths, most):
     """Returns the parts of the archive."""
     wanted = []
     for top in paths:
         for reading, files in found.visit(top) if os.path.isdir(top) else [([], found.mails([top], []))]:
-            wanted += [([*options, *more], batch) for more, batch in parts(reading, files, most)]
+            wanted += parts(reading, files, most)
     return wanted
 
 
@@ -288,7 +288,7 @@ def arguments():
     parser.add_argument("--scheduler", metavar="ADDRESS", help="by default, as many parts are read at once as there are processors here")
     parser.add_argument("--program", metavar="ROCKTRAY", help="by default the one that is built here, in a release that is unpacked here, or installed")
     parser.add_argument("--load", metavar="DATABASE", help="load the index into this database, as load_sqlite.py does")
-    parser.add_argument("--hash", action="store_true", help="write the SHA-256 of each attachment")
+    parser.add_argument("--hash", action="store_true", help=argparse.SUPPRESS)  # of earlier versions; now always so
     parser.add_argument("--skip-bad", action="store_true", help="end with exit status 0 although files could not be read")
     parser.add_argument("--bytes", type=int, default=32 << 20, help="the greatest size of a part; 32 MiB by default")
     return parser
@@ -302,7 +302,7 @@ def main():
     os.makedirs(given.out, exist_ok=True)
     found = Found(given.out)
     version = hashlib.sha256(pathlib.Path(program).read_bytes()).hexdigest()
-    wanted = {shard_of(version, part): part for part in parts_of(found, given.paths, given.bytes, ["--hash"] * given.hash)}
+    wanted = {shard_of(version, part): part for part in parts_of(found, given.paths, given.bytes)}
     unread = {name: part for name, part in wanted.items() if not os.path.exists(os.path.join(given.out, name))}
     try:
         places = {"out": given.out, "program": program, "version": version}

@@ -3,17 +3,18 @@
 
 OUT is the directory of index_archive.py. DATABASE is a directory of databases, the slices, which are loaded in
 parallel, and of one with the threads; search.py searches them all. A mail has one row however many copies the archive
-has of it: mails with the same message id are copies of one mail. All copies of a mail are in one slice. A shard is
-loaded into a slice in one transaction; the words of its mails and most indexes follow when all rows are there. Shards
-that are already loaded are skipped, those that OUT/MANIFEST no longer names are removed, and missing words are added,
-so an interrupted run can be continued. A database of an older version is made anew. The tables of a slice:
+has of it: mails with the same bytes. Mails with one message id that differ are mails of their own, and in one slice: none
+hides another. A shard is loaded into a slice in one transaction; the words of its mails and most indexes follow when all
+rows are there. Shards that are already loaded are skipped, those that OUT/MANIFEST no longer names are removed, and
+missing words are added, so an interrupted run can be continued. A database of an older version is made anew. The tables
+of a slice:
 
-  mails        each mail, with what its first copy says
+  mails        each mail, with what its first copy says, and a hash of that
   copies       the copies of a mail: each is in `file` from `start` to `end`; `flags` are those of a Maildir
   refused      each mail that was refused, with the `error`
   recipients   the addresses in To, Cc and Bcc
   links        the ids in References and In-Reply-To, in order, the parent last
-  attachments  the files of a mail, as `rocktray extract` saves them, each with its SHA-256 if the lines have it
+  attachments  the files of a mail, as `rocktray extract` saves them, each with its SHA-256
   texts        the words of subject, sender, recipients and body
   shards       the loaded shards
   indexed      the last mail whose words are in `texts`
@@ -28,6 +29,7 @@ import contextlib
 import functools
 import gc
 import glob
+import hashlib
 import json
 import marshal
 import os
@@ -48,8 +50,8 @@ pragma synchronous = normal;
 pragma cache_size = -100000;
 create table if not exists shards(name text primary key) without rowid;
 create table if not exists mails(
-    id integer primary key, message_id text, date integer, sender text, recipients text, subject text, list_id text, body text);
-create unique index if not exists mails_by_message_id on mails(message_id);
+    id integer primary key, message_id text, date integer, sender text, recipients text, subject text, list_id text, body text, digest blob);
+create unique index if not exists mails_by_digest on mails(digest);
 create table if not exists copies(mail integer, shard text, file text, start integer, "end" integer, flags text);
 create table if not exists refused(shard text, file text, start integer, "end" integer, error text);
 create table if not exists recipients(mail integer, address text, name text, primary key(mail, address)) without rowid;
@@ -63,6 +65,7 @@ insert into indexed select 0 where not exists (select 1 from indexed);
 """
 # made when the rows are there, which is faster
 INDEXES = """
+create index if not exists mails_by_message_id on mails(message_id);
 create index if not exists mails_by_date on mails(date);
 create index if not exists mails_by_list_id on mails(list_id);
 create index if not exists mails_by_sender on mails(sender);
@@ -155,11 +158,25 @@ def files_of(part):
         yield tuple(map({"type": "application/octet-stream", **file}.get, members))
 
 
+def moved(one, start):
+    """Returns an object of a line with its offsets counted from the start of the mail."""
+    return {**one, **{name: one[name] - start for name in ("start", "end") if one.get(name) is not None}}
+
+
+def digest_of(line):
+    """Returns a hash of all that a line says of a mail, but for where the mail is: copies with the same bytes have the same.
+    The second version of `marshal` writes the same bytes in each version of Python."""
+    start = line["start"]
+    lists = {name: [moved(one, start) for one in line.get(name, ())] for name in ("parts", "forwarded")}
+    said = marshal.dumps({**moved(line, start), **lists, "file": None, "number": None}, 2)
+    return hashlib.blake2b(said, digest_size=20).digest()
+
+
 def mail_of(line):
     """Returns what a line says: the row of the mail, and those of its recipients, links and attachments."""
     message_id = line["message_id"][0] if line["message_id"] else None
     to = [*line["to"], *line["cc"], *line["bcc"]]
-    row = (message_id, line["date"], people(line["from"]), people(to), line["subject"], list_id(line), body(line["parts"]))
+    row = (message_id, line["date"], people(line["from"]), people(to), line["subject"], list_id(line), body(line["parts"]), digest_of(line))
     links = line["references"] or line["in_reply_to"][:1]
     return row, list(dict(mailboxes(to)).items()), links, [file for part in line["parts"] for file in files_of(part)]
 
@@ -187,12 +204,13 @@ def deal(path, shard, count, scratch):
             if line["schema"] != LINES:
                 raise ValueError(f"{path} has lines of schema {line['schema']}, not {LINES}: repeat index_archive.py")
             origin = (line["file"], line["start"], line["end"])
-            key = line.get("message_id") or [f"{origin[0]}:{origin[1]}"]
-            mails, refused = dealt[zlib.crc32(key[0].encode("utf-8", "surrogatepass")) % count]
             if "error" in line:
+                _, refused = dealt[zlib.crc32(f"{origin[0]}:{origin[1]}".encode()) % count]
                 refused.append((shard, *origin, line["error"]))
             else:
-                mails.append(((*origin, flags_of(line["file"])), mail_of(line)))
+                row, *more = mail_of(line)
+                key = row[-1] if row[0] is None else row[0].encode("utf-8", "surrogatepass")
+                dealt[zlib.crc32(key) % count][0].append(((*origin, flags_of(line["file"])), (row, *more)))
     names = [os.path.join(scratch, f"{shard}.{number}") for number in range(count)]
     for name, part in zip(names, dealt):
         with open(name, "wb") as file:
@@ -220,10 +238,10 @@ def remove(db, shard):
 
 
 def known_of(db, mails):
-    """Returns the numbers of those mails that a slice has, by their ids."""
+    """Returns the numbers of those mails that a slice has, by their hashes."""
     known = {}
-    for one in {row[0] for _, (row, *_) in mails if row[0] is not None}:
-        known.update(db.execute("select message_id, id from mails where message_id = ?", (one,)))
+    for one in {row[-1] for _, (row, *_) in mails}:
+        known.update(db.execute("select digest, id from mails where digest = ?", (one,)))
     return known
 
 
@@ -233,16 +251,16 @@ def insert(db, shard, mails, refused):
     fresh = db.execute("select max((select coalesce(max(id), 0) from mails), mail) + 1 from indexed").fetchone()[0]
     rows, copies, recipients, links, files = [], [], [], [], []
     for origin, (row, to, ids, attached) in mails:
-        number = known.get(row[0]) if row[0] is not None else None
+        number = known.get(row[-1])
         if number is None:
             number, fresh = fresh, fresh + 1
-            known[row[0]] = number
+            known[row[-1]] = number
             rows.append((number, *row))
             recipients += [(number, *one) for one in to]
             links += [(number, position, one) for position, one in enumerate(ids)]
             files += [(number, position, *one) for position, one in enumerate(attached)]
         copies.append((number, shard, *origin))
-    for table, width, given in (("mails", 8, rows), ("copies", 6, copies), ("recipients", 3, recipients), ("links", 3, links), ("attachments", 9, files)):
+    for table, width, given in (("mails", 9, rows), ("copies", 6, copies), ("recipients", 3, recipients), ("links", 3, links), ("attachments", 9, files)):
         db.executemany(f"insert into {table} values({','.join('?' * width)})", given)
     db.executemany("insert into refused values(?, ?, ?, ?, ?)", refused)
     db.execute("insert into shards values(?)", (shard,))
@@ -378,7 +396,7 @@ def load_threads(path, overviews):
         mails += map(threads.Sent._make, some[2])
     parents = threads.trees(mails)
     tops = threads.tops_of(parents)
-    dates = {one.id: one.date for one in mails}
+    dates = {one.id: one.date for one in reversed(mails)}  # of mails with one id, which are in one slice, the first
     with contextlib.closing(sqlite3.connect(path, isolation_level=None)) as db:
         db.executescript(THREADS)
         db.executemany("insert into months values(?, ?)", months.items())

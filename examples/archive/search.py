@@ -15,8 +15,9 @@ QUERY is a query of FTS5, the full-text search of SQLite, over subject, sender, 
   (invoice OR bill) paid    brackets group
 
 Upper and lower case and accents make no difference. A word with other characters than letters and digits needs double
-quotes. A line has the time in UTC, the sender, the subject, the names of the files, the number of copies, and the location
-of the first copy, `FILE:START-END`, separated by tabs. Control characters are replaced. The exit status is 0 if a mail
+quotes. A line has the time in UTC, the sender, the subject, the names of the files, the number of copies with the same
+bytes, and the location of the first one, `FILE:START-END`, separated by tabs. Mails with one message id that differ have a
+line each. Control characters are replaced. The exit status is 0 if a mail
 was found, 1 if none was, and 2 for wrong arguments and for a mail that cannot be read.
 """
 import argparse
@@ -38,12 +39,13 @@ from typing import NamedTuple
 from program import rocktray
 
 # the version of the tables of load_sqlite.py
-VERSION = 4
-COLUMNS = ("message_id", "date", "time", "sender", "recipients", "subject", "list_id", "files", "copies", "file", "start", "end")
+VERSION = 5
+COLUMNS = ("message_id", "date", "time", "sender", "recipients", "subject", "list_id", "files", "copies", "same_id", "file", "start", "end")
 FOUND = """
 select message_id, date, datetime(date, 'unixepoch'), sender, recipients, subject, list_id,
     (select json_group_array(name) from attachments where mail = mails.id),
-    (select count(*) from copies where mail = mails.id), file, start, "end", mails.id
+    (select count(*) from copies where mail = mails.id), (select count(*) from mails other where other.message_id = mails.message_id),
+    file, start, "end", mails.id
 from mails join copies on copies.rowid = (select min(rowid) from copies where mail = mails.id)
 where mails.id in (select value from json_each(?))
 """
@@ -305,7 +307,7 @@ def write_json(found, _):
 def write_raw(found, given):
     """Writes the bytes of the only mail."""
     if len(found) != 1:
-        sys.exit(f"search.py: --raw writes one mail, and {len(found)} are found: narrow the search, for example by --id")
+        sys.exit(f"search.py: --raw writes one mail, and {len(found)} are found: narrow the search, for example by --id, or write all by --mbox")
     sys.stdout.buffer.write(bytes_of(found[0][0]))
 
 

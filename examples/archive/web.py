@@ -54,6 +54,9 @@ MONTHS = "select month, mails from months order by month desc limit 240"
 SENDERS = "select sender, mails from senders order by mails desc, sender limit 15"
 MAIL = "select message_id, date, datetime(date, 'unixepoch') as time, sender, recipients, subject, list_id, body from mails where id = ?"
 
+# mails with one id, which differ: all of them are in one slice
+SAME_ID = "select id, datetime(date, 'unixepoch') as time, sender, subject from mails where message_id = ? order by id limit 50"
+
 
 class Archive:
     """The databases of an archive, opened for each request."""
@@ -133,15 +136,15 @@ def facets_of(slices, chosen):
 
 
 def tree(archive, message_id):
-    """Returns the mails of a thread, each with its level, and ids that no mail has."""
+    """Returns the mails of a thread, each with its level, all that have one id, and ids that no mail has."""
     order = search.tree_of(archive.directory, message_id)
     ids, found = search.hexadecimal(one for one, _ in order), {}
     with archive.slices() as slices:
         for number, db in enumerate(slices):
             columns = "id, message_id, datetime(date, 'unixepoch') as time, sender, subject"
             for row in db.execute(f"select {columns} from mails where message_id in (select text_of(value) from json_each(?))", (ids,)):
-                found[row["message_id"]] = {**row, "slice": number}
-    return [{**found.get(one, {"id": None, "message_id": one}), "level": min(level, 12)} for one, level in order]
+                found.setdefault(row["message_id"], []).append({**row, "slice": number})
+    return [{**mail, "level": min(level, 12)} for one, level in order for mail in found.get(one, [{"id": None, "message_id": one}])]
 
 
 def bars(title, counts, is_horizontal=False):
@@ -233,7 +236,9 @@ def create_app(directory, program, hosts=None):
                 flask.abort(404)
             files = db.execute("select number, path, name, type, size from attachments where mail = ? order by number", (mail,)).fetchall()
             copies = db.execute('select file, start, "end", flags from copies where mail = ? order by rowid limit 50', (mail,)).fetchall()
-        return flask.render_template("mail.html", mail=row, files=files, copies=copies, slice=number, id=mail)
+            same = db.execute(SAME_ID, (row["message_id"],)).fetchall()
+            count = db.execute("select count(*) from mails where message_id = ?", (row["message_id"],)).fetchone()[0]
+        return flask.render_template("mail.html", mail=row, files=files, copies=copies, same=same, count=count, slice=number, id=mail)
 
     @app.get("/raw/<int:number>/<int:mail>")
     def raw(number, mail):
