@@ -14,10 +14,12 @@ import signal
 import socket
 import subprocess
 import sys
+import threading
 import time
 import urllib.error
 import urllib.parse
 import urllib.request
+from email.message import EmailMessage
 from xml.etree import ElementTree
 
 import pytest
@@ -109,6 +111,47 @@ def test_mails_with_one_id(tmp_path):
         assert "<h2>3 mails with this id, which differ</h2>" in page and page.count("This mail") == 1
         assert all((f">{subject}</a>" in page) == (at != number) for at, subject in enumerate(subjects, 1))
     assert "with this id" not in client.get("/mail/0/4").text
+
+
+@contextlib.contextmanager
+def served(app):
+    """Serves an application by Werkzeug. Yields its address."""
+    server = importlib.import_module("werkzeug.serving").make_server("127.0.0.1", 0, app)
+    thread = threading.Thread(target=server.serve_forever)
+    thread.start()
+    try:
+        yield f"http://127.0.0.1:{server.server_port}"
+    finally:
+        server.shutdown()
+        thread.join()
+        server.server_close()
+
+
+@pytest.mark.quick
+@pytest.mark.parametrize(
+    "name, ascii_name",
+    [
+        ("quagga.pdf", "quagga.pdf"),
+        ("Rechnung f\u00fcr M\u00e4rz \u20ac.pdf", "Rechnung fur Marz _.pdf"),
+        ("\u0417\u0432\u0456\u0442.pdf", "____.pdf"),
+        ("\u8acb\u6c42\u66f8", "___"),
+        ("\u2100\uff0f\uff3c\uff02;\u00e9.txt", "a_c___;e.txt"),
+        ("a\u202efdp.exe", "a_fdp.exe"),
+        ('a";b=c.txt', 'a";b=c.txt'),
+    ],
+)
+def test_names_of_downloads(tmp_path, name, ascii_name):
+    """A file with any name is sent with it in UTF-8 (RFC 6266, section 4.3), and with one in ASCII for older browsers."""
+    file = {"path": "2", "type": "application/pdf", "extracted": True, "text": None, "file_name": name}
+    client = made(tmp_path, f"printf hi > \"$4\"/'{name}'", {"parts": [{}, file]})
+    with served(client.application) as address:
+        status, headers, content = get(address, "/file/0/1/0")
+    assert (status, content, headers["Content-Type"]) == (200, "hi", "application/octet-stream")
+    message = EmailMessage()
+    message["Content-Disposition"] = re.sub(r"; filename\*=.*", "", headers["Content-Disposition"])
+    assert (message.get_content_disposition(), message.get_filename()) == ("attachment", ascii_name)
+    message.replace_header("Content-Disposition", re.sub(r"; filename=(\"(\\\\.|[^\"])*\"|[^;]*)(?=;|$)", "", headers["Content-Disposition"]))
+    assert message.get_filename() == (None if name.isascii() else name)
 
 
 def get(address, path, host=None):

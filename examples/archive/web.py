@@ -14,6 +14,8 @@ import sqlite3
 import subprocess
 import sys
 import tempfile
+import unicodedata
+import urllib.parse
 from types import SimpleNamespace
 from xml.etree import ElementTree
 
@@ -171,10 +173,19 @@ def without_scripts(svg):
     return ElementTree.tostring(top)
 
 
+def in_ascii(name):
+    """Returns the name of a file in ASCII: letters without their accents, and `_` for any other character."""
+    plain = "".join(letter for letter in unicodedata.normalize("NFKD", name) if not unicodedata.combining(letter))
+    return name if name.isascii() else re.sub(r'[^ !#-.0-[\]-~]', "_", plain)
+
+
 def download(raw, name):
     """Returns bytes as a file to be saved, whatever they are."""
     response = flask.Response(raw, mimetype="application/octet-stream")
-    response.headers.set("Content-Disposition", "attachment", filename=name)
+    names = {"filename": in_ascii(name)}
+    if names["filename"] != name:  # some versions of Werkzeug put any name into the header, which must be in Latin-1
+        names["filename*"] = f"UTF-8''{urllib.parse.quote(name, safe='')}"
+    response.headers.set("Content-Disposition", "attachment", **names)
     return response
 
 
