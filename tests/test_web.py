@@ -154,6 +154,19 @@ def test_names_of_downloads(tmp_path, name, ascii_name):
     assert message.get_filename() == (None if name.isascii() else name)
 
 
+@pytest.mark.quick
+def test_hosts(tmp_path):
+    """Requests name this machine and the port, which browsers leave out if it is 80; others are refused."""
+    client, web = made(tmp_path, "", {}), importlib.import_module("web")
+    for port, hosts, others in (
+        (80, ("127.0.0.1", "localhost", "[::1]", "localhost:80"), ("127.0.0.1:8025", "mail.example.org", "")),
+        (8025, ("127.0.0.1:8025", "localhost:8025", "[::1]:8025"), ("127.0.0.1", "localhost:80", "mail.example.org:8025", "")),
+    ):
+        app = web.create_app(str(tmp_path / "db"), client.application.name, web.hosts_of("127.0.0.1", port)).test_client()
+        for host in (*hosts, *others):
+            assert app.get("/", headers={"Host": host}).status_code == (200 if host in hosts else 403), (port, host)
+
+
 def get(address, path, host=None):
     """Returns the status, the headers and the body of an answer."""
     request = urllib.request.Request(address + path, headers={"Host": host} if host else {})

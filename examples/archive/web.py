@@ -297,6 +297,12 @@ def create_app(directory, program, hosts=None):
     return app
 
 
+def hosts_of(host, port):
+    """Returns the hosts that requests to this machine may name. The port 80 is left out by browsers."""
+    names = {"127.0.0.1", "localhost", "[::1]", host}
+    return {f"{name}:{port}" for name in names} | (names if port == 80 else set())
+
+
 def main():
     """Serves the pages until it is interrupted."""
     parser = argparse.ArgumentParser(description=__doc__, formatter_class=argparse.RawDescriptionHelpFormatter)
@@ -308,7 +314,7 @@ def main():
     if flask is None:
         print(f"web.py: this Python has no {LACKING}: on Debian install python3-flask and python3-pygal, and run it by /usr/bin/python3", file=sys.stderr)
         sys.exit(2)
-    hosts = {f"{host}:{given.port}" for host in ("127.0.0.1", "localhost", "[::1]", given.host)}
+    hosts = hosts_of(given.host, given.port)
     if given.host not in ("127.0.0.1", "localhost", "::1"):
         print("web.py: anyone who reaches this port can read the archive; there are no passwords", file=sys.stderr)
         hosts = None
