@@ -6,6 +6,7 @@ downloads. The browser is Chromium without a window; screenshots go to the direc
 
 import base64
 import contextlib
+import html
 import importlib
 import json
 import os
@@ -165,6 +166,39 @@ def test_hosts(tmp_path):
         app = web.create_app(str(tmp_path / "db"), client.application.name, web.hosts_of("127.0.0.1", port)).test_client()
         for host in (*hosts, *others):
             assert app.get("/", headers={"Host": host}).status_code == (200 if host in hosts else 403), (port, host)
+
+
+# those that RULES.md lists under "Hidden characters", and numbers of no character (Unicode, section 23.7)
+UNSEEN = [0, 8, 11, 13, 27, 31, 127, 128, 159, 0x61C, 0x200E, 0x200F, *range(0x2028, 0x202F), *range(0x2066, 0x206A)]
+UNSEEN += [0xFDD0, 0xFDEF, 0xFFFE, 0xFFFF, 0x1FFFE, 0x10FFFF]
+
+
+@pytest.mark.quick
+def test_hidden_characters(tmp_path):
+    """No page and no plot has a character that is not seen; those that are seen stay."""
+    hidden, seen = "".join(map(chr, UNSEEN)), "\xa0\u200d\u2010\u202f\ufffd\U0001f600\u05d0"
+    text = f"x{hidden}{seen}"
+    file = {"path": "2", "type": text, "extracted": True, "text": None, "file_name": text, "headers": [["List-Id", f"<l{hidden}>"]]}
+    member = {"from": [{"name": text, "address": text}], "to": [{"unknown": text}], "subject": text, "message_id": [text]}
+    head = {"headers": [["List-Id", f"<l{hidden}>"]], "text": f"quagga\t1\n{text}"}
+    client = made(tmp_path, "", {**member, "parts": [head, file]}, {**member, "subject": f"Re: {text}", "parts": [head]}, {"error": text, "file": text})
+    paths = ["/", "/?q=quagga", "/mail/0/1", "/mail/0/2", "/thread?id=" + urllib.parse.quote(text), "/refused", "/plots", "/plots/senders.svg", "/plots/months.svg"]
+    for path in paths:
+        answer = client.get(path)
+        page = html.unescape(answer.text)
+        assert answer.status_code == 200 and not set(page) & set(hidden), (path, set(page) & set(hidden))
+        assert path == "/plots/months.svg" or f"\ufffd{seen}" in page or "svg" in path and seen in page, path
+        if path.endswith(".svg"):
+            ElementTree.fromstring(answer.text)
+    assert "<pre>quagga\t1\nx" in client.get("/mail/0/1").text
+
+
+@pytest.mark.quick
+def test_line_ends(tmp_path):
+    """CR LF in a text is a line end; any other CR is shown as what it is, a character that is not seen."""
+    client = made(tmp_path, "", {"parts": [{"text": "one\r\ntwo\r\n\r\nthree\r"}]}, {"parts": [{"text": "one\ntwo\r\r\n"}]})
+    assert "<pre>one\ntwo\n\nthree\ufffd</pre>" in client.get("/mail/0/1").text
+    assert "<pre>one\ntwo\ufffd\n</pre>" in client.get("/mail/0/2").text
 
 
 def get(address, path, host=None):

@@ -54,7 +54,11 @@ COMMON = 5000
 # more mails than there are
 ALL = 1 << 62
 NEVER = float("-inf")
-HIDDEN = re.compile("[\x00-\x1f\x7f-\x9f\u2028\u2029\u202a-\u202e\u2066-\u2069]")
+# controls but for a tab and a LF, what ends a line or changes the direction of text, and the numbers of no character
+UNSEEN = "\x00-\x08\x0b-\x1f\x7f-\x9f\u061c\u200e\u200f\u2028-\u202e\u2066-\u2069\ud800-\udfff\ufdd0-\ufdef"
+UNSEEN += "".join(f"{chr(plane + 0xfffe)}{chr(plane + 0xffff)}" for plane in range(0, 0x110000, 0x10000))
+HIDDEN = re.compile(f"[\t\n{UNSEEN}]")
+HIDDEN_IN_TEXT = re.compile(f"[{UNSEEN}]")
 SEPARATOR = re.compile(rb"^(>*From )", re.MULTILINE)
 PACKED = ((b"\x1f\x8b", "gzip"), (b"\xfd7zX", "xz"), (b"BZh", "bzip2"), (b"\x28\xb5\x2f\xfd", "zstd"))
 ESCAPE = re.compile(rb"\\x([89a-f][0-9a-f])")

@@ -45,7 +45,6 @@ HEADERS = {
     "Cross-Origin-Opener-Policy": "same-origin",
     "Cross-Origin-Resource-Policy": "same-origin",
 }
-HIDDEN = re.compile("[\x00-\x08\x0b-\x1f\x7f-\x9f\u202a-\u202e\u2066-\u2069]")
 FACETS = {
     "year": "strftime('%Y', date, 'unixepoch')",
     "sender": "sender",
@@ -101,6 +100,11 @@ class Archive:
             return search.bytes_of(dict(copy))
         except OSError as fault:
             flask.abort(410, f"The mail cannot be read: {fault.strerror}")
+
+
+def shown(text):
+    """Returns a text as a page shows it, whose lines may end in CR LF: U+FFFD for each character that is not seen."""
+    return search.HIDDEN_IN_TEXT.sub("\ufffd", (text or "").replace("\r\n", "\n"))
 
 
 def given_of(words):
@@ -204,7 +208,7 @@ def create_app(directory, program, hosts=None):
     """Makes the application over a database. `hosts` are the hosts that requests may name; any if left out."""
     app = flask.Flask(__name__)
     archive = Archive(directory, program)
-    app.jinja_env.filters["shown"] = lambda text: HIDDEN.sub("\ufffd", text or "")
+    app.jinja_env.filters["shown"] = shown
     app.jinja_env.globals["link"] = lambda words, **more: flask.url_for("index", **{key: it for key, it in {**words, "page": None, **more}.items() if it})
 
     @app.before_request
@@ -292,7 +296,7 @@ def create_app(directory, program, hosts=None):
     @app.get("/plots/senders.svg")
     def senders():
         counts = archive.numbers(SENDERS)
-        return bars("Most frequent senders", [(HIDDEN.sub("\ufffd", sender)[:40], count) for sender, count in counts[::-1]], is_horizontal=True)
+        return bars("Most frequent senders", [(shown(sender)[:40], count) for sender, count in counts[::-1]], is_horizontal=True)
 
     return app
 
