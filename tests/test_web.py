@@ -201,6 +201,20 @@ def test_line_ends(tmp_path):
     assert "<pre>one\ntwo\ufffd\n</pre>" in client.get("/mail/0/2").text
 
 
+@pytest.mark.quick
+def test_faults(tmp_path, monkeypatch):
+    """What is not there is a 404, however large its number is, and a file that takes too long to read a 503."""
+    file = {"path": "2", "type": "application/pdf", "extracted": True, "text": None, "file_name": "a"}
+    client = made(tmp_path, "exec sleep 60", {"parts": [{}, file]})
+    for number in (2, 2**31, 2**63 - 1, 2**63, 2**64, 10**100):
+        for path in (f"/mail/0/{number}", f"/raw/0/{number}", f"/file/0/{number}/0", f"/file/0/1/{number}", f"/mail/{number}/1"):
+            answer = client.get(path)
+            assert answer.status_code == 404 and "Content-Security-Policy" in answer.headers and "<h1>Not Found</h1>" in answer.text, path
+    monkeypatch.setattr(importlib.import_module("web"), "SECONDS", 0.2)
+    answer = client.get("/file/0/1/0")
+    assert answer.status_code == 503 and "not read within 0.2 seconds" in answer.text
+
+
 def get(address, path, host=None):
     """Returns the status, the headers and the body of an answer."""
     request = urllib.request.Request(address + path, headers={"Host": host} if host else {})

@@ -37,6 +37,10 @@ COUNTED = 200
 # the most pages of a search, and the number of mails above which those with a word are not counted
 PAGES = 400
 MANY = 40_000
+# a number that SQLite can have, in a route; any greater one is none of a mail
+NUMBER = f"int(max={2**63 - 1})"
+# the most seconds in which a file is read
+SECONDS = 60
 POLICY = "default-src 'none'; style-src 'self'; img-src 'self'; form-action 'self'; base-uri 'none'; frame-ancestors 'none'"
 HEADERS = {
     "Content-Security-Policy": POLICY,
@@ -197,7 +201,10 @@ def extracted(archive, raw, path):
     """Returns the name and the bytes of a file of a mail, as rocktray extract saves it."""
     with tempfile.TemporaryDirectory() as into:
         command = [archive.program, "extract", "--mail", "--into", into, "--only", path, "-"]
-        subprocess.run(command, input=raw, stdout=subprocess.DEVNULL, check=False, timeout=60)
+        try:
+            subprocess.run(command, input=raw, stdout=subprocess.DEVNULL, check=False, timeout=SECONDS)
+        except subprocess.TimeoutExpired:
+            flask.abort(503, f"The file is not read within {SECONDS} seconds.")
         for name in os.listdir(into):
             with open(os.path.join(into, name), "rb") as file:
                 return name, file.read()
@@ -225,6 +232,7 @@ def create_app(directory, program, hosts=None):
     @app.errorhandler(403)
     @app.errorhandler(404)
     @app.errorhandler(410)
+    @app.errorhandler(503)
     def fault(error):
         return flask.render_template("fault.html", error=error), error.code
 
@@ -243,7 +251,7 @@ def create_app(directory, program, hosts=None):
         pages = min(-(-total // PAGE), PAGES)
         return flask.render_template("index.html", words=words, mails=mails, total=total, is_whole=is_whole, facets=facets, counted=COUNTED, page=page, pages=pages)
 
-    @app.get("/mail/<int:number>/<int:mail>")
+    @app.get(f"/mail/<int:number>/<{NUMBER}:mail>")
     def mail(number, mail):
         with archive.slice(number) as db:
             row = db.execute(MAIL, (mail,)).fetchone()
@@ -255,11 +263,11 @@ def create_app(directory, program, hosts=None):
             count = db.execute("select count(*) from mails where message_id = ?", (row["message_id"],)).fetchone()[0]
         return flask.render_template("mail.html", mail=row, files=files, copies=copies, same=same, count=count, slice=number, id=mail)
 
-    @app.get("/raw/<int:number>/<int:mail>")
+    @app.get(f"/raw/<int:number>/<{NUMBER}:mail>")
     def raw(number, mail):
         return download(archive.first_copy(number, mail), "message.eml")
 
-    @app.get("/file/<int:number>/<int:mail>/<int:file>")
+    @app.get(f"/file/<int:number>/<{NUMBER}:mail>/<{NUMBER}:file>")
     def file(number, mail, file):
         with archive.slice(number) as db:
             row = db.execute("select path from attachments where mail = ? and number = ?", (mail, file)).fetchone()
