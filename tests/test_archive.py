@@ -540,6 +540,35 @@ def test_mails_with_one_id(tmp_path):
 
 
 @pytest.mark.quick
+def test_changed_files(tmp_path):
+    """The bytes of a mailbox that changed since it was indexed are not written as those of a mail, whatever they are."""
+    box, packed = tmp_path / "box", tmp_path / "box.gz"
+    box.write_bytes(SMALL[1])
+    packed.write_bytes(gzip.compress(SMALL[1]))
+    index = importlib.import_module("index_archive")
+    parts = [[["--part", "1/1"], [index.state(str(box))]], [["--label", str(packed)], [index.state(str(packed))]]]
+    (tmp_path / "out").mkdir()
+    index.write_manifest(str(tmp_path / "out"), [(part, None) for part in parts], "version", index.Found(None))
+    for number, (path, part) in enumerate(zip((box, packed), parts)):
+        line = line_of(f"{number}@x", subject=path.name, file=str(path), end=len(SMALL[1]))
+        write(f"{tmp_path}/out/{index.shard_of('version', part)}", json.dumps(line).encode() + b"\n")
+    assert called(tmp_path, "load_sqlite.py", "out", "db").returncode == 0
+    for number, path in enumerate((box, packed)):
+        times = os.stat(path).st_atime_ns, os.stat(path).st_mtime_ns
+        arguments = ("search.py", "db", "--id", f"{number}@x", "--raw")
+        assert called(tmp_path, *arguments).stdout == SMALL[1].decode()
+        whole = path.read_bytes()
+        for data, more in ((whole[:-1] + b"?", 1), (whole + b"x", 0), (b"x" + whole, 1), (whole[:-1], 0)):
+            path.write_bytes(data)
+            os.utime(path, ns=(times[0], times[1] + more))
+            ended = called(tmp_path, *arguments)
+            assert (ended.returncode, ended.stdout) == (2, "") and "changed since it was indexed: run index_archive.py" in ended.stderr, ended
+        path.write_bytes(whole)
+        os.utime(path, ns=times)
+        assert called(tmp_path, *arguments).stdout == SMALL[1].decode()
+
+
+@pytest.mark.quick
 def test_mails_that_sqlite_refuses(tmp_path):
     """A mail with a value that SQLite does not take is refused with the reason, and all others are loaded."""
     bad = {"date": 2**63}, {"subject": "\ud800"}, {"date": -(2**63) - 1}

@@ -89,7 +89,8 @@ def made(directory, program, *mails):
     lines = [{**line, **mail, "parts": [{**part, **one} for one in mail.get("parts", [{}])]} for mail in mails]
     (directory / "out").mkdir()
     (directory / "out" / "a.jsonl").write_text("".join(json.dumps(one) + "\n" for one in lines))
-    (directory / "out" / "MANIFEST").write_text('{"shard": "a.jsonl"}\n')
+    state = [str(directory / "box"), size, (directory / "box").stat().st_mtime_ns]
+    (directory / "out" / "MANIFEST").write_text(json.dumps({"shard": "a.jsonl", "files": [state]}) + "\n")
     loader = [sys.executable, os.path.join(EXAMPLES, "load_sqlite.py"), "out", "db", "--slices", "1"]
     subprocess.run(loader, cwd=directory, stderr=subprocess.PIPE, check=True)
     (directory / "rocktray").write_text(f"#!/bin/sh\n{program}\n")
@@ -203,16 +204,22 @@ def test_line_ends(tmp_path):
 
 @pytest.mark.quick
 def test_faults(tmp_path, monkeypatch):
-    """What is not there is a 404, however large its number is, and a file that takes too long to read a 503."""
+    """What is not there is a 404, however large its number is, a file that takes too long to read a 503, and a mail of a
+    mailbox that changed a 410."""
     file = {"path": "2", "type": "application/pdf", "extracted": True, "text": None, "file_name": "a"}
     client = made(tmp_path, "exec sleep 60", {"parts": [{}, file]})
     for number in (2, 2**31, 2**63 - 1, 2**63, 2**64, 10**100):
         for path in (f"/mail/0/{number}", f"/raw/0/{number}", f"/file/0/{number}/0", f"/file/0/1/{number}", f"/mail/{number}/1"):
             answer = client.get(path)
             assert answer.status_code == 404 and "Content-Security-Policy" in answer.headers and "<h1>Not Found</h1>" in answer.text, path
+    assert client.get("/raw/0/1").text == "Subject: Zebra\n\nword\n"
     monkeypatch.setattr(importlib.import_module("web"), "SECONDS", 0.2)
     answer = client.get("/file/0/1/0")
     assert answer.status_code == 503 and "not read within 0.2 seconds" in answer.text
+    (tmp_path / "box").write_text("Subject: Other\n\nword\n")
+    for path in ("/raw/0/1", "/file/0/1/0"):
+        answer = client.get(path)
+        assert answer.status_code == 410 and "changed since it was indexed" in answer.text and "Other" not in answer.text
 
 
 def get(address, path, host=None):

@@ -264,10 +264,10 @@ def parts_of(found, paths, most):
 
 
 def write_manifest(out, done, version, found):
-    """Writes MANIFEST: the shards, the parts and files that could not be read, and those that are no mail. Removes all
-    other shards. Returns a line for each part and file that could not be read."""
-    shards = {shard_of(version, part): title(*part) for part, fault in done if not fault}
-    lines = [{"shard": name, "read": read} for name, read in shards.items()]
+    """Writes MANIFEST: the shards, each with the sizes and times of its files, the parts and files that could not be read,
+    and those that are no mail. Removes all other shards. Returns a line for each part and file that could not be read."""
+    shards = {shard_of(version, part): part for part, fault in done if not fault}
+    lines = [{"shard": name, "read": title(*part), "files": [(label(path), *more) for path, *more in part[1]]} for name, part in shards.items()]
     lines += [{"refused": title(*part), "why": fault} for part, fault in done if fault]
     lines += [{"refused": label(path), "why": why} for path, why in found.faults]
     lines += [{"skipped": label(path), "is": kind} for path, kind in found.skipped]

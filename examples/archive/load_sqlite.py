@@ -10,7 +10,8 @@ missing words are added, so an interrupted run can be continued. A database of a
 of a slice:
 
   mails        each mail, with what its first copy says, and a hash of that
-  copies       the copies of a mail: each is in `file` from `start` to `end`; `flags` are those of a Maildir
+  copies       the copies of a mail: each is in `file` from `start` to `end`; `flags` are those of a Maildir; the size of the
+               file, and its time in nanoseconds, are those that it had when it was read, if OUT/MANIFEST has them
   refused      each mail that was refused, with the `error`
   recipients   the addresses in To, Cc and Bcc
   links        the ids in References and In-Reply-To, in order, the parent last
@@ -52,7 +53,8 @@ create table if not exists shards(name text primary key) without rowid;
 create table if not exists mails(
     id integer primary key, message_id text, date integer, sender text, recipients text, subject text, list_id text, body text, digest blob);
 create unique index if not exists mails_by_digest on mails(digest);
-create table if not exists copies(mail integer, shard text, file text, start integer, "end" integer, flags text);
+create table if not exists copies(
+    mail integer, shard text, file text, start integer, "end" integer, flags text, file_size integer, file_time integer);
 create table if not exists refused(shard text, file text, start integer, "end" integer, error text);
 create table if not exists recipients(mail integer, address text, name text, primary key(mail, address)) without rowid;
 create table if not exists links(mail integer, position integer, id text, primary key(mail, position)) without rowid;
@@ -196,8 +198,9 @@ def flags_of(file):
     return flags[1] if flags else None
 
 
-def deal(path, shard, count, scratch):
-    """Reads a shard, and writes what each of `count` slices gets of it to a file. Returns the names of the files."""
+def deal(path, shard, count, scratch, files):
+    """Reads a shard of some files, each with its size and time, and writes what each of `count` slices gets of it to a file.
+    Returns the names of these."""
     dealt = [([], []) for _ in range(count)]
     with open(path, "rb") as lines:
         for line in map(read_line, lines):
@@ -210,7 +213,7 @@ def deal(path, shard, count, scratch):
             else:
                 row, *more = mail_of(line)
                 key = row[-1] if row[0] is None else row[0].encode("utf-8", "surrogatepass")
-                dealt[zlib.crc32(key) % count][0].append(((*origin, flags_of(line["file"])), (row, *more)))
+                dealt[zlib.crc32(key) % count][0].append(((*origin, flags_of(line["file"]), *files.get(line["file"], (None, None))), (row, *more)))
     names = [os.path.join(scratch, f"{shard}.{number}") for number in range(count)]
     for name, part in zip(names, dealt):
         with open(name, "wb") as file:
@@ -260,7 +263,7 @@ def insert(db, shard, mails, refused):
             links += [(number, position, one) for position, one in enumerate(ids)]
             files += [(number, position, *one) for position, one in enumerate(attached)]
         copies.append((number, shard, *origin))
-    for table, width, given in (("mails", 9, rows), ("copies", 6, copies), ("recipients", 3, recipients), ("links", 3, links), ("attachments", 9, files)):
+    for table, width, given in (("mails", 9, rows), ("copies", 8, copies), ("recipients", 3, recipients), ("links", 3, links), ("attachments", 9, files)):
         db.executemany(f"insert into {table} values({','.join('?' * width)})", given)
     db.executemany("insert into refused values(?, ?, ?, ?, ?)", refused)
     db.execute("insert into shards values(?)", (shard,))
@@ -417,7 +420,7 @@ def load_all(given, named, paths, trees, pool, scratch):
     if any(stale) or any(fresh):
         set_version(trees, 0)  # until they are made anew, also after an interrupted run
     files = [os.path.join(given.out, name) for name in wanted]
-    dealt = dict(zip(wanted, pool.map(deal, files, wanted, [len(paths)] * len(wanted), [scratch] * len(wanted))))
+    dealt = dict(zip(wanted, pool.map(deal, files, wanted, [len(paths)] * len(wanted), [scratch] * len(wanted), [named[name] for name in wanted])))
     parts = [[(name, dealt[name][number]) for name in names] for number, names in enumerate(fresh)]
     loads = list(pool.map(load, paths, stale, parts))
     return sum(total for total, _ in loads), [fault for _, faults in loads for fault in faults]
@@ -477,7 +480,7 @@ def main():
     gc.disable()  # here and in the processes of the pool: no cycles of objects are made
     try:
         with open(os.path.join(given.out, "MANIFEST"), encoding="utf-8") as manifest:
-            named = [line["shard"] for line in map(json.loads, manifest) if "shard" in line]
+            named = {line["shard"]: {name: state for name, *state in line.get("files", ())} for line in map(json.loads, manifest) if "shard" in line}
     except FileNotFoundError:
         sys.exit(f"load_sqlite.py: {given.out} has no MANIFEST: run index_archive.py first")
     os.makedirs(given.database, exist_ok=True)

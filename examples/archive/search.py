@@ -24,6 +24,7 @@ import argparse
 import concurrent.futures
 import contextlib
 import datetime
+import errno
 import glob
 import heapq
 import itertools
@@ -40,12 +41,12 @@ from program import rocktray
 
 # the version of the tables of load_sqlite.py
 VERSION = 5
-COLUMNS = ("message_id", "date", "time", "sender", "recipients", "subject", "list_id", "files", "copies", "same_id", "file", "start", "end")
+COLUMNS = ("message_id", "date", "time", "sender", "recipients", "subject", "list_id", "files", "copies", "same_id", "file", "start", "end", "file_size", "file_time")
 FOUND = """
 select message_id, date, datetime(date, 'unixepoch'), sender, recipients, subject, list_id,
     (select json_group_array(name) from attachments where mail = mails.id),
     (select count(*) from copies where mail = mails.id), (select count(*) from mails other where other.message_id = mails.message_id),
-    file, start, "end", mails.id
+    file, start, "end", file_size, file_time, mails.id
 from mails join copies on copies.rowid = (select min(rowid) from copies where mail = mails.id)
 where mails.id in (select value from json_each(?))
 """
@@ -271,9 +272,13 @@ def path_of(label):
 
 
 def bytes_of(mail):
-    """Returns the bytes of the first copy of a mail, also if its file is packed."""
+    """Returns the bytes of the first copy of a mail, also if its file is packed. Raises OSError if the file has changed since it
+    was indexed: what is there now may be another mail."""
     path = path_of(mail["file"])
     with open(path, "rb") as file:
+        now = os.fstat(file.fileno())
+        if mail.get("file_time") is not None and (now.st_size, now.st_mtime_ns) != (mail["file_size"], mail["file_time"]):
+            raise OSError(errno.ESTALE, "it has changed since it was indexed: run index_archive.py and load_sqlite.py again", mail["file"])
         first = file.read(4)
         if not (program := next((program for begin, program in PACKED if first.startswith(begin)), None)):
             file.seek(mail["start"])

@@ -97,7 +97,7 @@ class Archive:
     def first_copy(self, number, mail):
         """Returns the bytes of the first copy of a mail."""
         with self.slice(number) as db:
-            copy = db.execute('select file, start, "end" from copies where mail = ? limit 1', (mail,)).fetchone()
+            copy = db.execute('select file, start, "end", file_size, file_time from copies where mail = ? limit 1', (mail,)).fetchone()
         if copy is None:
             flask.abort(404)
         try:
