@@ -322,6 +322,24 @@ def test_packed(tmp_path):
         assert raw in (mail[len(FROM) :], *SMALL), f"the bytes of a mail of {name}"
 
 
+@pytest.mark.quick
+def test_messages_of_unpackers(tmp_path):
+    """An unpacker that writes more messages than a pipe has space for ends nevertheless, and so does its part."""
+    write(f"{tmp_path}/bin/gzip", b"#!/bin/sh\nhead -c 300000 /dev/zero | tr '\\0' m >&2\nexec /bin/cat \"$3\"\n")
+    write(f"{tmp_path}/rocktray", b"#!/bin/sh\nexec wc -c\n")
+    for name in ("bin/gzip", "rocktray"):
+        os.chmod(f"{tmp_path}/{name}", 0o755)
+    write(f"{tmp_path}/mails/a.gz", b"\x1f\x8b" + b"x" * 200_000)
+    script = [sys.executable, os.path.join(EXAMPLES, "index_archive.py"), "out", "mails", "--program", "./rocktray"]
+    environment = {**os.environ, "PATH": f"{tmp_path}/bin:{os.environ['PATH']}"}
+    ended = subprocess.run(script, cwd=tmp_path, capture_output=True, env=environment, timeout=60, check=False)
+    assert (ended.returncode, ended.stderr, lines(f"{tmp_path}/out")) == (0, b"", b"200002\n")
+    write(f"{tmp_path}/bin/gzip", b"#!/bin/sh\nhead -c 300000 /dev/zero | tr '\\0' m >&2\nexit 3\n")
+    os.remove(f"{tmp_path}/out/{os.path.basename(next(iter(shards(f'{tmp_path}/out'))))}")
+    ended = subprocess.run(script, cwd=tmp_path, capture_output=True, env=environment, timeout=60, check=False)
+    assert ended.returncode == 1 and b"a.gz: gzip: exit status 3: mmm" in ended.stderr and len(ended.stderr) < 5000
+
+
 def test_interrupted(tmp_path):
     """Ctrl-C is one line, and the next run goes on."""
     write(f"{tmp_path}/mails/a", SMALL[0])

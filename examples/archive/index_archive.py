@@ -20,11 +20,14 @@ import pathlib
 import re
 import subprocess
 import sys
+import tempfile
 import uuid
 import zlib
 
 from program import rocktray
 
+# the number of bytes of messages of a program that are shown
+MESSAGE = 4096
 # how a part is read: with the hashes of files, by which load_sqlite.py distinguishes mails with one message id
 JSON = ["json", "--html-text", "--hash"]
 OURS = re.compile(r"[0-9a-f]{32}\.jsonl|\.part-[0-9a-f]{32}")
@@ -168,16 +171,17 @@ def read_alone(command, path, shard):
     if program is None:
         with open(path, "rb") as file:
             return read_files(command, file, shard)
-    try:
-        unpack = subprocess.Popen([program, "-dc", "--", path], stdin=subprocess.DEVNULL, stdout=subprocess.PIPE, stderr=subprocess.PIPE)
-    except FileNotFoundError:
-        return f"{program} is not installed"
-    with unpack:
-        fault = read_files(command, unpack.stdout, shard)
-        unpack.stdout.close()
-        told = unpack.stderr.read()
-    if not fault and unpack.returncode:
-        fault = f"{program}: exit status {unpack.returncode}: {told.decode(errors='replace').strip()}"
+    with tempfile.TemporaryFile() as said:  # and no pipe, which is full after 64 kB
+        try:
+            unpack = subprocess.Popen([program, "-dc", "--", path], stdin=subprocess.DEVNULL, stdout=subprocess.PIPE, stderr=said)
+        except FileNotFoundError:
+            return f"{program} is not installed"
+        with unpack:
+            fault = read_files(command, unpack.stdout, shard)
+            unpack.stdout.close()
+        said.seek(0)
+        if not fault and unpack.returncode:
+            fault = f"{program}: exit status {unpack.returncode}: {said.read(MESSAGE).decode(errors='replace').strip()}"
     return fault
 
 
@@ -186,7 +190,7 @@ def read_files(command, stdin, shard):
     ended = subprocess.run(command, stdin=stdin, stdout=shard, stderr=subprocess.PIPE, check=False)
     if ended.returncode in (0, 3):
         return None
-    return f"exit status {ended.returncode}: {ended.stderr.decode(errors='replace').strip()}"
+    return f"exit status {ended.returncode}: {ended.stderr[:MESSAGE].decode(errors='replace').strip()}"
 
 
 def shard_of(version, part):
