@@ -323,6 +323,26 @@ def test_packed(tmp_path):
 
 
 @pytest.mark.quick
+def test_one_run_at_a_time(tmp_path):
+    """A second run into one directory ends and removes nothing; when the first has ended, or was killed, it reads on."""
+    for name in ("a", "b"):
+        write(f"{tmp_path}/{name}/mail", b"Subject: %b\n\n" % name.encode())
+    write(f"{tmp_path}/rocktray", b"#!/bin/sh\n[ -e go ] || { touch begun; sleep 60 & wait; }\nexec echo \"$@\"\n")
+    os.chmod(f"{tmp_path}/rocktray", 0o755)
+    script = [sys.executable, os.path.join(EXAMPLES, "index_archive.py"), "out"]
+    with subprocess.Popen([*script, "a", "--program", "./rocktray"], cwd=tmp_path, stderr=subprocess.PIPE, start_new_session=True) as first:
+        wait_for(lambda: os.path.exists(f"{tmp_path}/begun"), "the first run")
+        before = sorted(os.listdir(f"{tmp_path}/out"))
+        second = subprocess.run([*script, "b", "--program", "./rocktray"], cwd=tmp_path, capture_output=True, text=True, timeout=60, check=False)
+        wanted = f"index_archive.py: another run writes to {tmp_path}/out: wait until it has ended\n"
+        assert (second.returncode, second.stderr, sorted(os.listdir(f"{tmp_path}/out"))) == (2, wanted, before)
+        os.killpg(first.pid, signal.SIGKILL)
+    write(f"{tmp_path}/go")
+    assert subprocess.run([*script, "b", "--program", "./rocktray"], cwd=tmp_path, timeout=60, check=False).returncode == 0
+    assert lines(f"{tmp_path}/out").decode().split()[-1] == f"{tmp_path}/b/mail" and len(shards(f"{tmp_path}/out")) == 1
+
+
+@pytest.mark.quick
 def test_messages_of_unpackers(tmp_path):
     """An unpacker that writes more messages than a pipe has space for ends nevertheless, and so does its part."""
     write(f"{tmp_path}/bin/gzip", b"#!/bin/sh\nhead -c 300000 /dev/zero | tr '\\0' m >&2\nexec /bin/cat \"$3\"\n")

@@ -12,6 +12,8 @@ Files that begin as those of other formats do, such as images, are counted and s
 import argparse
 import collections
 import concurrent.futures
+import contextlib
+import fcntl
 import functools
 import hashlib
 import json
@@ -284,6 +286,21 @@ def write_manifest(out, done, version, found):
     return [f"{line['refused']}: {line['why']}" for line in lines if "refused" in line]
 
 
+@contextlib.contextmanager
+def locked(out):
+    """Keeps other runs from writing to the same directory, whose shards each would remove as those of no part. Exits if one
+    runs. The lock ends with the process; a file system without locks has none."""
+    with open(os.path.join(out, ".lock"), "ab") as file:
+        try:
+            fcntl.flock(file, fcntl.LOCK_EX | fcntl.LOCK_NB)
+        except BlockingIOError:
+            print(f"index_archive.py: another run writes to {out}: wait until it has ended", file=sys.stderr)
+            sys.exit(2)
+        except OSError as fault:
+            print(f"index_archive.py: {out} cannot be locked ({fault.strerror}): start no other run that writes to it", file=sys.stderr)
+        yield
+
+
 def arguments():
     """Returns the parser of the arguments."""
     parser = argparse.ArgumentParser(description=__doc__, formatter_class=argparse.RawDescriptionHelpFormatter)
@@ -298,12 +315,8 @@ def arguments():
     return parser
 
 
-def main():
-    """Reads the missing parts, and writes MANIFEST."""
-    parser = arguments()
-    given = parser.parse_args()
-    program = rocktray(given.program)
-    os.makedirs(given.out, exist_ok=True)
+def index(given, program):
+    """Reads the missing parts, and writes MANIFEST. Returns whether all was read."""
     found = Found(given.out)
     version = hashlib.sha256(pathlib.Path(program).read_bytes()).hexdigest()
     wanted = {shard_of(version, part): part for part in parts_of(found, given.paths, given.bytes)}
@@ -322,7 +335,16 @@ def main():
         said.append(f"skipped, since they are no mail: {found.said_of_skipped()}")
     for line in said:
         print(f"index_archive.py: {line}", file=sys.stderr)
-    status = 1 if is_bad and not given.skip_bad else 0
+    return not is_bad
+
+
+def main():
+    """Makes the index, and loads it if that is asked for."""
+    given = arguments().parse_args()
+    program = rocktray(given.program)
+    os.makedirs(given.out, exist_ok=True)
+    with locked(given.out):
+        status = 0 if index(given, program) or given.skip_bad else 1
     if given.load:
         loader = os.path.join(os.path.dirname(os.path.abspath(__file__)), "load_sqlite.py")
         status = max(status, subprocess.run([sys.executable, loader, given.out, given.load], check=False).returncode)
