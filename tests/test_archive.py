@@ -323,6 +323,17 @@ def test_packed(tmp_path):
 
 
 @pytest.mark.quick
+def test_names_in_messages(tmp_path):
+    """The name of a file, which others may choose in a Maildir, forges no line of a message."""
+    write(f"{tmp_path}/mails/cur/1\nindex_archive.py: all is well\x1b[31m\u202e", b"Subject: 1\n\n")
+    write(f"{tmp_path}/rocktray", b"#!/bin/sh\nexit 1\n")
+    os.chmod(f"{tmp_path}/rocktray", 0o755)
+    ended = called(tmp_path, "index_archive.py", "out", "mails", "--program", "./rocktray")
+    wanted = f"index_archive.py: {tmp_path}/mails/cur/1\ufffdindex_archive.py: all is well\ufffd[31m\ufffd (--mail): exit status 1: \n"
+    assert (ended.returncode, ended.stderr) == (1, wanted)
+
+
+@pytest.mark.quick
 def test_one_run_at_a_time(tmp_path):
     """A second run into one directory ends and removes nothing; when the first has ended, or was killed, it reads on."""
     for name in ("a", "b"):

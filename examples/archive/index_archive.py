@@ -27,6 +27,7 @@ import uuid
 import zlib
 
 from program import rocktray
+from search import HIDDEN
 
 # the number of bytes of messages of a program that are shown
 MESSAGE = 4096
@@ -334,7 +335,7 @@ def index(given, program):
     if found.skipped:
         said.append(f"skipped, since they are no mail: {found.said_of_skipped()}")
     for line in said:
-        print(f"index_archive.py: {line}", file=sys.stderr)
+        print(f"index_archive.py: {HIDDEN.sub(chr(0xFFFD), line)}", file=sys.stderr)
     return not is_bad
 
 
