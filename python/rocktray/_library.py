@@ -68,12 +68,12 @@ def name_of(name: str) -> Optional[bytes]:
 
 def header(mail: Bytes, name: str, number: int = 0) -> Optional[str]:
     """The value of the header with this name and number, counting from 0: the headers alone are read."""
-    return _engine.header(mail, name.encode(), number)
+    return None if name_of(name) is None else _engine.header(mail, name.encode(), number)
 
 
 def raw_header(part: Bytes, name: str, number: int = 0) -> Optional[bytes]:
     """The raw value of that header."""
-    return _engine.raw_header(part, name.encode(), number)
+    return None if name_of(name) is None else _engine.raw_header(part, name.encode(), number)
 
 
 def block_refusal(part: Bytes) -> str:

@@ -45,6 +45,17 @@ def test_raw_values_in_linear_time():
     assert time.process_time() - before < 3
 
 
+def test_names_that_no_header_has():
+    """They are no error, whether the mail is refused, not read yet, or read: no name has characters above U+00FF."""
+    raw = b"A: b\nSubject: Hi\n\n"
+    refused, unread, read = rocktray.Mail(raw, limit=1), rocktray.Mail(raw), rocktray.parse(raw)
+    assert refused.error and read.subject
+    for name in ("\ud800", "a\udcff", "\U0001f600", "\u20ac", "\0", "", ":", "a:"):
+        for mail in (refused, unread, read):
+            assert (mail.header(name), mail[name], mail.header(name, 7), name in mail) == (None, None, None, False), name
+        assert (read.get_all(name), next(read.walk()).header(name), _library.raw_header(raw, name)) == (None, None, None), name
+
+
 def test_pickled_headers_are_small():
     part = next(rocktray.parse(b"A: b\nC: d\n\n" + b"x" * 1_000_000).walk())
     assert len(pickle.dumps(part.headers)) < 1000
