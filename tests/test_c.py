@@ -7,6 +7,7 @@ import os
 import re
 import subprocess
 import sys
+import urllib.parse
 
 import pytest
 
@@ -378,14 +379,38 @@ def test_version(c_library):
     assert f"Version: {version}\n" in (c_library / "lib" / "pkgconfig" / "rocktray.pc").read_text()
 
 
-def test_example(c_library, tmp_path):
-    """examples/attachments.c compiles by pkg-config's flags, and writes what docs/C.md shows."""
+@pytest.fixture
+def example(c_library, tmp_path):
+    """examples/attachments.c, compiled by pkg-config's flags, as a function that returns what it writes and its status."""
     config = (c_library / "lib" / "pkgconfig" / "rocktray.pc").read_text()
     flags = re.findall(r"^(?:Libs|Cflags): (.*)$", config.replace("${libdir}", f"{c_library}/lib")
                        .replace("${includedir}", f"{c_library}/include"), re.M)
     gcc(*STRICT, "-o", tmp_path / "example", TOP / "examples" / "attachments.c", *" ".join(sorted(flags)).split())
+
+    def call(path):
+        ended = run([tmp_path / "example", path], cwd=TOP, env={**os.environ, "LD_LIBRARY_PATH": str(c_library / "lib")})
+        return ended.stdout.decode() + ended.stderr.decode(), ended.returncode
+
+    return call
+
+
+def test_example(example):
+    """It writes what docs/C.md shows."""
     fences = re.findall(r"^```console\n(.*?)^```$", (TOP / "docs" / "C.md").read_text(), re.M | re.S)
     wanted = "".join(line + "\n" for fence in fences for line in fence.splitlines() if not line.startswith("$"))
-    ended = run([tmp_path / "example", "samples/attachment.eml"], cwd=TOP,
-                env={**os.environ, "LD_LIBRARY_PATH": str(c_library / "lib")})
-    assert ended.stdout.decode() + ended.stderr.decode() == wanted
+    assert example("samples/attachment.eml") == (wanted, 0)
+
+
+def test_example_of_a_stranger(example, tmp_path):
+    """Nothing of a mail forges a line or moves the terminal, and a mail that is longer than its buffer is not cut."""
+    hidden = "".join(map(chr, (0x1B, 0x7F, 0x9B, 0x61C, 0x200E, 0x200F, 0x2028, 0x2029, 0x202A, 0x202E, 0x2066, 0x2069)))
+    text = f"a\u2027\u00e9{hidden}\u20ac\U0001f600\nSubject: forged"
+    word = f"=?utf-8?B?{base64.b64encode(text.encode()).decode()}?="
+    mail = f"Subject: {word}\nContent-Disposition: attachment; filename*=utf-8''{urllib.parse.quote(text)}\n\n\x1b[\xff\x07".encode("latin-1")
+    (tmp_path / "mail").write_bytes(mail)
+    shown = f"a\u2027\u00e9{'?' * len(hidden)}\u20ac\U0001f600?Subject: forged"
+    assert example(tmp_path / "mail") == (f"Subject: {shown}\n{shown}: 4 bytes, which begin ?[??\n", 0)
+    (tmp_path / "mail").write_bytes(mail + b"\x1b" * (1 << 24))
+    for path in (tmp_path / "mail", tmp_path / "none"):
+        said, status = example(path)
+        assert status == 1 and said == "attachments: give a file with a mail of less than 16777216 bytes\n"
