@@ -8,6 +8,7 @@ commands of docs/SCRIPTS.md for GNU parallel run unchanged. It takes about 30 s.
 """
 
 import bz2
+import collections
 import contextlib
 import glob
 import gzip
@@ -789,21 +790,52 @@ def html_alone(index):
                     yield line["file"], line["start"], max(found, key=len)
 
 
-def test_real_html(request, tmp_path):
-    """Each real mail that has HTML alone is found by a word of its text, and a page of web.py shows this."""
+@pytest.fixture(scope="module")
+def real(request, tmp_path_factory):
+    """The index and the slices of the real mails, and a client of web.py that shows them."""
     given = request.config.getoption("--real") or pytest.skip("real mails are given by --real")
-    script, database = os.path.join(EXAMPLES, "index_archive.py"), str(tmp_path / "db")
+    directory = tmp_path_factory.mktemp("real")
+    script, database = os.path.join(EXAMPLES, "index_archive.py"), str(directory / "db")
     places = [os.path.join(TOP, one) for one in given]
-    command = [sys.executable, script, tmp_path / "index", *places, "--program", program("rocktray"), "--skip-bad", "--load", database]
+    command = [sys.executable, script, directory / "index", *places, "--program", program("rocktray"), "--skip-bad", "--load", database]
     assert subprocess.run(command, stderr=subprocess.DEVNULL, check=False).returncode == 0
     client = importlib.import_module("web").create_app(database, program("rocktray")).test_client()
-    slices = list(map(search.opened, search.slices_of(database)))
-    mails = list(html_alone(tmp_path / "index"))
+    return directory / "index", list(map(search.opened, search.slices_of(database))), client
+
+
+def test_real_ids(real):
+    """No real mail is hidden by another with its id: each is there as its line says, its page too, and its bytes are its own."""
+    index, slices, client = real
+    loader, made = importlib.import_module("load_sqlite"), []
+    for line in map(json.loads, lines(index).splitlines()):
+        if "error" in line:
+            continue
+        (row, to, links, files), place = loader.mail_of(line), (line["file"], line["start"], line["end"])
+        query = 'select mail from copies where file = ? and start = ? and "end" = ?'
+        [(number, mail)] = [(number, mail) for number, db in enumerate(slices) for mail, in db.execute(query, place)]
+        columns = "message_id, date, sender, recipients, subject, list_id, body, digest"
+        assert slices[number].execute(f"select {columns} from mails where id = ?", (mail,)).fetchone() == row, place
+        names = slices[number].execute("select path, name from attachments where mail = ? order by number", (mail,)).fetchall()
+        assert names == [file[:2] for file in files], place
+        made.append((row[0], number, mail, place))
+    counts = collections.Counter(one for one, _, _ in {it[:3] for it in made if it[0] is not None})
+    for one, number, mail, (file, start, end) in made:
+        page = client.get(f"/mail/{number}/{mail}").text
+        assert ("with this id, which differ" in page) == (counts[one] > 1), (file, start)
+        with open(search.path_of(file), "rb") as box:
+            assert client.get(f"/raw/{number}/{mail}").data == box.read()[start:end], (file, start)
+    assert len(made) >= 100 and max(counts.values()) > 1
+
+
+def test_real_html(real):
+    """Each real mail that has HTML alone is found by a word of its text, and a page of web.py shows this."""
+    index, slices, client = real
+    mails = list(html_alone(index))
     for path, start, word in mails:
         where = [search.with_words(search.quoted(word)), ("mails.id in (select mail from copies where file = ? and start = ?)", path, start)]
         found, _ = search.found_in(slices, where, None)
         assert found, (path, word)
         shown = client.get(f"/mail/{slices.index(found[0][1])}/{found[0][2]}").text
-        # as the search ignores case: copies with one id may differ in it
+        # as the search ignores case
         assert word.casefold() in shown.partition("<pre>")[2].partition("</pre>")[0].casefold(), (path, word)
     assert len(mails) >= 20, "mails with HTML alone"
