@@ -188,7 +188,8 @@ def in_ascii(name):
 
 
 def download(raw, name):
-    """Returns bytes as a file to be saved, whatever they are."""
+    """Returns bytes as a file to be saved, whatever they are. Its name has `_` for each character that is not seen."""
+    name = search.HIDDEN.sub("_", name)
     response = flask.Response(raw, mimetype="application/octet-stream")
     names = {"filename": in_ascii(name)}
     if names["filename"] != name:  # some versions of Werkzeug put any name into the header, which must be in Latin-1
