@@ -621,7 +621,7 @@ def test_changed_files(tmp_path):
 @pytest.mark.quick
 def test_mails_that_sqlite_refuses(tmp_path):
     """A mail with a value that SQLite does not take is refused with the reason, and all others are loaded."""
-    bad = {"date": 2**63}, {"subject": "\ud800"}, {"date": -(2**63) - 1}
+    bad = {"date": 2**63}, {"subject": "\ud800"}, {"subject": {}}
     lines = [line_of(f"{number}@x", start=number, **(bad[number // 10] if number % 10 == 7 and number < 30 else {})) for number in range(50)]
     write_shards(tmp_path, lines[:40], lines[40:])
     ended = called(tmp_path, "load_sqlite.py", "out", "db", "--slices", "2")

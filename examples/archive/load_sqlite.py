@@ -101,7 +101,7 @@ WORDED = 100_000
 # the number of the form of the lines
 LINES = 6
 # what is raised for values that SQLite does not take, such as a number of more than 64 bits
-UNFIT = (sqlite3.DataError, sqlite3.IntegrityError, sqlite3.InterfaceError, OverflowError, UnicodeEncodeError)
+UNFIT = (sqlite3.DataError, sqlite3.IntegrityError, sqlite3.InterfaceError, sqlite3.ProgrammingError, OverflowError, UnicodeEncodeError)
 FLAGS = re.compile(r":2,([A-Za-z]+)$")
 LIST_ID = re.compile(r"<([^<>\s]+)>\s*$")
 
