@@ -45,6 +45,12 @@ MAILS = (
 )
 
 
+def need_flask():
+    """Ends a test without the modules that pages need."""
+    if subprocess.run([sys.executable, "-c", "import flask, pygal"], stderr=subprocess.DEVNULL, check=False).returncode:
+        missing("Flask or pygal is missing (Debian: python3-flask, python3-pygal)")
+
+
 @pytest.fixture(scope="module")
 def database(tmp_path_factory):
     """The database of the archive."""
@@ -62,8 +68,7 @@ def database(tmp_path_factory):
 @pytest.fixture(scope="module")
 def address(database):
     """The address at which the pages are served."""
-    if subprocess.run([sys.executable, "-c", "import flask, pygal"], stderr=subprocess.DEVNULL, check=False).returncode:
-        missing("Flask or pygal is missing (Debian: python3-flask, python3-pygal)")
+    need_flask()
     with socket.create_server(("127.0.0.1", 0)) as free:
         port = free.getsockname()[1]
     command = [sys.executable, os.path.join(EXAMPLES, "web.py"), str(database), "--port", str(port), "--program", program("rocktray")]
@@ -79,8 +84,7 @@ def address(database):
 def made(directory, program, *mails):
     """A client of web.py, whose pages show mails, each a dictionary of members of its line beside a text of one word; the
     files are what the lines of `program`, a script of sh, put into the directory "$4"."""
-    if subprocess.run([sys.executable, "-c", "import flask, pygal"], stderr=subprocess.DEVNULL, check=False).returncode:
-        missing("Flask or pygal is missing (Debian: python3-flask, python3-pygal)")
+    need_flask()
     (directory / "box").write_bytes(b"Subject: Zebra\n\nword\n")
     size = (directory / "box").stat().st_size
     part = {"path": "1", "type": "text/plain", "extracted": False, "file_name": None, "text": "word", "text_files": [], "headers": []}
@@ -220,6 +224,27 @@ def test_faults(tmp_path, monkeypatch):
     for path in ("/raw/0/1", "/file/0/1/0"):
         answer = client.get(path)
         assert answer.status_code == 410 and "changed since it was indexed" in answer.text and "Other" not in answer.text
+
+
+def test_mails_in_crlf(tmp_path):
+    """Mails with CR LF, as they come by SMTP, have pages like those with LF, and their own bytes and files."""
+    need_flask()
+    mails = [mail.encode().replace(b"\n", b"\r\n") for mail in MAILS[:2]] + [b"Subject: plain\r\n\r\none\r\ntwo\r\n\r\nthree\r\n"]
+    box = FROM.replace(b"\n", b"\r\n")
+    (tmp_path / "mails").mkdir()
+    (tmp_path / "mails" / "box").write_bytes(b"".join(box + mail + b"\r\n" for mail in mails))
+    command = [sys.executable, os.path.join(EXAMPLES, "index_archive.py"), "out", "mails", "--program", program("rocktray"), "--load", "db"]
+    subprocess.run(command, cwd=tmp_path, stderr=subprocess.DEVNULL, check=True)
+    client = importlib.import_module("web").create_app(str(tmp_path / "db"), program("rocktray")).test_client()
+    found = {}
+    for link in links(client.get("/").text, "/mail/"):
+        page = client.get(link).text
+        assert "\ufffd" not in page and "\r" not in page, link
+        found[client.get(link.replace("/mail/", "/raw/")).data] = page
+    assert sorted(found) == sorted(mails)
+    for mail, text in zip(mails, ("The quagga is extinct.", "So &lt;is&gt; the aurochs.", "one\ntwo\n\nthree")):
+        assert re.search(rf"<pre>{re.escape(text)}\n?</pre>", found[mail]), text
+    assert client.get(links(found[mails[0]], "/file/")[0]).data == b"%PDF-x"
 
 
 def get(address, path, host=None):
