@@ -21,8 +21,9 @@ _CONTROL = re.compile("[\x00-\x1f\x7f-\x9f\u2028\u2029]")
 
 
 class Address(NamedTuple):
-    """A mailbox: its display name and its address. Text that is no address is a name with an empty address. `str`
-    writes it as a mail does, with U+FFFD for control characters.
+    """A mailbox: its display name and its address. Text that is no address is a name with an empty address. `str` shows
+    it to people, with U+FFFD for control characters. It is no value of a header: there a name is encoded if it has
+    characters outside ASCII, or looks like an encoded word.
 
     >>> str(Address("Ana Lima", "ana@example.org")), str(Address("Lima, Ana", "a@b")), str(Address("", "a@b"))
     ('Ana Lima <ana@example.org>', '"Lima, Ana" <a@b>', 'a@b')
