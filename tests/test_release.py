@@ -149,8 +149,9 @@ def help_of(name):
     if not name:
         rows = "".join(f"  {it:<9}Does {it}\n" for it in (*SUBCOMMANDS, "help"))
         return f"Reads mails.\n\nUsage: rocktray <COMMAND>\n\nCommands:\n{rows}\nOptions:\n  -h, --help  Print help\n\nThe end.\n"
-    rows = "".join(f"      --{option:<20}  Does {option}: it's [one]\n" for option in OPTIONS if option not in ("mbox", "into", "inputs"))
+    rows = "".join(f"      --{option:<20}  Does {option}: it's [one]\n" for option in OPTIONS if option not in ("class", "mbox", "into", "inputs"))
     rows += "      --into <DIRECTORY>      Where\n      --mbox[=<FORMAT>]       A mailbox [possible values: o, rd, cl]\n"
+    rows += "      --class <CLASS>         Which, of these\n                              [possible values: structure, bytes, note]\n"
     return f"Does {name}\n\nUsage: rocktray {name} [OPTIONS] [INPUT]...\n\nOptions:\n{rows}  -h, --help              Print help\n\nThe end.\n"
 
 
@@ -344,14 +345,35 @@ def test_pages_are_well_formed(manuals):
         assert (ended.returncode, [line for line in ended.stderr.decode().splitlines() if "rocktray_" not in path.name]) == (0, []), path
 
 
+def need_completions(shell):
+    """Skips a test if the shell, or the completions that its system has, are missing."""
+    if not shutil.which(shell) or (shell == "bash" and not os.path.exists("/usr/share/bash-completion/bash_completion")):
+        pytest.skip(f"the completions of {shell} are tried where it is installed")
+
+
 @pytest.mark.parametrize("shell", ["bash", "fish"])
 def test_completions(manuals, shell):
     """What the shells offer for a command, an option and a value."""
-    if not shutil.which(shell) or (shell == "bash" and not os.path.exists("/usr/share/bash-completion/bash_completion")):
-        pytest.skip(f"the completions of {shell} are tried where it is installed")
+    need_completions(shell)
     assert {*SUBCOMMANDS, "help"} <= completed(shell, "rocktray ", manuals)
     assert completed(shell, "rocktray json --no", manuals) == {"--no-text"}
     assert {"o", "rd", "cl"} <= {word.rpartition("=")[2] for word in completed(shell, "rocktray show --mbox=", manuals)}
+
+
+@pytest.mark.parametrize("shell", ["bash", "fish"])
+def test_completions_of_choices(manuals, prefix, shell):
+    """Of an option whose value is one of a list, the values are offered after `=` and, if there must be one, a space."""
+    need_completions(shell)
+    commands = make_manuals.read_commands(prefix / "bin" / "rocktray")
+    options = [(name, option) for name, command in commands.items() for option in command.options if option.choices]
+    assert {option.names[0] for _, option in options} == {"--class", "--mbox"}
+    for name, option in options:
+        for sign in "=" if option.is_optional else "= ":
+            line = f"rocktray {name} {option.names[0]}{sign}"
+            for typed in ("", option.choices[0][:1]):
+                wanted = {choice for choice in option.choices if choice.startswith(typed)}
+                found = {word.rpartition("=")[2] for word in completed(shell, line + typed, manuals)}
+                assert found == wanted, line + typed
 
 
 def test_zsh_completions(manuals):

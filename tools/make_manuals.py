@@ -74,6 +74,14 @@ def read_commands(program):
     return {"": whole, **{name: command_of(run(program, name, "--help")) for name in whole.commands if name != "help"}}
 
 
+def bash_value(option):
+    """What bash does for the value of an option. One that may be left out comes only after `=`."""
+    offer = "_filedir -d; " if option.value == "DIRECTORY" else ""
+    if option.choices:
+        offer = f"COMPREPLY=($(compgen -W '{' '.join(option.choices)}' -- \"$cur\")); "
+    return f"if $split; then {offer}return; fi" if option.is_optional else f"{offer}return"
+
+
 def bash(commands):
     """The completions for bash."""
     lines = [f"# bash completion for {PROGRAM}", "_rocktray() {", "    local cur prev words cword split"]
@@ -82,13 +90,9 @@ def bash(commands):
     lines += ["    case $command:$prev in"]
     for name, command in commands.items():
         for option in command.options:
-            where = "|".join(f"{name}:{it}" for it in option.names)
-            if option.choices:
-                lines.append(f"        {where}) $split && COMPREPLY=($(compgen -W '{' '.join(option.choices)}' -- \"$cur\")) && return ;;")
-            elif option.value == "DIRECTORY":
-                lines.append(f"        {where}) _filedir -d; return ;;")
-            elif option.value:
-                lines.append(f"        {where}) return ;;")
+            if option.value:
+                where = "|".join(f"{name}:{it}" for it in option.names)
+                lines.append(f"        {where}) {bash_value(option)} ;;")
     lines += ["    esac", "    $split && return", "    case $command in"]
     for name, command in commands.items():
         known = " ".join([*command.commands, *(it + "=" * option.is_optional for option in command.options for it in option.names)])
@@ -141,7 +145,7 @@ def fish(commands):
             names = " ".join(f"-l {it[2:]}" if it.startswith("--") else f"-s {it[1:]}" for it in option.names)
             value = "" if not option.value or option.is_optional else " -r"
             if option.choices:
-                value += f" -a '{' '.join(option.choices)}'"
+                value += f" -f -a '{' '.join(option.choices)}'"
             elif option.value == "DIRECTORY":
                 value = " -x -a '(__fish_complete_directories)'"
             lines.append(f"complete -c {PROGRAM} -n {where} {names}{value} -d {fish_text(option.help)}")
