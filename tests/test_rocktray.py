@@ -186,6 +186,25 @@ def test_label():
     assert lines(ended)[0]["file"] == "a.gz" and ended.stderr.startswith(b"rocktray: a.gz: the input is gzip")
 
 
+@pytest.mark.parametrize("name", SUBCOMMANDS)
+def test_label_that_is_not_utf8(name):
+    """A byte of the label that is not UTF-8 is shown as in the name of an input, and nothing is added."""
+    mail = b"Subject: s\nContent-Type: image/png; name=a.png\n\nx"
+    for label in (b"latin\xe9.eml", b"\xc3(\x80\xfe"):
+        wanted = "".join(it if it.isprintable() and it.isascii() else f"\\x{ord(it):02X}" for it in label.decode("latin-1"))
+        arguments = ["--class", "structure", "--json"] if name == "check" else []
+        inputs = ["-", "no/such"] if name == "show" else []
+        with tempfile.TemporaryDirectory() as directory:
+            ended = run([*command(name), *arguments, b"--label", label, *inputs], mail, cwd=directory)
+        said = ended.stdout.decode()
+        if name == "show":
+            assert said.startswith(f"-- {wanted} --\n"), said
+        else:
+            assert json.loads(said)["file"] == wanted, said
+    ended = run([*command(name), b"--label", b"a\xe9"], FOREIGN["gzip"])
+    assert ended.stderr.startswith(b"rocktray: a\\xE9: the input is gzip"), ended.stderr
+
+
 def read(arguments, directory):
     """The files of the lines of a run, as paths in the directory, and its standard error."""
     ended = run([*command("json"), *arguments, directory])
@@ -260,6 +279,8 @@ def test_names_that_are_not_utf8(tmp_path):
     assert [line["file"] for line in lines(ended)] == [bad, f"{tmp_path}/mails/b.eml"] and ended.returncode == 1
     ended = run([program("rocktray"), b"json", b"--caf\xe9", top])
     assert ended.returncode == 2 and b"\\xE9" in ended.stderr and b"\0" not in ended.stderr
+    ended = run([program("rocktray"), b"json", b"--part", b"1/\xe9", top])
+    assert ended.returncode == 2 and b"'1/\\xE9'" in ended.stderr
 
 
 @pytest.mark.parametrize("name, shows", [

@@ -13,7 +13,7 @@ pub use entries::is_directory;
 pub use escape::shown;
 pub use foreign::{Foreign, foreign_of};
 pub use meter::{Meter, Progress};
-pub use names::{Name, arguments};
+pub use names::{Name, argument_text, arguments};
 pub use open::open_regular;
 pub use walk::{Consumer, Content, Inputs, NOT_UTF8, Subdirectories, fail, read_inputs};
 

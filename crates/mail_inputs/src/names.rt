@@ -41,6 +41,26 @@ impl<'a> Name<'a> {
     }
 }
 
+/// Returns the text of an argument of `arguments`: all of it but the NUL at the end of one that is not
+/// UTF-8.
+///
+/// Does not allocate.
+///
+/// # Examples
+///
+/// ```rust
+/// use mail_inputs::argument_text;
+///
+/// assert_eq!(rt; argument_text("a.eml"), "a.eml");
+/// assert_eq!(rt; argument_text("caf\\xE9\0"), "caf\\xE9");
+/// ```
+pub fn argument_text(argument: &str) -> &str {
+    match Name::new(argument) {
+        Name::NotUtf8(text) => text,
+        Name::Standard | Name::Path(_) => argument,
+    }
+}
+
 /// Returns the arguments of the program, without its name. One that is not UTF-8 has `\xE9` for a
 /// byte E9 that is part of no character, and a NUL at its end, which the system puts into no
 /// argument.

@@ -8,7 +8,7 @@ use mail_charsets::AllCharsets;
 use mail_extract::{
     Choice, Disk, Hashing, Naming, SaveOptions, Source, Target, extract_input, write_line,
 };
-use mail_inputs::{Consumer, Content, Name, PROGRAM, read_inputs, shown};
+use mail_inputs::{Consumer, Content, Name, PROGRAM, argument_text, read_inputs, shown};
 use mail_json::{FileLine, InputKind};
 use mail_program::{Fault, Outcome};
 use std::alloc::Global;
@@ -74,7 +74,7 @@ pub fn run<'a, R: Files + Input + Print + Eprint + AllocGlobal>(
     }
     let directory = directory_of(matches);
     if let Err(error) = check_directory(rt, directory) {
-        let directory = shown(rt.alloc(), directory.trim_end_matches('\0'))?;
+        let directory = shown(rt.alloc(), argument_text(directory))?;
         let _ = eprintln!(rt; "{PROGRAM}: {directory}: {error}");
         return Ok(ExitCode::FAILURE);
     }

@@ -5,7 +5,7 @@ use crate::options::ids;
 use clap::ArgMatches;
 use mail_data::mailbox::Format;
 use mail_data::reading::DEFAULT_LIMIT;
-use mail_inputs::{Content, Inputs, Name, Progress, Subdirectories};
+use mail_inputs::{Content, Inputs, Name, Progress, Subdirectories, argument_text};
 use mail_json::InputKind;
 use std::alloc::{AllocError, Global};
 
@@ -22,12 +22,20 @@ pub fn names_of<'a>(alloc: Global, matches: &ArgMatches<'a>) -> Result<Vec<Name<
 pub fn inputs_of<'n, 'a>(matches: &ArgMatches<'a>, names: &'n [Name<'a>]) -> Inputs<'n, 'a> {
     Inputs {
         names,
-        label: matches.get_str(ids::LABEL),
+        label: label_of(matches),
         subdirectories: if matches.get_flag(ids::RECURSIVE) {
             Subdirectories::Read
         } else {
             Subdirectories::Skipped
         },
+    }
+}
+
+/// Returns the name of standard input in the output.
+fn label_of<'a>(matches: &ArgMatches<'a>) -> Option<&'a str> {
+    match matches.get_str(ids::LABEL) {
+        Some(label) => Some(argument_text(label)),
+        None => None,
     }
 }
 

@@ -8,7 +8,8 @@ use mail_charsets::AllCharsets;
 use mail_data::mailbox::Format;
 use mail_html::References;
 use mail_inputs::{
-    Consumer, Content, Meter, NOT_UTF8, Name, Progress, fail, open_regular, read_inputs, shown,
+    Consumer, Content, Meter, NOT_UTF8, Name, Progress, argument_text, fail, open_regular,
+    read_inputs, shown,
 };
 use mail_json::range::{FilePart, reading_start, shows_mailbox, write_first_part, write_range};
 use mail_json::{
@@ -234,7 +235,7 @@ fn is_no_file(rt: &impl Files, name: Name<'_>) -> bool {
 
 /// Prints that a text names no part, and returns the exit status.
 fn wrong_part(rt: &(impl Eprint + AllocGlobal), text: &str) -> Result<ExitCode, Fault> {
-    let text = shown(rt.alloc(), text)?;
+    let text = shown(rt.alloc(), argument_text(text))?;
     let why = format!(in rt.alloc();
         "invalid value '{text}' for '--part <K/N>': K is a number from 1 to N, as in 1/4"
     )?;

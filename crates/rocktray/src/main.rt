@@ -13,7 +13,7 @@ mod show;
 use clap::error::ErrorKind;
 use clap::{ArgMatches, Error};
 use inputs::names_of;
-use mail_inputs::{PROGRAM, arguments, shown};
+use mail_inputs::{PROGRAM, argument_text, arguments, shown};
 use mail_program::{Fault, status_of};
 use options::{CHECK, EXTRACT, JSON, SHOW, command};
 use release::{COMMIT, LOGIC};
@@ -92,7 +92,7 @@ fn explain(
 fn shown_texts(alloc: Global, arguments: &[String]) -> Result<Vec<String>, AllocError> {
     let mut texts = Vec::new(alloc);
     for argument in arguments {
-        texts.push(shown(alloc, argument.trim_end_matches('\0'))?)?;
+        texts.push(shown(alloc, argument_text(argument.as_str()))?)?;
     }
     Ok(texts)
 }
