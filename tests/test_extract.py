@@ -10,10 +10,12 @@ import hashlib
 import json
 import mimetypes
 import ntpath
+import os
 import quopri
 import re
 import resource
 import signal
+import stat
 import subprocess
 
 import pytest
@@ -280,6 +282,52 @@ def test_names_by_hash(tmp_path):
             assert line["saved"] == (name if name != taken else f"{name}-{number}")
             assert (into / line["saved"]).read_bytes() == bodies[line["path"]]
     assert (into / taken).read_bytes() == b"other bytes"
+
+
+def test_names_by_hash_at_once(tmp_path):
+    """Runs at the same time save each content once, under its SHA-256."""
+    bodies = [b"%d " % number * (1 + number % 1000) for number in range(2000)]
+    mail, into = tmp_path / "many.eml", tmp_path / "into"
+    mail.write_bytes(multipart(b"b", *(b"Content-Type: image/png\n\n" + body for body in bodies)))
+    into.mkdir()
+    arguments = [*command("extract"), "--into", into, "--by-hash", mail]
+    runs = [subprocess.Popen(arguments, stdout=subprocess.PIPE, stderr=subprocess.PIPE) for _ in range(4)]
+    names = [hashlib.sha256(body).hexdigest() for body in bodies]
+    for ended in runs:
+        lines, errors = ended.communicate(timeout=60)
+        assert (ended.returncode, errors) == (0, b"")
+        assert [json.loads(line)["saved"] for line in lines.splitlines()] == names
+    assert sorted(path.name for path in into.iterdir()) == sorted(names)
+    assert all((into / name).read_bytes() == body for name, body in zip(names, bodies))
+
+
+@pytest.mark.parametrize("kind", ["pipe", "link to a pipe", "socket", "directory", "link to nothing"])
+def test_names_by_hash_of_what_is_no_file(kind, tmp_path):
+    """What has the name of a hash and is no regular file is not opened, and a number is added."""
+    taken = tmp_path / hashlib.sha256(b"png").hexdigest()
+    if kind == "pipe":
+        os.mkfifo(taken)
+    elif kind == "socket":
+        os.mknod(taken, stat.S_IFSOCK | 0o600)
+    elif kind == "directory":
+        taken.mkdir()
+    else:
+        taken.symlink_to(tmp_path / "other")
+        if kind == "link to a pipe":
+            os.mkfifo(tmp_path / "other")
+    ended = run([*command("extract"), "--into", tmp_path, "--by-hash"], b"Content-Type: image/png\n\npng")
+    assert (ended.returncode, json.loads(ended.stdout)["saved"], ended.stderr) == (0, f"{taken.name}-2", b"")
+    assert (tmp_path / f"{taken.name}-2").read_bytes() == b"png"
+
+
+def test_names_by_hash_of_a_link(tmp_path):
+    """A link with the name of a hash to a file with the bytes is that file."""
+    (tmp_path / "other").write_bytes(b"png")
+    name = hashlib.sha256(b"png").hexdigest()
+    (tmp_path / name).symlink_to("other")
+    ended = run([*command("extract"), "--into", tmp_path, "--by-hash"], b"Content-Type: image/png\n\npng")
+    assert (ended.returncode, json.loads(ended.stdout)["saved"]) == (0, name)
+    assert sorted(path.name for path in tmp_path.iterdir()) == sorted([name, "other"])
 
 
 @pytest.mark.parametrize("path", ["C:\\Users\\x\\a.pdf", "z:\\r\u00e9sum\u00e9.pdf", "\\\\server\\share\\dir\\a.pdf"])

@@ -63,11 +63,23 @@ impl<'r, R: Files + AllocGlobal> Directory for Disk<'r, R> {
         Ok(Created::Failed(io::Error::other(NO_NAME)))
     }
 
-    /// Compares the file in blocks.
+    /// Compares the file in blocks if it is a regular one with as many bytes, or a symbolic link to
+    /// one. Nothing else is opened, since that of a FIFO would wait.
     fn has(&self, name: &str, bytes: &[u8]) -> Result<bool, AllocError> {
         let path = self.path_of(name)?;
+        if !is_file_of(self.rt, path.as_str(), bytes.len()) {
+            return Ok(false);
+        }
         let buffer = vec![in self.rt.alloc(); 0u8; BLOCK]?;
         Ok(matches!(is_same(self.rt, path.as_str(), bytes, buffer), Ok(true)))
+    }
+}
+
+/// Returns whether a regular file with this length is at this path, or a symbolic link to one.
+fn is_file_of(rt: &impl Files, path: &str, len: usize) -> bool {
+    match fs::metadata(rt, path) {
+        Ok(found) => found.is_file() && found.len() == len as u64,
+        Err(_) => false,
     }
 }
 

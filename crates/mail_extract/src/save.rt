@@ -11,6 +11,7 @@ ghost use Rattle.mail_extract.specs.Save.{IsKept, IsKeptNumbered, IsPut, IsSaved
 ghost use Rattle.mail_extract.specs.Save.{wanted_as};
 ghost use Rattle.mail_extract.specs.SaveViews.{kept_name, outcome};
 ghost use Rattle.mail_extract.specs.declared.level.Level.{Level};
+ghost use Rattle.mail_extract.specs.declared.options.Naming.TheVariants.{ByHash};
 
 use crate::content::saved_content;
 use crate::directory::{Created, Directory};
@@ -133,7 +134,7 @@ fn text_of(
     Ok(Some(format!(in alloc; "{error}; bytes ignored: {ignored}")?))
 }
 
-/// Creates a file, unless the name is the hash of its bytes and a file with that name has them.
+/// Creates a file. If its name is the hash of its bytes, copies of it are created once.
 fn put<D: Directory>(
     alloc: Global,
     directory: &mut D,
@@ -152,11 +153,43 @@ fn put<D: Directory>(
     match naming {
         Naming::BySender => keep(alloc, directory, number, name, bytes, naming),
         Naming::ForWindows => keep(alloc, directory, number, name, bytes, naming),
-        Naming::ByHash => {
+        Naming::ByHash => keep_once(alloc, directory, number, name, bytes),
+    }
+}
+
+/// Creates a file whose name is the hash of its bytes, unless a file with that name has them.
+/// Whether one has is asked after the file could not be created, since another run may have made it
+/// at any time before.
+#[tactic(auto, using(crate::proofs::lemmas::Save::no_copy))]
+fn keep_once<D: Directory>(
+    alloc: Global,
+    directory: &mut D,
+    number: &mut u64,
+    name: String,
+    bytes: &[u8],
+) -> Result<Kept, AllocError>
+    requires { IsSafeName (string_bytes name) }
+    ensures kept { IfOk result (λ kept. (files : List File) → D.held directory.old ≡ Some files →
+        (now : List File) × (D.held directory.new ≡ Some now)
+        × IsPut D.can_fail (string_bytes name) ByHash files bytes.now number.old
+        (kept_name kept) number.new now) }
+    ensures safe { IfOk result (λ kept. IfSome (kept_name kept) IsSafeName) }
+{
+    match directory.create(name.as_str(), bytes)? {
+        Created::Made => Ok(Kept::As(name)),
+        Created::Taken => {
             if directory.has(name.as_str(), bytes)? {
                 return Ok(Kept::As(name));
             }
-            keep(alloc, directory, number, name, bytes, naming)
+            let naming = Naming::ByHash;
+            keep_numbered(alloc, directory, number, name.as_str(), bytes, naming)
+        }
+        Created::Failed(error) => {
+            let is_there = directory.has(name.as_str(), bytes)?;
+            if is_there {
+                return Ok(Kept::As(name));
+            }
+            Ok(Kept::Nowhere(error))
         }
     }
 }

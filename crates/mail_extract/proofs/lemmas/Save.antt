@@ -18,7 +18,8 @@ use Rattle.mail_data.specs.TextFiles.{TextFile, text_file_path}
 use Rattle.mail_data.specs.lenient.Content.{Content}
 use Rattle.mail_extract.specs.Choice.{Choice, keeps}
 use Rattle.mail_data.specs.Attachments.{is_extracted}
-use Rattle.mail_extract.specs.Directory.{Creates, File, has_file}
+use Rattle.std.specs.Str.{bytes_eq}
+use Rattle.mail_extract.specs.Directory.{Creates, File, has_copy, has_file}
 use Rattle.mail_extract.specs.Hash.{wanted_hash}
 use Rattle.mail_extract.specs.declared.hash.Hashing.{Hashing}
 use Rattle.mail_extract.specs.declared.directory.Created.{Created}
@@ -187,3 +188,18 @@ taken_more can_fail naming name files from number text is taken before = λ n ab
 pub list_any_map : {A B : Type 0} (p : B → Bool) (f : A → B) (xs : List A) → list_any p (map f xs) ≡ list_any (λ x. p (f x)) xs
 list_any_map p f [] = refl
 list_any_map p f (x ∷ xs) = ap (λ t. p (f x) || t) (list_any_map p f xs)
+
+or_none : (a b : Bool) → (a || b) ≡ false → (a ≡ false) × (b ≡ false)
+or_none false b e = (refl, e)
+or_none true b e = let f : ◌≡◌ {A = Bool} true false = e in absurd (cc)
+
+neither : (a b c : Bool) → a ≡ false → c ≡ false → ((a && b) || c) ≡ false
+neither false b c e f = f
+neither true b c e f = absurd (cc)
+
+-- if no file has the name, none with the name has the bytes
+pub no_copy : (name bytes : List ℕ) (files : List File) → has_file name files ≡ false → has_copy name bytes files ≡ false
+no_copy name bytes [] e = refl
+no_copy name bytes (file ∷ files) e =
+    let parts = or_none (bytes_eq file.0 name) (has_file name files) e in
+    neither (bytes_eq file.0 name) (bytes_eq file.1 bytes) (has_copy name bytes files) parts.0 (no_copy name bytes files parts.1)
