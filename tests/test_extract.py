@@ -202,7 +202,9 @@ def test_choices(options, paths, tmp_path):
     into.mkdir()
     ended = run([*command("extract"), "--into", into, *options, mail])
     lines = [json.loads(line) for line in ended.stdout.splitlines()]
-    assert (ended.returncode, [line["path"] for line in lines]) == (0, paths)
+    nothing = "--only" in options and not paths
+    assert (ended.returncode, [line["path"] for line in lines]) == (1 if nothing else 0, paths)
+    assert ended.stderr == (b"rocktray: the choice keeps no file\n" if nothing else b"")
     assert [(into / line["saved"]).read_bytes() for line in lines] == [bodies[path] for path in paths]
     assert len(list(into.iterdir())) == len(paths)
 
@@ -222,7 +224,7 @@ def with_text_files():
 @pytest.mark.parametrize(("options", "status", "saved"), [
     ([], 3, {"1.u1": "_.._a b.bin", "1.u2": "cut.txt", "2": "c.png", "3": "unnamed.eml", "3.1.u1": "inner.txt"}),
     (["--only", "1.u1"], 0, {"1.u1": "_.._a b.bin"}),
-    (["--only", "1"], 0, {}),
+    (["--only", "1"], 1, {}),
     (["--name", "*.txt"], 3, {"1.u2": "cut.txt", "3.1.u1": "inner.txt"}),
     (["--type", "application/octet-stream"], 3, {"1.u1": "_.._a b.bin", "1.u2": "cut.txt", "3.1.u1": "inner.txt"}),
 ], ids=lambda value: " ".join(value) if isinstance(value, list) else "")
@@ -407,7 +409,7 @@ def test_nested(tmp_path):
     ):
         ended = run([*command("extract"), "--into", into, *options, tmp_path / "nested.eml"])
         lines = [json.loads(line) for line in ended.stdout.splitlines()]
-        assert (ended.returncode, [line["path"] for line in lines]) == (0, paths), options
+        assert (ended.returncode, [line["path"] for line in lines]) == (0 if paths else 1, paths), options
         assert [(into / line["saved"]).read_bytes() for line in lines] == [bodies[path] for path in paths], options
 
 
@@ -429,6 +431,57 @@ def test_refused_mails_inside(tmp_path):
     lines = [json.loads(line) for line in ended.stdout.splitlines()]
     paths = [(line["path"], line["saved"] is None) for line in lines]
     assert (ended.returncode, paths) == (3, [("1", False), ("2", False), ("3", False), ("1", True), ("2.1", False)])
+    why = next(line["error"] for line in lines if line["error"])
+    assert ended.stderr.decode() == f"rocktray: {tmp_path / 'mail'}: part 1: {why}\n"
+
+
+def test_only_in_one_of_several(tmp_path):
+    """A choice of a path is met if it keeps a file of one input, or of one mail of a mailbox."""
+    none, one = b"Subject: x\n\nHi", b"Content-Type: image/png\n\npng"
+    (tmp_path / "none").write_bytes(none)
+    (tmp_path / "one").write_bytes(one)
+    (tmp_path / "box").write_bytes(b"".join(FROM + mail + b"\n" for mail in (none, one, none)))
+    for names, status in ((["none", "one"], 0), (["one", "none"], 0), (["box"], 0), (["none", "none"], 1), (["none", "gone"], 1)):
+        ended = run([*command("extract"), "--only", "1", *names], cwd=tmp_path)
+        said = ended.stderr.decode().splitlines()
+        assert (ended.returncode, said.count("rocktray: the choice keeps no file")) == (status, status), names
+
+
+def test_refused_mails_are_named(tmp_path):
+    """Each mail that is refused, and text before the first one of a mailbox, has a line on standard error."""
+    many = b"".join(b"A: %d\n" % number for number in range(9)) + b"\n"
+    (tmp_path / "a\x1b.mbox").write_bytes(b"text\n\n" + b"".join(FROM + mail + b"\n" for mail in (many, b"A: 1\n\n", many)))
+    ended = run([*command("extract"), "--mbox", "--max-items", "8", "a\x1b.mbox"], cwd=tmp_path)
+    errors = [(line["number"], line["error"]) for line in map(json.loads, ended.stdout.splitlines())]
+    assert (ended.returncode, [number for number, _ in errors]) == (3, [None, 1, 3])
+    assert ended.stderr.decode().splitlines() == [
+        f"rocktray: a\\u{{1b}}.mbox: {'' if number is None else f'mail {number}: '}{why}" for number, why in errors
+    ]
+
+
+def test_files_that_are_not_saved_are_named(tmp_path):
+    """Each file that cannot be saved has a line on standard error, and the status is 1."""
+    mail = multipart(b"b", b"Content-Type: image/png; name=a\n\n1", b"\nText", b"Content-Type: image/png; name=b\n\n2")
+    ended = run([*command("extract"), "--into", "/proc", "--label", "x\ny"], FROM + mail)
+    lines = [json.loads(line) for line in ended.stdout.splitlines()]
+    assert (ended.returncode, [(line["path"], line["saved"]) for line in lines]) == (1, [("1", None), ("3", None)])
+    assert ended.stderr.decode().splitlines() == [
+        f"rocktray: x\\u{{a}}y: mail 1: part {line['path']}: {line['error']}" for line in lines
+    ]
+    ended = run([*command("extract"), "--into", "/proc"], mail)
+    assert [line.rpartition(": ")[0] for line in ended.stderr.decode().splitlines()] == [
+        f"rocktray: standard input: part {path}" for path in "13"
+    ]
+
+
+@pytest.mark.skipif(os.geteuid() == 0, reason="root writes everywhere")
+def test_unwritable_directory(tmp_path):
+    """Where a directory cannot be written, each file is named with the reason of the system."""
+    into = tmp_path / "into"
+    into.mkdir(mode=0o500)
+    ended = run([*command("extract"), "--into", into], b"Content-Type: image/png\n\npng")
+    assert (ended.returncode, json.loads(ended.stdout)["saved"]) == (1, None)
+    assert ended.stderr.decode() == "rocktray: standard input: part 1: Permission denied (os error 13)\n"
 
 
 HIDDEN = b"Content-Disposition: attachment; filename=a.exe\n\nMZ"

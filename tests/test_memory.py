@@ -92,11 +92,12 @@ class Refused:
         return found == self.wanted and self.saved_files()[0]
 
     def is_short(self, found):
-        """Whether a run reports only that memory ran out."""
+        """Whether a run reports that memory ran out, after the front of what it reports otherwise."""
         status, output, error = found
         may_begin = self.name != "mail_show"
         front = self.wanted[1].startswith(output) if may_begin else output == b""
-        is_reported = error.count(b"\n") == 1 and error.endswith(b"out of memory\n")
+        notes = error[: error[:-1].rfind(b"\n") + 1]
+        is_reported = self.wanted[2].startswith(notes) and error.endswith(b"out of memory\n")
         is_saved = self.saved_files()[1] and (self.name != "extract" or self.has_lines(output))
         return status == 1 and is_reported and front and is_saved
 

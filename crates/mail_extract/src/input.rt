@@ -14,6 +14,7 @@ ghost use Rattle.mail_extract.specs.private.Blocks.{EndsAfter, SavesFront};
 
 use crate::directory::Directory;
 use crate::inside::extract_mail;
+use crate::notes::Notes;
 use crate::options::{Source, Target};
 use crate::report::{flush, report_refused};
 use mail_data::mailbox::quoted::unquoted;
@@ -55,17 +56,17 @@ use std::io::{self, ErrorKind, Read, Write};
 ///     naming: Naming::BySender,
 ///     choice: Choice { path: None, mimetype: None, name: None },
 /// };
-/// let source = Source { kind: InputKind::Either, file: None, options, known: &() };
+/// let source = Source { kind: InputKind::Either, file: None, options, known: &(), notes: &() };
 /// let outcome = extract_input(alloc, &mut out, &mut target, &mut reader, source)?;
 /// assert!(rt; outcome == Outcome::Refused);
 /// assert!(rt; out.as_slice().starts_with(b"{\"file\":null,\"number\":null,\"path\":null,"));
 /// ```
-pub fn extract_input<R: Read, W: Write, D: Directory, K: KnownCharsets>(
+pub fn extract_input<R: Read, W: Write, D: Directory, K: KnownCharsets, N: Notes>(
     alloc: Global,
     out: &mut W,
     target: &mut Target<D>,
     reader: &mut R,
-    source: Source<'_, K>,
+    source: Source<'_, K, N>,
 ) -> Result<Outcome, Fault>
     ensures { EndsInput (D.held target.old.directory) (D.held target.new.directory)
         (W.contents out.old) (W.contents out.new) target.old.number target.new.number
@@ -86,12 +87,12 @@ pub fn extract_input<R: Read, W: Write, D: Directory, K: KnownCharsets>(
 }
 
 /// Saves the chosen files of an input that was read to its end.
-fn extract_whole<W: Write, D: Directory, K: KnownCharsets>(
+fn extract_whole<W: Write, D: Directory, K: KnownCharsets, N: Notes>(
     alloc: Global,
     out: &mut W,
     target: &mut Target<D>,
     input: &[u8],
-    source: Source<'_, K>,
+    source: Source<'_, K, N>,
 ) -> Result<Outcome, Fault>
     ensures { Ends (D.held target.old.directory) (D.held target.new.directory)
         (W.contents out.old) (W.contents out.new) target.old.number target.new.number result
@@ -107,12 +108,12 @@ fn extract_whole<W: Write, D: Directory, K: KnownCharsets>(
 }
 
 /// Saves the chosen files of a mailbox that was read to its end.
-fn extract_mailbox<W: Write, D: Directory, K: KnownCharsets>(
+fn extract_mailbox<W: Write, D: Directory, K: KnownCharsets, N: Notes>(
     alloc: Global,
     out: &mut W,
     target: &mut Target<D>,
     input: &[u8],
-    source: Source<'_, K>,
+    source: Source<'_, K, N>,
 ) -> Result<Outcome, Fault>
     ensures { Ends (D.held target.old.directory) (D.held target.new.directory)
         (W.contents out.old) (W.contents out.new) target.old.number target.new.number result
@@ -121,19 +122,19 @@ fn extract_mailbox<W: Write, D: Directory, K: KnownCharsets>(
         (format_of source.entry.kind) input.now) }
 {
     let mails = read_mailbox(input, source.kind.format());
-    let outcome = report_front(out, mails.front(), source.file)?;
+    let outcome = report_front(out, mails.front(), source)?;
     Ok(outcome.and(extract_mails(alloc, out, target, mails, 1, source)?))
 }
 
 /// Saves the chosen files of a mailbox of which these bytes were read, up to the first separator or
 /// further.
-fn extract_following<R: Read, W: Write, D: Directory, K: KnownCharsets>(
+fn extract_following<R: Read, W: Write, D: Directory, K: KnownCharsets, N: Notes>(
     alloc: Global,
     out: &mut W,
     target: &mut Target<D>,
     reader: &mut R,
     read: &[u8],
-    source: Source<'_, K>,
+    source: Source<'_, K, N>,
 ) -> Result<Outcome, Fault>
     requires { has_front read.now ≡ true }
     ensures { EndsAfter (D.held target.old.directory) (D.held target.new.directory)
@@ -144,37 +145,42 @@ fn extract_following<R: Read, W: Write, D: Directory, K: KnownCharsets>(
         (format_of source.entry.kind)) }
 {
     let front = read_mailbox(read, source.kind.format()).front();
-    let outcome = report_front(out, front, source.file)?;
+    let outcome = report_front(out, front, source)?;
     let rest = &read[front.len()..];
     Ok(outcome.and(extract_rest(alloc, out, target, reader, rest, source)?))
 }
 
 /// Reports the text before the first mail of a mailbox, unless it is whitespace.
-fn report_front<W: Write>(out: &mut W, front: &[u8], file: Option<&str>) -> Result<Outcome, Fault>
+fn report_front<W: Write, K, N: Notes>(
+    out: &mut W,
+    front: &[u8],
+    source: Source<'_, K, N>,
+) -> Result<Outcome, Fault>
     ensures { WritesAll (W.contents out.old) (W.contents out.new) result
-        (front_lines (option_map (λ name. name.now) file.entry) front.now) }
+        (front_lines (option_map (λ name. name.now) source.entry.file) front.now) }
 {
     if is_all_whitespace(front) {
         return Ok(Outcome::Clean);
     }
     report_refused(
         out,
-        file,
+        source.file,
         None,
         None,
         "The mailbox does not begin with a separator",
+        source.notes,
     )
 }
 
 /// Saves the chosen files of the mails of a mailbox from its first separator onwards, of which
 /// these bytes were read.
-fn extract_rest<R: Read, W: Write, D: Directory, K: KnownCharsets>(
+fn extract_rest<R: Read, W: Write, D: Directory, K: KnownCharsets, N: Notes>(
     alloc: Global,
     out: &mut W,
     target: &mut Target<D>,
     reader: &mut R,
     read: &[u8],
-    source: Source<'_, K>,
+    source: Source<'_, K, N>,
 ) -> Result<Outcome, Fault>
     ensures { EndsAfter (D.held target.old.directory) (D.held target.new.directory)
         (W.contents out.old) (W.contents out.new) target.old.number target.new.number
@@ -216,13 +222,13 @@ struct Settled<'a> {
 
 /// Saves the chosen files of the mails at the front of these bytes that no further bytes can
 /// change. The first has this number.
-fn extract_settled<'a, W: Write, D: Directory, K: KnownCharsets>(
+fn extract_settled<'a, W: Write, D: Directory, K: KnownCharsets, N: Notes>(
     alloc: Global,
     out: &mut W,
     target: &mut Target<D>,
     bytes: &'a [u8],
     first: usize,
-    source: Source<'_, K>,
+    source: Source<'_, K, N>,
 ) -> Result<Settled<'a>, Fault>
     ensures saved { IfOk result (λ settled. SavesFront (D.held target.old.directory)
         (D.held target.new.directory) (W.contents out.old) (W.contents out.new)
@@ -250,13 +256,13 @@ fn extract_settled<'a, W: Write, D: Directory, K: KnownCharsets>(
 }
 
 /// Saves the chosen files of those mails of a mailbox that are left. The first has this number.
-fn extract_mails<W: Write, D: Directory, K: KnownCharsets>(
+fn extract_mails<W: Write, D: Directory, K: KnownCharsets, N: Notes>(
     alloc: Global,
     out: &mut W,
     target: &mut Target<D>,
     mails: Mailbox<'_>,
     first: usize,
-    source: Source<'_, K>,
+    source: Source<'_, K, N>,
 ) -> Result<Outcome, Fault>
     ensures { Ends (D.held target.old.directory) (D.held target.new.directory)
         (W.contents out.old) (W.contents out.new) target.old.number target.new.number result
@@ -281,13 +287,13 @@ fn next_number(number: usize) -> usize
 }
 
 /// Saves the chosen files of a mail of a mailbox.
-fn extract_entry<W: Write, D: Directory, K: KnownCharsets>(
+fn extract_entry<W: Write, D: Directory, K: KnownCharsets, N: Notes>(
     alloc: Global,
     out: &mut W,
     target: &mut Target<D>,
     entry: &MailboxEntry<'_>,
     number: usize,
-    source: Source<'_, K>,
+    source: Source<'_, K, N>,
 ) -> Result<Outcome, Fault>
     ensures { Ends (D.held target.old.directory) (D.held target.new.directory)
         (W.contents out.old) (W.contents out.new) target.old.number target.new.number result
@@ -308,13 +314,13 @@ fn extract_entry<W: Write, D: Directory, K: KnownCharsets>(
 
 /// Saves the chosen files of a mail with this number in its mailbox, or of a mail by itself, and
 /// writes their lines, or the line of its refusal.
-fn extract_one<W: Write, D: Directory, K: KnownCharsets>(
+fn extract_one<W: Write, D: Directory, K: KnownCharsets, N: Notes>(
     alloc: Global,
     out: &mut W,
     target: &mut Target<D>,
     raw: &[u8],
     number: Option<usize>,
-    source: Source<'_, K>,
+    source: Source<'_, K, N>,
 ) -> Result<Outcome, Fault>
     ensures { Ends (D.held target.old.directory) (D.held target.new.directory)
         (W.contents out.old) (W.contents out.new) target.old.number target.new.number result
@@ -327,7 +333,7 @@ fn extract_one<W: Write, D: Directory, K: KnownCharsets>(
             let Some(text) = refusal_of(alloc, &error)? else {
                 return Err(Fault::Mail(error));
             };
-            report_refused(out, source.file, number, None, text.as_str())
+            report_refused(out, source.file, number, None, text.as_str(), source.notes)
         }
     }
 }

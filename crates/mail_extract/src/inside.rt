@@ -12,6 +12,7 @@ ghost use Rattle.mail_json.specs.Inside.{mails_among};
 
 use crate::directory::Directory;
 use crate::level::{Level, Saving, Within};
+use crate::notes::Notes;
 use crate::options::{Source, Target};
 use crate::parts::extract_places;
 use crate::report::report_refused;
@@ -37,13 +38,13 @@ const MAILS: LineOptions<'static> = LineOptions {
 
 /// Saves the chosen files of a mail with this number in its mailbox and of the mails inside it, and
 /// writes the line of each after it. The mail is as it was parsed.
-pub(crate) fn extract_mail<W: Write, D: Directory, K: KnownCharsets>(
+pub(crate) fn extract_mail<W: Write, D: Directory, K: KnownCharsets, N: Notes>(
     alloc: Global,
     out: &mut W,
     target: &mut Target<D>,
     mail: &ParsedMail<'_>,
     number: Option<usize>,
-    source: Source<'_, K>,
+    source: Source<'_, K, N>,
 ) -> Result<Outcome, Fault>
     requires placed { placements_of mail.now ≡ mail_placements (tree_of mail.now) }
     ensures { Ends (D.held target.old.directory) (D.held target.new.directory)
@@ -70,13 +71,13 @@ pub(crate) fn extract_mail<W: Write, D: Directory, K: KnownCharsets>(
 /// Saves the chosen files of the mails that these parts of a mail contain, and of those inside
 /// them.
 #[cycle(inside)]
-fn extract_inside<W: Write, D: Directory, K: KnownCharsets>(
+fn extract_inside<W: Write, D: Directory, K: KnownCharsets, N: Notes>(
     alloc: Global,
     out: &mut W,
     target: &mut Target<D>,
     parts: &[Decoded<'_, '_, '_>],
     within: Within,
-    source: Source<'_, K>,
+    source: Source<'_, K, N>,
 ) -> Result<Outcome, Fault>
     ensures saved { AllByRecursion (IsDecoded false) parts.now → IfOk result (λ outcome.
         Saved (D.held target.old.directory) (D.held target.new.directory)
@@ -105,13 +106,13 @@ fn extract_inside<W: Write, D: Directory, K: KnownCharsets>(
 /// Saves the chosen files of the mail that a part of a mail contains, and of those inside it, or
 /// writes the line of its refusal.
 #[cycle(inside)]
-fn extract_forwarded<W: Write, D: Directory, K: KnownCharsets>(
+fn extract_forwarded<W: Write, D: Directory, K: KnownCharsets, N: Notes>(
     alloc: Global,
     out: &mut W,
     target: &mut Target<D>,
     part: &Decoded<'_, '_, '_>,
     within: Within,
-    source: Source<'_, K>,
+    source: Source<'_, K, N>,
 ) -> Result<Outcome, Fault>
     ensures saved { IsDecoded false part.now → IfOk result (λ outcome.
         Saved (D.held target.old.directory) (D.held target.new.directory)
@@ -147,7 +148,14 @@ fn extract_forwarded<W: Write, D: Directory, K: KnownCharsets>(
             let Some(text) = refusal_of(alloc, &error)? else {
                 return Err(Fault::Mail(error));
             };
-            report_refused(out, source.file, within.number, Some(path), text.as_str())
+            report_refused(
+                out,
+                source.file,
+                within.number,
+                Some(path),
+                text.as_str(),
+                source.notes,
+            )
         }
     }
 }

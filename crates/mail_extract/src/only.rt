@@ -7,6 +7,7 @@ ghost use Rattle.mail_extract.specs.OnlyViews.{files_held};
 use crate::directory::{Created, Directory};
 use crate::hash::Hashing;
 use crate::input::extract_input;
+use crate::notes::Notes;
 use crate::options::{Naming, SaveOptions, Source, Target};
 use mail_program::{Fault, Outcome};
 use mailparse::KnownCharsets;
@@ -91,17 +92,17 @@ impl Directory for OneFile {
 ///     naming: Naming::BySender,
 ///     choice: Choice { path: Some("1"), mimetype: None, name: None },
 /// };
-/// let source = Source { kind: InputKind::Either, file: None, options, known: &() };
+/// let source = Source { kind: InputKind::Either, file: None, options, known: &(), notes: &() };
 /// let found = write_only_file(alloc, &mut out, &mut lines, &mut reader, source)?;
 /// assert!(rt; found == OnlyFile::Written(Outcome::Clean));
 /// assert_eq!(rt; out.as_slice(), b"1,2\n".as_slice());
 /// ```
-pub fn write_only_file<R: Read, W: Write, L: Write, K: KnownCharsets>(
+pub fn write_only_file<R: Read, W: Write, L: Write, K: KnownCharsets, N: Notes>(
     alloc: Global,
     out: &mut W,
     lines: &mut L,
     reader: &mut R,
-    source: Source<'_, K>,
+    source: Source<'_, K, N>,
 ) -> Result<OnlyFile, Fault>
     ensures { WritesOnly (W.contents out.old) (W.contents out.new) (R.remaining reader.old)
         (R.remaining reader.new) result (input_files (K.known source.entry.known.now)
@@ -118,6 +119,7 @@ pub fn write_only_file<R: Read, W: Write, L: Write, K: KnownCharsets>(
         file: source.file,
         options,
         known: source.known,
+        notes: source.notes,
     };
     let directory = OneFile { alloc, file: None };
     let mut target = Target {

@@ -46,7 +46,7 @@ pub struct Target<D> {
 
 /// What is known of an input, and how its files are saved.
 #[derive_where(Clone, Copy, Debug)]
-pub struct Source<'s, K> {
+pub struct Source<'s, K, N> {
     /// What the input is.
     pub kind: InputKind,
     /// The name of the file, or `None` for standard input.
@@ -56,6 +56,9 @@ pub struct Source<'s, K> {
     /// The charsets in which file names are decoded.
     #[derive_where(skip(Debug))]
     pub known: &'s K,
+    /// Who is told what was not saved.
+    #[derive_where(skip(Debug))]
+    pub notes: &'s N,
 }
 
 /// Returns the name under which bytes are saved if it is free, given the sender's.

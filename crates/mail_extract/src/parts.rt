@@ -20,6 +20,7 @@ use crate::directory::Directory;
 use crate::endings::ending_of;
 use crate::level::{Level, Saving, is_contained};
 use crate::names::wanted_name;
+use crate::notes::Notes;
 use crate::options::{Source, Target};
 use crate::report::report_saved;
 use crate::save::save_part;
@@ -33,13 +34,13 @@ use std::alloc::{AllocError, Global};
 use std::io::Write;
 
 /// Saves the chosen files among some parts, and writes the line of each after it.
-pub(crate) fn extract_places<W: Write, D: Directory, K: KnownCharsets>(
+pub(crate) fn extract_places<W: Write, D: Directory, K: KnownCharsets, N: Notes>(
     alloc: Global,
     out: &mut W,
     target: &mut Target<D>,
     parts: &[Decoded<'_, '_, '_>],
     saving: Saving,
-    source: Source<'_, K>,
+    source: Source<'_, K, N>,
 ) -> Result<Outcome, Fault>
     requires { AllByRecursion (IsDecoded false) parts.now }
     ensures { Ends (D.held target.old.directory) (D.held target.new.directory)
@@ -59,13 +60,13 @@ pub(crate) fn extract_places<W: Write, D: Directory, K: KnownCharsets>(
 
 /// Saves a part if it is a chosen file, or otherwise the chosen files in its text, and writes the
 /// line of each after it.
-fn extract_place<W: Write, D: Directory, K: KnownCharsets>(
+fn extract_place<W: Write, D: Directory, K: KnownCharsets, N: Notes>(
     alloc: Global,
     out: &mut W,
     target: &mut Target<D>,
     part: &Decoded<'_, '_, '_>,
     saving: Saving,
-    source: Source<'_, K>,
+    source: Source<'_, K, N>,
 ) -> Result<Outcome, Fault>
     requires { IsDecoded false part.now }
     ensures { Ends (D.held target.old.directory) (D.held target.new.directory)
@@ -91,7 +92,7 @@ fn extract_place<W: Write, D: Directory, K: KnownCharsets>(
         return Ok(Outcome::Clean);
     }
     let saved = save_part(alloc, target, part, name, source.options)?;
-    report_saved(out, &saved, source.file, saving.number)
+    report_saved(out, &saved, source.file, saving.number, source.notes)
 }
 
 /// Returns whether the choice keeps a part as a file with this wanted name.

@@ -6,9 +6,11 @@ ghost use Rattle.mail_extract.specs.Report.{WritesAll, judged};
 ghost use Rattle.mail_extract.specs.SaveViews.{outcome};
 ghost use Rattle.mail_program.specs.Streams.{Writes};
 
+use crate::notes::Notes;
 use crate::save::Saved;
 use mail_json::{FileLine, write_file_line};
 use mail_program::{Fault, Outcome};
+use std::alloc::AllocError;
 use std::io::Write;
 
 /// Writes a line, and returns the outcome that it reports: it failed if a file could not be saved.
@@ -57,12 +59,14 @@ fn outcome_of(line: &FileLine<'_>) -> Outcome
     }
 }
 
-/// Writes the line of a file of the mail with this number, and flushes.
-pub(crate) fn report_saved<W: Write>(
+/// Writes the line of a file of the mail with this number, and flushes. It is noted if the file was
+/// not saved.
+pub(crate) fn report_saved<W: Write, N: Notes>(
     out: &mut W,
     saved: &Saved,
     file: Option<&str>,
     number: Option<usize>,
+    notes: &N,
 ) -> Result<Outcome, Fault>
     ensures { WritesAll (W.contents out.old) (W.contents out.new) result
         (file_line (option_map (λ name. name.now) file.entry) number (outcome saved.now) ∷ []) }
@@ -78,17 +82,19 @@ pub(crate) fn report_saved<W: Write>(
     };
     let outcome = write_line(out, &line)?;
     flush(out)?;
+    note_unsaved(notes, &line)?;
     Ok(outcome)
 }
 
 /// Writes the line of a refusal: of an input, of its mail with this number, or of the mail in the
-/// part with this path.
-pub(crate) fn report_refused<'l, W: Write>(
+/// part with this path. It is noted.
+pub(crate) fn report_refused<'l, W: Write, N: Notes>(
     out: &mut W,
     file: Option<&'l str>,
     number: Option<usize>,
     path: Option<&'l str>,
     error: &'l str,
+    notes: &N,
 ) -> Result<Outcome, Fault>
     ensures { WritesAll (W.contents out.old) (W.contents out.new) result
         (refused_line (option_map (λ name. name.now) file.entry) number
@@ -103,7 +109,17 @@ pub(crate) fn report_refused<'l, W: Write>(
         sha256: None,
         error: Some(error),
     };
-    write_line(out, &line)
+    let outcome = write_line(out, &line)?;
+    note_unsaved(notes, &line)?;
+    Ok(outcome)
+}
+
+/// Takes note of a line that names no saved file.
+fn note_unsaved<N: Notes>(notes: &N, line: &FileLine<'_>) -> Result<(), AllocError> {
+    match line.saved {
+        Some(_) => Ok(()),
+        None => notes.unsaved(line),
+    }
 }
 
 /// Flushes the writer.

@@ -17,6 +17,7 @@ ghost use Rattle.mail_extract.specs.Save.{chosen, text_wanted, texts_wanted, wan
 
 use crate::directory::Directory;
 use crate::names::wanted_name;
+use crate::notes::Notes;
 use crate::options::{Source, Target};
 use crate::report::report_saved;
 use crate::save::save_file;
@@ -33,13 +34,13 @@ const TYPE: &str = "application/octet-stream";
 
 /// Saves the chosen files in the text of a part of the mail with this number, if it is a plain text,
 /// and writes the line of each after it.
-pub(crate) fn extract_text<W: Write, D: Directory, K: KnownCharsets>(
+pub(crate) fn extract_text<W: Write, D: Directory, K: KnownCharsets, N: Notes>(
     alloc: Global,
     out: &mut W,
     target: &mut Target<D>,
     place: &Place<'_, '_>,
     number: Option<usize>,
-    source: Source<'_, K>,
+    source: Source<'_, K, N>,
 ) -> Result<Outcome, Fault>
     ensures { Ends (D.held target.old.directory) (D.held target.new.directory)
         (W.contents out.old) (W.contents out.new) target.old.number target.new.number result
@@ -76,14 +77,14 @@ fn read_text<'m>(alloc: Global, part: &'m ParsedMail<'_>) -> Result<Content<'m>,
 
 /// Saves the chosen files in the text of the part with this path, and writes the line of each after
 /// it.
-fn extract_files<W: Write, D: Directory, K: KnownCharsets>(
+fn extract_files<W: Write, D: Directory, K: KnownCharsets, N: Notes>(
     alloc: Global,
     out: &mut W,
     target: &mut Target<D>,
     path: &str,
     files: &[TextFile<'_>],
     number: Option<usize>,
-    source: Source<'_, K>,
+    source: Source<'_, K, N>,
 ) -> Result<Outcome, Fault>
     ensures { Ends (D.held target.old.directory) (D.held target.new.directory)
         (W.contents out.old) (W.contents out.new) target.old.number target.new.number result
@@ -103,14 +104,14 @@ fn extract_files<W: Write, D: Directory, K: KnownCharsets>(
 }
 
 /// Saves a file in a text, which has this path, if it is chosen, and writes its line.
-fn extract_file<W: Write, D: Directory, K: KnownCharsets>(
+fn extract_file<W: Write, D: Directory, K: KnownCharsets, N: Notes>(
     alloc: Global,
     out: &mut W,
     target: &mut Target<D>,
     path: String,
     file: &TextFile<'_>,
     number: Option<usize>,
-    source: Source<'_, K>,
+    source: Source<'_, K, N>,
 ) -> Result<Outcome, Fault>
     ensures { Ends (D.held target.old.directory) (D.held target.new.directory)
         (W.contents out.old) (W.contents out.new) target.old.number target.new.number result
@@ -126,7 +127,7 @@ fn extract_file<W: Write, D: Directory, K: KnownCharsets>(
     }
     let content = file.content(alloc)?;
     let saved = save_file(alloc, target, path, &content, name, source.options)?;
-    report_saved(out, &saved, source.file, number)
+    report_saved(out, &saved, source.file, number, source.notes)
 }
 
 /// Returns the wanted name of a file in a text.

@@ -1,17 +1,20 @@
 //! The subcommand that saves the files in mails.
+ghost use Rattle.std.specs.Prelude.{true, None};
 
 use crate::inputs::{inputs_of, kind_of, known_kind, limit_of};
+use crate::notes::StandardError;
 use crate::only;
 use crate::options::ids;
 use clap::ArgMatches;
 use mail_charsets::AllCharsets;
 use mail_extract::{
-    Choice, Disk, Hashing, Naming, SaveOptions, Source, Target, extract_input, write_line,
+    Choice, Created, Directory, Disk, Hashing, Naming, SaveOptions, Source, Target, extract_input,
+    write_line,
 };
 use mail_inputs::{Consumer, Content, Name, PROGRAM, argument_text, read_inputs, shown};
 use mail_json::{FileLine, InputKind};
 use mail_program::{Fault, Outcome};
-use std::alloc::Global;
+use std::alloc::{AllocError, Global};
 use std::fs;
 use std::io::{self, BufWriter, ErrorKind, Printer, Read, Write};
 use std::process::ExitCode;
@@ -19,6 +22,9 @@ use std::rt::Files;
 
 /// The first number that is added to a taken name.
 const FIRST_NUMBER: u64 = 2;
+
+/// What is said if a choice of a path keeps nothing.
+pub const NOTHING_KEPT: &str = "the choice keeps no file";
 
 /// Saves the files of inputs, and writes their lines.
 #[derive(Drop)]
@@ -30,6 +36,39 @@ struct Saver<'r, P: Print> {
     /// The number that is tried next if a name is taken.
     number: u64,
     options: SaveOptions<'r>,
+    /// Whether a file was kept.
+    keeps: Keeps,
+}
+
+/// Whether the choice kept a file so far.
+#[derive(Clone, Copy, Debug, PartialEq, Eq)]
+enum Keeps {
+    /// It kept none.
+    Nothing,
+    /// It kept one.
+    Something,
+}
+
+/// A directory of the file system that notes whether a file was to be saved there.
+#[derive(Drop)]
+struct NotingDisk<'r, R> {
+    disk: Disk<'r, R>,
+    keeps: Keeps,
+}
+
+impl<'r, R: Files + AllocGlobal> Directory for NotingDisk<'r, R> {
+    ghost held = { λ disk. None };
+
+    ghost can_fail = { λ files. true };
+
+    fn create(&mut self, name: &str, bytes: &[u8]) -> Result<Created, AllocError> {
+        self.keeps = Keeps::Something;
+        self.disk.create(name, bytes)
+    }
+
+    fn has(&self, name: &str, bytes: &[u8]) -> Result<bool, AllocError> {
+        self.disk.has(name, bytes)
+    }
 }
 
 impl<'r, P: Print> Consumer for Saver<'r, P> {
@@ -41,16 +80,22 @@ impl<'r, P: Print> Consumer for Saver<'r, P> {
         content: Content,
     ) -> Result<Outcome, Fault> {
         let known = &AllCharsets::standard();
-        let source = source_of(self.kind, content, name, self.options, known);
+        let notes = &StandardError(rt);
+        let source = source_of(self.kind, content, name, self.options, known, notes);
+        let disk = Disk {
+            rt,
+            path: self.directory,
+        };
         let mut target = Target {
-            directory: Disk {
-                rt,
-                path: self.directory,
+            directory: NotingDisk {
+                disk,
+                keeps: self.keeps,
             },
             number: self.number,
         };
         let ended = extract_input(rt.alloc(), &mut self.out, &mut target, reader, source);
         self.number = target.number;
+        self.keeps = target.directory.keeps;
         ended
     }
 
@@ -84,25 +129,32 @@ pub fn run<'a, R: Files + Input + Print + Eprint + AllocGlobal>(
         directory,
         number: FIRST_NUMBER,
         options: options_of(matches),
+        keeps: Keeps::Nothing,
     };
     let outcome = read_inputs(rt, &mut saver, inputs_of(matches, names))?;
     saver.out.flush()?;
+    if saver.options.choice.path.is_some() && saver.keeps == Keeps::Nothing {
+        let _ = eprintln!(rt; "{PROGRAM}: {NOTHING_KEPT}");
+        return Ok(ExitCode::FAILURE);
+    }
     Ok(outcome.status())
 }
 
 /// Returns an input whose files are saved in this way.
-pub fn source_of<'s, K>(
+pub fn source_of<'s, K, N>(
     kind: InputKind,
     content: Content,
     file: Option<&'s str>,
     options: SaveOptions<'s>,
     known: &'s K,
-) -> Source<'s, K> {
+    notes: &'s N,
+) -> Source<'s, K, N> {
     Source {
         kind: known_kind(kind, content),
         file,
         options,
         known,
+        notes,
     }
 }
 

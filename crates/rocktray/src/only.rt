@@ -1,6 +1,6 @@
 //! The subcommand that saves files, where it writes the only one to standard output.
 
-use crate::extract::{choice_of, source_of};
+use crate::extract::{NOTHING_KEPT, choice_of, source_of};
 use crate::inputs::{inputs_of, kind_of, limit_of};
 use crate::wrong;
 use clap::ArgMatches;
@@ -32,7 +32,7 @@ impl<'r, P: Print> Consumer for OnlyWriter<'r, P> {
         content: Content,
     ) -> Result<Outcome, Fault> {
         let known = &AllCharsets::standard();
-        let source = source_of(self.kind, content, name, self.options, known);
+        let source = source_of(self.kind, content, name, self.options, known, &());
         let mut lines = Vec::new(rt.alloc());
         let found = write_only_file(rt.alloc(), &mut self.out, &mut lines, reader, source)?;
         explain(rt, name, found, lines.as_slice())
@@ -93,7 +93,7 @@ fn explain(
     let why = match found {
         OnlyFile::Written(Outcome::Clean) => return Ok(Outcome::Clean),
         OnlyFile::Written(_) => "",
-        OnlyFile::Missing => "the choice keeps no file",
+        OnlyFile::Missing => NOTHING_KEPT,
         OnlyFile::Several => "the choice keeps several files, and --stdout writes one",
     };
     if let Ok(lines) = str::from_utf8(lines) {

@@ -143,7 +143,8 @@ so are forwarded mails and the files in them. In a PATTERN `*` fits any text, an
 letters is ignored. A file is saved if it agrees with each of --only, --type and --name.
 
 A file with damaged Base64 is saved up to the damage, and its line has an `error`. So has the line
-of a mail that is refused, and of an input that cannot be read.
+of a mail that is refused, and of an input that cannot be read. Standard error names what was not
+saved, too. If --only is given and no file is kept, it says so, and the exit status is 1.
 
 With --stdout the only file that is kept of one INPUT is written to standard output, and nothing
 else. If no file is kept, or several, the exit status is 1 and nothing is written there. Standard
