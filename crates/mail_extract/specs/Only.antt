@@ -1,4 +1,4 @@
--- The only file of an input that a choice keeps, and when it is written; the program's own rule.
+-- The only file of an input that a choice keeps, when it is written, and the lines of all files; the program's own rule.
 use Rattle.std.specs.Prelude.{◌≡◌, ◌<◌, ℕ, Bool, true, false, List, [], ◌∷◌, length, flat_map, Option, is_some, Result, Ok, Err}
 use Rattle.std.specs.Io.KnownBytes.{Appends, Consumes, IsAtEnd}
 use Rattle.mail_codec.specs.Charset.{Charsets}
@@ -7,21 +7,31 @@ use Rattle.mailparse.specs.Refusal.{Reads}
 use Rattle.mail_data.specs.MailboxFormats.{entries_in, mail_in}
 use Rattle.mail_data.specs.Reading.{mail_placements, mail_reading}
 use Rattle.mail_data.specs.declared.mailbox.formats.Format.{Format}
+use Rattle.mail_json.specs.FileLine.{FileLine}
 use Rattle.mail_json.specs.JsonLines.{format_of, is_mailbox}
 use Rattle.mail_program.specs.Fault.{IsFault}
 use Rattle.mail_json.specs.declared.options.InputKind.{InputKind}
 use Rattle.mail_program.specs.declared.fault.Fault.{Fault}
-use Rattle.mail_program.specs.declared.outcome.Outcome.TheVariants.{Refused}
+use Rattle.mail_program.specs.declared.outcome.Outcome.TheVariants.{Failed, Refused}
 use Rattle.mail_extract.specs.Choice.{Choice}
 use Rattle.mail_extract.specs.Directory.{File}
+use Rattle.mail_extract.specs.Input.{Saves}
+use Rattle.mail_extract.specs.Naming.{Options}
+use Rattle.mail_extract.specs.Report.{lines_text, worst}
 use Rattle.mail_extract.specs.Save.{Wanted, chosen, wanted_files}
+use Rattle.mail_extract.specs.declared.hash.Hashing.TheVariants.{Off}
 use Rattle.mail_extract.specs.declared.only.OnlyFile.{OnlyFile}
 use Rattle.mail_extract.specs.declared.only.OnlyFile.TheVariants.{Missing, Several, Written}
+use Rattle.mail_extract.specs.declared.options.Naming.TheVariants.{BySender}
 
 -- a directory for one file may fail if it has one
 abbrev pub fails_if_full : List File → Bool
 fails_if_full [] = false
 fails_if_full (file ∷ files) = true
+
+-- the same options, with names by senders and without hashes
+abbrev pub only_options : Options → Options
+only_options options = record { limit = options.limit; hashing = Off; naming = BySender; choice = options.choice }
 
 -- Under the known charsets, a limit on the messages, parts and headers of each mail, and a choice.
 module _ (known : Charsets) (limit : ℕ) (choice : Choice) where
@@ -42,8 +52,14 @@ module _ (known : Charsets) (limit : ℕ) (choice : Choice) where
   abbrev pub input_files : InputKind → List ℕ → List Wanted
   input_files kind bytes = input_files_of (format_of kind) (is_mailbox kind bytes) bytes
 
--- A writer that had some bytes and now has others.
-module _ (old new : Option (List ℕ)) where
+-- what is returned of a written file is the worst outcome that lines report
+abbrev pub IsWorst : OnlyFile → List FileLine → Type 0
+IsWorst Missing lines = Unit {0}
+IsWorst Several lines = worst lines ≡ Failed
+IsWorst (Written outcome) lines = outcome ≡ worst lines
+
+-- A writer that had some bytes and now has others, and a writer of lines.
+module _ (old new old_lines new_lines : Option (List ℕ)) where
   -- of these files the only one was written, and the outcome says if it is damaged; or there is not exactly one, and nothing was written
   abbrev pub IsOnly : OnlyFile → List Wanted → Type 0
   IsOnly Missing files = (files ≡ []) × Appends old new []
@@ -51,7 +67,14 @@ module _ (old new : Option (List ℕ)) where
   IsOnly (Written outcome) files =
       (file : Wanted) × (files ≡ file ∷ []) × Appends old new file.content.bytes × (is_some file.content.fault ≡ true → outcome ≡ Refused)
 
-  -- all that the reader had left was read, and so it was of its files; or memory ran out, or a read or a write failed
-  abbrev pub WritesOnly : (left_before left : Option (List ℕ)) → Result OnlyFile Fault → (List ℕ → List Wanted) → Type 0
-  WritesOnly left_before left (Ok found) files = (all : List ℕ) × Consumes left_before left all × IsAtEnd left × IsOnly found (files all)
-  WritesOnly left_before left (Err fault) files = IsFault fault
+  -- lines were written and nothing else: those of saving files, in this way, in an empty directory, with numbers from 2 on
+  abbrev pub WritesLines : OnlyFile → Saves → Type 0
+  WritesLines found Are =
+      (lines : List FileLine) × Appends old_lines new_lines (lines_text lines) × IsWorst found lines
+      × (next : ℕ) × (now : List File) × Are [] 2 lines next now
+
+  -- all that the reader had left was read, and so it was of its files and their lines; or memory ran out, or a read or a write failed
+  abbrev pub WritesOnly : (left_before left : Option (List ℕ)) → Result OnlyFile Fault → (List ℕ → List Wanted) → (List ℕ → Saves) → Type 0
+  WritesOnly left_before left (Ok found) files Are =
+      (all : List ℕ) × Consumes left_before left all × IsAtEnd left × IsOnly found (files all) × WritesLines found (Are all)
+  WritesOnly left_before left (Err fault) files Are = IsFault fault

@@ -1,7 +1,8 @@
 //! The only file of an input that a choice keeps, written as it is.
-ghost use Rattle.std.specs.Prelude.{Some};
-ghost use Rattle.mail_extract.specs.ChoiceViews.{choice_view};
-ghost use Rattle.mail_extract.specs.Only.{WritesOnly, fails_if_full, input_files};
+ghost use Rattle.std.specs.Prelude.{Some, option_map};
+ghost use Rattle.mail_extract.specs.ChoiceViews.{choice_view, options_view};
+ghost use Rattle.mail_extract.specs.Input.{IsInput};
+ghost use Rattle.mail_extract.specs.Only.{WritesOnly, fails_if_full, input_files, only_options};
 ghost use Rattle.mail_extract.specs.OnlyViews.{files_held};
 
 use crate::directory::{Created, Directory};
@@ -24,7 +25,8 @@ pub enum OnlyFile {
     Missing,
     /// Several files, so nothing was written.
     Several,
-    /// One file, which was written. The outcome says whether it is damaged or a mail is refused.
+    /// One file, which was written. The outcome is the worst that the lines report: whether the
+    /// file is damaged, or a mail is refused.
     Written(Outcome),
 }
 
@@ -104,9 +106,13 @@ pub fn write_only_file<R: Read, W: Write, L: Write, K: KnownCharsets, N: Notes>(
     reader: &mut R,
     source: Source<'_, K, N>,
 ) -> Result<OnlyFile, Fault>
-    ensures { WritesOnly (W.contents out.old) (W.contents out.new) (R.remaining reader.old)
-        (R.remaining reader.new) result (input_files (K.known source.entry.known.now)
-        source.entry.options.limit (choice_view source.entry.options.choice) source.entry.kind) }
+    ensures { WritesOnly (W.contents out.old) (W.contents out.new) (L.contents lines.old)
+        (L.contents lines.new) (R.remaining reader.old) (R.remaining reader.new) result
+        (input_files (K.known source.entry.known.now) source.entry.options.limit
+        (choice_view source.entry.options.choice) source.entry.kind)
+        (IsInput (option_map (λ name. name.now) source.entry.file) fails_if_full
+        (only_options (options_view source.entry.options)) (K.known source.entry.known.now)
+        source.entry.kind) }
 {
     let options = SaveOptions {
         limit: source.options.limit,

@@ -26,14 +26,14 @@ use Rattle.mail_program.specs.Outcome.{worse}
 use Rattle.mail_program.specs.declared.outcome.Outcome as program
 use Rattle.mail_program.specs.declared.outcome.Outcome.TheVariants.{Clean, Refused, Failed}
 use Rattle.mail_extract.specs.Directory.{File, has_file}
-use Rattle.mail_extract.specs.Input.{AreFiles, AreInside, AreMails, EndsInput, IsInput, IsInputOf, IsInside, IsMailOf, file_line, refused_line}
+use Rattle.mail_extract.specs.Input.{AreFiles, AreInside, AreMails, EndsInput, IsInput, IsInputOf, IsInside, IsMailOf, Saves, file_line, refused_line}
 use Rattle.mail_extract.specs.Naming.{Options, target}
 use Rattle.mail_extract.specs.Only.{WritesOnly, fails_if_full, input_files, input_files_of, mail_files, read_files}
 use Rattle.mail_extract.specs.OnlyViews.{files_held}
 use Rattle.mail_extract.specs.declared.only.HeldFile.{HeldFile}
 use Rattle.mail_extract.specs.declared.only.OneFile.{OneFile}
 use Rattle.mail_extract.specs.declared.only.OnlyFile.TheVariants.{Missing, Several, Written}
-use Rattle.mail_extract.specs.Report.{judged, worst}
+use Rattle.mail_extract.specs.Report.{judged, lines_text, worst}
 use Rattle.mail_extract.specs.Save.{IsKept, IsKeptNumbered, IsPut, IsSaved, Outcome, Wanted, chosen, wanted_among, wanted_files, wanted_inside}
 use Rattle.mail_extract.specs.declared.level.Level.TheVariants.{Own}
 use Rattle.mail_extract.specs.declared.options.Naming.{Naming}
@@ -389,10 +389,17 @@ is_refused Failed e h = absurd (one_zero e)
     one_zero e = cc
 
 module _ (file : Option (List ℕ)) (options : Options) (known : Charsets) (kind : InputKind) (by_sender : options.naming ≡ BySender) (directory : OneFile)
-    (old_lines new_lines left_before left : Option (List ℕ)) (from next : ℕ) (outcome : program.Outcome)
-    (h : EndsInput (Some []) (Some (files_held directory)) old_lines new_lines from next left_before left (Ok outcome) (IsInput file fails_if_full options known kind)) where
+    (old_lines new_lines left_before left : Option (List ℕ)) (next : ℕ) (outcome : program.Outcome)
+    (h : EndsInput (Some []) (Some (files_held directory)) old_lines new_lines 2 next left_before left (Ok outcome) (IsInput file fails_if_full options known kind)) where
+  -- the files of an input, and how they are saved
+  abbrev pub Files : List ℕ → List Wanted
+  Files = input_files known options.limit options.choice kind
+
+  abbrev pub Are : List ℕ → Saves
+  Are = IsInput file fails_if_full options known kind
+
   kept_all : (all : List ℕ) × Consumes left_before left all × IsAtEnd left × (lines : List FileLine) × (outcome ≡ worst lines)
-      × Keeps [] (input_files known options.limit options.choice kind all) lines (files_held directory)
+      × Keeps [] (Files all) lines (files_held directory) × Appends old_lines new_lines (lines_text lines) × (now : List File) × Are all [] 2 lines next now
   kept_all =
       let saved = h.3 in
       let after = saved.4 [] refl in (
@@ -401,20 +408,28 @@ module _ (file : Option (List ℕ)) (options : Options) (known : Charsets) (kind
         h.2,
         saved.0,
         saved.2,
-        subst (λ (fs : List File). Keeps [] (input_files known options.limit options.choice kind h.0) saved.0 fs) (sym (files_is (files_held directory) after.0 after.1))
-            (keeps_input file options by_sender known kind h.0 [] after.0 from next saved.0 after.2),
+        subst (λ (fs : List File). Keeps [] (Files h.0) saved.0 fs) (sym (files_is (files_held directory) after.0 after.1))
+            (keeps_input file options by_sender known kind h.0 [] after.0 2 next saved.0 after.2),
+        saved.1,
+        after.0,
+        after.2,
       )
 
   held : (found : Option HeldFile) → directory.file ≡ found → files_held directory ≡ option_map_or (λ (f : HeldFile). (string_bytes f.name, f.bytes.items) ∷ []) found []
   held found e = ap (λ (o : Option HeldFile). option_map_or (λ (f : HeldFile). (string_bytes f.name, f.bytes.items) ∷ []) o []) e
 
-  pub missing_only : (old : Option (List ℕ)) → directory.file ≡ None → WritesOnly old old left_before left (Ok Missing) (input_files known options.limit options.choice kind)
+  pub missing_only : (old : Option (List ℕ)) → directory.file ≡ None → WritesOnly old old old_lines new_lines left_before left (Ok Missing) Files Are
   missing_only old e =
-      let k = kept_all in
-      (k.0, k.1, k.2, (none_kept _ k.3 (subst (λ (fs : List File). Keeps [] (input_files known options.limit options.choice kind k.0) k.3 fs) (held None e) k.5), Appends-nil old))
+      let k = kept_all in (
+        k.0,
+        k.1,
+        k.2,
+        (none_kept _ k.3 (subst (λ (fs : List File). Keeps [] (Files k.0) k.3 fs) (held None e) k.5), Appends-nil old),
+        (k.3, k.6, tt, next, k.7, k.8),
+      )
 
   pub several_only : (old : Option (List ℕ)) (found : HeldFile) → directory.file ≡ Some found → outcome ≡ Failed
-      → WritesOnly old old left_before left (Ok Several) (input_files known options.limit options.choice kind)
+      → WritesOnly old old old_lines new_lines left_before left (Ok Several) Files Are
   several_only old found e failed =
       let k = kept_all in (
         k.0,
@@ -422,19 +437,20 @@ module _ (file : Option (List ℕ)) (options : Options) (known : Charsets) (kind
         k.2,
         (
           several_kept _ k.3 (string_bytes found.name, found.bytes.items) (sym failed ∙ k.4)
-              (subst (λ (fs : List File). Keeps [] (input_files known options.limit options.choice kind k.0) k.3 fs) (held (Some found) e) k.5),
+              (subst (λ (fs : List File). Keeps [] (Files k.0) k.3 fs) (held (Some found) e) k.5),
           Appends-nil old,
         ),
+        (k.3, k.6, sym k.4 ∙ failed, next, k.7, k.8),
       )
 
   pub written_only : (old new : Option (List ℕ)) (found : HeldFile) (bytes : List ℕ) → directory.file ≡ Some found → (outcome ≡ Failed → ⊥) → bytes ≡ found.bytes.items
-      → Appends old new bytes → WritesOnly old new left_before left (Ok (Written outcome)) (input_files known options.limit options.choice kind)
+      → Appends old new bytes → WritesOnly old new old_lines new_lines left_before left (Ok (Written outcome)) Files Are
   written_only old new found bytes e fine_is is_bytes p =
       let k = kept_all in
       let fine = not_failing outcome fine_is in
       let one =
       one_kept _ k.3 (string_bytes found.name, found.bytes.items) (ap failing (sym k.4) ∙ fine)
-      (subst (λ (fs : List File). Keeps [] (input_files known options.limit options.choice kind k.0) k.3 fs) (held (Some found) e) k.5) in (
+      (subst (λ (fs : List File). Keeps [] (Files k.0) k.3 fs) (held (Some found) e) k.5) in (
         k.0,
         k.1,
         k.2,
@@ -444,4 +460,5 @@ module _ (file : Option (List ℕ)) (options : Options) (known : Charsets) (kind
           subst (λ (bs : List ℕ). Appends old new bs) (is_bytes ∙ one.2) p,
           λ is. is_refused outcome fine (λ clean. one.3 is (sym k.4 ∙ clean)),
         ),
+        (k.3, k.6, k.4, next, k.7, k.8),
       )
