@@ -441,7 +441,8 @@ def test_only_in_one_of_several(tmp_path):
     (tmp_path / "none").write_bytes(none)
     (tmp_path / "one").write_bytes(one)
     (tmp_path / "box").write_bytes(b"".join(FROM + mail + b"\n" for mail in (none, one, none)))
-    for names, status in ((["none", "one"], 0), (["one", "none"], 0), (["box"], 0), (["none", "none"], 1), (["none", "gone"], 1)):
+    met, unmet = (["none", "one"], ["one", "none"], ["box"]), (["none", "none"], ["none", "gone"])
+    for names, status in [*((names, 0) for names in met), *((names, 1) for names in unmet)]:
         ended = run([*command("extract"), "--only", "1", *names], cwd=tmp_path)
         said = ended.stderr.decode().splitlines()
         assert (ended.returncode, said.count("rocktray: the choice keeps no file")) == (status, status), names
@@ -450,7 +451,8 @@ def test_only_in_one_of_several(tmp_path):
 def test_refused_mails_are_named(tmp_path):
     """Each mail that is refused, and text before the first one of a mailbox, has a line on standard error."""
     many = b"".join(b"A: %d\n" % number for number in range(9)) + b"\n"
-    (tmp_path / "a\x1b.mbox").write_bytes(b"text\n\n" + b"".join(FROM + mail + b"\n" for mail in (many, b"A: 1\n\n", many)))
+    mails = b"".join(FROM + mail + b"\n" for mail in (many, b"A: 1\n\n", many))
+    (tmp_path / "a\x1b.mbox").write_bytes(b"text\n\n" + mails)
     ended = run([*command("extract"), "--mbox", "--max-items", "8", "a\x1b.mbox"], cwd=tmp_path)
     errors = [(line["number"], line["error"]) for line in map(json.loads, ended.stdout.splitlines())]
     assert (ended.returncode, [number for number, _ in errors]) == (3, [None, 1, 3])
@@ -546,6 +548,28 @@ def test_no_empty_line(line, tmp_path):
     ended = run(command("json"), mail)
     parts = json.loads(ended.stdout)["parts"]
     assert [part["path"] for part in parts if part["extracted"]] == ["1"]
+
+
+CODED = b"Content-Type: image/png; name=a.png\nContent-Transfer-Encoding: base64\n"
+IN_HEADERS = "Nothing follows the headers, and a line of them is no header"
+
+
+@pytest.mark.parametrize("part, error", [
+    (CODED + base64.encodebytes(b"png"), IN_HEADERS), (CODED + base64.encodebytes(b"png") + b"\n", IN_HEADERS),
+    (CODED + b" \n" + base64.encodebytes(bytes(99)), IN_HEADERS),
+    (CODED.replace(b"\n", b"\r\n") + b"cG5n\r\n", IN_HEADERS), (CODED + b"cG5n\nX: y\n", IN_HEADERS),
+    (b"cG5n\n" + CODED, IN_HEADERS), (CODED, None), (CODED + b"\n", None), (CODED + b"\n\n", None),
+    (CODED.replace(b"\n", b"\r\n") + b"\r\n", None), (CODED.replace(b" name", b"\n name") + b"X:\n", None),
+    (CODED.replace(b";", b";\n\t"), None), (CODED + b"X: cG5n\n", None),
+])
+@pytest.mark.parametrize("alone", [False, True])
+def test_content_among_headers(part, error, alone, tmp_path):
+    """A file of no bytes has an error if a line of its headers, which may be its content, is no header."""
+    mail = part if alone else multipart(b"b", b"\nText", part)
+    ended = run([*command("extract"), "--into", tmp_path, "--mail"], mail)
+    line = json.loads(ended.stdout)
+    assert (ended.returncode, line["error"], line["size"], ended.stderr) == (3 if error else 0, error, 0, b"")
+    assert (tmp_path / line["saved"]).read_bytes() == b""
 
 
 # headers with the name and the disposition that they give a file: by RFC 6266, section 4.3, RFC 2047, sections 5 and

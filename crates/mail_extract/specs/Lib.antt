@@ -2,7 +2,9 @@ pub mod Endings
 pub mod Names
 pub mod Directory
 pub mod Hash
+pub mod Stray
 pub mod Content
+pub mod ContentViews
 pub mod Choice
 pub mod Naming
 pub mod ChoiceViews

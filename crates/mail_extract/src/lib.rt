@@ -18,6 +18,7 @@ mod parts;
 mod pattern;
 mod report;
 mod save;
+mod stray;
 mod texts;
 
 pub use choice::Choice;

@@ -3,9 +3,9 @@ ghost use Rattle.std.specs.Prelude.{◌≡◌, List, Some, false, is_some, strin
 ghost use Rattle.std.specs.Prelude.{IfErr, IfOk, IfSome};
 ghost use Rattle.mailparse.specs.Outcome.{IsMemory};
 ghost use Rattle.mail_data.specs.FileNames.{IsSafeName};
-ghost use Rattle.mail_data.specs.lenient.ContentViews.{content_view};
 ghost use Rattle.mail_json.specs.DecodedViews.{IsDecoded, decoded_place};
 ghost use Rattle.mail_extract.specs.ChoiceViews.{options_view};
+ghost use Rattle.mail_extract.specs.ContentViews.{file_view};
 ghost use Rattle.mail_extract.specs.Directory.{File};
 ghost use Rattle.mail_extract.specs.Save.{IsKept, IsKeptNumbered, IsPut, IsSaved, Wanted};
 ghost use Rattle.mail_extract.specs.Save.{wanted_as};
@@ -13,12 +13,11 @@ ghost use Rattle.mail_extract.specs.SaveViews.{kept_name, outcome};
 ghost use Rattle.mail_extract.specs.declared.level.Level.{Level};
 ghost use Rattle.mail_extract.specs.declared.options.Naming.TheVariants.{ByHash};
 
-use crate::content::saved_content;
+use crate::content::{Damage, FileContent, saved_content};
 use crate::directory::{Created, Directory};
 use crate::hash::wanted_hash;
 use crate::names::numbered;
 use crate::options::{Naming, SaveOptions, Target, target_name};
-use mail_data::lenient::{Content, ContentFault};
 use mail_json::Decoded;
 use mailparse::MailParseError;
 use std::alloc::{AllocError, Global};
@@ -78,14 +77,14 @@ pub(crate) fn save_file<D: Directory>(
     alloc: Global,
     target: &mut Target<D>,
     path: String,
-    content: &Content<'_>,
+    content: &FileContent<'_>,
     name: String,
     options: SaveOptions<'_>,
 ) -> Result<Saved, AllocError>
     requires { IsSafeName (string_bytes name) }
     ensures saved { IfOk result (λ saved. (wanted : Wanted) (files : List File)
         → wanted.path ≡ string_bytes path → wanted.name ≡ string_bytes name
-        → wanted.content ≡ content_view content.now
+        → wanted.content ≡ file_view content.now
         → D.held target.old.directory ≡ Some files
         → (now : List File) × (D.held target.new.directory ≡ Some now)
         × IsSaved D.can_fail (options_view options.entry) files wanted
@@ -95,7 +94,7 @@ pub(crate) fn save_file<D: Directory>(
     let bytes = content.bytes.as_slice();
     let name = target_name(alloc, name, bytes, options.naming)?;
     let sha256 = wanted_hash(alloc, bytes, options.hashing)?;
-    let damage = text_of(alloc, content.fault, content.ignored)?;
+    let damage = text_of(alloc, content.damage, content.ignored)?;
     let size = bytes.len();
     let (directory, number) = (&mut target.directory, &mut target.number);
     match put(alloc, directory, number, name, bytes, options.naming)? {
@@ -116,18 +115,18 @@ pub(crate) fn save_file<D: Directory>(
     }
 }
 
-/// The text of a fault, with the number of bytes that were ignored, if there are any.
+/// The text of damage, with the number of bytes that were ignored, if there are any.
 fn text_of(
     alloc: Global,
-    fault: Option<ContentFault>,
+    damage: Option<Damage>,
     ignored: usize,
 ) -> Result<Option<String>, AllocError>
-    ensures { IfOk result (λ text. is_some text ≡ is_some fault) }
+    ensures { IfOk result (λ text. is_some text ≡ is_some damage) }
 {
-    let Some(fault) = fault else {
+    let Some(damage) = damage else {
         return Ok(None);
     };
-    let error = MailParseError::from(fault);
+    let error = damage.error();
     if ignored == 0 {
         return Ok(Some(format!(in alloc; "{error}")?));
     }

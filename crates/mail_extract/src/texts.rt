@@ -15,6 +15,7 @@ ghost use Rattle.mail_extract.specs.Input.{AreFiles, Ends};
 ghost use Rattle.mail_extract.specs.Names.{wanted_name};
 ghost use Rattle.mail_extract.specs.Save.{chosen, text_wanted, texts_wanted, wanted_texts};
 
+use crate::content::file_content;
 use crate::directory::Directory;
 use crate::names::wanted_name;
 use crate::notes::Notes;
@@ -126,6 +127,7 @@ fn extract_file<W: Write, D: Directory, K: KnownCharsets, N: Notes>(
         return Ok(Outcome::Clean);
     }
     let content = file.content(alloc)?;
+    let content = file_content(content);
     let saved = save_file(alloc, target, path, &content, name, source.options)?;
     report_saved(out, &saved, source.file, number, source.notes)
 }

@@ -4,6 +4,7 @@ use Rattle.std.proofs.lemmas.Bool.{cases_Bool, cond-true, cond-false}
 use Rattle.std.proofs.Common.{inl, inr}
 use Rattle.std.specs.Prelude.{◌==◌}
 use Rattle.mailparse.specs.Mail.{root}
+use Rattle.mailparse.specs.Refusal.{Refusal}
 use Rattle.mail_data.specs.InnerMails.{holds_mail}
 use Rattle.mail_data.specs.PartPlaces.{Place}
 use Rattle.mail_data.specs.lenient.Content.{Content, message_content}
@@ -20,9 +21,12 @@ mail-held place mail e = elim (cases_Bool (holds_mail place)) [
   | inr none ↦ let g : ◌≡◌ {A = Option Content} (Some mail) None = e ∙ cond-false (holds_mail place) _ _ none in absurd (cc)
 ]
 
--- the same content with other bytes of the same value
-pub content_as : (bytes : List ℕ) (mail : Content) → bytes ≡ mail.bytes → ◌≡◌ {A = Content} (record { bytes = bytes; fault = mail.fault; ignored = mail.ignored }) mail
-content_as bytes mail e = ap (λ (b : List ℕ). record { bytes = b; fault = mail.fault; ignored = mail.ignored }) e
+-- the same content with other bytes and another fault of the same values
+pub content_as : (bytes : List ℕ) (fault : Option Refusal) (mail : Content) → bytes ≡ mail.bytes → fault ≡ mail.fault
+    → ◌≡◌ {A = Content} (record { bytes = bytes; fault = fault; ignored = mail.ignored }) mail
+content_as bytes fault mail e f =
+    ap (λ (b : List ℕ). record { bytes = b; fault = fault; ignored = mail.ignored }) e
+    ∙ ap (λ (o : Option Refusal). record { bytes = mail.bytes; fault = o; ignored = mail.ignored }) f
 
 -- a mail that was decoded is what is saved, unless its body is empty
 pub held_saved : (place : Place) (read mail : Content) (raw : List ℕ) → ◌≡◌ {A = Option Content} (Some mail) (mail_if false place) → read ≡ mail

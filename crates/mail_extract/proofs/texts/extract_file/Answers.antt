@@ -29,4 +29,4 @@ returns g c =
     file_saved (option_map (λ name. name.now) c.args.source.file) g.D.Directory.can_fail options c.args.number _ wanted
     (text-kept options.choice path file true (string_bytes c.in_ok-name.name) c.in_ok-name.ensures.read kept)
     _ _ _ _ _ _ c.report_saved.result (outcome c.in_ok-saved.saved)
-    (λ before is. saved.saved wanted before refl (sym c.in_ok-name.ensures.read) (sym c.in_ok-content.ensures) is) saved.safe c.report_saved.ensures
+    (λ before is. saved.saved wanted before refl (sym c.in_ok-name.ensures.read) (sym (c.file_content-content.ensures ∙ c.in_ok-content.ensures)) is) saved.safe c.report_saved.ensures
