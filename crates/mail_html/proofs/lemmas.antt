@@ -4,5 +4,6 @@ pub mod References
 pub mod Layout
 pub mod Html
 pub mod Links
+pub mod LinkLaws
 pub mod Laws
 pub mod Provenance

@@ -1,5 +1,5 @@
 -- What the laws speak of: plain text, of which HTML means the text itself, and what is put between runs of text.
-use Rattle.std.specs.Prelude.{ℕ, Bool, true, false, not, ◌||◌, ◌&&◌, ◌==◌, List, [], ◌∷◌, if◌then◌else◌}
+use Rattle.std.specs.Prelude.{ℕ, Bool, true, false, not, ◌||◌, ◌&&◌, ◌==◌, List, [], ◌∷◌, codes, if◌then◌else◌}
 use Rattle.std.specs.Char.{is_ascii_whitespace}
 use Rattle.mail_codec.specs.Ascii.{less_than, space}
 use Rattle.mail_codec.specs.Places.{is_empty}
@@ -22,3 +22,7 @@ is_plain text = is_empty text || is_plain_after true text
 -- what is put between runs of text, and around alternative texts: space, tab, LF and brackets
 abbrev pub separators : List ℕ
 separators = 32 ∷ 9 ∷ 10 ∷ 91 ∷ 93 ∷ []
+
+-- what the numbers of links add
+abbrev pub link_digits : List ℕ
+link_digits = codes "0123456789"

@@ -165,15 +165,15 @@ hidden_left refs s bs letter hidden =
     ap (λ (p : Step). state_after (p.1 - 1) refs p.0 bs) (hidden_step refs s bs letter hidden)
     ∙ ap (λ (m : ℕ). state_after m refs s bs) e ∙ skips n refs s bs
 
-script_is_hidden : kind_of (codes "script") ≡ Hidden
+pub script_is_hidden : kind_of (codes "script") ≡ Hidden
 unfolding kind_of
 script_is_hidden = refl
 
-tag_of_script : (rest : List ℕ) → tag_length (codes "script>" ++ rest) ≡ 7
+pub tag_of_script : (rest : List ℕ) → tag_length (codes "script>" ++ rest) ≡ 7
 unfolding tag_length
 tag_of_script rest = refl
 
-end_of_script : (refs : References) (s : State) (after : List ℕ) → front_step refs s (codes "</script>" ++ after) ≡ (s, 9)
+pub end_of_script : (refs : References) (s : State) (after : List ℕ) → front_step refs s (codes "</script>" ++ after) ≡ (s, 9)
 end_of_script refs s after =
     sym (front_markup refs s (codes "</script>" ++ after) (s, 9) refl
     (markup_end refs s (codes "/script>" ++ after) (s, 9) refl refl

@@ -9,7 +9,7 @@ use Rattle.mail_html.specs.References.{value_text}
 use Rattle.mail_html.specs.Tags.{has_name, value_named}
 use Rattle.mail_html.specs.declared.references.References.{References}
 
-skips : (n : ℕ) (refs : References) (l : Linked) (bs : List ℕ) → linked_after n refs l bs ≡ linked_after 0 refs l (drop n bs)
+pub skips : (n : ℕ) (refs : References) (l : Linked) (bs : List ℕ) → linked_after n refs l bs ≡ linked_after 0 refs l (drop n bs)
 skips zero refs l bs = refl
 skips (suc n) refs l [] = refl
 skips (suc n) refs l (b ∷ bs) = skips n refs l bs

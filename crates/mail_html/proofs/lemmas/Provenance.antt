@@ -1,22 +1,26 @@
 -- What the bytes of HTML, the texts of references and the separators have in common, the bytes of its text have.
-use Rattle.std.proofs.Common.{◌≡◌, ℕ, zero, suc, ◌+◌, ◌-◌, ◌<◌, Bool, true, false, cond, List, [], ◌∷◌, ◌++◌, take, drop, length, get_or, subst, arith, eqb-true}
-use Rattle.std.specs.Prelude.{◌==◌, ◌||◌, codes}
+use Rattle.std.proofs.Common.{◌≡◌, ℕ, zero, suc, ◌+◌, ◌-◌, ◌/◌, ◌%◌, ◌<◌, Bool, true, false, cond, List, [], ◌∷◌, ◌++◌, take, drop, length, get_or, refl, subst, arith, eqb-true}
+use Rattle.std.specs.Prelude.{◌==◌, ◌||◌, codes, decimal}
+use Rattle.std.specs.Fmt.{digit_glyph, digits, digits_onto}
 use Rattle.std.specs.List.{All, fold, suffix_len, prefix_len}
 use Rattle.std.specs.Char.{is_ascii_alphabetic, is_ascii_whitespace}
 use Rattle.std.specs.Str.{str_eq_ignore_ascii_case}
-use Rattle.std.proofs.lemmas.Bool.{cond_both}
+use Rattle.std.proofs.lemmas.Bool.{agree_below, agree_below_at, cond_both}
 use Rattle.std.proofs.lemmas.List.Elements.{All-append, All-drop, All-take}
 use Rattle.mail_codec.specs.Places.{begins, first_place, is_empty}
 use Rattle.mail_html.specs.Elements.{add_tag, kind_of}
 use Rattle.mail_html.specs.Html.{Step, bracketed, end_step, front_step, literal_step, markup_step, reference_step, shown_for, start_step, state_after, text_length, text_step, trimmed}
 use Rattle.mail_html.specs.Layout.{State, Written, add_text, wider, with_collapsed, with_gap, with_kept, with_text}
-use Rattle.mail_html.specs.Plain.{separators}
+use Rattle.mail_html.specs.Links.{Linked, add_link, add_note, add_target, attribute_target, linked_after, mark, note_line, target_at, with_notes}
+use Rattle.mail_html.specs.Plain.{link_digits, separators}
 use Rattle.mail_html.specs.References.{reference, value_text}
-use Rattle.mail_html.specs.Tags.{Attribute, Value, assigned, attribute, attribute_name_length, declaration_length, ends_value, is_quote, is_separator, name_length, past_byte, piece, quoted, tag_length, unquoted, value, value_from, value_named, white_length}
+use Rattle.mail_html.specs.Tags.{Attribute, Value, assigned, attribute, attribute_name_length, declaration_length, ends_value, has_name, is_quote, is_separator, name_length, past_byte, piece, quoted, tag_length, unquoted, value, value_from, value_named, white_length}
 use Rattle.mail_html.specs.declared.elements.Kind.{Kind}
 use Rattle.mail_html.specs.declared.elements.Kind.TheVariants.{Inline, Cell, Block, Paragraph, Break, Preformatted, Image, Hidden, Foreign}
 use Rattle.mail_html.specs.declared.layout.Gap.{Gap}
 use Rattle.mail_html.specs.declared.layout.Gap.TheVariants.{Nothing, Space, Tab, LineEnd, BlankLine}
+use Rattle.mail_html.specs.Text.{written}
+use Rattle.mail_html.specs.declared.links.Links.TheVariants.{Footnotes}
 use Rattle.mail_html.specs.declared.references.References.{References}
 
 module _ (P : ℕ → Type 0) where
@@ -194,9 +198,80 @@ module _ (P : ℕ → Type 0) where
           let step = front_step refs s (b ∷ bs) in
           state_bytes (step.1 - 1) bs step.0 (tail b bs bytes) (front_bytes s (b ∷ bs) bytes h)
 
+      -- ---- links
+
+      module _ (digit : (d : ℕ) → d < 10 → P (digit_glyph false d)) where
+        digits_bytes : (k n : ℕ) (acc : List ℕ) → All P acc → All P (digits_onto k 10 false n acc)
+        digits_bytes zero n acc h = h
+        digits_bytes (suc k) n acc h =
+            let next : All P (digit_glyph false (n % 10) ∷ acc) = All-append P (digit_glyph false (n % 10) ∷ []) acc (one (digit_glyph false (n % 10)) (digit (n % 10) (omega arith))) h in
+            cond_both {A = List ℕ} (n / 10 == 0) (digit_glyph false (n % 10) ∷ acc) (digits_onto k 10 false (n / 10) (digit_glyph false (n % 10) ∷ acc)) (All P)
+            (λ e. next) (λ e. digits_bytes k (n / 10) (digit_glyph false (n % 10) ∷ acc) next)
+
+        mark_bytes : (n : ℕ) → All P (mark n)
+        unfolding digits
+        mark_bytes n =
+            All-append P (91 ∷ []) (decimal n ++ (93 ∷ [])) (one 91 opening) (All-append P (decimal n) (93 ∷ []) (digits_bytes 64 n [] nothing) (one 93 closing))
+
+        note_bytes : (m target notes : List ℕ) → All P m → All P target → All P notes → All P (add_note m target notes)
+        unfolding add_note
+        note_bytes m target notes marked bytes h =
+            with_bytes false (note_line m target) (notes, LineEnd) (All-append P (m ++ (32 ∷ [])) target (All-append P m (32 ∷ []) marked (one 32 space)) bytes) h
+
+        abbrev IsMade : Linked → Type 0
+        IsMade l = All P l.0.0 × All P l.1
+
+        target_bytes : (t : List ℕ) (l : Linked) → All P t → IsMade l → IsMade (add_target t l)
+        target_bytes [] l bytes h = h
+        target_bytes (b ∷ t) l bytes h = (added (mark (suc l.2)) l.0 (mark_bytes (suc l.2)) h.0, note_bytes (mark (suc l.2)) (b ∷ t) l.1 (mark_bytes (suc l.2)) bytes h.1)
+
+        link_bytes : (t : List ℕ) (l : Linked) → All P t → IsMade l → IsMade (add_link t l)
+        unfolding add_link
+        link_bytes t l bytes h = target_bytes (trimmed t) l (trimmed_bytes t bytes) h
+
+        attribute_target_bytes : (bs : List ℕ) → All P bs → All P (attribute_target refs bs)
+        unfolding attribute_target
+        attribute_target_bytes bs bytes =
+            cond_both {A = List ℕ} (has_name (codes "a") bs) (value_text 0 refs (value_named 0 (codes "href") (drop 1 bs))) [] (All P)
+            (λ e. text_bytes 0 (value_named 0 (codes "href") (drop 1 bs)) (named_bytes 0 (codes "href") (drop 1 bs) (All-drop P 1 bs bytes))) (λ e. nothing)
+
+        target_at_bytes : (bs : List ℕ) → All P bs → All P (target_at refs bs)
+        unfolding target_at
+        target_at_bytes bs bytes =
+            cond_both {A = List ℕ} (begins (λ b. b == 60) bs) (attribute_target refs (drop 1 bs)) [] (All P) (λ e. attribute_target_bytes (drop 1 bs) (All-drop P 1 bs bytes)) (λ e. nothing)
+
+        linked_bytes : (n : ℕ) (bs : List ℕ) (l : Linked) → All P bs → IsMade l → IsMade (linked_after n refs l bs)
+        linked_bytes n [] l bytes h = h
+        linked_bytes (suc n) (b ∷ bs) l bytes h = linked_bytes n bs l (tail b bs bytes) h
+        linked_bytes zero (b ∷ bs) l bytes h =
+            let step = front_step refs l.0 (b ∷ bs) in
+            linked_bytes (step.1 - 1) bs (add_link (target_at refs (b ∷ bs)) (step.0, l.1, l.2)) (tail b bs bytes)
+            (link_bytes (target_at refs (b ∷ bs)) (step.0, l.1, l.2) (target_at_bytes (b ∷ bs) bytes) (front_bytes l.0 (b ∷ bs) bytes h.0, h.1))
+
+        pub notes_bytes : (t notes : List ℕ) → All P t → All P notes → All P (with_notes t notes)
+        notes_bytes t [] h bytes = h
+        notes_bytes t (b ∷ notes) h bytes = All-append P (with_gap t BlankLine) (b ∷ notes) (gap_bytes t BlankLine h) bytes
+
+        pub written_bytes : (html : List ℕ) → All P html → All P (written Footnotes refs html)
+        written_bytes html bytes =
+            let l = linked_bytes 0 html (([], Nothing, false), [], 0) bytes (nothing, nothing) in
+            let linked = linked_after 0 refs (([], Nothing, false), [], 0) html in
+            notes_bytes linked.0.0 linked.1 l.0 l.1
+
 pub made_of : (refs : References) (test : ℕ → Bool) (html : List ℕ) → All (λ b. test b ≡ true) html
     → ((in_value : Bool) (bs : List ℕ) → All (λ b. test b ≡ true) (reference refs in_value bs).0) → All (λ b. test b ≡ true) separators
     → All (λ b. test b ≡ true) (state_after 0 refs ([], Nothing, false) html).0
 made_of refs test html bytes of_refs made =
     state_bytes (λ b. test b ≡ true) refs of_refs (made 0 0 (omega arith)) (made 1 0 (omega arith)) (made 2 0 (omega arith)) (made 3 0 (omega arith)) (made 4 0 (omega arith))
     0 html ([], Nothing, false) bytes (λ k d low. absurd (omega arith))
+
+glyphs : agree_below (λ d. get_or link_digits d 0 == digit_glyph false d) (λ d. true) 10 ≡ true
+glyphs = refl
+
+pub linked_of : (refs : References) (test : ℕ → Bool) (html : List ℕ) → All (λ b. test b ≡ true) html
+    → ((in_value : Bool) (bs : List ℕ) → All (λ b. test b ≡ true) (reference refs in_value bs).0) → All (λ b. test b ≡ true) separators
+    → All (λ b. test b ≡ true) link_digits → All (λ b. test b ≡ true) (written Footnotes refs html)
+linked_of refs test html bytes of_refs made numbers =
+    written_bytes (λ b. test b ≡ true) refs of_refs (made 0 0 (omega arith)) (made 1 0 (omega arith)) (made 2 0 (omega arith)) (made 3 0 (omega arith)) (made 4 0 (omega arith))
+    (λ d low. subst (λ b. test b ≡ true) (eqb-true _ _ (agree_below_at (λ d. get_or link_digits d 0 == digit_glyph false d) (λ d. true) 10 d glyphs low)) (numbers d 0 low))
+    html bytes
