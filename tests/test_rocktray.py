@@ -14,6 +14,7 @@ import os
 import pty
 import subprocess
 import tempfile
+import unicodedata
 import zipfile
 
 import pytest
@@ -21,6 +22,9 @@ import pytest
 from support import FROM, LOGIC, SAMPLES, SUBCOMMANDS, TOP, VERSION, command, multipart, program, run, text_of
 
 MAIL = b"Subject: %b\n\none\n"
+DIRECTIONS = {"LRE", "RLE", "LRO", "RLO", "PDF", "LRI", "RLI", "FSI", "PDI"}
+# the marks, which have the class of a letter or a number
+MARKS = {"ARABIC LETTER MARK", "LEFT-TO-RIGHT MARK", "RIGHT-TO-LEFT MARK"}
 HELP = "For more information, try '--help'."
 
 
@@ -89,6 +93,16 @@ def test_control_characters():
     ended = run([*command("json"), "no\nforged\x1b"])
     assert ended.stderr.decode() == "rocktray: no\\u{a}forged\\u{1b}: No such file or directory (os error 2)\n"
     assert lines(ended)[0]["file"] == "no\nforged\x1b"
+
+
+def test_characters_that_turn_text():
+    """A name that changes the direction of text does not change that of a message; which do is as in Python."""
+    turning = [chr(code) for code in range(0x110000) if unicodedata.bidirectional(chr(code)) in DIRECTIONS]
+    turning += [character for character in map(chr, range(0x3000)) if unicodedata.name(character, "") in MARKS]
+    assert len(turning) == 12
+    for character in ("\x85", "\u2028", "\u2029", *turning):
+        ended = run([*command("check"), f"a{character}b"])
+        assert ended.stderr.decode() == f"rocktray: a\\u{{{ord(character):x}}}b: No such file or directory (os error 2)\n"
 
 
 @pytest.mark.parametrize("arguments, wanted", [
