@@ -22,6 +22,8 @@ pub mod Texts
 pub mod TextViews
 pub mod Readable
 pub mod ReadableViews
+pub mod InlineTexts
+pub mod InlineTextViews
 pub mod Flowed
 pub mod FlowedViews
 pub mod Reading

@@ -131,7 +131,7 @@ fn html_part_text<K: KnownCharsets>(
 }
 
 /// Returns whether a text has a character that is not whitespace.
-fn has_text(text: &str) -> bool
+pub(crate) fn has_text(text: &str) -> bool
     ensures { result ≡ not (is_empty (trim text.now)) }
 {
     !text.trim().is_empty()
