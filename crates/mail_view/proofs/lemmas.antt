@@ -1,5 +1,4 @@
 pub mod Bytes
-pub mod Characters
 pub mod Input
 pub mod Lines
 pub mod Parts

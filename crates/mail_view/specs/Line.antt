@@ -1,10 +1,10 @@
 -- The lines of a view; the program's own form.
-use Rattle.std.specs.Prelude.{◌≡◌, ℕ, Bool, true, not, ◌||◌, ◌&&◌, ◌==◌, nat_le, ◌⊎◌, List, [], ◌++◌, flat_map, codes}
-use Rattle.std.specs.Str.{encode_utf8_all}
-use Rattle.std.specs.List.{list_all, AllByRecursion}
+use Rattle.std.specs.Prelude.{◌≡◌, ℕ, Bool, not, ◌||◌, ◌&&◌, ◌==◌, nat_le, ◌⊎◌, List, [], ◌++◌, flat_map, codes}
+use Rattle.std.specs.List.{AllByRecursion}
 use Rattle.mail_address.specs.Tokens.{delete}
 use Rattle.mail_codec.specs.Ascii.{line_feed, space}
-use Rattle.mail_view.specs.Visible.{is_hidden, visible}
+use Rattle.mail_program.specs.Hidden.{IsShown}
+use Rattle.mail_view.specs.Visible.{visible}
 use Rattle.mail_view.specs.declared.line.Prefix.{Prefix}
 use Rattle.mail_view.specs.declared.line.Prefix.TheVariants.{Title, Refused, From, ReplyTo, To, Cc, Date, Subject, Text, Part, Found, Before, Bytes, After}
 
@@ -44,10 +44,6 @@ abbrev pub lines_text : List Line → List ℕ
 lines_text lines = flat_map line_text lines
 
 -- ---- what no mail changes
-
--- a text is UTF-8 of characters none of which is hidden; LF is a hidden one
-abbrev pub IsShown : List ℕ → Type 0
-IsShown text = (cs : List ℕ) × (list_all (λ c. not (is_hidden c)) cs ≡ true) × (text ≡ encode_utf8_all cs)
 
 -- a content of a line is empty, or begins with the text of a prefix
 abbrev pub BeginsFixed : List ℕ → Type 0

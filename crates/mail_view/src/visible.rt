@@ -1,7 +1,8 @@
 //! Text that does not move the cursor of a terminal.
 ghost use Rattle.std.specs.Prelude.{◌≡◌, ◌++◌, string_bytes, OnOk};
-ghost use Rattle.mail_view.specs.Visible.{is_hidden, shown_character, visible};
+ghost use Rattle.mail_view.specs.Visible.{shown_character, visible};
 
+use mail_program::is_hidden;
 use std::alloc::AllocError;
 
 /// Appends a text as it is shown: each hidden character is replaced.
@@ -27,21 +28,4 @@ fn push_character(shown: &mut String, c: char) -> Result<(), AllocError>
     }
     shown.push(if is_hidden(c) { '\u{fffd}' } else { c })?;
     Ok(())
-}
-
-/// Returns whether a character is replaced where it is shown: a control, a separator of lines or
-/// paragraphs, or a character that changes the direction of text (UAX 9, section 2).
-#[tactic(auto, unfolding(crate::specs::Visible::is_hidden))]
-fn is_hidden(c: char) -> bool
-    ensures { result ≡ is_hidden c }
-{
-    matches!(
-        c,
-        '\0'..='\u{1f}'
-            | '\u{7f}'..='\u{9f}'
-            | '\u{61c}'
-            | '\u{200e}'..='\u{200f}'
-            | '\u{2028}'..='\u{202e}'
-            | '\u{2066}'..='\u{2069}'
-    )
 }

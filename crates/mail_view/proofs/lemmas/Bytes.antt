@@ -8,8 +8,8 @@ use Rattle.std.specs.Char.{encode_utf8}
 use Rattle.std.specs.List.{list_all, AllByRecursion}
 use Rattle.std.specs.Prelude.{codes}
 use Rattle.std.specs.Str.{encode_utf8_all}
-use Rattle.mail_view.specs.Line.{AreSafeLines, BeginsFixed, IsShown, is_plain_byte}
-use Rattle.mail_view.specs.Visible.{is_hidden}
+use Rattle.mail_program.specs.Hidden.{is_hidden, IsShown}
+use Rattle.mail_view.specs.Line.{AreSafeLines, BeginsFixed, is_plain_byte}
 
 -- of each number below 128
 low_plain : agree_below (λ b. is_hidden b || is_plain_byte b) (λ b. true) 128 ≡ true

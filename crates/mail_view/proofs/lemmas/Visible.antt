@@ -1,32 +1,14 @@
 -- What is shown of a text is UTF-8 without hidden characters, and lines are safe.
-use Rattle.std.proofs.Common.{◌≡◌, ℕ, Bool, true, false, not, ◌&&◌, List, [], ◌∷◌, ◌++◌, flat_map, refl, sym, ap, ◌∙◌, append_assoc, inl, inr, if◌then◌else◌, ◌==◌}
-use Rattle.std.proofs.lemmas.Bool.{and_from}
-use Rattle.std.proofs.lemmas.List.{append-nil}
-use Rattle.std.proofs.lemmas.List.Folds.{list_all-append}
+use Rattle.std.proofs.Common.{◌≡◌, ℕ, Bool, true, false, List, [], ◌∷◌, ◌++◌, refl, ap, inl, inr, if◌then◌else◌, ◌==◌}
 use Rattle.std.specs.Prelude.{codes}
 use Rattle.std.specs.Char.{encode_utf8}
-use Rattle.std.specs.Str.{chars, encode_utf8_all}
-use Rattle.mail_view.specs.Visible.{is_hidden, shown_character, visible}
-use Rattle.mail_view.specs.Line.{Line, empty, line, IsShown, AreSafeLines, BeginsFixed, line_content, line_text, lines_text, prefix_text}
+use Rattle.std.specs.Str.{chars}
+use Rattle.mail_program.specs.Hidden.{is_hidden, IsShown}
+use Rattle.mail_program.proofs.lemmas.Hidden.{characters_shown, shown_nil, shown_one, shown_then}
+use Rattle.mail_view.specs.Visible.{shown_character, visible}
+use Rattle.mail_view.specs.Line.{Line, empty, line, AreSafeLines, BeginsFixed, line_content, line_text, lines_text, prefix_text}
 use Rattle.mail_view.specs.declared.line.Prefix.{Prefix}
 use Rattle.mail_view.specs.declared.line.Prefix.TheVariants.{Title, Refused, From, ReplyTo, To, Cc, Date, Subject, Text, Part, Found, Before, Bytes, After}
-
-encode_append : (cs ds : List ℕ) → encode_utf8_all (cs ++ ds) ≡ encode_utf8_all cs ++ encode_utf8_all ds
-encode_append [] ds = refl
-encode_append (c ∷ cs) ds = ap (λ t. encode_utf8 c ++ t) (encode_append cs ds) ∙ sym (append_assoc (encode_utf8 c) (encode_utf8_all cs) (encode_utf8_all ds))
-
-pub shown_then : (a b : List ℕ) → IsShown a → IsShown b → IsShown (a ++ b)
-shown_then a b p q = (
-  p.0 ++ q.0,
-  list_all-append (λ c. not (is_hidden c)) p.0 q.0 ∙ and_from _ _ p.1 q.1,
-  ap (λ t. t ++ b) p.2 ∙ ap (λ t. encode_utf8_all p.0 ++ t) q.2 ∙ sym (encode_append p.0 q.0),
-)
-
-shown_nil : IsShown []
-shown_nil = ([], refl, refl)
-
-shown_one : (c : ℕ) → is_hidden c ≡ false → IsShown (encode_utf8 c)
-shown_one c e = (c ∷ [], ap (λ b. not b && true) e, sym (append-nil (encode_utf8 c)))
 
 spaces_shown : IsShown (codes "    ")
 unfolding is_hidden encode_utf8
@@ -48,12 +30,8 @@ character_shown c = go (c == 9) refl
     go true e = spaces_shown
     go false e = shown_one _ (choice_shown c (is_hidden c) refl)
 
-characters_shown : (cs : List ℕ) → IsShown (flat_map shown_character cs)
-characters_shown [] = shown_nil
-characters_shown (c ∷ cs) = shown_then _ _ (character_shown c) (characters_shown cs)
-
 pub visible_shown : (text : List ℕ) → IsShown (visible text)
-visible_shown text = characters_shown (chars text)
+visible_shown text = characters_shown shown_character character_shown (chars text)
 
 prefix_shown : (prefix : Prefix) → IsShown (prefix_text prefix)
 unfolding is_hidden encode_utf8

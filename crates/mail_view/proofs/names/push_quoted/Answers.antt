@@ -3,7 +3,7 @@ use Rattle.std.proofs.lemmas.List.{nil_from_length}
 use Rattle.std.proofs.lemmas.Str.{IsUtf8-past_char}
 use Rattle.std.specs.Str.{IsUtf8}
 use Rattle.std.specs.String.{string_bytes}
-use Rattle.mail_view.proofs.lemmas.Characters.{made_of, made_past, made_end}
+use Rattle.mail_program.proofs.lemmas.Characters.{made_of, made_past, made_end}
 use Rattle.mail_view.specs.Names.{quoted_character}
 use Rattle.mail_view.proofs.names.push_quoted.Goals as goal
 

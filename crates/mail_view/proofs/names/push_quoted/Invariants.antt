@@ -2,7 +2,7 @@
 use Rattle.std.proofs.Common.{◌≡◌, ◌++◌}
 use Rattle.std.specs.Str.{IsUtf8}
 use Rattle.std.specs.String.{string_bytes}
-use Rattle.mail_view.proofs.lemmas.Characters.{made_of}
+use Rattle.mail_program.proofs.lemmas.Characters.{made_of}
 use Rattle.mail_view.specs.Names.{quoted_character}
 use Rattle.mail_view.proofs.names.push_quoted.Given as goal
 

@@ -3,7 +3,7 @@ use Rattle.std.proofs.lemmas.List.{nil_from_length}
 use Rattle.std.proofs.lemmas.Str.{IsUtf8-past_char}
 use Rattle.std.specs.Str.{IsUtf8}
 use Rattle.std.specs.String.{string_bytes}
-use Rattle.mail_view.proofs.lemmas.Characters.{made_past, made_end}
+use Rattle.mail_program.proofs.lemmas.Characters.{made_past, made_end}
 use Rattle.mail_view.specs.Visible.{shown_character, visible}
 use Rattle.mail_view.proofs.visible.push_visible.Goals as goal
 
