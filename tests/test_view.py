@@ -11,11 +11,11 @@ import pytest
 
 from support import FROM, SAMPLES, command, multipart, run
 
-from by_email import addresses_of, body_of, file_name, has_parts, parts_of, text_of, value_of, walk
+from by_email import addresses_of, body_of, file_name, has_parts, is_file, parts_of, text_of, value_of, walk
 
 ADDRESSES = {"from": "From:     ", "reply-to": "Reply-To: ", "to": "To:       ", "cc": "Cc:       "}
 VALUES = {"date": "Date:     ", "subject": "Subject:  "}
-PREFIXES = (*ADDRESSES.values(), *VALUES.values(), "Part:     ", "Refused:  ", "-- ", "  ")
+PREFIXES = (*ADDRESSES.values(), *VALUES.values(), "Text:     ", "Part:     ", "Refused:  ", "-- ", "  ")
 SPECIALS = re.compile(r'[()<>\[\]:;@\\,"]')
 DIRECTIONS = {"LRE", "RLE", "LRO", "RLO", "PDF", "LRI", "RLI", "FSI", "PDI"}
 # the marks, which have the class of a letter or a number
@@ -68,6 +68,24 @@ def read_text(mail):
     return None
 
 
+def inline_texts(part, path):
+    """The texts of a part with this path that are read one after another, each with the path of its own part. Parts that
+    are no multiparts, and each multipart/alternative, have one, unless it consists of whitespace or the part is a file."""
+    if has_parts(part) and part.get_content_type() != "multipart/alternative":
+        for number, one in enumerate(part.get_payload(), 1):
+            yield from inline_texts(one, f"{path}.{number}" if path else str(number))
+    elif not is_file(part):
+        text = read_text(part)
+        if text and text.strip():
+            yield path, text
+
+
+def text_lines(text):
+    """The lines of a text, each after two spaces."""
+    lines = [line.removesuffix("\r") for line in text.removesuffix("\n").split("\n")] if text else []
+    return ["  " + shown(line) if line else "" for line in lines]
+
+
 def view(raw):
     """What is shown of a mail."""
     mail = email.message_from_bytes(raw)
@@ -75,10 +93,9 @@ def view(raw):
     for key, prefix in ADDRESSES.items():
         lines += [prefix + shown(text) for found in addresses_of(mail, key) for text in address_text(found)]
     lines += [prefix + shown(value_of(mail, key)) for key, prefix in VALUES.items() if mail[key] is not None]
-    text = read_text(mail)
-    if text is not None:
-        body = text.removesuffix("\n").split("\n") if text else []
-        lines += [""] + ["  " + shown(line.removesuffix("\r")) if line.removesuffix("\r") else "" for line in body]
+    texts = list(inline_texts(mail, "" if has_parts(mail) else "1")) or [("", text) for text in [read_text(mail)] if text is not None]
+    for number, (path, text) in enumerate(texts):
+        lines += ["", f"Text:     {path}"] * (number > 0) + ["", *text_lines(text)]
     lines.append("")
     for path, part in parts_of(mail):
         if not has_parts(part):
@@ -134,6 +151,14 @@ MADE = {
     "words beside text": b"Subject: [=?utf-8?Q?a?=] Re:=?utf-8?Q?caf=C3?=\r\n =?utf-8?Q?=A9?=\r\n\r\nHi\r\n",
     "no boundary": b"Subject: a\n\t=?utf-8?Q?b?=\nContent-Type: multipart/alternative\n\nHi\n",
     "two senders": b"From: a@example.org\nFrom: b@example.org\nReply-To: c@example.org\nCc: d@example.org\n\nHi\n",
+    "several texts": multipart(
+        b"b", b"\none\n\nText:     9\n\nforged\n", b"Content-Type: image/png\n\nx", b"\nText:     2\n\n\ttwo\n", b"\n \n",
+        multipart(b"c", b"\nthree", b"\n3"),
+        multipart(b"d", b"Content-Type: text/html\n\n<b>four", b"\nfour", kind=b"alternative"),
+        b"Content-Type: text/plain; name=five.txt\n\nfive", b"Content-Disposition: attachment\n\nsix", b"Content-Type: text/csv\n\n7",
+    ),
+    "texts that are whitespace": multipart(b"b", b"\n \n\n", b"\n\n"),
+    "texts that are files": multipart(b"b", b"Content-Type: text/plain; name=a.txt\n\na", b"Content-Type: text/plain; name=b.txt\n\nb"),
     "file name": multipart(
         b"b", b"Content-Disposition: attachment; filename*=utf-8''a%0APart%3A%1B%E2%80%AEgnp.exe\n\nx", b"\nHi"
     ),
@@ -162,6 +187,23 @@ def test_html():
     size = len(raw) - raw.index(b"<title>")
     row = f"{'1':4}  {'text/html':24}  {size} bytes"
     assert show("-", data=raw) == (0, f"Subject:  Fish\n\n{body}\nPart:     {row}\n")
+
+
+def test_several_texts():
+    """Each text is shown in order, each but the first after a line with its path; HTML is if nothing is beside it."""
+    html = b"Content-Type: text/html\n\n"
+    both = multipart(b"c", b"\nplain", html + b"<b>html", kind=b"alternative")
+    parts = (
+        b"\nfirst text\n", b"Content-Type: image/png\n\nx", b"\nsecond text: the price is 100\n", html + b"<p><a href=//x>third</a>",
+        both, multipart(b"d", html + b"<i>fifth", b"Content-Type: image/gif\n\nx", kind=b"related"),
+        b"Content-Type: message/rfc822\n\nSubject: no\n\nno\n",
+    )
+    status, output = show("-", data=multipart(b"b", *parts))
+    texts = output.partition("\nPart:     ")[0]
+    assert status == 0 and is_safe(output) and texts == (
+        "\n  first text\n\nText:     3\n\n  second text: the price is 100\n\nText:     4\n\n  [1]third\n\n  [1] //x\n"
+        "\nText:     5\n\n  plain\n\nText:     6.1\n\n  fifth\n"
+    )
 
 
 def test_empty_text():

@@ -6,7 +6,7 @@ use Rattle.mail_codec.specs.Ascii.{line_feed, space}
 use Rattle.mail_program.specs.Hidden.{IsShown}
 use Rattle.mail_view.specs.Visible.{visible}
 use Rattle.mail_view.specs.declared.line.Prefix.{Prefix}
-use Rattle.mail_view.specs.declared.line.Prefix.TheVariants.{Title, Refused, From, ReplyTo, To, Cc, Date, Subject, Text, Part, Found, Before, Bytes, After}
+use Rattle.mail_view.specs.declared.line.Prefix.TheVariants.{Title, Refused, From, ReplyTo, To, Cc, Date, Subject, Heading, Text, Part, Found, Before, Bytes, After}
 
 -- the fixed text at the front of a line
 abbrev pub prefix_text : Prefix → List ℕ
@@ -18,6 +18,7 @@ prefix_text To = codes "To:       "
 prefix_text Cc = codes "Cc:       "
 prefix_text Date = codes "Date:     "
 prefix_text Subject = codes "Subject:  "
+prefix_text Heading = codes "Text:     "
 prefix_text Text = codes "  "
 prefix_text Part = codes "Part:     "
 prefix_text Found = codes "Found:    "

@@ -1,17 +1,16 @@
 -- What is shown of a mail; the program's own form.
-use Rattle.std.specs.Prelude.{ℕ, List, [], ◌∷◌, ◌++◌, Option, Some, None, is_some, length, flat_map, map, codes, if◌then◌else◌}
+use Rattle.std.specs.Prelude.{ℕ, List, [], ◌∷◌, ◌++◌, is_some, length, flat_map, map, codes, if◌then◌else◌}
 use Rattle.std.specs.Str.Lines.{lines}
 use Rattle.mail_codec.specs.Charset.{Charsets}
 use Rattle.mailparse.specs.Mail.{Node, Tree, root}
 use Rattle.mailparse.specs.Map.{all_with_key}
 use Rattle.mail_data.specs.Files.{is_leaf}
 use Rattle.mail_data.specs.lenient.FileNames.{lenient_file_name}
+use Rattle.mail_data.specs.InlineTexts.{InlineText, inline_texts}
 use Rattle.mail_data.specs.PartPlaces.{Place, places}
-use Rattle.mail_data.specs.Readable.{readable_text}
 use Rattle.mail_data.specs.Reading.{mail_placements}
 use Rattle.mail_data.specs.lenient.Content.{message_content}
 use Rattle.mail_data.specs.lenient.Refused.{was_kept}
-use Rattle.mail_data.specs.lenient.Texts.{BodyText}
 use Rattle.mail_data.specs.lenient.Values.{header_text}
 use Rattle.mail_html.specs.declared.links.Links.TheVariants.{Footnotes}
 use Rattle.mail_html.specs.declared.references.References.{References}
@@ -19,7 +18,7 @@ use Rattle.mail_view.specs.Addresses.{address_lines}
 use Rattle.mail_view.specs.Line.{Line, empty, line, lines_text}
 use Rattle.mail_view.specs.Row.{row, size_text}
 use Rattle.mail_view.specs.declared.line.Prefix.{Prefix}
-use Rattle.mail_view.specs.declared.line.Prefix.TheVariants.{From, ReplyTo, To, Cc, Date, Subject, Text, Part}
+use Rattle.mail_view.specs.declared.line.Prefix.TheVariants.{From, ReplyTo, To, Cc, Date, Subject, Heading, Text, Part}
 
 -- a line of the text of a mail
 abbrev pub text_line : List ℕ → Line
@@ -33,10 +32,18 @@ decoded_size node = let content = message_content node in size_text (length cont
 abbrev pub part_size : Node → List ℕ
 part_size node = if was_kept node then decoded_size node ++ codes ", headers not read" else decoded_size node
 
--- the lines of the text of a mail, after an empty line
-abbrev pub body_lines : Option BodyText → List Line
-body_lines None = []
-body_lines (Some read) = empty ∷ map text_line (lines read.text)
+-- the lines of a text
+abbrev pub lines_of : InlineText → List Line
+lines_of text = map text_line (lines text.read.text)
+
+-- a line with the path of the part that has a text, between empty ones, and the lines of the text
+abbrev pub headed_lines : InlineText → List Line
+headed_lines text = empty ∷ line Heading text.path ∷ empty ∷ lines_of text
+
+-- the lines of the texts of a mail: those of the first after an empty line, and of each other after a line with its path
+abbrev pub body_lines : List InlineText → List Line
+body_lines [] = []
+body_lines (first ∷ others) = empty ∷ (lines_of first ++ flat_map headed_lines others)
 
 -- Under the charsets that are known.
 module _ (known : Charsets) where
@@ -65,10 +72,10 @@ module _ (known : Charsets) where
 
 -- Under the references of HTML and the charsets that are known.
 module _ (references : References) (known : Charsets) where
-  -- the lines of a mail: its headers, its text with the targets of links, and its parts
+  -- the lines of a mail: its headers, its texts with the targets of links, and its parts
   abbrev pub view_lines : Tree → List Line
   view_lines mail =
-      header_lines known (root mail) ++ (body_lines (readable_text known Footnotes references mail)
+      header_lines known (root mail) ++ (body_lines (inline_texts known Footnotes references mail)
       ++ (empty ∷ flat_map (part_lines known) (places mail (mail_placements mail))))
 
   -- the text of a mail as it is shown

@@ -1,4 +1,4 @@
-//! Mails as text for people: the headers that matter, the text to be read, and the list of the
+//! Mails as text for people: the headers that matter, the texts to be read, and the list of the
 //! parts, over any writer.
 //!
 //! No mail moves the cursor of a terminal or forges a line: `laws` says why. `view_of` returns the

@@ -24,7 +24,9 @@ pub enum Prefix {
     Date,
     /// Before a value of `Subject`.
     Subject,
-    /// Before a line of the text of the mail.
+    /// Before the path of the part whose text follows.
+    Heading,
+    /// Before a line of a text of the mail.
     Text,
     /// Before the description of a part.
     Part,
@@ -51,6 +53,7 @@ fn prefix_text(prefix: Prefix) -> &'static str
         Prefix::Cc => "Cc:       ",
         Prefix::Date => "Date:     ",
         Prefix::Subject => "Subject:  ",
+        Prefix::Heading => "Text:     ",
         Prefix::Text => "  ",
         Prefix::Part => "Part:     ",
         Prefix::Found => "Found:    ",

@@ -15,14 +15,16 @@ use mailparse::{KnownCharsets, MailParseError, ParsedMail};
 use std::alloc::Global;
 use std::io::Write;
 
-/// Returns a mail as text for people: its addresses, its date and its subject, the text to be read
-/// with the targets of links, and its parts with their sizes and the names of their files.
+/// Returns a mail as text for people: its addresses, its date and its subject, the texts that are
+/// read one after another with the targets of links, and its parts with their sizes and the names of
+/// their files.
 ///
 /// The mail is as `read_mail` returned it, in the charsets `known`, and HTML under these references.
-/// Each line is empty, begins with a fixed text such as `Subject:  `, or is one of the text of the
-/// mail, which begins with two spaces. A character that would move the cursor of a terminal, end a
-/// line or change the direction of text is shown as U+FFFD, and a tab as four spaces. Allocates the
-/// text, and the decoded bodies one after another.
+/// Each line is empty, begins with a fixed text such as `Subject:  `, or is one of a text of the
+/// mail, which begins with two spaces. Each text but the first follows a line with the path of its
+/// part, such as `Text:     2`. A character that would move the cursor of a terminal, end a line or
+/// change the direction of text is shown as U+FFFD, and a tab as four spaces. Allocates the text,
+/// the texts of the mail, and the decoded bodies one after another.
 ///
 /// # Errors
 ///
@@ -60,7 +62,7 @@ pub fn view_of<K: KnownCharsets>(
 
 /// Writes a mail as `view_of` returns it.
 ///
-/// Allocates the text, and the decoded bodies one after another.
+/// Allocates the text, the texts of the mail, and the decoded bodies one after another.
 ///
 /// # Errors
 ///

@@ -121,8 +121,8 @@ An input that begins with a separator of a mailbox is a mailbox, any other is on
 option says which it is. --mbox=rd is the mboxrd format, whose quoted lines lose a `>`, and
 --mbox=cl the mboxcl or mboxcl2 format, with Content-Length.
 
-Each of several files has its name before it. A character that could move the cursor of a terminal
-or forge a line is shown as U+FFFD.
+Each of several files has its name before it, and each text of a mail but the first the path of its
+part. A character that could move the cursor of a terminal or forge a line is shown as U+FFFD.
 
 "
 );

@@ -8,7 +8,7 @@ use Rattle.mail_program.proofs.lemmas.Hidden.{characters_shown, shown_nil, shown
 use Rattle.mail_view.specs.Visible.{shown_character, visible}
 use Rattle.mail_view.specs.Line.{Line, empty, line, AreSafeLines, BeginsFixed, line_content, line_text, lines_text, prefix_text}
 use Rattle.mail_view.specs.declared.line.Prefix.{Prefix}
-use Rattle.mail_view.specs.declared.line.Prefix.TheVariants.{Title, Refused, From, ReplyTo, To, Cc, Date, Subject, Text, Part, Found, Before, Bytes, After}
+use Rattle.mail_view.specs.declared.line.Prefix.TheVariants.{Title, Refused, From, ReplyTo, To, Cc, Date, Subject, Heading, Text, Part, Found, Before, Bytes, After}
 
 spaces_shown : IsShown (codes "    ")
 unfolding is_hidden encode_utf8
@@ -43,6 +43,7 @@ prefix_shown To = (prefix_text To, refl, refl)
 prefix_shown Cc = (prefix_text Cc, refl, refl)
 prefix_shown Date = (prefix_text Date, refl, refl)
 prefix_shown Subject = (prefix_text Subject, refl, refl)
+prefix_shown Heading = (prefix_text Heading, refl, refl)
 prefix_shown Text = (prefix_text Text, refl, refl)
 prefix_shown Part = (prefix_text Part, refl, refl)
 prefix_shown Found = (prefix_text Found, refl, refl)
