@@ -4,6 +4,7 @@
 use crate::calls::tables::all_tables;
 use crate::notation::{Answer, Decision, Outcome, Row};
 use mail_data::flowed::{DelSp, flowed_text, unflowed};
+use mail_data::inline_texts::inline_texts;
 use mail_data::inner_mails::{InnerMail, forwards, inner_mails, places_under};
 use mail_data::readable::readable_text;
 use mail_data::text_files::text_files;
@@ -19,6 +20,7 @@ pub fn make(answer: &mut Answer, row: &Row) -> Decision {
         "inner_mail_bytes" | "last_inner_mail" => read_inner(answer, row, &())?,
         "inner_mails" => read_inner(answer, row, &all_tables())?,
         "readable_text" => read_text(answer, row)?,
+        "inline_texts" => list_texts(answer, row)?,
         "flowed_text" => read_flowed(answer, row)?,
         "forwards" => say_forwards(answer, row)?,
         "text_type" => answer.put(text_type(row.text(0))),
@@ -75,6 +77,18 @@ fn read_text(answer: &mut Answer, row: &Row) -> Outcome {
     )? {
         Some(read) => answer.put(read.text),
         None => answer.word("none"),
+    }
+    Ok(())
+}
+
+/// `inline_texts MAIL => PATH TEXT` for each text that is read one after another, under the
+/// references of the standard.
+fn list_texts(answer: &mut Answer, row: &Row) -> Outcome {
+    let mail = parse_mail(row.alloc, row.bytes(0))?;
+    let references = References::standard();
+    for text in &inline_texts(row.alloc, &mail, Links::Omitted, &references, &())? {
+        answer.put(text.path.as_str());
+        answer.put(text.read.text.as_str());
     }
     Ok(())
 }
