@@ -440,7 +440,7 @@ def test_only_in_one_of_several(tmp_path):
     none, one = b"Subject: x\n\nHi", b"Content-Type: image/png\n\npng"
     (tmp_path / "none").write_bytes(none)
     (tmp_path / "one").write_bytes(one)
-    (tmp_path / "box").write_bytes(b"".join(FROM + mail + b"\n" for mail in (none, one, none)))
+    (tmp_path / "box").write_bytes(b"".join(FROM + mail + b"\n\n" for mail in (none, one, none)))
     met, unmet = (["none", "one"], ["one", "none"], ["box"]), (["none", "none"], ["none", "gone"])
     for names, status in [*((names, 0) for names in met), *((names, 1) for names in unmet)]:
         ended = run([*command("extract"), "--only", "1", *names], cwd=tmp_path)
