@@ -142,7 +142,8 @@ def test_unsaved(into, why, limit, tmp_path):
     ended = subprocess.run([*command("extract"), "--into", into], input=mail, capture_output=True, timeout=60,
                            cwd=tmp_path, preexec_fn=limit)
     line = {"file": None, "number": None, "path": "1", "saved": None, "size": 9000, "sha256": None, "error": why}
-    assert (ended.returncode, json.loads(ended.stdout), ended.stderr) == (1, line, b"")
+    said = f"rocktray: standard input: part 1: {why}\n".encode()
+    assert (ended.returncode, json.loads(ended.stdout), ended.stderr) == (1, line, said)
     assert list((tmp_path / "into").iterdir()) == []
 
 
