@@ -7,10 +7,12 @@ Of the charsets beside the four of by_rules.py it knows KOI8-R alone, and that i
 import re
 
 from by_rules import (
-    ASCII_BLANKS, LETTERS, WHITE, Refused, base64_bytes, block_of, charset_of, decoded, lower, quoted_printable_bytes, value_of, with_parameters,
+    ASCII_BLANKS, LETTERS, WHITE, Refused, base64_bytes, block_of, charset_of, decoded, lower, quoted_printable_bytes, raw_text, with_parameters,
 )  # fmt: skip
 
 WHITE_BYTES = ASCII_BLANKS.encode()
+# whitespace other than a space, a tab, a CR and a LF
+OTHER_WHITE = set(WHITE) - set(" \t\r\n")
 BLANKS = f"[{ASCII_BLANKS}]*"
 FIRST_WORDS = re.compile(rf'{BLANKS}[^{ASCII_BLANKS};/"]+(?:{BLANKS}/{BLANKS}[^{ASCII_BLANKS};/"]*)*{BLANKS}')
 QUOTED = re.compile(rf'{BLANKS}"(?:[^"\\]|\\.)*\\?("?){BLANKS}', re.S)
@@ -117,14 +119,17 @@ def without_comments(text):
 
 
 def repaired(text):
-    """A text of a type with the semicolons and the closing quotes that it lacks."""
+    """A text of a type with the semicolons and the closing quotes that it lacks, and an underscore in names before
+    whitespace that mails do not use."""
     first = FIRST_WORDS.match(text)
     out, at = (first[0], first.end()) if first else ("", 0)
     while at < len(text):
         if out and text[at] != ";":
             out += ";"
         name = re.compile("[^=]?[^=;]*=?").match(text, at)
-        out, at = out + name[0], name.end()
+        is_cut = text[at] in ASCII_BLANKS  # in a text without quotes
+        out += name[0][:is_cut] + "".join("_" * (it in OTHER_WHITE) + it for it in name[0][is_cut:])
+        at = name.end()
         if not name[0].endswith("="):
             continue
         found = QUOTED.match(text, at) or BARE.match(text, at)
@@ -134,9 +139,15 @@ def repaired(text):
     return out
 
 
+def undecoded(value):
+    """The text of a value with its encoded words as they are."""
+    *lines, last = raw_text(value).split("\n")
+    return " ".join(line.lstrip(WHITE) for line in [*(line.removesuffix("\r") for line in lines), *[last] * bool(last)])
+
+
 def type_of(value):
     """The type and the boundary that a value gives, or no boundary."""
-    kind, found = with_parameters(repaired(without_comments(value_of(value))))
+    kind, found = with_parameters(repaired(without_comments(undecoded(value))))
     kind, boundary = lower(kind), found.get("boundary")
     if "/" in kind:
         first, second = (it.strip(WHITE) for it in kind.split("/", 1))

@@ -173,20 +173,22 @@ def text_part(rng, encoding, label, text):
 
 
 def file_part(rng, encoding, label, name):
-    """A file with this name in its type, in its disposition or in both, and the name in its type, if it is there."""
+    """A file with this name in its type, in its disposition or in both; and the name in its type that has to be read,
+    unless that is encoded words, which are not decoded there (RFC 2047, section 5)."""
     part = email.message.Message()
     places = rng.randrange(1, 4)
-    in_type, shown = "", "attachment"
+    in_type, shown, wanted = "", "attachment", {"name of the type": None}
     if places & 1:
         word = f"name=\"{words_of(rng, encoding, label, name)}\""
         in_type = ";\n " + rng.choice((word, starred(rng, encoding, label, "name", name)))
+        wanted = {} if in_type == ";\n " + word else {"name of the type": name}
     if places & 2:
         word = f"filename=\"{words_of(rng, encoding, label, name)}\""
         shown += ";\n " + rng.choice((word, starred(rng, encoding, label, "filename", name)))
     part["Content-Type"] = "application/octet-stream" + in_type
     part["Content-Disposition"] = shown
     part.set_payload("x\n")
-    return part, name if places & 1 else None
+    return part, wanted
 
 
 def mail_of(rng, encoding):
@@ -200,7 +202,8 @@ def mail_of(rng, encoding):
     mail = text_part(rng, encoding, label, wanted["text"])
     if rng.random() < 0.5:
         wanted["file name"] = run_of(rng, encoding, rng.choice((4, 20))) + rng.choice(ENDINGS)
-        file, wanted["name of the type"] = file_part(rng, encoding, label, wanted["file name"])
+        file, names = file_part(rng, encoding, label, wanted["file name"])
+        wanted.update(names)
         mail = email.mime.multipart.MIMEMultipart(rng.choice(("mixed", "related")), "=b=", [mail, file])
     subject = words_of(rng, encoding, label, wanted["subject"])
     if rng.random() < 0.3:

@@ -502,6 +502,20 @@ TRICKS = {
     "an extended boundary in an unknown charset": (b"multipart/mixed; boundary*=x''b", b"\nHi", HIDDEN, [FILE]),
     "a boundary in sections": (b'multipart/mixed; boundary*0="b"; boundary*1=""', b"\nHi", HIDDEN, [FILE]),
     "a charset that is extended": (b"multipart/mixed; charset*=x'y'z; boundary=b", b"\nHi", HIDDEN, [FILE]),
+    "a word that ends a parameter": (
+        b'multipart/mixed; boundary=b; x="=?us-ascii?Q?=22=3B_boundary=3Da=3B_y=3D=22?="', b"\nHi", HIDDEN, [FILE],
+    ),
+    "a word in another line": (b"multipart/mixed; boundary=b; x=\n =?us-ascii?Q?1=3B_boundary=3Da?=", b"\nHi", HIDDEN, [FILE]),
+    "a no-break space before another boundary": (b"multipart/mixed; boundary=b;\xc2\xa0boundary=a", b"\nHi", HIDDEN, [FILE]),
+    "a no-break space in Latin-1": (b"multipart/mixed; boundary=b;\xa0boundary=a", b"\nHi", HIDDEN, [FILE]),
+    "a next line before another boundary": (b"multipart/mixed; boundary=b;\x85boundary=a", b"\nHi", HIDDEN, [FILE]),
+    "a no-break space after the name": (b"multipart/mixed; boundary=b; boundary\xa0=a", b"\nHi", HIDDEN, [FILE]),
+    "a vertical tab before another boundary": (b"multipart/mixed; boundary=b;\x0bboundary=a", b"\nHi", HIDDEN, [FILE]),
+    "a no-break space before another file name": (
+        b"multipart/mixed; boundary=b", b"\nHi",
+        b'Content-Type: text/html\nContent-Disposition: attachment; filename="a.html";\xa0filename="safe.txt"\n\n<p>Hi',
+        [("2", "a.html", b"<p>Hi")],
+    ),
     "a line that begins with the delimiter": (b"multipart/mixed; boundary=b", b"\nHi\n--bc", HIDDEN, [FILE]),
     "a boundary that begins another one": (
         b"multipart/mixed; boundary=b", b"\nHi", b"Content-Type: multipart/mixed; boundary=bc\n\n--bc\n" + HIDDEN + b"\n--bc--",
@@ -535,6 +549,24 @@ def test_tricks(name, tmp_path):
     assert [(part["path"], part["sha256"]) for part in parts] == [(path, hashlib.sha256(body).hexdigest()) for path, _, body in files]
     assert [part["file_name"] for part in parts] == [None if name == "unnamed.txt" else name for _, name, _ in files]
     assert [part["refusal"] is not None for part in parts] == [name == "unnamed.txt" for _, name, _ in files]
+
+
+def test_word_as_boundary(tmp_path):
+    """A boundary that looks like an encoded word is itself (RFC 2047, section 5)."""
+    word = b"=?us-ascii?Q?a?="
+    mail = b'Content-Type: multipart/mixed; boundary="' + word + b'"\n\n--' + word + b"\n" + HIDDEN + b"\n--" + word + b"--\n"
+    ended = run([*command("extract"), "--into", tmp_path], mail)
+    lines = [json.loads(line) for line in ended.stdout.splitlines()]
+    assert (ended.returncode, [(line["path"], line["saved"]) for line in lines]) == (0, [("1", "a.exe")])
+
+
+def test_word_as_charset():
+    """An encoded word in another parameter is no charset."""
+    word = b'"=?us-ascii?Q?=22=3B_charset=3Dutf-16le=3B_y=3D=22?="'
+    ended = run(command("json"), b"Content-Type: text/plain; x=" + word + b"\n\nPay at http://example.org/\n")
+    part, = json.loads(ended.stdout)["parts"]
+    assert (part["charset"], part["text"]) == ("us-ascii", "Pay at http://example.org/\n")
+    assert part["params"] == {"x": word.decode()[1:-1]}
 
 
 @pytest.mark.parametrize("line", [b"\n \n", b"\n\t\n", b"\n \n \n", b"\n", b"\r\n \r\n"])

@@ -4,7 +4,6 @@ use Rattle.mail_codec.specs.Charset.{Charsets}
 use Rattle.mailparse.specs.Body.{in_base64, in_quoted_printable, in_7bit}
 use Rattle.mailparse.specs.ContentType.{ContentType}
 use Rattle.mailparse.specs.Refusal.{◌>>=◌}
-use Rattle.mailparse.specs.Value.{lenient_value_in}
 use Rattle.mail_data.specs.Bounce.{original_message_id}
 use Rattle.mail_data.specs.FileNames as names
 use Rattle.mail_data.specs.lenient.FileNames.{lenient_name_in}
@@ -12,7 +11,7 @@ use Rattle.mail_data.specs.QuotedLines as quoted
 use Rattle.mail_data.specs.Reading.{mail_reading}
 use Rattle.mail_data.specs.lenient.Content.{lenient_content}
 use Rattle.mail_data.specs.lenient.Encoding.{LenientKind, in_uuencode, standard}
-use Rattle.mail_data.specs.lenient.Manner.{lenient_type_in}
+use Rattle.mail_data.specs.lenient.Manner.{lenient_type_from}
 use Rattle.mail_data.specs.lenient.Texts.{text_read}
 use Rattle.mail_data.specs.lenient.Values.{header_text}
 use Rattle.mail_c.specs.Buffer.{Found, IsFilled, IsKept, Output, fits, written_code}
@@ -59,7 +58,7 @@ module _ (known : Charsets) where
 
   -- the type that a raw value gives, read leniently
   abbrev pub type_of : List ℕ → ContentType
-  type_of raw = lenient_type_in known (lenient_value_in known raw)
+  type_of raw = lenient_type_from known raw
 
   -- the file name in the raw values of a disposition and of a type
   unfoldable pub file_name : List ℕ → List ℕ → Found

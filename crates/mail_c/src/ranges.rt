@@ -22,7 +22,7 @@ use mail_data::lenient::{
 };
 use mail_data::mailbox::quoted;
 use mail_data::reading::read_mail;
-use mailparse::{KnownCharsets, MailParseError, ParsedContentType, value_text_in};
+use mailparse::{KnownCharsets, MailParseError, ParsedContentType};
 use std::alloc::{AllocError, Global};
 
 /// Returns the text of a header, given its raw value.
@@ -47,8 +47,7 @@ pub(crate) fn type_of<K: KnownCharsets>(
     ensures { AnswersOrMemory content_type result
         (Ok (type_of (K.known known.now) raw.now)) }
 {
-    let text = value_text_in(alloc, raw, known)?;
-    Ok(lenient_type(alloc, text.as_str(), known)?)
+    lenient_type(alloc, raw, known)
 }
 
 /// Returns the file name in the raw values of a disposition and of a type.

@@ -9,8 +9,7 @@ use Rattle.mailparse.specs.Header.{Header}
 use Rattle.mailparse.specs.Mail.{Node, Tree, tree, Forest, no_parts, part_and, cut_of, cut_of_as}
 use Rattle.mailparse.specs.Map.{first_with_key}
 use Rattle.mailparse.specs.Ranges.{Range}
-use Rattle.mailparse.specs.Value.{lenient_value_in}
-use Rattle.mail_data.specs.lenient.Agreement.{is_strict}
+use Rattle.mail_data.specs.lenient.Agreement.{is_strict_value}
 
 -- the offsets of these ranges, in order
 abbrev pub offsets : List Range → List ℕ
@@ -35,7 +34,7 @@ module _ (known : Charsets) where
   -- the first `Content-Type` of these headers, if there is one, needs no lenient reading
   abbrev pub has_strict_type : List Header → Bool
   has_strict_type headers =
-      option_map_or (λ h. is_strict known (lenient_value_in known h.value)) (first_with_key (codes "Content-Type") headers) true
+      option_map_or (λ h. is_strict_value known h.value) (first_with_key (codes "Content-Type") headers) true
 
   -- a message needs no lenient reading
   abbrev pub is_strict_message : Node → Bool

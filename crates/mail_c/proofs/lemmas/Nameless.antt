@@ -43,7 +43,7 @@ use Rattle.mailparse.specs.Value.{is_released, is_whitespace_token, is_word, kin
 use Rattle.mail_c.specs.Ranges.{file_name}
 use Rattle.mail_c.specs.Nameless.{has_am_after, is_a, is_m, is_nameless, is_nameless_after, is_nameless_part, lacks_name, may_encode, may_follow}
 use Rattle.mail_data.specs.lenient.Repairs as repairs
-use Rattle.mail_data.specs.lenient.Repairs.{after_name, after_quoted, after_run, after_value, apostrophes, begins_parameter, extended_are_alone, for_extended, lacking, missing, repaired, repaired_from, semicolon_unless}
+use Rattle.mail_data.specs.lenient.Repairs.{after_name, after_quoted, after_run, after_value, apostrophes, begins_parameter, extended_are_alone, for_extended, is_other_space, lacking, missing, repaired, repaired_from, semicolon_unless, underscore_before}
 
 -- ---- parts of such a text
 
@@ -187,9 +187,12 @@ either_fills false one other h k = k
 apostrophe_fills : Fill 39
 apostrophe_fills = (λ last. refl, refl)
 
-semicolon_fills : (t : Bool) → Fills (semicolon_unless t)
-semicolon_fills true = tt
-semicolon_fills false = ((λ last. refl, refl), tt)
+underscore_fills : (c : ℕ) → Fills (underscore_before c)
+underscore_fills c = either_fills (is_other_space c) (codes "_") [] ((λ last. refl, refl), tt) tt
+
+semicolon_fills : (t : Bool) (c : ℕ) → Fills (semicolon_unless t c)
+semicolon_fills true c = tt
+semicolon_fills false c = ((λ last. refl, refl), underscore_fills c)
 
 apostrophes_fill : (n : ℕ) → Fills (apostrophes n)
 apostrophes_fill zero = tt
@@ -273,7 +276,7 @@ text_here t last c cs here on = put [] last c (repaired_from t (repairs.after (r
 
 end_here : (t : Bool) (last c : ℕ) (cs : List ℕ) → may_follow last c ≡ true → GoOn t c cs → is_nameless_after last (mended t after_text (c ∷ cs)) ≡ true
 end_here t last c cs here on =
-    put (semicolon_unless (is_ascii_whitespace c || eqb c 59)) last c (repaired_from t (repairs.after (after_quoted 34) c) cs) (semicolon_fills _) here
+    put (semicolon_unless (is_ascii_whitespace c || eqb c 59) c) last c (repaired_from t (repairs.after (after_quoted 34) c) cs) (semicolon_fills _ c) here
     (choose (repaired_from t) c cs (is_ascii_whitespace c) _ _ (on after_text) (name_next t c cs on))
 
 spot_here : (t : Bool) (spot : Spot) (last c : ℕ) (cs : List ℕ) → may_follow last c ≡ true → GoOn t c cs → is_nameless_after last (mended t spot (c ∷ cs)) ≡ true
@@ -282,11 +285,11 @@ spot_here t before_word last c cs here on =
 spot_here t in_word last c cs here on =
     put [] last c (repaired_from t (repairs.after (after_value 97) c) cs) tt here (choose (repaired_from t) c cs (is_ascii_whitespace c) _ _ (on after_word) (value_next t c cs on))
 spot_here t after_word last c cs here on =
-    put (semicolon_unless ((is_ascii_whitespace c || eqb c 59) || eqb c 47)) last c (repaired_from t (repairs.after (repairs.after (after_value 97) 32) c) cs) (semicolon_fills _) here
+    put (semicolon_unless ((is_ascii_whitespace c || eqb c 59) || eqb c 47) c) last c (repaired_from t (repairs.after (repairs.after (after_value 97) 32) c) cs) (semicolon_fills _ c) here
     (choose (repaired_from t) c cs (is_ascii_whitespace c) _ _ (on after_word) (choose (repaired_from t) c cs (eqb c 47) _ _ (on before_word) (name_next t c cs on)))
-spot_here t in_name last c cs here on = put [] last c (repaired_from t (repairs.after (after_value 59) c) cs) tt here (name_next t c cs on)
+spot_here t in_name last c cs here on = put (underscore_before c) last c (repaired_from t (repairs.after (after_value 59) c) cs) (underscore_fills c) here (name_next t c cs on)
 spot_here t after_star last c cs here on =
-    put [] last c (repaired_from t (repairs.after (after_name 42) c) cs) tt here (choose (repaired_from t) c cs (is_ascii_whitespace c) _ _ (on after_star) (choose (repaired_from t) c cs (eqb c 61) _ _ (on before_extended) (name_next t c cs on)))
+    put (underscore_before c) last c (repaired_from t (repairs.after (after_name 42) c) cs) (underscore_fills c) here (choose (repaired_from t) c cs (is_ascii_whitespace c) _ _ (on after_star) (choose (repaired_from t) c cs (eqb c 61) _ _ (on before_extended) (name_next t c cs on)))
 spot_here t before_text last c cs here on =
     put [] last c (repaired_from t (repairs.after (after_name 61) c) cs) tt here (choose (repaired_from t) c cs (is_ascii_whitespace c) _ _ (on before_text) (choose (repaired_from t) c cs (eqb c 34) _ _ (on in_quotes) (text_next t c cs on)))
 spot_here t before_extended last c cs here on =

@@ -6,8 +6,9 @@ use Rattle.mail_codec.specs.Charset.{Charsets}
 use Rattle.mailparse.specs.ContentType.{ContentType, content_type_in}
 use Rattle.mailparse.specs.Pairs.{pairs_of}
 use Rattle.mailparse.specs.Sections.{is_star}
+use Rattle.mailparse.specs.Value.{lenient_value_in}
 use Rattle.mail_data.specs.lenient.Comments.{without_comments}
-use Rattle.mail_data.specs.lenient.Manner.{has_broken_boundary, lenient_name}
+use Rattle.mail_data.specs.lenient.Manner.{has_broken_boundary, lenient_name, undecoded}
 use Rattle.mail_data.specs.lenient.Repairs.{repaired}
 
 -- a text has no comment and lacks nothing
@@ -25,3 +26,12 @@ is_named found = bytes_eq (lenient_name found.mimetype) found.mimetype && not (h
 -- the type in a text needs no lenient reading
 abbrev pub is_strict : Charsets → List ℕ → Bool
 is_strict known text = is_complete text && (is_star_free (pairs_of text) && is_named (content_type_in known text))
+
+-- a raw value has no encoded word that the port decodes, so that its text is the one that types are
+-- read in
+abbrev pub has_no_word : Charsets → List ℕ → Bool
+has_no_word known value = bytes_eq (undecoded value) (lenient_value_in known value)
+
+-- the type in a raw value needs no lenient reading
+abbrev pub is_strict_value : Charsets → List ℕ → Bool
+is_strict_value known value = has_no_word known value && is_strict known (undecoded value)

@@ -16,6 +16,7 @@ use Rattle.mailparse.specs.Manner.{Manner}
 use Rattle.mailparse.specs.Map.{first_with_key}
 use Rattle.mailparse.specs.Pairs.{Texts}
 use Rattle.mailparse.specs.Value.{lenient_value_in}
+use Rattle.mail_data.specs.Files.{no_charsets}
 use Rattle.mail_data.specs.lenient.Comments.{without_comments}
 use Rattle.mail_data.specs.lenient.Guess.{or_guessed}
 use Rattle.mail_data.specs.lenient.Repairs.{repaired}
@@ -65,6 +66,11 @@ made_lenient found = record {
   params = with_whole_boundary found.params;
 }
 
+-- the text of a raw value in which types are read: its encoded words stay as they are, so that none
+-- can end a parameter, begin one or be a boundary, a charset or a type
+abbrev pub undecoded : List ℕ → List ℕ
+undecoded value = lenient_value_in no_charsets value
+
 -- Under the charsets that are known.
 module _ (known : Charsets) where
   -- the type in a text: that of the text without its comments and with what its parameters lack,
@@ -73,11 +79,15 @@ module _ (known : Charsets) where
   lenient_type_in text =
       made_lenient (content_type_in (or_guessed known) (repaired (without_comments text)))
 
+  -- the type in a raw value
+  abbrev pub lenient_type_from : List ℕ → ContentType
+  lenient_type_from value = lenient_type_in (undecoded value)
+
   -- the type of a message with these headers: that in its first `Content-Type`, otherwise the
   -- default type of a part
   unfoldable pub lenient_type_of : Bool → List Header → ContentType
   lenient_type_of in_digest headers =
-      option_map_or (λ h. lenient_type_in (lenient_value_in known h.value))
+      option_map_or (λ h. lenient_type_from h.value)
       (first_with_key (codes "Content-Type") headers) (part_type in_digest)
 
   -- the manner itself

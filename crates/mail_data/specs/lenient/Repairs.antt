@@ -1,8 +1,8 @@
 -- Values with parameters (RFC 2045, section 5.1; RFC 2231, section 4) that lack semicolons, closing
--- quotes or the apostrophes of extended values; the crate's own rule. What is missing is put in, and
--- every character stays.
+-- quotes or the apostrophes of extended values, or whose names have whitespace that mails do not use;
+-- the crate's own rule. What is missing is put in, and every character stays.
 use Rattle.std.specs.Prelude.{ℕ, zero, suc, ◌-◌, Bool, true, false, not, ◌&&◌, ◌||◌, ◌==◌, List, [], ◌∷◌, ◌++◌, is_some, chars, encode_utf8_all, codes, if◌then◌else◌}
-use Rattle.std.specs.Char.{is_ascii_alphabetic, is_ascii_alphanumeric, is_ascii_whitespace}
+use Rattle.std.specs.Char.{is_ascii, is_ascii_alphabetic, is_ascii_alphanumeric, is_ascii_whitespace, is_whitespace}
 use Rattle.mail_codec.specs.Ascii.{apostrophe, asterisk, backslash, equals_sign, quote, semicolon, slash}
 use Rattle.mail_codec.specs.Charset.{charset_of_label}
 use Rattle.mail_codec.specs.Places.{is_empty, text_place}
@@ -144,9 +144,22 @@ lacking cs =
     let count = missing_apostrophes 2 cs in
     if count == 1 && not (begins_with_label cs) then 2 else count
 
--- a semicolon, unless the character is one of those that may follow a value or a text
-abbrev pub semicolon_unless : Bool → List ℕ
-semicolon_unless follows = if follows then [] else codes ";"
+-- a vertical tab or a form feed
+abbrev pub is_feed : ℕ → Bool
+is_feed c = c == 11 || c == 12
+
+-- whitespace that mails do not use, such as a no-break space: all but a space, a tab, a CR and a LF
+abbrev pub is_other_space : ℕ → Bool
+is_other_space c = is_feed c || (not (is_ascii c) && is_whitespace c)
+
+-- an underscore before such whitespace in a name, which would be trimmed otherwise
+abbrev pub underscore_before : ℕ → List ℕ
+underscore_before c = if is_other_space c then codes "_" else []
+
+-- before this character, a semicolon and what is missing in a name, unless it is one of those that may
+-- follow a value or a text
+abbrev pub semicolon_unless : Bool → ℕ → List ℕ
+semicolon_unless follows c = if follows then [] else codes ";" ++ underscore_before c
 
 -- the apostrophes that an extended text lacks at its first character
 abbrev pub for_extended : Bool → List ℕ → List ℕ
@@ -155,8 +168,10 @@ for_extended is_alone cs = if is_alone then apostrophes (lacking cs) else []
 -- what is missing before the first of these characters, which has this position
 abbrev pub missing : Bool → Position → List ℕ → List ℕ
 missing is_alone position [] = []
-missing is_alone AfterWord (c ∷ cs) = semicolon_unless ((is_ascii_whitespace c || c == semicolon) || c == slash)
-missing is_alone AfterText (c ∷ cs) = semicolon_unless (is_ascii_whitespace c || c == semicolon)
+missing is_alone AfterWord (c ∷ cs) = semicolon_unless ((is_ascii_whitespace c || c == semicolon) || c == slash) c
+missing is_alone AfterText (c ∷ cs) = semicolon_unless (is_ascii_whitespace c || c == semicolon) c
+missing is_alone InName (c ∷ cs) = underscore_before c
+missing is_alone AfterStar (c ∷ cs) = underscore_before c
 missing is_alone BeforeExtended (c ∷ cs) =
     if is_ascii_whitespace c || c == quote then [] else for_extended is_alone (c ∷ cs)
 missing is_alone InExtended (c ∷ cs) = for_extended is_alone (c ∷ cs)
@@ -194,6 +209,8 @@ repaired text = encode_utf8_all (repaired_from (extended_are_alone text) BeforeW
 abbrev pub may_follow : Position → ℕ → Bool
 may_follow AfterWord c = (is_ascii_whitespace c || c == semicolon) || c == slash
 may_follow AfterText c = is_ascii_whitespace c || c == semicolon
+may_follow InName c = not (is_other_space c)
+may_follow AfterStar c = not (is_other_space c)
 may_follow AfterBlank c = not (is_ascii_alphabetic c)
 may_follow BeforeExtended c = false
 may_follow InExtended c = false

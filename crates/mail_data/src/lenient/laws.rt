@@ -6,16 +6,19 @@ ghost use Rattle.mailparse.specs.ContentType.{content_type_in};
 ghost use Rattle.mailparse.specs.Mail.{kept_message, root};
 ghost use Rattle.mailparse.specs.Refusal.{Refusal, recursion_limit};
 ghost use Rattle.mailparse.specs.Value.{IsPlain, lenient_value_in};
-ghost use Rattle.mail_data.specs.lenient.Agreement.{is_strict};
-ghost use Rattle.mail_data.specs.lenient.Manner.{lenient_type_in};
+ghost use Rattle.mail_data.specs.lenient.Agreement.{is_strict, is_strict_value};
+ghost use Rattle.mail_data.specs.lenient.Manner.{lenient_type_from, lenient_type_in};
 ghost use Rattle.mail_data.specs.lenient.Values.{header_text};
 ghost use Rattle.mail_data.specs.lenient.Refused.{kept_for};
 
 /// Says that a type is read leniently as the port reads it, if it has no comment, lacks nothing,
-/// has no extended value, has a name of two words and no boundary that contains a line end.
+/// has no extended value, has a name of two words and no boundary that contains a line end. The
+/// same is so of a raw value, if besides it has no encoded word that the port decodes.
 pub fn types_agree()
-    ensures { (known : Charsets) (text : List ℕ) → is_strict known text ≡ true →
+    ensures texts { (known : Charsets) (text : List ℕ) → is_strict known text ≡ true →
         lenient_type_in known text ≡ content_type_in known text }
+    ensures values { (known : Charsets) (value : List ℕ) → is_strict_value known value ≡ true →
+        lenient_type_from known value ≡ content_type_in known (lenient_value_in known value) }
 {}
 
 /// Says that a plain header value, of printable ASCII that does not begin with a space and contains

@@ -1,20 +1,25 @@
 //! The manner in which mail is read leniently.
-ghost use Rattle.std.specs.Prelude.{◌≡◌, ◌&&◌, IfOk, not, string_bytes, true};
+ghost use Rattle.std.specs.Prelude.{◌≡◌, ◌&&◌, IfOk, Ok, not, string_bytes, true};
 ghost use Rattle.std.specs.Str.{bytes_eq, trim};
 ghost use Rattle.mail_codec.specs.Places.{is_empty};
+ghost use Rattle.mailparse.specs.Outcome.{AnswersOrMemory};
 ghost use Rattle.mailparse.specs.Pairs.{HasTexts, text_at};
 ghost use Rattle.mailparse.specs.Views.{content_type, in_digest};
-ghost use Rattle.mail_data.specs.lenient.Manner.{has_broken_boundary, lenient, lenient_name, lenient_type_in, lenient_type_of};
-ghost use Rattle.mail_data.specs.lenient.Manner.{made_lenient, name_of_one, name_of_two, with_whole_boundary, without_boundary};
+ghost use Rattle.mail_data.specs.lenient.Manner.{has_broken_boundary, lenient, lenient_name};
+ghost use Rattle.mail_data.specs.lenient.Manner.{lenient_type_from, lenient_type_in, lenient_type_of};
+ghost use Rattle.mail_data.specs.lenient.Manner.{made_lenient, name_of_one, name_of_two};
+ghost use Rattle.mail_data.specs.lenient.Manner.{with_whole_boundary, without_boundary};
 
 use super::comments::without_comments;
 use super::guess::OrGuess;
 use super::repairs::repaired;
 use super::usual::usual_type;
+use crate::files::NoCharsets;
 use mail_codec::bytescan::find_either;
 use mail_codec::charset::KnownCharsets;
 use mailparse::{
-    DefaultType, MailHeader, MailHeaderMap, ParsedContentType, ReadingManner, parse_content_type_in,
+    DefaultType, MailHeader, MailHeaderMap, MailParseError, ParsedContentType, ReadingManner,
+    parse_content_type_in, value_text_in,
 };
 use std::alloc::{AllocError, Global};
 use std::collections::BTreeMap;
@@ -24,14 +29,14 @@ const PLAIN_NAME: &str = "text/plain";
 
 /// The manner of a lenient reader, under these charsets, for `mailparse::parse_mail_as`.
 ///
-/// Comments in a `Content-Type` are left out, and a type without a readable name is plain text (RFC
-/// 2045, sections 5.1 and 5.2). Missing semicolons, closing quotes and apostrophes of extended
-/// values are put in, whose charset may be missing or unknown (RFC 2231, section 4). A boundary
-/// that contains a line end does not count, and a delimiter is a whole line (RFC 2046, section
-/// 5.1.1). Headers also end before a line that begins with `--` and has no colon, as
-/// `mailparse::before_dash_line` says; the body of a multipart without a delimiter is all that
-/// follows its headers. No mail is refused: a message that `parse_mail` would refuse is kept as plain text
-/// without headers, and `refusal` returns why.
+/// Comments in a `Content-Type` are left out, encoded words in it are not decoded (RFC 2047, section
+/// 5), and a type without a readable name is plain text (RFC 2045, sections 5.1 and 5.2). Missing
+/// semicolons, closing quotes and apostrophes of extended values are put in, whose charset may be
+/// missing or unknown (RFC 2231, section 4). A boundary that contains a line end does not count, and
+/// a delimiter is a whole line (RFC 2046, section 5.1.1). Headers also end before a line that begins
+/// with `--` and has no colon, as `mailparse::before_dash_line` says; the body of a multipart
+/// without a delimiter is all that follows its headers. No mail is refused: a message that
+/// `parse_mail` would refuse is kept as plain text without headers, and `refusal` returns why.
 ///
 /// # Examples
 ///
@@ -92,30 +97,44 @@ fn type_of<K: KnownCharsets>(
     let Some(header) = headers.get_first_header("Content-Type") else {
         return default.content_type(alloc);
     };
-    let value = header.get_value_ref_in(alloc, known)?;
-    lenient_type(alloc, value.as_str(), known)
+    let value = header.get_value_ref_in(alloc, &NoCharsets)?;
+    type_in(alloc, value.as_str(), known)
 }
 
-/// Returns the type in the value of a `Content-Type` (RFC 2045, section 5.1), as `Lenient` reads it:
-/// without comments, with what its parameters lack, and with a name that can be read.
+/// Returns the type in the raw value of a `Content-Type` (RFC 2045, section 5.1), as `Lenient` reads
+/// it: without comments, with what its parameters lack, and with a name that can be read. Encoded
+/// words in it stay as they are.
 ///
 /// Allocates the type, and copies of the value.
 ///
 /// # Errors
 ///
-/// `AllocError` if it runs out of memory.
+/// `MailParseError::Memory` if it runs out of memory.
 ///
 /// # Examples
 ///
 /// ```rust
 /// use mail_data::lenient::lenient_type;
 ///
-/// let ctype = lenient_type(alloc, "text/html (x) charset=\"koi8-r", &())?;
+/// let ctype = lenient_type(alloc, b"text/html (x) charset=\"koi8-r", &())?;
 /// assert_eq!(rt; ctype.mimetype.as_str(), "text/html");
 /// assert_eq!(rt; ctype.charset.as_str(), "koi8-r");
 /// ```
-#[tactic(auto, unfolding(crate::specs::lenient::Manner::lenient_type_in))]
 pub fn lenient_type<K: KnownCharsets>(
+    alloc: Global,
+    value: &[u8],
+    known: &K,
+) -> Result<ParsedContentType, MailParseError>
+    ensures { AnswersOrMemory content_type result
+        (Ok (lenient_type_from (K.known known.now) value.now)) }
+{
+    let text = value_text_in(alloc, value, &NoCharsets)?;
+    Ok(type_in(alloc, text.as_str(), known)?)
+}
+
+/// Returns the type in the text of a value.
+#[tactic(auto, unfolding(crate::specs::lenient::Manner::lenient_type_in))]
+fn type_in<K: KnownCharsets>(
     alloc: Global,
     text: &str,
     known: &K,

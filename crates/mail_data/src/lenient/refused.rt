@@ -1,5 +1,5 @@
 //! Why a message that a manner kept is refused by the strict reading.
-ghost use Rattle.std.specs.Prelude.{◌≡◌, option_and_then, IfOk};
+ghost use Rattle.std.specs.Prelude.{◌≡◌, option_and_then, option_map, IfOk, Some};
 ghost use Rattle.mailparse.specs.Mail.{root};
 ghost use Rattle.mailparse.specs.Outcome.{refusal_of};
 ghost use Rattle.mailparse.specs.Views.{tree_of};
@@ -33,7 +33,9 @@ use std::alloc::{AllocError, Global};
 /// ```
 #[tactic(auto, unfolding(crate::specs::lenient::Refused::kept_for))]
 pub fn refusal(alloc: Global, mail: &ParsedMail<'_>) -> Result<Option<MailParseError>, AllocError>
-    ensures { IfOk result (λ found.
+    ensures read { IfOk result (λ found.
+        option_map refusal_of found ≡ option_map Some (kept_for (root (tree_of mail.now)))) }
+    ensures refused { IfOk result (λ found.
         option_and_then refusal_of found ≡ kept_for (root (tree_of mail.now))) }
 {
     if !was_kept(mail) {

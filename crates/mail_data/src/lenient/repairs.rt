@@ -6,8 +6,9 @@ ghost use Rattle.mail_data.specs.lenient.Repairs.{after_text, after_word, before
 ghost use Rattle.mail_data.specs.lenient.Repairs.{apostrophes, begins_parameter, begins_with_label};
 ghost use Rattle.mail_data.specs.lenient.Repairs.{ends_name, extended_are_alone};
 ghost use Rattle.mail_data.specs.lenient.Repairs.{for_extended, is_label, is_name, missing, missing_apostrophes};
-ghost use Rattle.mail_data.specs.lenient.Repairs.{lacking, lacks_nothing, may_follow, missing_at_end, repaired};
-ghost use Rattle.mail_data.specs.lenient.Repairs.{semicolon_unless, settled};
+ghost use Rattle.mail_data.specs.lenient.Repairs.{is_other_space, lacking, lacks_nothing, may_follow};
+ghost use Rattle.mail_data.specs.lenient.Repairs.{missing_at_end, repaired};
+ghost use Rattle.mail_data.specs.lenient.Repairs.{semicolon_unless, settled, underscore_before};
 ghost use Rattle.mail_data.specs.declared.lenient.repairs.Position.TheVariants.{BeforeWord};
 
 use super::file_names::label_in;
@@ -53,7 +54,8 @@ pub(crate) enum Position {
 }
 
 /// Returns a value with parameters with the semicolons, closing quotes and apostrophes that are
-/// missing. It is borrowed if it clearly lacks none.
+/// missing, and with underscores in names before whitespace that mails do not use. It is borrowed if
+/// it clearly lacks none.
 pub(crate) fn repaired(alloc: Global, text: &str) -> Result<CowStr<'_>, AllocError>
     ensures { IfOk result (λ made. cow_str_bytes made ≡ repaired text.now) }
 {
@@ -88,6 +90,7 @@ fn may_follow(position: Position, c: char) -> bool
     match position {
         Position::AfterWord => c.is_ascii_whitespace() || c == ';' || c == '/',
         Position::AfterText => c.is_ascii_whitespace() || c == ';',
+        Position::InName | Position::AfterStar => !is_other_space(c),
         Position::AfterBlank => !c.is_ascii_alphabetic(),
         Position::BeforeExtended | Position::InExtended => false,
         _ => true,
@@ -192,8 +195,11 @@ fn missing(is_alone: bool, position: Position, left: &str) -> &'static str
         return "";
     };
     match position {
-        Position::AfterWord => { semicolon_unless(c.is_ascii_whitespace() || c == ';' || c == '/') }
-        Position::AfterText => semicolon_unless(c.is_ascii_whitespace() || c == ';'),
+        Position::AfterWord => {
+            semicolon_unless(c.is_ascii_whitespace() || c == ';' || c == '/', c)
+        }
+        Position::AfterText => semicolon_unless(c.is_ascii_whitespace() || c == ';', c),
+        Position::InName | Position::AfterStar => underscore_before(c),
         Position::BeforeExtended => {
             if c.is_ascii_whitespace() || c == '"' {
                 ""
@@ -206,11 +212,29 @@ fn missing(is_alone: bool, position: Position, left: &str) -> &'static str
     }
 }
 
-/// Returns a semicolon unless a character follows that ends a value.
-fn semicolon_unless(follows: bool) -> &'static str
-    ensures { result.now ≡ semicolon_unless follows }
+/// Returns what is missing before a character that may follow a value.
+fn semicolon_unless(follows: bool, c: char) -> &'static str
+    ensures { result.now ≡ semicolon_unless follows c }
 {
-    if follows { "" } else { ";" }
+    if follows {
+        return "";
+    }
+    if is_other_space(c) { ";_" } else { ";" }
+}
+
+/// Returns an underscore before whitespace in a name that would be trimmed otherwise.
+fn underscore_before(c: char) -> &'static str
+    ensures { result.now ≡ underscore_before c }
+{
+    if is_other_space(c) { "_" } else { "" }
+}
+
+/// Returns whether a character is whitespace other than a space, a tab, a CR and a LF.
+#[inline(always)]
+fn is_other_space(c: char) -> bool
+    ensures { result ≡ is_other_space c }
+{
+    c == '\x0B' || c == '\x0C' || (!c.is_ascii() && c.is_whitespace())
 }
 
 /// Returns the apostrophes that an extended value lacks.

@@ -25,7 +25,7 @@ use Rattle.mailparse.specs.Ranges.{slice}
 use Rattle.mailparse.specs.Refusal.{◌>>=◌, Reads}
 use Rattle.mailparse.specs.Value.{lenient_value_in}
 use Rattle.mailparse.proofs.lemmas.Refusal.{read_map}
-use Rattle.mail_data.specs.lenient.Agreement.{is_strict}
+use Rattle.mail_data.specs.lenient.Agreement.{is_strict_value}
 use Rattle.mail_data.specs.lenient.Manner.{lenient}
 use Rattle.mail_check.specs.Findings.{findings}
 use Rattle.mail_check.specs.Lines.{header_lines, lines_from}
@@ -211,7 +211,7 @@ module _ (known : Charsets) where
   -- the first `Content-Type` of a message, if there is one
   abbrev pub TypeHeader : Tree → Header → Type 0
   TypeHeader t h =
-      (list_all is_low h.value ≡ true) × HasBoundary (root t).ctype × (is_strict known (lenient_value_in known h.value) ≡ true)
+      (list_all is_low h.value ≡ true) × HasBoundary (root t).ctype × (is_strict_value known h.value ≡ true)
 
   pub type_found : (in_digest : Bool) (headers : List Header) (h : Header) → first_with_key (codes "Content-Type") headers ≡ Some h
       → node_type known in_digest headers ≡ content_type_in known (lenient_value_in known h.value)
@@ -254,7 +254,7 @@ module _ (known : Charsets) where
   type_is_strict t is = by_header (first_with_key (codes "Content-Type") (root t).headers) refl
     where
       by_header : (o : Option Header) → first_with_key (codes "Content-Type") (root t).headers ≡ o
-          → option_map_or (λ h. is_strict known (lenient_value_in known h.value)) o true ≡ true
+          → option_map_or (λ h. is_strict_value known h.value) o true ≡ true
       by_header None e = refl
       by_header (Some h) e = (type_header t is h e).2
 

@@ -596,7 +596,7 @@ module _ (known : Charsets) {parameters : Parameters} (bytes : List ℕ) (low : 
   unfolding content_type_in
   flat_strict boundary =
       are_true (is_complete bytes) (is_star_free (pairs_of bytes) && is_named (content_type_in known bytes))
-      (flat_complete bytes (low_ascii bytes low) is)
+      (flat_complete bytes (low_ascii bytes low) low is)
       (are_true (is_star_free (pairs_of bytes)) (is_named (content_type_in known bytes)) free_here
       (are_true (bytes_eq (lenient_name (content_type_in known bytes).mimetype) (content_type_in known bytes).mimetype)
       (not (has_broken_boundary (content_type_in known bytes).params))

@@ -2,11 +2,11 @@
 use Rattle.std.proofs.Common.{◌≡◌, ◌∙◌, ◌<◌, ◌≤◌, ◌-◌, ℕ, zero, suc, Bool, true, false, not, cond, leb, List, [], ◌∷◌, ◌++◌}
 use Rattle.std.proofs.Common.{refl, sym, ap, subst, inl, inr, arith, append_assoc}
 use Rattle.std.specs.Prelude.{◌&&◌, ◌||◌, ◌==◌}
-use Rattle.std.specs.Char.{is_ascii_whitespace}
+use Rattle.std.specs.Char.{is_ascii, is_ascii_whitespace, is_whitespace}
 use Rattle.std.specs.Int.{is_in_range}
 use Rattle.std.specs.List.{list_all}
 use Rattle.std.specs.Str.{IsAscii, chars, encode_utf8_all, str_to_ascii_lowercase}
-use Rattle.std.proofs.lemmas.Bool.{cases_lt, cond-false, eqb-true, false≢true, leb-true, or_cases}
+use Rattle.std.proofs.lemmas.Bool.{cases_lt, cond-false, cond-true, eqb-true, false≢true, leb-true, or_cases, or_from}
 use Rattle.std.proofs.lemmas.Slice.Eq.{bytes_eq-Decides}
 use Rattle.std.proofs.lemmas.Str.{IsUtf8-from_ascii, chars-IsAscii, encodes-IsAscii}
 use Rattle.mail_codec.specs.Ascii.{asterisk, backslash, closing_parenthesis, equals_sign, is_blank, opening_parenthesis, quote}
@@ -14,7 +14,7 @@ use Rattle.mail_codec.specs.Ascii.{semicolon, slash, space}
 use Rattle.mail_data.specs.lenient.Agreement.{is_complete}
 use Rattle.mail_data.specs.lenient.Comments.{depth_beside, outside_comments, quotes_next, string_after, without_comments}
 use Rattle.mail_data.specs.lenient.Repairs.{after_name, after_quoted, after_text, after_value, lacks_nothing}
-use Rattle.mail_data.specs.lenient.Repairs.{repaired}
+use Rattle.mail_data.specs.lenient.Repairs.{is_feed, is_other_space, repaired}
 use Rattle.mail_data.proofs.lemmas.lenient.Repairs.{whole-text}
 use Rattle.mail_check.specs.strict.Parameters.{is_name_character, is_token_character}
 use Rattle.mail_check.specs.strict.PlainParameters.{is_plain_byte, IsPlainText, last_byte, more_bytes}
@@ -132,14 +132,40 @@ run_lacks lacks test f [] rest all = refl
 run_lacks lacks test f (b ∷ run) rest all =
     f b (run ++ rest) (all_head test b run all) ∙ run_lacks lacks test f run rest (all_tail test b run all)
 
-in_name : (test : ℕ → Bool) → test equals_sign ≡ false → test asterisk ≡ false → test quote ≡ false → (b : ℕ) (rest : List ℕ)
-    → test b ≡ true
+-- a byte that passes a test of ASCII is no whitespace that is kept in names
+no_other_space : (test : ℕ → Bool) → test 11 ≡ false → test 12 ≡ false → (b : ℕ) → test b ≡ true → is_ascii b ≡ true
+    → is_other_space b ≡ false
+no_other_space test e f b is low =
+    or_from (is_feed b) (not (is_ascii b) && is_whitespace b)
+    (or_from (b == 11) (b == 12) (differs test 11 e b is) (differs test 12 f b is))
+    (ap (λ (t : Bool). not t && is_whitespace b) low)
+
+in_name : (test : ℕ → Bool) → test equals_sign ≡ false → test asterisk ≡ false → test quote ≡ false → test 11 ≡ false
+    → test 12 ≡ false → (b : ℕ) (rest : List ℕ) → test b ≡ true → is_ascii b ≡ true
     → past_name (b ∷ rest) ≡ past_name rest
-in_name test e f g b rest is =
-    ap (λ p. lacks_nothing p rest)
+in_name test e f g h k b rest is low =
+    cond-true (not (is_other_space b)) (lacks_nothing (after_name b) rest) false
+    (ap not (no_other_space test h k b is low))
+    ∙ ap (λ p. lacks_nothing p rest)
     (cond-false (b == equals_sign) (after_name equals_sign) _ (differs test equals_sign e b is)
     ∙ cond-false (b == asterisk) (after_name asterisk) _ (differs test asterisk f b is)
     ∙ cond-false (b == quote) (after_name quote) (after_name 120) (differs test quote g b is))
+
+names_lack : (test : ℕ → Bool) → test equals_sign ≡ false → test asterisk ≡ false → test quote ≡ false → test 11 ≡ false
+    → test 12 ≡ false → (run rest : List ℕ) → list_all test run ≡ true → list_all is_ascii run ≡ true
+    → past_name (run ++ rest) ≡ past_name rest
+names_lack test e f g h k [] rest all low = refl
+names_lack test e f g h k (b ∷ run) rest all low =
+    in_name test e f g h k b (run ++ rest) (all_head test b run all) (all_head is_ascii b run low)
+    ∙ names_lack test e f g h k run rest (all_tail test b run all) (all_tail is_ascii b run low)
+
+-- both of two texts are ASCII if they are so together
+halves : (xs ys : List ℕ) → list_all is_ascii (xs ++ ys) ≡ true → (list_all is_ascii xs ≡ true) × (list_all is_ascii ys ≡ true)
+halves [] ys low = (refl, low)
+halves (x ∷ xs) ys low =
+    let both = both_true (is_ascii x) (list_all is_ascii (xs ++ ys)) low in
+    let more = halves xs ys both.1 in
+    (are_true (is_ascii x) (list_all is_ascii xs) both.0 more.0, more.1)
 
 text_byte : (b : ℕ) → is_name_character b ≡ true → after_text b ≡ after_text 120
 text_byte b is =
@@ -178,15 +204,22 @@ value_lacks value rest (quotes_of {first = first} {others = others} other is mad
     ∙ run_lacks past_opening is_plain_byte in_quotes (first ∷ others) (quote ∷ rest) (plain_all (first ∷ others) is)
     ∙ more past_quotes (record { nothing = refl; more = λ rest. refl }))
 
-flat_lacks : {parameters : Parameters} (rest : List ℕ) → AreFlat parameters rest → (lacks : List ℕ → Bool) → Ends lacks → lacks rest ≡ true
-flat_lacks rest no_flat lacks ends = ends.nothing
-flat_lacks rest flat_semicolon lacks ends = ends.more []
-flat_lacks bytes (flat_parameter {value = value} gap name rest blanks names is more made) lacks ends =
+flat_lacks : {parameters : Parameters} (rest : List ℕ) → AreFlat parameters rest → list_all is_ascii rest ≡ true
+    → (lacks : List ℕ → Bool) → Ends lacks → lacks rest ≡ true
+flat_lacks rest no_flat low lacks ends = ends.nothing
+flat_lacks rest flat_semicolon low lacks ends = ends.more []
+flat_lacks bytes (flat_parameter {value = value} gap name rest blanks names is more made) low lacks ends =
+    let after = name ++ (equals_sign ∷ (value ++ rest)) in
+    let whole : list_all is_ascii (gap ++ after) ≡ true =
+    all_tail is_ascii semicolon (gap ++ after) (subst (λ (xs : List ℕ). list_all is_ascii xs ≡ true) made low) in
+    let one = halves gap after whole in
+    let two = halves name (equals_sign ∷ (value ++ rest)) one.1 in
+    let three = halves value rest (all_tail is_ascii equals_sign (value ++ rest) two.1) in
     subst (λ (xs : List ℕ). lacks xs ≡ true) (sym made)
     (ends.more (gap ++ (name ++ (equals_sign ∷ (value ++ rest))))
-    ∙ run_lacks past_name is_blank (in_name is_blank refl refl refl) gap (name ++ (equals_sign ∷ (value ++ rest))) blanks
-    ∙ run_lacks past_name is_name_character (in_name is_name_character refl refl refl) name (equals_sign ∷ (value ++ rest)) names
-    ∙ value_lacks value rest is (flat_lacks rest more))
+    ∙ names_lack is_blank refl refl refl refl refl gap (name ++ (equals_sign ∷ (value ++ rest))) blanks one.0
+    ∙ names_lack is_name_character refl refl refl refl refl name (equals_sign ∷ (value ++ rest)) names two.0
+    ∙ value_lacks value rest is (flat_lacks rest more three.1))
 
 word_byte : (b : ℕ) → is_token_character b ≡ true → after_value b ≡ after_value 120
 word_byte b is =
@@ -210,11 +243,15 @@ word_lacks b more rest all =
     first_word b (more ++ rest) (all_head is_token_character b more all)
     ∙ run_lacks past_word is_token_character in_word more rest (all_tail is_token_character b more all)
 
-type_lacks : {parameters : Parameters} (bytes : List ℕ) → IsFlat parameters bytes → past_slash bytes ≡ true
-type_lacks bytes is =
+type_lacks : {parameters : Parameters} (bytes : List ℕ) → list_all is_ascii bytes ≡ true → IsFlat parameters bytes
+    → past_slash bytes ≡ true
+type_lacks bytes low is =
+    let own = (is.second ∷ is.subtype) ++ is.rest in
+    let two = halves (is.first ∷ is.main) (slash ∷ own) (subst (λ (xs : List ℕ). list_all is_ascii xs ≡ true) is.made low) in
+    let rest = (halves (is.second ∷ is.subtype) is.rest (all_tail is_ascii slash own two.1)).1 in
     ap past_slash is.made ∙ word_lacks is.first is.main (slash ∷ ((is.second ∷ is.subtype) ++ is.rest)) is.is_main
     ∙ word_lacks is.second is.subtype is.rest is.is_subtype
-    ∙ flat_lacks is.rest is.are_flat past_word (record { nothing = refl; more = λ rest. refl })
+    ∙ flat_lacks is.rest is.are_flat rest past_word (record { nothing = refl; more = λ rest. refl })
 
 -- ---- there are no comments
 
@@ -296,12 +333,13 @@ type_kept bytes is =
 
 -- ---- both
 
-pub flat_complete : {parameters : Parameters} (bytes : List ℕ) → IsAscii bytes → IsFlat parameters bytes → is_complete bytes ≡ true
+pub flat_complete : {parameters : Parameters} (bytes : List ℕ) → IsAscii bytes → list_all is_ascii bytes ≡ true
+    → IsFlat parameters bytes → is_complete bytes ≡ true
 unfolding without_comments
-flat_complete bytes ascii is =
+flat_complete bytes ascii low is =
     let read : chars bytes ≡ bytes = chars-IsAscii bytes ascii in
     let kept : without_comments bytes ≡ bytes =
     ap (λ (cs : List ℕ). encode_utf8_all (outside_comments false false 0 cs)) read ∙ ap encode_utf8_all (type_kept bytes is)
     ∙ encodes-IsAscii bytes ascii in
-    let whole = whole-text bytes (IsUtf8-from_ascii bytes ascii) (ap past_slash read ∙ type_lacks bytes is) in
+    let whole = whole-text bytes (IsUtf8-from_ascii bytes ascii) (ap past_slash read ∙ type_lacks bytes low is) in
     (bytes_eq-Decides (repaired (without_comments bytes)) bytes).1 (ap repaired kept ∙ sym whole)

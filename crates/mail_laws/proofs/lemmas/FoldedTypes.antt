@@ -23,7 +23,9 @@ use Rattle.mailparse.specs.Value.{lenient_value_in}
 use Rattle.mailparse.proofs.lemmas.Value.{lenient-utf8}
 use Rattle.mailparse.proofs.lemmas.ValueJoined.{joined_alone, joined_more, joined_text, lines_cut}
 use Rattle.mailparse.proofs.lemmas.ValuePlain.{unfolded_value-joined}
-use Rattle.mail_data.specs.lenient.Agreement.{is_strict}
+use Rattle.mail_data.specs.Files.{no_charsets}
+use Rattle.mail_data.specs.lenient.Agreement.{has_no_word, is_strict, is_strict_value}
+use Rattle.mail_data.specs.lenient.Manner.{undecoded}
 use Rattle.mail_check.specs.strict.Fields.{HasBoundary}
 use Rattle.mail_check.specs.strict.LineEnds.{IsLineEnd}
 use Rattle.mail_check.specs.strict.Parameters.{IsGap, no_gap, gap_blank, gap_fold, is_name_character, is_token_character}
@@ -610,7 +612,7 @@ value_shown known head value low found =
 pub plain_type_strict : {mimetype : List ℕ} {parameters : Parameters} (known : Charsets) (value : List ℕ)
     → list_all is_low value ≡ true → IsTypeOf mimetype parameters value
     → HasBoundary (content_type_in known (lenient_value_in known value))
-    → is_strict known (lenient_value_in known value) ≡ true
+    → is_strict_value known value ≡ true
 plain_type_strict known value low is boundary =
     let type = type_shown [] value refl low is in
     let found = type.shown in
@@ -618,7 +620,10 @@ plain_type_strict known value low is boundary =
     let two : List ℕ = type.second ∷ type.subtype in
     let text : List ℕ = (one ++ (slash ∷ two)) ++ found.flat in
     let same = value_shown known (one ++ (slash ∷ two)) value low found in
-    subst (λ (xs : List ℕ). is_strict known xs ≡ true) (sym same)
+    let raw : undecoded value ≡ text = value_shown no_charsets (one ++ (slash ∷ two)) value low found in
+    are_true (has_no_word known value) (is_strict known (undecoded value))
+    ((bytes_eq-Decides (undecoded value) (lenient_value_in known value)).1 (raw ∙ sym same))
+    (subst (λ (xs : List ℕ). is_strict known xs ≡ true) (sym raw)
     (flat_strict known text found.low
     (record {
       first = type.first;
@@ -631,4 +636,4 @@ plain_type_strict known value low is boundary =
       are_flat = found.is;
       made = append_assoc one (slash ∷ two) found.flat;
     })
-    (subst (λ (xs : List ℕ). HasBoundary (content_type_in known xs)) same boundary))
+    (subst (λ (xs : List ℕ). HasBoundary (content_type_in known xs)) same boundary)))

@@ -13,9 +13,9 @@ use Rattle.mailparse.specs.Mail.{Node, Tree, tree, Forest, no_parts, part_and, n
 use Rattle.mailparse.specs.Map.{first_with_key}
 use Rattle.mailparse.specs.Ranges.{Range}
 use Rattle.mailparse.specs.Value.{lenient_value_in}
-use Rattle.mail_data.specs.lenient.Agreement.{is_strict}
-use Rattle.mail_data.specs.lenient.Manner.{lenient, lenient_type_in, lenient_type_of}
-use Rattle.mail_data.proofs.lemmas.lenient.Agreement.{types-agree}
+use Rattle.mail_data.specs.lenient.Agreement.{is_strict_value}
+use Rattle.mail_data.specs.lenient.Manner.{lenient, lenient_type_from, lenient_type_of}
+use Rattle.mail_data.proofs.lemmas.lenient.Agreement.{values-agree}
 use Rattle.mail_laws.specs.LenientAgreement.{offsets, is_same_cut, has_whole_delimiters, has_no_dash_line, has_strict_type, is_strict_message, is_strict_mail, are_strict}
 use Rattle.mail_laws.specs.Manners.{IsReadAlike, AreReadAlike, AllReadAlike}
 use Rattle.mail_laws.proofs.lemmas.Manners.{mails-agree}
@@ -50,11 +50,11 @@ module _ (known : Charsets) where
   unfolding lenient_type_of node_type
   types-same in_digest headers strict = by_header (first_with_key (codes "Content-Type") headers) strict
     where
-      by_header : (found : Option Header) → option_map_or (λ h. is_strict known (lenient_value_in known h.value)) found true ≡ true
-          → option_map_or (λ h. lenient_type_in known (lenient_value_in known h.value)) found (part_type in_digest)
+      by_header : (found : Option Header) → option_map_or (λ h. is_strict_value known h.value) found true ≡ true
+          → option_map_or (λ h. lenient_type_from known h.value) found (part_type in_digest)
           ≡ option_map_or (λ h. content_type_in known (lenient_value_in known h.value)) found (part_type in_digest)
       by_header None strict = refl
-      by_header (Some h) strict = types-agree known (lenient_value_in known h.value) strict
+      by_header (Some h) strict = values-agree known h.value strict
 
   message-alike : (node : Node) → is_strict_message known node ≡ true → IsReadAlike (lenient known) known node
   message-alike node strict =

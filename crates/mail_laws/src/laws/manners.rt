@@ -57,9 +57,9 @@ pub fn manners_agree()
 
 /// A mail that the port reads and that needs no lenient reading is read leniently as the same tree.
 ///
-/// That is decidable: the type of each message is strict (`is_strict`), its whole delimiter lines
-/// split it as all lines that begin with its dash-boundary do, and no line that looks like a
-/// delimiter is among its headers.
+/// That is decidable: the type of each message is strict and has no encoded word that the port
+/// decodes (`is_strict_value`), its whole delimiter lines split it as all lines that begin with its
+/// dash-boundary do, and no line that looks like a delimiter is among its headers.
 pub fn strict_mails_are_read_alike()
     ensures { (known : Charsets) (greatest : ℕ) (mail : List ℕ) (parsed : Tree) →
         read_mail_in known greatest mail ≡ Ok parsed → is_strict_mail known parsed ≡ true →

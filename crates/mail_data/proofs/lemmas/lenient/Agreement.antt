@@ -13,12 +13,13 @@ use Rattle.mailparse.specs.Mail.{kept_message, root}
 use Rattle.mailparse.specs.Pairs.{Texts, no_texts, pairs_of, value_of}
 use Rattle.mailparse.specs.Refusal.{Reads, Refusal, recursion_limit}
 use Rattle.mailparse.specs.Sections.{is_star}
+use Rattle.mailparse.specs.Value.{lenient_value_in}
 use Rattle.mailparse.specs.private.Continuations.{has_star}
 use Rattle.mailparse.proofs.lemmas.StarFree.{another_key, parameters_are_pairs}
-use Rattle.mail_data.specs.lenient.Agreement.{is_complete, is_named, is_star_free, is_strict}
+use Rattle.mail_data.specs.lenient.Agreement.{has_no_word, is_complete, is_named, is_star_free, is_strict, is_strict_value}
 use Rattle.mail_data.specs.lenient.Comments.{without_comments}
 use Rattle.mail_data.specs.lenient.Guess.{or_guessed}
-use Rattle.mail_data.specs.lenient.Manner.{has_broken_boundary, lenient_name, lenient_type_in, made_lenient, with_whole_boundary, without_boundary}
+use Rattle.mail_data.specs.lenient.Manner.{has_broken_boundary, lenient_name, lenient_type_from, lenient_type_in, made_lenient, undecoded, with_whole_boundary, without_boundary}
 use Rattle.mail_data.specs.lenient.Refused.{kept_for, refusal_with}
 use Rattle.mail_data.specs.lenient.Repairs.{repaired}
 
@@ -61,6 +62,14 @@ types-agree known text strict =
     ∙ ap made_lenient (same-type known (or_guessed known) text others.0)
     ∙ named found.mimetype found.charset found.params ((bytes_eq-Decides (lenient_name found.mimetype) found.mimetype).0 last.0)
     (not-true (has_broken_boundary found.params) last.1)
+
+-- the same of a raw value
+pub values-agree : (known : Charsets) (value : List ℕ) → is_strict_value known value ≡ true
+    → lenient_type_from known value ≡ content_type_in known (lenient_value_in known value)
+values-agree known value strict =
+    let parts = and_parts (has_no_word known value) (is_strict known (undecoded value)) strict in
+    types-agree known (undecoded value) parts.1
+    ∙ ap (content_type_in known) ((bytes_eq-Decides (undecoded value) (lenient_value_in known value)).0 parts.0)
 
 -- ---- messages that were kept
 

@@ -1,14 +1,14 @@
 -- Lemmas on what is missing in values with parameters.
 use Rattle.std.proofs.Common.{◌≡◌, ◌≢◌, ◌<◌, ◌≤◌, ℕ, zero, suc, ◌-◌, Bool, true, false, eqb, leb, cond, not, ◌&&◌, ◌||◌, inl, inr, List, [], ◌∷◌, ◌++◌, length, arith, refl, sym, ap, ◌∙◌, append_assoc}
 use Rattle.std.proofs.Math.Bool.{and-false}
-use Rattle.std.proofs.lemmas.Bool.{cases_Bool, cond-true, cond-false, eq-eqb, false≢true, leb-true, ne_eqb}
+use Rattle.std.proofs.lemmas.Bool.{cases_Bool, cond-true, cond-false, eq-eqb, false≢true, leb-true, lt-ltb, ne_eqb, or_from}
 use Rattle.std.proofs.lemmas.Str.{chars-nil, chars_past_char, encodes-chars}
-use Rattle.std.specs.Char.{encode_utf8, is_ascii_alphabetic, is_ascii_whitespace}
+use Rattle.std.specs.Char.{encode_utf8, is_ascii, is_ascii_alphabetic, is_ascii_whitespace, is_whitespace}
 use Rattle.std.specs.Int.{is_in_range}
 use Rattle.std.specs.Str.{chars, encode_utf8_all, IsUtf8}
 use Rattle.mail_codec.specs.Ascii.{apostrophe, equals_sign, semicolon}
 use Rattle.mail_codec.specs.Places.{is_empty}
-use Rattle.mail_data.specs.lenient.Repairs.{after, apostrophes, begins_parameter, ends_name, extended_are_alone, for_extended, is_name, lacking, lacks_nothing, may_follow, missing, missing_apostrophes, missing_at_end, repaired, repaired_from, semicolon_unless, settled}
+use Rattle.mail_data.specs.lenient.Repairs.{after, apostrophes, begins_parameter, ends_name, extended_are_alone, for_extended, is_feed, is_name, is_other_space, lacking, lacks_nothing, may_follow, missing, missing_apostrophes, missing_at_end, repaired, repaired_from, semicolon_unless, settled}
 use Rattle.mail_data.specs.declared.lenient.repairs.Position.{Position}
 use Rattle.mail_data.specs.declared.lenient.repairs.Position.TheVariants.{BeforeWord, InWord, AfterWord, InName, AfterStar, BeforeText, InText, AfterBlank, InQuotes, AfterBackslash, AfterText, BeforeExtended, InExtended, InRun, RunBackslash}
 
@@ -22,10 +22,16 @@ encode-append (x ∷ xs) ys = ap (λ (t : List ℕ). encode_utf8 x ++ t) (encode
 
 -- what is missing is ASCII
 
-semicolon-ascii : (follows : Bool) → encode_utf8_all (semicolon_unless follows) ≡ semicolon_unless follows
+underscore-ascii : (t : Bool) → encode_utf8_all (cond t (95 ∷ []) []) ≡ cond t (95 ∷ []) []
 unfolding encode_utf8
-semicolon-ascii true = refl
-semicolon-ascii false = refl
+underscore-ascii true = refl
+underscore-ascii false = refl
+
+semicolon-ascii : (follows other : Bool) → encode_utf8_all (cond follows [] (semicolon ∷ cond other (95 ∷ []) [])) ≡ cond follows [] (semicolon ∷ cond other (95 ∷ []) [])
+unfolding encode_utf8
+semicolon-ascii true other = refl
+semicolon-ascii false true = refl
+semicolon-ascii false false = refl
 
 apostrophes-ascii : (n : ℕ) → encode_utf8_all (apostrophes n) ≡ apostrophes n
 unfolding encode_utf8
@@ -45,15 +51,15 @@ missing-ascii : (is_alone : Bool) (position : Position) (cs : List ℕ) → enco
 missing-ascii is_alone position [] = refl
 missing-ascii is_alone BeforeWord (c ∷ cs) = refl
 missing-ascii is_alone InWord (c ∷ cs) = refl
-missing-ascii is_alone AfterWord (c ∷ cs) = semicolon-ascii _
-missing-ascii is_alone InName (c ∷ cs) = refl
-missing-ascii is_alone AfterStar (c ∷ cs) = refl
+missing-ascii is_alone AfterWord (c ∷ cs) = semicolon-ascii ((is_ascii_whitespace c || eqb c 59) || eqb c 47) (is_other_space c)
+missing-ascii is_alone InName (c ∷ cs) = underscore-ascii (is_other_space c)
+missing-ascii is_alone AfterStar (c ∷ cs) = underscore-ascii (is_other_space c)
 missing-ascii is_alone BeforeText (c ∷ cs) = refl
 missing-ascii is_alone InText (c ∷ cs) = refl
 missing-ascii is_alone AfterBlank (c ∷ cs) = refl
 missing-ascii is_alone InQuotes (c ∷ cs) = refl
 missing-ascii is_alone AfterBackslash (c ∷ cs) = refl
-missing-ascii is_alone AfterText (c ∷ cs) = semicolon-ascii _
+missing-ascii is_alone AfterText (c ∷ cs) = semicolon-ascii (is_ascii_whitespace c || eqb c 59) (is_other_space c)
 missing-ascii is_alone BeforeExtended (c ∷ cs) = if-ascii _ _ (extended-ascii is_alone (c ∷ cs))
 missing-ascii is_alone InExtended (c ∷ cs) = extended-ascii is_alone (c ∷ cs)
 missing-ascii is_alone InRun (c ∷ cs) = refl
@@ -193,8 +199,8 @@ bare : (is_alone : Bool) (position : Position) (c : ℕ) (cs : List ℕ) → may
 bare is_alone BeforeWord c cs may = (refl, refl)
 bare is_alone InWord c cs may = (refl, refl)
 bare is_alone AfterWord c cs may = (cond-true _ _ _ may, refl)
-bare is_alone InName c cs may = (refl, refl)
-bare is_alone AfterStar c cs may = (refl, refl)
+bare is_alone InName c cs may = (cond-false _ _ _ (not_true (is_other_space c) may), refl)
+bare is_alone AfterStar c cs may = (cond-false _ _ _ (not_true (is_other_space c) may), refl)
 bare is_alone BeforeText c cs may = (refl, refl)
 bare is_alone InText c cs may = (refl, refl)
 bare is_alone AfterBlank c cs may =
@@ -249,7 +255,14 @@ lacks-next rest next position next_position c utf8 e may moved =
 
 -- ---- characters after which the position is the same
 
-module _ (c : ℕ) (low : 45 ≤ c) (no_slash : c ≢ 47) (no_semicolon : c ≢ 59) (no_equals : c ≢ 61) (no_backslash : c ≢ 92) where
+-- a visible ASCII character is no such whitespace
+pub visible-plain : (c : ℕ) → 13 ≤ c → c ≤ 127 → is_other_space c ≡ false
+visible-plain c low high =
+    or_from (is_feed c) (not (is_ascii c) && is_whitespace c)
+    (or_from (eqb c 11) (eqb c 12) (ne_eqb c 11 (λ e. absurd (omega (arith, low, e)))) (ne_eqb c 12 (λ e. absurd (omega (arith, low, e)))))
+    (ap (λ (t : Bool). not t && is_whitespace c) (lt-ltb c 128 (omega (arith, high))))
+
+module _ (c : ℕ) (low : 45 ≤ c) (high : c ≤ 126) (no_slash : c ≢ 47) (no_semicolon : c ≢ 59) (no_equals : c ≢ 61) (no_backslash : c ≢ 92) where
   no_range : (least most : ℕ) → most < 45 → is_in_range least most c ≡ false
   no_range least most above = elim (cases_Bool (leb c most)) [
     | inl e ↦ absurd (omega (arith, leb-true c most e))
@@ -263,7 +276,7 @@ module _ (c : ℕ) (low : 45 ≤ c) (no_slash : c ≢ 47) (no_semicolon : c ≢ 
   same-word = (refl, rw (no_white, ne_eqb c 59 no_semicolon, ne_eqb c 47 no_slash, ne_eqb c 34 (λ e. absurd (omega arith))) refl)
 
   pub same-name : (may_follow InName c ≡ true) × (after InName c ≡ InName)
-  same-name = (refl, rw (ne_eqb c 61 no_equals, ne_eqb c 42 (λ e. absurd (omega arith)), ne_eqb c 34 (λ e. absurd (omega arith))) refl)
+  same-name = (ap not (visible-plain c (omega (arith, low)) (omega (arith, high))), rw (ne_eqb c 61 no_equals, ne_eqb c 42 (λ e. absurd (omega arith)), ne_eqb c 34 (λ e. absurd (omega arith))) refl)
 
   pub same-text : (may_follow InText c ≡ true) × (after InText c ≡ InText)
   same-text = (refl, rw (ne_eqb c 59 no_semicolon, ne_eqb c 34 (λ e. absurd (omega arith)), no_white) refl)

@@ -55,19 +55,19 @@ entered test position next enter same (c ∷ cs) one other = go (test c) refl on
     go false e one other on = moved test position next c cs enter e ∙ sym on ∙ other
 
 in_word : Moves ends_run InWord InWord
-in_word c h = let o = others c h in same-word c o.0 o.2 o.3 o.4 o.5
+in_word c h = let o = others c h in same-word c o.0 o.1 o.2 o.3 o.4 o.5
 
 in_name : Moves ends_run InName InName
-in_name c h = let o = others c h in same-name c o.0 o.2 o.3 o.4 o.5
+in_name c h = let o = others c h in same-name c o.0 o.1 o.2 o.3 o.4 o.5
 
 in_text : Moves ends_run InText InText
-in_text c h = let o = others c h in same-text c o.0 o.2 o.3 o.4 o.5
+in_text c h = let o = others c h in same-text c o.0 o.1 o.2 o.3 o.4 o.5
 
 to_word : Moves ends_run BeforeWord InWord
-to_word c h = let o = others c h in enter-word c o.0 o.2 o.3 o.4 o.5
+to_word c h = let o = others c h in enter-word c o.0 o.1 o.2 o.3 o.4 o.5
 
 to_text : Moves ends_run BeforeText InText
-to_text c h = let o = others c h in enter-text c o.0 o.2 o.3 o.4 o.5
+to_text c h = let o = others c h in enter-text c o.0 o.1 o.2 o.3 o.4 o.5
 
 -- in quotes
 in_quotes : Moves (λ b. b == 34 || b == 92) InQuotes InQuotes
