@@ -22,5 +22,6 @@ pub mod Accepted
 pub mod Plain
 pub mod Groups
 pub mod Lenient
+pub mod Brackets
 pub mod LenientLists
 pub mod LenientCommas

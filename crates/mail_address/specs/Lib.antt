@@ -6,6 +6,7 @@ pub mod Addresses
 pub mod AddressViews
 pub mod Headers
 pub mod Lenient
+pub mod Brackets
 pub mod PhraseWords
 pub mod Text
 pub mod ShownNames

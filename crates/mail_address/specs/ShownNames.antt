@@ -1,8 +1,9 @@
--- Display names as people see them: the text of a name without the quotes around it; our own rule.
+-- Display names as people see them: the text of a name on one line, with its encoded words read as those of other headers are, and
+-- without the quotes around it; our own rule.
 use Rattle.std.specs.Prelude.{ℕ, ◌-◌, Bool, ◌&&◌, ◌||◌, ◌==◌, nat_lt, List, length, slice_index, slice_range, if◌then◌else◌}
 use Rattle.mail_codec.specs.Ascii.{apostrophe, quote}
 use Rattle.mail_codec.specs.Charset.{Charsets}
-use Rattle.mailparse.specs.Value.{lenient_value_in}
+use Rattle.mail_data.specs.lenient.Names.{name_text}
 use Rattle.mail_address.specs.Text.{phrase_text}
 
 -- a text begins and ends with this byte
@@ -17,6 +18,6 @@ is_in_quotes text = nat_lt 1 (length text) && (has_at_ends quote text || has_at_
 unfoldable pub without_quotes : List ℕ → List ℕ
 without_quotes text = if is_in_quotes text then slice_range text 1 (length text - 1) else text
 
--- the text of a display name as people see it: decoded in these charsets, and then without the quotes around it
+-- the text of a display name as people see it: read leniently in these charsets, and then without the quotes around it
 abbrev pub shown_display_name : Charsets → List ℕ → List ℕ
-shown_display_name known phrase = without_quotes (lenient_value_in known (phrase_text phrase))
+shown_display_name known phrase = without_quotes (name_text known (phrase_text phrase))

@@ -1,5 +1,5 @@
 //! Laws of all lists of addresses. Each function does nothing; its contract is the law.
-ghost use Rattle.std.specs.Prelude.{[], ◌≡◌, ◌+◌, ◌∷◌, ◌++◌, List, drop, take, Some, length, map, suc, true, ℕ};
+ghost use Rattle.std.specs.Prelude.{[], ◌≡◌, ◌+◌, ◌∷◌, ◌++◌, List, None, Some, length, map, suc, true, ℕ};
 ghost use Rattle.mail_codec.specs.Ascii.{backslash, comma, space};
 ghost use Rattle.mail_codec.specs.Charset.{Charsets, four_charsets};
 ghost use Rattle.mail_codec.specs.Tables.{charsets_with};
@@ -9,20 +9,21 @@ ghost use Rattle.mail_address.specs.Encode.{KnowUtf8};
 ghost use Rattle.mail_address.specs.Accepted.{IsAccepted};
 ghost use Rattle.mail_address.specs.Addresses.{EachElement, addresses, element_at, element_len};
 ghost use Rattle.mail_address.specs.Addresses.{Group, group, is_separator, items, single};
+ghost use Rattle.mail_address.specs.Brackets.{IsAddressIn, IsInBrackets, before_open};
+ghost use Rattle.mail_address.specs.Brackets.{in_brackets};
 ghost use Rattle.mail_address.specs.Enclosed.{IsEnclosed, IsInAngles};
 ghost use Rattle.mail_address.specs.Grammar.{IsByGrammar, IsMailbox};
 ghost use Rattle.mail_address.specs.Groups.{GroupsFollow, IsGroup};
 ghost use Rattle.mail_address.specs.Headers.{addresses_of};
-ghost use Rattle.mail_address.specs.Lenient.{IsComplete, angle_mailbox, closed_mailbox};
-ghost use Rattle.mail_address.specs.Lenient.{has_brackets, lenient_addresses};
-ghost use Rattle.mail_address.specs.Lenient.{lenient_addresses_of, refined, with_comment};
-ghost use Rattle.mail_address.specs.Mailbox.{Parts};
+ghost use Rattle.mail_address.specs.Lenient.{IsComplete, has_brackets, lenient_addresses};
+ghost use Rattle.mail_address.specs.Lenient.{lenient_addresses_of, lenient_mailbox, refined};
+ghost use Rattle.mail_address.specs.Lenient.{with_comment};
+ghost use Rattle.mail_address.specs.Mailbox.{Parts, mailbox_of};
 ghost use Rattle.mail_address.specs.Names.{AreNameWords, bracketed, named};
 ghost use Rattle.mail_address.specs.Order.{AreInOrder, MakeUp};
 ghost use Rattle.mail_address.specs.Safe.{IsSafe};
 ghost use Rattle.mail_address.specs.Text.{phrase_text, quoted_text};
 ghost use Rattle.mail_address.specs.Tokens.{is_in, run};
-ghost use Rattle.mail_address.specs.declared.tokens.Span.TheVariants.{BeforeAngle};
 ghost use Rattle.mail_address.specs.Writer.{HaveTexts, are_writable, element_shows};
 ghost use Rattle.mail_address.specs.Writer.{element_shown_for, written_list};
 ghost use Rattle.mail_address.specs.declared.writer.NewAddress.{NewAddress};
@@ -227,9 +228,11 @@ pub fn lenient_elements_are_in_order()
     ensures { (raw : List ℕ) → AreInOrder 0 raw (lenient_addresses raw) }
 {}
 
-/// In the lenient reading, an address in angle brackets counts and nothing before it. If a text
-/// that is no mailbox by the grammar contains a pair of angle brackets, its address is the one in
-/// the first pair, or it has none. Angle brackets in quotes and comments are no such pair.
+/// In the lenient reading, an address in angle brackets counts and nothing before it. Take a text
+/// that is no mailbox by the grammar, also without a comment at its end that nothing closes. If
+/// there is a pair of angle brackets before that comment, the address of the text, if it has one, is
+/// a part of the bytes within the first pair: the local part, an `@` and the domain. So it is in
+/// each element and each member of a group. Angle brackets in quotes and comments are no such pair.
 ///
 /// # Examples
 ///
@@ -237,9 +240,10 @@ pub fn lenient_elements_are_in_order()
 /// mail_address::laws::lenient_brackets_count();
 /// ```
 pub fn lenient_brackets_count()
-    ensures { (text : List ℕ) → has_brackets text ≡ true →
-        closed_mailbox text ≡ angle_mailbox (take (run BeforeAngle text) text)
-        (drop (run BeforeAngle text) text) }
+    ensures text { (text : List ℕ) (m : Parts) → lenient_mailbox text ≡ Some m →
+        mailbox_of (before_open text) ≡ None → has_brackets (before_open text) ≡ true →
+        IsAddressIn (in_brackets (before_open text)) m }
+    ensures elements { (raw : List ℕ) → EachElement IsInBrackets (lenient_addresses raw) }
 {}
 
 /// No address of the lenient reading contains a control character, as none of the grammar does.

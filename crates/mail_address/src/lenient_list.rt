@@ -75,7 +75,7 @@ pub fn lenient_addresses(alloc: Global, raw: &[u8]) -> Result<AddressList<'_>, A
 /// let mail = parse_mail(alloc, b"To: ann@example.org (Ann)\n\n")?;
 /// for address in &lenient_addresses_of(alloc, &mail.headers, "To")? {
 ///     if let Address::Mailbox(mailbox) = address {
-///         assert_eq!(rt; mailbox.get_display_name(alloc, &())?.as_str(), "Ann");
+///         assert_eq!(rt; mailbox.get_shown_name(alloc, &())?.as_str(), "Ann");
 ///     }
 /// }
 /// ```

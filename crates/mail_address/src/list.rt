@@ -47,8 +47,9 @@ impl<'a> Mailbox<'a> {
     /// whitespace, and then with its encoded words decoded in the `known` charsets (RFC 5322,
     /// section 3.4; RFC 2047).
     ///
-    /// The text is empty if there is no name. It may contain anything, such as `<` or a comma, and
-    /// is never an address. Allocates the text.
+    /// An encoded word that the standard forbids, such as one without its padding, stays as it is;
+    /// `get_shown_name` decodes it. The text is empty if there is no name. It may contain anything,
+    /// such as `<` or a comma, and is never an address. Allocates the text.
     ///
     /// # Errors
     ///
@@ -85,12 +86,14 @@ impl<'a> Mailbox<'a> {
         name_text(alloc, self.display_name, known)
     }
 
-    /// Returns the display name as people see it: what `get_display_name` returns, and if that
-    /// begins and ends with `"`, or with `'`, without these two.
+    /// Returns the display name as people see it, on one line: its encoded words are read leniently,
+    /// as `lenient_name_text` of `mail_data` reads them, and if the text begins and ends with `"`,
+    /// or with `'`, these two are left out (RFC 2047).
     ///
-    /// Some programs encode a name together with its quotes, and some write `'` around it. An
-    /// apostrophe at one end alone stays, and of quotes within quotes only the outer ones are left
-    /// out. Allocates the text.
+    /// Words may be beside each other, lack their padding, and cut a character in two. Bytes outside
+    /// of words that are not UTF-8 are windows-1252. Some programs encode a name together with its
+    /// quotes, and some write `'` around it. An apostrophe at one end alone stays, and of quotes
+    /// within quotes only the outer ones are left out. Allocates the text.
     ///
     /// # Errors
     ///
@@ -104,6 +107,14 @@ impl<'a> Mailbox<'a> {
     /// for address in &lenient_addresses(alloc, b"=?utf-8?Q?=22Ann=2C_B=22?= <ann@example.org>")? {
     ///     if let Address::Mailbox(mailbox) = address {
     ///         assert_eq!(rt; mailbox.get_shown_name(alloc, &())?.as_str(), "Ann, B");
+    ///     }
+    /// }
+    ///
+    /// for address in &lenient_addresses(alloc, b"=?utf-8?B?w6k?= <ann@example.org>")? {
+    ///     if let Address::Mailbox(mailbox) = address {
+    ///         assert_eq!(rt; mailbox.get_shown_name(alloc, &())?.as_str(), "é");
+    ///         let name = mailbox.get_display_name(alloc, &())?;
+    ///         assert_eq!(rt; name.as_str(), "=?utf-8?B?w6k?=");
     ///     }
     /// }
     /// ```
@@ -266,8 +277,9 @@ impl<'a> Group<'a> {
         name_text(alloc, self.display_name, known)
     }
 
-    /// Returns the display name as people see it: what `get_display_name` returns, and if that
-    /// begins and ends with `"`, or with `'`, without these two.
+    /// Returns the display name as people see it, on one line: its encoded words are read leniently,
+    /// and if the text begins and ends with `"`, or with `'`, these two are left out (RFC 2047), as
+    /// by `Mailbox::get_shown_name`.
     ///
     /// Allocates the text.
     ///

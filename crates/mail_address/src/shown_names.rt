@@ -1,10 +1,11 @@
-//! Display names as people see them: without the quotes around them.
+//! Display names as people see them: read leniently, and without the quotes around them.
 ghost use Rattle.std.specs.Prelude.{◌≡◌, ◌-◌, true, false, length, slice_range, MatchOption};
 ghost use Rattle.mailparse.specs.Outcome.{GivesText};
 ghost use Rattle.mail_address.specs.ShownNames.{is_in_quotes, shown_display_name};
 
-use crate::text::name_text;
+use crate::text::phrase_text;
 use mail_codec::charset::KnownCharsets;
+use mail_data::lenient::lenient_name_text;
 use mailparse::MailParseError;
 use std::alloc::Global;
 
@@ -36,7 +37,8 @@ pub(crate) fn shown_name<K: KnownCharsets>(
 ) -> Result<String, MailParseError>
     ensures { GivesText result (shown_display_name (K.known known.now) phrase.now) }
 {
-    let name = name_text(alloc, phrase, known)?;
+    let phrase = phrase_text(alloc, phrase)?;
+    let name = lenient_name_text(alloc, phrase.as_slice(), known)?;
     match inside_quotes(name.as_str()) {
         Some(inside) => Ok(String::from_str(alloc, inside)?),
         None => Ok(name),

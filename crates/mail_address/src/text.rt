@@ -145,7 +145,7 @@ fn push_word(text: &mut Vec<u8>, bytes: &[u8]) -> Result<usize, AllocError>
 
 /// Returns the text of a phrase, before its encoded words are decoded.
 #[tactic(auto, unfolding(crate::specs::Text::phrase_text))]
-fn phrase_text(alloc: Global, bytes: &[u8]) -> Result<Vec<u8>, AllocError>
+pub(crate) fn phrase_text(alloc: Global, bytes: &[u8]) -> Result<Vec<u8>, AllocError>
     ensures { IfOk result (λ text. text.items ≡ phrase_text bytes.now) }
 {
     words_text(alloc, after_white(bytes))

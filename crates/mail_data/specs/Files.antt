@@ -1,18 +1,16 @@
 -- The names of the files that a mail carries (RFC 2183, section 2.3; RFC 2046, section 5.2.1), and
 -- the paths of its parts (RFC 3501, section 6.4.5). The reading of a name in an unknown charset (RFC
 -- 2231, section 4) is the crate's own rule.
-use Rattle.std.specs.Prelude.{ℕ, suc, Bool, true, false, not, ◌&&◌, ◌||◌, List, [], ◌∷◌, ◌++◌, Option, Some, None, option_and_then, option_map, codes, decimal, if◌then◌else◌}
+use Rattle.std.specs.Prelude.{ℕ, suc, Bool, true, false, not, ◌&&◌, ◌||◌, List, [], ◌∷◌, ◌++◌, Option, Some, None, option_map, codes, decimal, if◌then◌else◌}
 use Rattle.std.specs.List.{after_first, list_any}
 use Rattle.std.specs.Str.{bytes_eq, is_utf8, trim}
 use Rattle.mail_codec.specs.Charset.{Charsets, text_of}
 use Rattle.mail_codec.specs.Places.{is_empty}
-use Rattle.mailparse.specs.ContentType.{ContentType, content_type_in}
-use Rattle.mailparse.specs.Disposition.{Disposition, disposition_in}
+use Rattle.mailparse.specs.ContentType.{ContentType}
+use Rattle.mailparse.specs.Disposition.{Disposition}
 use Rattle.mailparse.specs.ExtendedValues.{is_apostrophe, text_in}
 use Rattle.mailparse.specs.Mail.{Node, Tree, Forest, tree, no_parts, part_and}
-use Rattle.mailparse.specs.Map.{first_value_in}
 use Rattle.mailparse.specs.Pairs.{Texts}
-use Rattle.mailparse.specs.Value.{lenient_value_in}
 use Rattle.mail_data.specs.lenient.Refused.{was_kept}
 use Rattle.mail_codec.specs.declared.charset.built_in.Charset.TheVariants.{Windows1252}
 use Rattle.percent_encoding.specs.Percent.{percent_decode}
@@ -102,26 +100,3 @@ abbrev mutual
 -- the path of a whole message: that of its body if it has no parts
 abbrev pub whole_path : Tree → List ℕ
 whole_path t = if is_leaf t then codes "1" else []
-
--- the file name in the first header with a name, given how one is read in the text of that header:
--- its encoded words stay as they are, so that none can end a parameter or begin one
-abbrev pub name_from : (List ℕ → Option (List ℕ)) → List ℕ → Node → Option (List ℕ)
-name_from read header node =
-    option_and_then read (first_value_in no_charsets header node.headers)
-
--- the file name of a message, given how one is read in a disposition and in a type: that of the
--- disposition, otherwise that of the type, and then its encoded words are decoded
-abbrev pub name_by : Charsets → (List ℕ → Option (List ℕ)) → (List ℕ → Option (List ℕ)) → Node
-    → Option (List ℕ)
-name_by known shown typed node =
-    option_and_then (λ name. filled (Some (lenient_value_in known name)))
-    (first_text (name_from shown (codes "Content-Disposition") node)
-    (name_from typed (codes "Content-Type") node))
-
--- Under the charsets that are known.
-module _ (known : Charsets) where
-  -- the file name of a message, whose texts are read under these charsets
-  unfoldable pub file_name : Node → Option (List ℕ)
-  file_name node =
-      name_by known (λ text. shown_name (disposition_in known text))
-      (λ text. typed_name (content_type_in known text)) node

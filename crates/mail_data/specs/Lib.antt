@@ -1,6 +1,7 @@
 pub mod FileNames
 pub mod WindowsNames
 pub mod Files
+pub mod HeaderNames
 pub mod RawPaths
 pub mod FileViews
 pub mod PartPlaces

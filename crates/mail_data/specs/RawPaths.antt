@@ -5,7 +5,7 @@ use Rattle.std.specs.Char.{is_ascii_alphabetic}
 use Rattle.mail_codec.specs.Ascii.{backslash, colon, quote}
 use Rattle.mail_codec.specs.Charset.{Charsets}
 use Rattle.mailparse.specs.Mail.{Node}
-use Rattle.mail_data.specs.Files.{name_by}
+use Rattle.mail_data.specs.HeaderNames.{name_by}
 use Rattle.mail_data.specs.lenient.FileNames.{shown_name, typed_name}
 use Rattle.mail_data.specs.declared.files.paths.Position.{Position}
 use Rattle.mail_data.specs.declared.files.paths.Position.TheVariants.{Outside, InQuotes, AfterBackslash, InPath}

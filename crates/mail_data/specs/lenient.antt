@@ -22,4 +22,5 @@ pub mod Shown
 pub mod Folding
 pub mod Values
 pub mod ValueViews
+pub mod Names
 pub mod Dispositions

@@ -8,10 +8,11 @@ ghost use Rattle.mailparse.specs.Views as views;
 ghost use Rattle.mailparse.specs.Views.{content_type, kind, tree_of};
 ghost use Rattle.mail_data.specs.Attachments.{attachments, describes_attachment, is_attachment};
 ghost use Rattle.mail_data.specs.Attachments.{is_attachment_disposition, is_extracted};
-ghost use Rattle.mail_data.specs.Files.{file_name, filled, is_leaf, is_shown, is_shown_type};
+ghost use Rattle.mail_data.specs.Files.{filled, is_leaf, is_shown, is_shown_type};
 ghost use Rattle.mail_data.specs.Files.{name_among, name_in, path_under, shown_name, typed_name};
 ghost use Rattle.mail_data.specs.Files.{whole_path};
 ghost use Rattle.mail_data.specs.FileViews.{attachment_view};
+ghost use Rattle.mail_data.specs.HeaderNames.{file_name};
 ghost use Rattle.mail_data.specs.RawPaths.{file_name_or_path};
 
 mod left_over;
@@ -32,7 +33,7 @@ use mailparse::{
 };
 pub use names::safe_file_name;
 use naming::WithPaths;
-pub(crate) use naming::{NameReading, name_by};
+pub(crate) use naming::{NameReading, cut_text, decoded_name, name_by};
 pub use no_charsets::NoCharsets;
 use std::alloc::{AllocError, Global};
 use std::collections::BTreeMap;
@@ -54,8 +55,9 @@ pub struct Attachment<'m, 'a> {
 /// 2.3), otherwise the parameter `name` of its type, or `None` if it has neither, as `named_file`
 /// finds it in headers whose encoded words (RFC 2047, section 2) stay as they are.
 ///
-/// The words in the name are decoded after that, so a word that contains a `"` or a `;` neither
-/// ends the name nor begins another parameter. The name is as the sender wrote it: use
+/// The words in the name are decoded after that, as `lenient_name_text` of `lenient` decodes them,
+/// so a word that contains a `"` or a `;` neither ends the name nor begins another parameter. Bytes
+/// that are not UTF-8 are windows-1252. The name is as the sender wrote it: use
 /// `safe_file_name` before creating a file. Words and extended values (RFC 2231, section 4) are
 /// read in the charsets `known`. Allocates the disposition, the type and the name.
 ///
@@ -83,7 +85,7 @@ pub struct Attachment<'m, 'a> {
 /// let name = file_name(alloc, &mail, &())?.ok_or("no name")?;
 /// assert_eq!(rt; name.as_str(), "a\"; filename=\"b");
 /// ```
-#[tactic(auto, unfolding(crate::specs::Files::file_name))]
+#[tactic(auto, unfolding(crate::specs::HeaderNames::file_name))]
 pub fn file_name<K: KnownCharsets>(
     alloc: Global,
     part: &ParsedMail<'_>,

@@ -2,12 +2,13 @@
 use Rattle.std.specs.Prelude.{ℕ, List, [], ◌∷◌, ◌++◌, Option, Some, None, flat_map, map, codes}
 use Rattle.mail_codec.specs.Charset.{Charsets}
 use Rattle.mailparse.specs.Mail.{Node}
-use Rattle.mailparse.specs.Value.{lenient_value_in, value_text}
+use Rattle.mailparse.specs.Value.{value_text}
 use Rattle.mail_address.specs.Addresses.{Element, Single, single, group}
 use Rattle.mail_address.specs.Lenient.{lenient_addresses_of}
 use Rattle.mail_address.specs.Mailbox.{Parts}
 use Rattle.mail_address.specs.ShownNames.{shown_display_name}
 use Rattle.mail_address.specs.Text.{address_bytes}
+use Rattle.mail_data.specs.lenient.Names.{name_text}
 use Rattle.mail_view.specs.Line.{Line, line}
 use Rattle.mail_view.specs.Names.{shown_name}
 use Rattle.mail_view.specs.declared.line.Prefix.{Prefix}
@@ -27,7 +28,7 @@ module _ (known : Charsets) where
   -- the text of an element without members; of one that is no address that of a name
   abbrev pub single_of : Option Parts → List ℕ → List ℕ
   single_of (Some parts) text = mailbox_text parts
-  single_of None text = shown_name (lenient_value_in known text)
+  single_of None text = shown_name (name_text known text)
 
   abbrev pub single_text : Single → List ℕ
   single_text s = single_of s.mailbox s.text

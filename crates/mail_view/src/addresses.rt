@@ -12,7 +12,8 @@ ghost use Rattle.mail_view.specs.Line.{line, line_text, lines_text};
 use crate::line::{Prefix, push_line};
 use crate::names::push_name;
 use mail_address::{Address, Group, Mailbox, Member, Unknown, lenient_addresses_of};
-use mailparse::{KnownCharsets, MailParseError, ParsedMail, value_text_in};
+use mail_data::lenient::lenient_name_text;
+use mailparse::{KnownCharsets, MailParseError, ParsedMail};
 use std::alloc::{AllocError, Global};
 
 /// Appends a line for each address in the headers with this name.
@@ -145,7 +146,7 @@ fn unknown_text<K: KnownCharsets>(
 ) -> Result<String, MailParseError>
     ensures { GivesText result (single_text (K.known known.now) (unknown_view unknown.now)) }
 {
-    let name = value_text_in(alloc, unknown.text, known)?;
+    let name = lenient_name_text(alloc, unknown.text, known)?;
     let mut text = String::new(alloc);
     push_name(&mut text, name.as_str())?;
     Ok(text)

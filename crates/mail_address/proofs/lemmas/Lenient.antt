@@ -166,25 +166,6 @@ lenient-sound text =
 
 -- ---- so for each element
 
-abbrev pub IsSingleSound : Single → Type 0
-IsSingleSound s = AllSound s.mailbox
-
-refined_as-sound : (start : ℕ) (text : List ℕ) (o : Option Parts) → AllSound o → IsSingleSound (refined_as start text o)
-refined_as-sound start text None are = lenient-sound text
-refined_as-sound start text (Some m) are = comment-sound text m are
-
-each-sound : (es : List Element) → EachElement IsSingleSound es → EachSingle IsSingleSound (lenient_members es)
-each-sound [] are = tt
-each-sound (single s ∷ es) are = (refined_as-sound s.start s.text s.mailbox are.0, each-sound es are.1)
-each-sound (group g ∷ es) are = each-sound es are.1
-
-members-sound : (raw : List ℕ) (ss : List Single) → EachSingle IsSingleSound ss → EachSingle IsSingleSound (refined_members raw ss)
-members-sound raw ss are =
-    each-sound (joined raw (map single ss)) (joined-hold IsSingleSound (λ start text. tt) raw (map single ss) (members-each IsSingleSound ss are))
-
-given-sound : (s : Single) → IsByGrammar s → IsSingleSound s
-given-sound s is = all-sound s.mailbox (λ m e. mailbox-sound ((is m).0 e))
-
 -- a property of each element without members in an element
 abbrev HasElement : (Single → Type 0) → Element → Type 0
 HasElement P (single s) = P s
@@ -194,47 +175,79 @@ element-then : (P : Single → Type 0) (e : Element) (es : List Element) → Has
 element-then P (single s) es is are = (is, are)
 element-then P (group g) es is are = (is, are)
 
-open_group-sound : (raw : List ℕ) (start : ℕ) (text : List ℕ) → EachSingle IsSingleSound (open_group raw start text).members
-unfolding open_group
-open_group-sound raw start text =
-    members-sound raw (members_at (start + suc (name_len text)) (after_name text))
-    (singles-have IsSingleSound given-sound _ (members-follow (start + suc (name_len text)) (after_name text)))
+-- a property of elements without members that those by the grammar have, and those without a mailbox; which a name in a comment does
+-- not change; and which those have that are read leniently
+pub record IsKept (P : Single → Type 0) : Type 0 where
+  pub by_grammar : (s : Single) → IsByGrammar s → P s
+  pub unknown : (start : ℕ) (text : List ℕ) → P (record { start = start; text = text; mailbox = None })
+  pub commented : (start : ℕ) (text : List ℕ) (m : Parts) → P (record { start = start; text = text; mailbox = Some m })
+      → P (record { start = start; text = text; mailbox = Some (with_comment text m) })
+  pub read : (start : ℕ) (text : List ℕ) → P (record { start = start; text = text; mailbox = lenient_mailbox text })
 
-element-sound : (raw : List ℕ) (start : ℕ) (text : List ℕ) (o : Option Parts) → AllSound o → HasElement IsSingleSound (refined_element raw start text o)
-element-sound raw start text (Some m) are = comment-sound text m are
-element-sound raw start text None are =
-    cond_both (is_open_group text) (group (open_group raw start text)) (single (refined_as start text None)) (HasElement IsSingleSound)
-    (λ e. open_group-sound raw start text) (λ e. lenient-sound text)
+module _ (P : Single → Type 0) (is : IsKept P) where
+  refined_as-kept : (start : ℕ) (text : List ℕ) (o : Option Parts) → P (record { start = start; text = text; mailbox = o }) → P (refined_as start text o)
+  refined_as-kept start text None has = is.read start text
+  refined_as-kept start text (Some m) has = is.commented start text m has
 
-elements-sound : (raw : List ℕ) (es : List Element) → EachElement IsSingleSound es → EachElement IsSingleSound (map (refined raw) es)
-elements-sound raw [] are = tt
-elements-sound raw (single s ∷ es) are =
-    element-then IsSingleSound (refined raw (single s)) (map (refined raw) es) (element-sound raw s.start s.text s.mailbox are.0) (elements-sound raw es are.1)
-elements-sound raw (group g ∷ es) are = (members-sound raw g.members are.0, elements-sound raw es are.1)
+  each-kept : (es : List Element) → EachElement P es → EachSingle P (lenient_members es)
+  each-kept [] are = tt
+  each-kept (single s ∷ es) are = (refined_as-kept s.start s.text s.mailbox are.0, each-kept es are.1)
+  each-kept (group g ∷ es) are = each-kept es are.1
 
-opened_as-sound : (start : ℕ) (text : List ℕ) (o : Option Parts) → IsSingleSound (record { start = start; text = text; mailbox = o })
-    → EachElement IsSingleSound (opened_as start text o)
-opened_as-sound start text (Some m) is = (is, tt)
-opened_as-sound start text None is =
-    cond_both (has_open_comment text) (opened start text) (single (record { start = start; text = text; mailbox = None }) ∷ []) (EachElement IsSingleSound)
-    (λ e. elements-have IsSingleSound given-sound (opened start text) (opened-hold start text)) (λ e. (tt, tt))
+  members-kept : (raw : List ℕ) (ss : List Single) → EachSingle P ss → EachSingle P (refined_members raw ss)
+  members-kept raw ss are = each-kept (joined raw (map single ss)) (joined-hold P is.unknown raw (map single ss) (members-each P ss are))
 
-divided-sound : (raw : List ℕ) (es : List Element) → EachElement IsSingleSound es → EachElement IsSingleSound (lenient_elements raw es)
-divided-sound raw es are =
-    let opened = flat_map reopened es in
-    subst (EachElement IsSingleSound) (by_steps raw es)
-    (parted-hold IsSingleSound (λ start text. lenient-sound text) (map (refined raw) opened)
-    (elements-sound raw opened (divided-hold IsSingleSound IsSingleSound opened_as opened_as-sound (λ g is. is) es are)))
+  open_group-kept : (raw : List ℕ) (start : ℕ) (text : List ℕ) → EachSingle P (open_group raw start text).members
+  unfolding open_group
+  open_group-kept raw start text =
+      members-kept raw (members_at (start + suc (name_len text)) (after_name text))
+      (singles-have P is.by_grammar _ (members-follow (start + suc (name_len text)) (after_name text)))
 
-value-sound : (raw : List ℕ) → EachElement IsSingleSound (lenient_addresses raw)
-value-sound raw =
-    divided-sound raw (joined raw (addresses raw))
-    (joined-hold IsSingleSound (λ start text. tt) raw (addresses raw) (elements-have IsSingleSound given-sound (addresses raw) (elements-follow raw)))
+  element-kept : (raw : List ℕ) (start : ℕ) (text : List ℕ) (o : Option Parts) → P (record { start = start; text = text; mailbox = o })
+      → HasElement P (refined_element raw start text o)
+  element-kept raw start text (Some m) has = is.commented start text m has
+  element-kept raw start text None has =
+      cond_both (is_open_group text) (group (open_group raw start text)) (single (refined_as start text None)) (HasElement P)
+      (λ e. open_group-kept raw start text) (λ e. is.read start text)
 
-values-sound : (headers : List Header) → EachElement IsSingleSound (lenient_addresses_in headers)
-values-sound [] = tt
-values-sound (h ∷ headers) =
-    elements-append IsSingleSound (lenient_addresses h.value) (lenient_addresses_in headers) (value-sound h.value) (values-sound headers)
+  elements-kept : (raw : List ℕ) (es : List Element) → EachElement P es → EachElement P (map (refined raw) es)
+  elements-kept raw [] are = tt
+  elements-kept raw (single s ∷ es) are =
+      element-then P (refined raw (single s)) (map (refined raw) es) (element-kept raw s.start s.text s.mailbox are.0) (elements-kept raw es are.1)
+  elements-kept raw (group g ∷ es) are = (members-kept raw g.members are.0, elements-kept raw es are.1)
+
+  opened_as-kept : (start : ℕ) (text : List ℕ) (o : Option Parts) → P (record { start = start; text = text; mailbox = o }) → EachElement P (opened_as start text o)
+  opened_as-kept start text (Some m) has = (has, tt)
+  opened_as-kept start text None has =
+      cond_both (has_open_comment text) (opened start text) (single (record { start = start; text = text; mailbox = None }) ∷ []) (EachElement P)
+      (λ e. elements-have P is.by_grammar (opened start text) (opened-hold start text)) (λ e. (has, tt))
+
+  divided-kept : (raw : List ℕ) (es : List Element) → EachElement P es → EachElement P (lenient_elements raw es)
+  divided-kept raw es are =
+      let opened = flat_map reopened es in
+      subst (EachElement P) (by_steps raw es)
+      (parted-hold P is.read (map (refined raw) opened)
+      (elements-kept raw opened (divided-hold P P opened_as opened_as-kept (λ g has. has) es are)))
+
+  pub value-kept : (raw : List ℕ) → EachElement P (lenient_addresses raw)
+  value-kept raw =
+      divided-kept raw (joined raw (addresses raw))
+      (joined-hold P is.unknown raw (addresses raw) (elements-have P is.by_grammar (addresses raw) (elements-follow raw)))
+
+  pub values-kept : (headers : List Header) → EachElement P (lenient_addresses_in headers)
+  values-kept [] = tt
+  values-kept (h ∷ headers) = elements-append P (lenient_addresses h.value) (lenient_addresses_in headers) (value-kept h.value) (values-kept headers)
+
+abbrev pub IsSingleSound : Single → Type 0
+IsSingleSound s = AllSound s.mailbox
+
+sound-kept : IsKept IsSingleSound
+sound-kept = record {
+  by_grammar = λ s is. all-sound s.mailbox (λ m e. mailbox-sound ((is m).0 e));
+  unknown = λ start text. tt;
+  commented = λ start text m are. comment-sound text m are;
+  read = λ start text. lenient-sound text;
+}
 
 -- ---- what follows from that
 
@@ -259,23 +272,17 @@ module _ (P : Single → Type 0) (given : (s : Single) → IsSingleSound s → P
   elements-then (group g ∷ es) are = (singles-then g.members are.0, elements-then es are.1)
 
   pub lenient-have : (raw : List ℕ) → EachElement P (lenient_addresses raw)
-  lenient-have raw = elements-then (lenient_addresses raw) (value-sound raw)
+  lenient-have raw = elements-then (lenient_addresses raw) (value-kept IsSingleSound sound-kept raw)
 
   pub lenient_named-have : (name : List ℕ) (headers : List Header) → EachElement P (lenient_addresses_of name headers)
   unfolding lenient_addresses_of
-  lenient_named-have name headers = elements-then (lenient_addresses_of name headers) (values-sound (all_with_key name headers))
+  lenient_named-have name headers = elements-then (lenient_addresses_of name headers) (values-kept IsSingleSound sound-kept (all_with_key name headers))
 
 pub all_safe : (s : Single) → IsSingleSound s → IsSafe s
 all_safe = sound-safe
 
 pub all_accepted : (s : Single) → IsSingleSound s → IsAccepted s
 all_accepted = sound-accepted
-
--- ---- addresses in angle brackets
-
-pub brackets-count : (text : List ℕ) → has_brackets text ≡ true → closed_mailbox text ≡ angle_mailbox (take (run BeforeAngle text) text) (drop (run BeforeAngle text) text)
-unfolding closed_mailbox
-brackets-count text h = cond-true (has_brackets text) _ _ h
 
 -- ---- the order of the elements
 

@@ -25,7 +25,9 @@ use Rattle.mailparse.specs.Pairs.{Texts, is_equals, last_of, no_texts, pair_of, 
 use Rattle.mailparse.specs.Segments.{QuoteState, outside, after, ends, segments, segments_from, with_front, unescape}
 use Rattle.mailparse.specs.private.Continuations.{has_star}
 use Rattle.mail_data.specs.Attachments.{is_attachment_disposition}
-use Rattle.mail_data.specs.Files.{filled, first_text, is_leaf, name_from, no_charsets}
+use Rattle.mail_data.specs.Files.{filled, first_text, is_leaf, no_charsets}
+use Rattle.mail_data.specs.HeaderNames.{cut_text, decoded_name, name_from}
+use Rattle.mail_data.proofs.lemmas.FileTexts.{octets-utf8}
 use Rattle.mail_data.specs.lenient.Dispositions.{lenient_disposition, lenient_kind}
 use Rattle.mail_data.specs.lenient.Values.{header_text}
 use Rattle.mail_data.specs.lenient.FileNames.{extended_text, lenient_file_name, lenient_name_in, name_among, shown_name, typed_name}
@@ -539,6 +541,12 @@ module _ (known : Charsets) where
       ∙ shown None None (map trim_start (lines raw)) refl
       (nameless-trimmed (lines raw) (nameless-lines (slice_split (λ b. eqb b 10) raw) (parts_after 0 raw h)))
 
+nameless-cut : (raw : List ℕ) → is_nameless raw ≡ true → is_nameless (cut_text raw) ≡ true
+unfolding cut_text
+nameless-cut raw h =
+    ap (λ text. is_nameless (lenient_value_in no_charsets text)) (sym (octets-utf8 raw (IsUtf8-from_ascii raw (ascii 0 raw h))))
+    ∙ nameless-decoded no_charsets raw h
+
 -- ---- the file name
 
 -- a text that has no name in a disposition or in a type
@@ -567,15 +575,13 @@ none_typed known text h =
 
 -- in neither of two texts
 none_found : (known : Charsets) (one other : Option (List ℕ)) → one ≡ None → other ≡ None
-    → option_and_then (λ name. filled (Some (lenient_value_in known name))) (first_text one other) ≡ None
-none_found known one other e f =
-    ap (λ t. option_and_then (λ name. filled (Some (lenient_value_in known name))) (first_text t other)) e
-    ∙ ap (λ t. option_and_then (λ name. filled (Some (lenient_value_in known name))) t) f
+    → decoded_name known (first_text one other) ≡ None
+none_found known one other e f = ap (λ t. decoded_name known (first_text t other)) e ∙ ap (λ t. decoded_name known t) f
 
 none_read : (read : List ℕ → Option (List ℕ)) (header : Option Header) → Nameless read → option_map_or (λ h. is_nameless h.value) header true ≡ true
-    → option_and_then read (option_map (λ h. lenient_value_in no_charsets h.value) header) ≡ None
+    → option_and_then read (option_map (λ h. cut_text h.value) header) ≡ None
 none_read read None less h = refl
-none_read read (Some header) less h = less (lenient_value_in no_charsets header.value) (nameless-decoded no_charsets header.value h)
+none_read read (Some header) less h = less (cut_text header.value) (nameless-cut header.value h)
 
 -- a part has none
 pub nameless-part : (known : Charsets) (node : Node) → is_nameless_part node ≡ true → lenient_file_name known node ≡ None
@@ -610,6 +616,6 @@ pub nameless-values : (known : Charsets) (disposition ctype : List ℕ) → is_n
 unfolding file_name lenient_name_in
 nameless-values known disposition ctype h k =
     ap (λ (name : Option (List ℕ)). Ok name)
-    (none_found known (shown_name known (lenient_value_in no_charsets disposition)) (typed_name known (lenient_value_in no_charsets ctype))
-    (none_shown known (lenient_value_in no_charsets disposition) (nameless-decoded no_charsets disposition h))
-    (none_typed known (lenient_value_in no_charsets ctype) (nameless-decoded no_charsets ctype k)))
+    (none_found known (shown_name known (cut_text disposition)) (typed_name known (cut_text ctype))
+    (none_shown known (cut_text disposition) (nameless-cut disposition h))
+    (none_typed known (cut_text ctype) (nameless-cut ctype k)))

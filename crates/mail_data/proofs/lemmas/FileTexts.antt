@@ -19,8 +19,10 @@ use Rattle.mailparse.specs.Continuations.{parameters_in}
 use Rattle.mailparse.specs.Disposition.{disposition_in}
 use Rattle.mailparse.specs.Pairs.{Texts, pairs_in, pairs_of}
 use Rattle.mailparse.specs.Segments.{QuoteState, outside, quoted, escaped, after, ends, with_front, segments, segments_from}
+use Rattle.mailparse.specs.Value.{lenient_value_in}
 use Rattle.std.specs.Prelude.{codes}
-use Rattle.mail_data.specs.Files.{filled, first_text, left_over_text, name_among, shown_name, text_of_octets, typed_name, untagged}
+use Rattle.mail_data.specs.Files.{filled, first_text, left_over_text, name_among, no_charsets, shown_name, text_of_octets, typed_name, untagged}
+use Rattle.mail_data.specs.HeaderNames.{cut_text}
 
 -- a value with one apostrophe has no tags
 pub untagged-one : (value rest : List ℕ) → position_or_len (λ b. nat_eq b 39) rest ≡ length rest → rest ≡ after_first (λ b. nat_eq b 39) value
@@ -39,6 +41,11 @@ is_utf8-false bytes none = false_from_ne_true (is_utf8 bytes) (λ e. none (IsUtf
 pub octets-other : (bytes : List ℕ) → (IsUtf8 bytes → ⊥) → text_of Windows1252 bytes ≡ text_of_octets bytes
 unfolding text_of_octets
 octets-other bytes none = rw (is_utf8-false bytes none) refl
+
+-- a value in UTF-8 is cut as it is
+pub cut_utf8 : (value : List ℕ) → IsUtf8 value → cut_text value ≡ lenient_value_in no_charsets value
+unfolding cut_text
+cut_utf8 value some = ap (lenient_value_in no_charsets) (sym (octets-utf8 value some))
 
 -- ---- a text without a semicolon has no parameters
 

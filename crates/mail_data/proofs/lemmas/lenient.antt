@@ -14,3 +14,4 @@ pub mod Agreement
 pub mod Shown
 pub mod Folding
 pub mod Values
+pub mod Names

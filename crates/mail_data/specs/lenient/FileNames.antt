@@ -1,14 +1,14 @@
 -- File names, read leniently (RFC 2183, section 2.3; RFC 2231, section 4; RFC 6266, section 4.3): an
 -- extended name counts before one that is not, whatever its charset is.
-use Rattle.std.specs.Prelude.{ℕ, List, Option, Some, option_and_then, option_map, unwrap_or, codes}
+use Rattle.std.specs.Prelude.{ℕ, List, Option, option_map, unwrap_or, codes}
 use Rattle.mail_codec.specs.Charset.{Charsets}
 use Rattle.mailparse.specs.ContentType.{content_type_in}
 use Rattle.mailparse.specs.Disposition.{disposition_in}
 use Rattle.mailparse.specs.ExtendedValues.{label_in, text_in}
 use Rattle.mailparse.specs.Mail.{Node}
 use Rattle.mailparse.specs.Pairs.{Texts}
-use Rattle.mailparse.specs.Value.{lenient_value_in}
-use Rattle.mail_data.specs.Files.{filled, first_text, name_by, no_charsets}
+use Rattle.mail_data.specs.Files.{filled, first_text}
+use Rattle.mail_data.specs.HeaderNames.{cut_text, decoded_name, name_by}
 use Rattle.mail_data.specs.lenient.Guess.{guessed, or_guessed}
 use Rattle.mail_data.specs.lenient.Repairs.{repaired}
 use Rattle.percent_encoding.specs.Percent.{percent_decode}
@@ -43,5 +43,4 @@ module _ (known : Charsets) where
   -- the file name in the raw values of a disposition and of a type, which is read in the same way
   unfoldable pub lenient_name_in : List ℕ → List ℕ → Option (List ℕ)
   lenient_name_in disposition ctype =
-      option_and_then (λ name. filled (Some (lenient_value_in known name)))
-      (first_text (shown_name (lenient_value_in no_charsets disposition)) (typed_name (lenient_value_in no_charsets ctype)))
+      decoded_name known (first_text (shown_name (cut_text disposition)) (typed_name (cut_text ctype)))

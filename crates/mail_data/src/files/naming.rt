@@ -1,28 +1,31 @@
 //! The file name of a part, however names are read in the texts of its headers.
-ghost use Rattle.std.specs.Prelude.{◌≡◌, ◌==◌, List, Option, codes, ℕ, Ok};
+ghost use Rattle.std.specs.Prelude.{◌≡◌, ◌==◌, List, Option, codes, ℕ, IfOk, Ok};
+ghost use Rattle.std.specs.Cow.{cow_str_bytes};
 ghost use Rattle.std.specs.List.{list_any};
 ghost use Rattle.mail_codec.specs.Ascii.{semicolon};
 ghost use Rattle.mailparse.specs.ContentType.{content_type_in};
 ghost use Rattle.mailparse.specs.Disposition.{disposition_in};
 ghost use Rattle.mailparse.specs.Mail.{root};
 ghost use Rattle.mailparse.specs.Map.{text_found};
-ghost use Rattle.mailparse.specs.Outcome.{AnswersOrMemory};
+ghost use Rattle.mailparse.specs.Outcome.{AnswersOrMemory, GivesText};
 ghost use Rattle.mailparse.specs.Views.{tree_of};
-ghost use Rattle.mail_data.specs.Files.{name_by, name_from, shown_name, typed_name};
+ghost use Rattle.mail_data.specs.Files.{shown_name, typed_name};
+ghost use Rattle.mail_data.specs.HeaderNames.{cut_text, decoded_name, name_by, name_from};
 ghost use Rattle.mail_data.specs.RawPaths.{with_paths_escaped};
 ghost use Rattle.mail_data.specs.lenient.FileNames as names;
 
 use super::no_charsets::NoCharsets;
 use super::paths::with_paths_escaped;
-use super::{filled, shown_name, typed_name};
-use crate::lenient::Lenient;
+use super::{filled, shown_name, text_of_octets, typed_name};
+use crate::lenient::{Lenient, lenient_name_text};
 use mail_codec::bytescan::find_byte;
 use mail_codec::charset::KnownCharsets;
 use mailparse::{
-    MailHeaderMap, MailParseError, ParsedMail, Strict, parse_content_disposition_in,
+    MailHeader, MailHeaderMap, MailParseError, ParsedMail, Strict, parse_content_disposition_in,
     parse_content_type_in, value_text_in,
 };
-use std::alloc::Global;
+use std::alloc::{AllocError, Global};
+use std::borrow::CowStr;
 
 /// How a file name is read in the texts of a disposition and a type.
 pub(crate) trait NameReading {
@@ -106,9 +109,43 @@ pub(crate) fn name_by<N: NameReading, K: KnownCharsets>(
         Some(name) => Some(name),
         None => typed_name_of(alloc, part, reading)?,
     };
-    match name {
-        Some(name) => Ok(filled(value_text_in(alloc, name.as_bytes(), known)?)),
+    Ok(decoded_name(alloc, name, known)?)
+}
+
+/// Returns a file name that was found, with its encoded words decoded.
+pub(crate) fn decoded_name<K: KnownCharsets>(
+    alloc: Global,
+    found: Option<String>,
+    known: &K,
+) -> Result<Option<String>, AllocError>
+    ensures { IfOk result (λ name.
+        text_found name ≡ decoded_name (K.known known.now) (text_found found)) }
+{
+    match found {
+        Some(name) => Ok(filled(lenient_name_text(alloc, name.as_bytes(), known)?)),
         None => Ok(None),
+    }
+}
+
+/// Returns the text of a raw value with its encoded words as they are.
+#[tactic(auto, unfolding(crate::specs::HeaderNames::cut_text))]
+pub(crate) fn cut_text(alloc: Global, value: &[u8]) -> Result<String, MailParseError>
+    ensures { GivesText result (cut_text value.now) }
+{
+    let text = text_of_octets(alloc, value)?;
+    value_text_in(alloc, text.as_bytes(), &NoCharsets)
+}
+
+/// Returns the text of the value of a header with its encoded words as they are, borrowed if it is
+/// plain.
+#[tactic(auto, using(crate::proofs::lemmas::FileTexts::cut_utf8))]
+fn cut_value<'h>(alloc: Global, header: &'h MailHeader<'_>) -> Result<CowStr<'h>, MailParseError>
+    ensures { AnswersOrMemory cow_str_bytes result (Ok (cut_text header.now.value)) }
+{
+    let raw = header.get_value_raw();
+    match str::from_utf8(raw) {
+        Ok(_) => Ok(header.get_value_ref_in(alloc, &NoCharsets)?),
+        Err(_) => Ok(CowStr::Owned(cut_text(alloc, raw)?)),
     }
 }
 
@@ -124,7 +161,7 @@ fn shown_name_of<N: NameReading>(
     let Some(header) = part.headers.get_first_header("Content-Disposition") else {
         return Ok(None);
     };
-    let value = header.get_value_ref_in(alloc, &NoCharsets)?;
+    let value = cut_value(alloc, header)?;
     reading.shown_name(alloc, value.as_str())
 }
 
@@ -140,6 +177,6 @@ fn typed_name_of<N: NameReading>(
     let Some(header) = part.headers.get_first_header("Content-Type") else {
         return Ok(None);
     };
-    let value = header.get_value_ref_in(alloc, &NoCharsets)?;
+    let value = cut_value(alloc, header)?;
     reading.typed_name(alloc, value.as_str())
 }

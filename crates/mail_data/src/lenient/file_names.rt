@@ -1,6 +1,7 @@
 //! File names, read leniently.
 ghost use Rattle.std.specs.Prelude.{◌≡◌, option_map, string_bytes, IfOk, Ok};
-ghost use Rattle.mail_data.specs.Files.{filled, no_charsets};
+ghost use Rattle.mail_data.specs.Files.{filled};
+ghost use Rattle.mail_data.specs.HeaderNames.{cut_text};
 ghost use Rattle.mailparse.specs.Mail.{root};
 ghost use Rattle.mailparse.specs.Map.{text_found};
 ghost use Rattle.mailparse.specs.Outcome.{AnswersOrMemory};
@@ -9,15 +10,14 @@ ghost use Rattle.mailparse.specs.Views.{tree_of};
 ghost use Rattle.mailparse.specs.ExtendedValues.{label_in, text_in};
 ghost use Rattle.mail_data.specs.lenient.FileNames.{extended_text, lenient_file_name, name_among};
 ghost use Rattle.mail_data.specs.lenient.FileNames.{lenient_name_in, shown_name, typed_name};
-ghost use Rattle.mailparse.specs.Value.{lenient_value_in};
 
 use super::guess::{Guess, OrGuess};
 use super::manner::Lenient;
 use super::repairs::repaired;
-use crate::files::{NameReading, NoCharsets, filled, filled_parameter, name_by};
+use crate::files::{NameReading, cut_text, decoded_name, filled, filled_parameter, name_by};
 use mail_codec::charset::{Decode, KnownCharsets};
 use mailparse::{
-    MailParseError, ParsedMail, parse_content_disposition_in, parse_content_type_in, value_text_in,
+    MailParseError, ParsedMail, parse_content_disposition_in, parse_content_type_in,
 };
 use percent_encoding::percent_decode;
 use std::alloc::{AllocError, Global};
@@ -29,7 +29,8 @@ use std::collections::BTreeMap;
 /// Missing semicolons, closing quotes and apostrophes are put in. An extended value (RFC 2231,
 /// section 4), such as `filename*`, counts before one that is not (RFC 6266, section 4.3). If its
 /// charset is missing or unknown, its bytes are read as UTF-8 if they are UTF-8, and otherwise as
-/// windows-1252. Encoded words in the name are decoded, with or without quotes around them.
+/// windows-1252. Encoded words in the name are decoded as `lenient_name_text` decodes them, with or
+/// without quotes around them.
 ///
 /// The name is as the sender wrote it: use `safe_file_name` before creating a file. Allocates the
 /// texts of both headers, their parameters and the name.
@@ -98,10 +99,7 @@ pub fn lenient_named_file<K: KnownCharsets>(
         Some(name) => Some(name),
         None => name_typed_in(alloc, ctype, known)?,
     };
-    match name {
-        Some(name) => Ok(filled(value_text_in(alloc, name.as_bytes(), known)?)),
-        None => Ok(None),
-    }
+    Ok(decoded_name(alloc, name, known)?)
 }
 
 /// Returns the file name in the raw value of a disposition, with its encoded words as they are.
@@ -111,9 +109,9 @@ fn name_shown_in<K: KnownCharsets>(
     known: &K,
 ) -> Result<Option<String>, MailParseError>
     ensures { AnswersOrMemory text_found result
-        (Ok (shown_name (K.known known.now) (lenient_value_in no_charsets value.now))) }
+        (Ok (shown_name (K.known known.now) (cut_text value.now))) }
 {
-    let text = value_text_in(alloc, value, &NoCharsets)?;
+    let text = cut_text(alloc, value)?;
     shown_name(alloc, text.as_str(), known)
 }
 
@@ -124,9 +122,9 @@ fn name_typed_in<K: KnownCharsets>(
     known: &K,
 ) -> Result<Option<String>, MailParseError>
     ensures { AnswersOrMemory text_found result
-        (Ok (typed_name (K.known known.now) (lenient_value_in no_charsets value.now))) }
+        (Ok (typed_name (K.known known.now) (cut_text value.now))) }
 {
-    let text = value_text_in(alloc, value, &NoCharsets)?;
+    let text = cut_text(alloc, value)?;
     typed_name(alloc, text.as_str(), known)
 }
 

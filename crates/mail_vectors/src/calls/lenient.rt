@@ -11,7 +11,8 @@ use crate::notation::{Answer, Decision, FORM, Outcome, Row, Show};
 use mail_data::lenient::{
     ContentFault, DateError, IdRule, Lenient, LenientBody, base64_front, body_text,
     date_and_offset_of, date_of, find_ids, lenient_body, lenient_content, lenient_disposition,
-    lenient_file_name, lenient_header_text, lenient_named_file, refusal, zoned_date_of,
+    lenient_file_name, lenient_header_text, lenient_name_text, lenient_named_file, refusal,
+    zoned_date_of,
 };
 use mailparse::body::Body;
 use mailparse::{KnownCharsets, MAX_LEVELS, ParsedMail, parse_mail, parse_mail_as};
@@ -34,6 +35,7 @@ pub fn make(answer: &mut Answer, row: &Row) -> Decision {
             answer.put(name);
         }
         "lenient_header_text" => answer.put(header_text(row)),
+        "lenient_name_text" => answer.put(name_text(row)),
         "date_of" => write_date(answer, date_of(row.text(0))),
         "zoned_date_of" => write_date(answer, zoned_date_of(row.text(0))),
         "date_and_offset_of" => write_date(answer, date_and_offset_of(row.text(0))),
@@ -89,6 +91,11 @@ fn read_text(answer: &mut Answer, row: &Row) -> Outcome {
 /// `lenient_header_text VALUE => TEXT`, under all tables.
 fn header_text(row: &Row) -> Result<String, AllocError> {
     lenient_header_text(row.alloc, row.bytes(0), &all_tables())
+}
+
+/// `lenient_name_text NAME => TEXT`, under all tables.
+fn name_text(row: &Row) -> Result<String, AllocError> {
+    lenient_name_text(row.alloc, row.bytes(0), &all_tables())
 }
 
 /// `lenient_content MAIL => BYTES GROUP IGNORED` of the whole mail, GROUP the index of the group
