@@ -29,3 +29,4 @@ pub mod QuotedPrintableLaw
 pub mod Uuencode
 pub mod UuencodeLaw
 pub mod Calendar
+pub mod Hidden

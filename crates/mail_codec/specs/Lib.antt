@@ -11,5 +11,6 @@ pub mod QuotedPrintable
 pub mod Uuencode
 pub mod UuencodeViews
 pub mod Calendar
+pub mod Hidden
 pub mod Names
 pub mod private

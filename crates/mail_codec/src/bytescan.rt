@@ -63,10 +63,10 @@ pub fn find_either(haystack: &[u8], first: u8, second: u8) -> Option<usize>
 }
 
 /// Returns the offset of the first byte that JSON text may have to escape, or `None` if there is
-/// none: a control below 0x20, `"`, `\`, DEL, 0xC2 or 0xE2.
+/// none: a control below 0x20, `"`, `\`, DEL, 0xC2, 0xD8 or 0xE2.
 ///
-/// With 0xC2 and 0xE2, UTF-8 begins the controls from U+0080 to U+009F and the separators U+2028
-/// and U+2029, and other characters too (RFC 8259, section 7). Does not allocate.
+/// With the last three UTF-8 begins the hidden characters of `hidden` that are not in ASCII, and
+/// other characters too (RFC 8259, section 7). Does not allocate.
 ///
 /// # Examples
 ///

@@ -20,6 +20,7 @@
 pub mod bytescan;
 pub mod calendar;
 pub mod charset;
+pub mod hidden;
 pub mod laws;
 pub mod names;
 pub mod transfer;

@@ -2,7 +2,7 @@
 use Rattle.std.specs.Prelude.{ℕ, false, List, ◌++◌, flat_map, codes, chars, if◌then◌else◌}
 use Rattle.std.specs.Char.{encode_utf8}
 use Rattle.std.specs.Fmt.{radix_digits}
-use Rattle.mail_program.specs.Hidden.{is_hidden}
+use Rattle.mail_codec.specs.Hidden.{is_hidden}
 
 -- a character as its number: `\u{1b}` for U+001B
 abbrev pub escape : ℕ → List ℕ

@@ -1,14 +1,14 @@
 //! Texts of others in messages on a terminal.
 ghost use Rattle.std.specs.Prelude.{◌≡◌, ◌++◌, string_bytes, IfOk, OnOk};
 ghost use Rattle.mail_inputs.specs.Escape.{shown, shown_character};
-ghost use Rattle.mail_program.specs.Hidden.{IsShown};
+ghost use Rattle.mail_codec.specs.Hidden.{IsShown};
 
-use mail_program::is_hidden;
+use mail_codec::hidden::is_hidden;
 use std::alloc::{AllocError, Global};
 
 /// Returns a text with `\u{1b}` for U+001B, and the same for each other character that is hidden:
 /// controls, separators of lines and paragraphs, and characters that change the direction of text,
-/// as `mail_program::is_hidden` says. So it neither moves a terminal nor begins a line.
+/// as `mail_codec::hidden::is_hidden` says. So it neither moves a terminal nor begins a line.
 ///
 /// Allocates the text.
 ///

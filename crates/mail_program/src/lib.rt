@@ -1,11 +1,9 @@
-//! What the programs share: arguments, reading and writing, faults, refusals, exit statuses, and
-//! which characters are not shown.
+//! What the programs share: arguments, reading and writing, faults, refusals and exit statuses.
 #![tactic(auto)]
 
 mod command;
 mod fault;
 mod hash;
-mod hidden;
 mod outcome;
 mod refusal;
 mod streams;
@@ -13,7 +11,6 @@ mod streams;
 pub use command::{Argument, Expected, arguments};
 pub use fault::Fault;
 pub use hash::sha256_text;
-pub use hidden::is_hidden;
 pub use outcome::{Outcome, status_of};
 pub use refusal::{is_all_whitespace, refusal_of};
 pub use streams::{read_input, read_more, write_output};

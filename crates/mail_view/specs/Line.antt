@@ -3,7 +3,7 @@ use Rattle.std.specs.Prelude.{◌≡◌, ℕ, Bool, not, ◌||◌, ◌&&◌, ◌
 use Rattle.std.specs.List.{AllByRecursion}
 use Rattle.mail_address.specs.Tokens.{delete}
 use Rattle.mail_codec.specs.Ascii.{line_feed, space}
-use Rattle.mail_program.specs.Hidden.{IsShown}
+use Rattle.mail_codec.specs.Hidden.{IsShown}
 use Rattle.mail_view.specs.Visible.{visible}
 use Rattle.mail_view.specs.declared.line.Prefix.{Prefix}
 use Rattle.mail_view.specs.declared.line.Prefix.TheVariants.{Title, Refused, From, ReplyTo, To, Cc, Date, Subject, Heading, Text, Part, Found, Before, Bytes, After}

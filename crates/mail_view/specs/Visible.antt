@@ -1,7 +1,7 @@
 -- Text as a terminal shows it, without characters that move its cursor; the crate's own rule.
 use Rattle.std.specs.Prelude.{ℕ, ◌==◌, List, flat_map, codes, chars, if◌then◌else◌}
 use Rattle.std.specs.Char.{encode_utf8}
-use Rattle.mail_program.specs.Hidden.{is_hidden}
+use Rattle.mail_codec.specs.Hidden.{is_hidden}
 
 -- the text that is shown of a character: four spaces of a tab, U+FFFD of any other that is hidden, otherwise itself
 unfoldable pub shown_character : ℕ → List ℕ

@@ -2,7 +2,7 @@
 ghost use Rattle.std.specs.Prelude.{◌≡◌, ◌++◌, string_bytes, OnOk};
 ghost use Rattle.mail_view.specs.Visible.{shown_character, visible};
 
-use mail_program::is_hidden;
+use mail_codec::hidden::is_hidden;
 use std::alloc::AllocError;
 
 /// Appends a text as it is shown: each hidden character is replaced.

@@ -89,10 +89,10 @@ Packs letters bytes = (k : ℕ) → 4 * k + 4 ≤ prefix_len is_letter letters
 
 -- what may make a byte need an escape, by its upper half and by its lower half
 abbrev pub upper_escapes : List ℕ
-upper_escapes = 1 ∷ 1 ∷ 2 ∷ 0 ∷ 0 ∷ 4 ∷ 0 ∷ 8 ∷ 0 ∷ 0 ∷ 0 ∷ 0 ∷ 2 ∷ 0 ∷ 2 ∷ 0 ∷ []
+upper_escapes = 1 ∷ 1 ∷ 2 ∷ 0 ∷ 0 ∷ 4 ∷ 0 ∷ 8 ∷ 0 ∷ 0 ∷ 0 ∷ 0 ∷ 2 ∷ 16 ∷ 2 ∷ 0 ∷ []
 
 abbrev pub lower_escapes : List ℕ
-lower_escapes = 1 ∷ 1 ∷ 3 ∷ 1 ∷ 1 ∷ 1 ∷ 1 ∷ 1 ∷ 1 ∷ 1 ∷ 1 ∷ 1 ∷ 5 ∷ 1 ∷ 1 ∷ 9 ∷ []
+lower_escapes = 1 ∷ 1 ∷ 3 ∷ 1 ∷ 1 ∷ 1 ∷ 1 ∷ 1 ∷ 17 ∷ 1 ∷ 1 ∷ 1 ∷ 5 ∷ 1 ∷ 1 ∷ 9 ∷ []
 
 -- what makes it need one by both halves; 0 if nothing does
 abbrev pub escape_class : ℕ → ℕ

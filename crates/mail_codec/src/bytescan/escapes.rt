@@ -60,5 +60,5 @@ fn short_len(bytes: &[u8]) -> usize
 fn may_need_escape(byte: u8) -> bool
     ensures { result ≡ may_need_escape byte }
 {
-    byte < 0x20 || matches!(byte, b'"' | b'\\' | 0x7F | 0xC2 | 0xE2)
+    byte < 0x20 || matches!(byte, b'"' | b'\\' | 0x7F | 0xC2 | 0xD8 | 0xE2)
 }

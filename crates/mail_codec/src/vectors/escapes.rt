@@ -7,10 +7,10 @@ use std::simd::prelude::*;
 
 /// What may make a byte need an escape, by its upper half. If a bit is set both here and in
 /// `LOWER_ESCAPES`, the byte may need one.
-const UPPER_ESCAPES: [u8; 16] = [1, 1, 2, 0, 0, 4, 0, 8, 0, 0, 0, 0, 2, 0, 2, 0];
+const UPPER_ESCAPES: [u8; 16] = [1, 1, 2, 0, 0, 4, 0, 8, 0, 0, 0, 0, 2, 16, 2, 0];
 
 /// What may make a byte need an escape, by its lower half.
-const LOWER_ESCAPES: [u8; 16] = [1, 1, 3, 1, 1, 1, 1, 1, 1, 1, 1, 1, 5, 1, 1, 9];
+const LOWER_ESCAPES: [u8; 16] = [1, 1, 3, 1, 1, 1, 1, 1, 17, 1, 1, 1, 5, 1, 1, 9];
 
 /// Returns the mask of the bytes that JSON text may have to escape.
 #[inline(always)]

@@ -6,8 +6,8 @@ use Rattle.std.specs.Char.{encode_utf8}
 use Rattle.std.specs.Fmt.{digit_glyph, digits, digits_onto}
 use Rattle.std.specs.Prelude.{codes, chars, nat_lt}
 use Rattle.mail_inputs.specs.Escape.{escape, shown, shown_character}
-use Rattle.mail_program.specs.Hidden.{is_hidden, IsShown}
-use Rattle.mail_program.proofs.lemmas.Hidden.{characters_shown, shown_nil, shown_one, shown_then}
+use Rattle.mail_codec.specs.Hidden.{is_hidden, IsShown}
+use Rattle.mail_codec.proofs.lemmas.Hidden.{characters_shown, shown_nil, shown_one, shown_then}
 
 -- of each hexadecimal digit
 glyphs_plain : agree_below (λ d. is_hidden (digit_glyph false d)) (λ d. false) 16 ≡ true

@@ -34,8 +34,9 @@ plain_text b bytes e =
     let q = or_parts (b == 34) _ p.1 in
     let r = or_parts (b == 92) _ q.1 in
     let s = or_parts (b == 127) _ r.1 in
-    let t = or_parts (b == 194) (b == 226) s.1 in
-    rw (t.0, t.1, s.0) (escape_byte_plain b (λ f. absurd (cc (f, q.0))) (λ f. absurd (cc (f, r.0))) (ltb-false b 32 p.0), refl)
+    let t = or_parts (b == 194) _ s.1 in
+    let u = or_parts (b == 216) (b == 226) t.1 in
+    rw (t.0, u.0, u.1, s.0) (escape_byte_plain b (λ f. absurd (cc (f, q.0))) (λ f. absurd (cc (f, r.0))) (ltb-false b 32 p.0), refl)
 
 -- bytes before the first that may need one are unchanged
 pub escaped_run : (bytes : List ℕ) (n : ℕ) → n ≡ first_place (begins may_need_escape) bytes → escaped bytes ≡ take n bytes ++ escaped (drop n bytes)

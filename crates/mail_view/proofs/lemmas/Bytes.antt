@@ -8,7 +8,7 @@ use Rattle.std.specs.Char.{encode_utf8}
 use Rattle.std.specs.List.{list_all, AllByRecursion}
 use Rattle.std.specs.Prelude.{codes}
 use Rattle.std.specs.Str.{encode_utf8_all}
-use Rattle.mail_program.specs.Hidden.{is_hidden, IsShown}
+use Rattle.mail_codec.specs.Hidden.{is_hidden, IsShown}
 use Rattle.mail_view.specs.Line.{AreSafeLines, BeginsFixed, is_plain_byte}
 
 -- of each number below 128

@@ -3,8 +3,8 @@ use Rattle.std.proofs.Common.{◌≡◌, ℕ, Bool, true, false, List, [], ◌�
 use Rattle.std.specs.Prelude.{codes}
 use Rattle.std.specs.Char.{encode_utf8}
 use Rattle.std.specs.Str.{chars}
-use Rattle.mail_program.specs.Hidden.{is_hidden, IsShown}
-use Rattle.mail_program.proofs.lemmas.Hidden.{characters_shown, shown_nil, shown_one, shown_then}
+use Rattle.mail_codec.specs.Hidden.{is_hidden, IsShown}
+use Rattle.mail_codec.proofs.lemmas.Hidden.{characters_shown, shown_nil, shown_one, shown_then}
 use Rattle.mail_view.specs.Visible.{shown_character, visible}
 use Rattle.mail_view.specs.Line.{Line, empty, line, AreSafeLines, BeginsFixed, line_content, line_text, lines_text, prefix_text}
 use Rattle.mail_view.specs.declared.line.Prefix.{Prefix}

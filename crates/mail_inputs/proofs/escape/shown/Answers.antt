@@ -3,7 +3,7 @@ use Rattle.std.proofs.lemmas.List.{nil_from_length}
 use Rattle.std.proofs.lemmas.Str.{IsUtf8-past_char}
 use Rattle.std.specs.String.{string_bytes}
 use Rattle.mail_inputs.specs.Escape.{shown, shown_character}
-use Rattle.mail_program.specs.Hidden.{IsShown}
+use Rattle.mail_codec.specs.Hidden.{IsShown}
 use Rattle.mail_program.proofs.lemmas.Characters.{made_past, made_end}
 use Rattle.mail_inputs.proofs.lemmas.Escape.{text_shown}
 use Rattle.mail_inputs.proofs.escape.shown.Goals as goal

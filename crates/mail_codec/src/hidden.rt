@@ -1,6 +1,6 @@
 //! Characters that are not shown as they are.
 ghost use Rattle.std.specs.Prelude.{◌≡◌};
-ghost use Rattle.mail_program.specs.Hidden.{is_hidden};
+ghost use Rattle.mail_codec.specs.Hidden.{is_hidden};
 
 /// Returns whether a character is not shown as it is on a terminal: a control, a separator of lines
 /// or paragraphs, or a character that changes the direction of text (UAX 9, section 2). A text
@@ -11,7 +11,7 @@ ghost use Rattle.mail_program.specs.Hidden.{is_hidden};
 /// # Examples
 ///
 /// ```rust
-/// use mail_program::is_hidden;
+/// use mail_codec::hidden::is_hidden;
 ///
 /// assert!(rt; is_hidden('\n'));
 /// assert!(rt; is_hidden('\u{202e}'));
