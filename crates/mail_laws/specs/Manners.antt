@@ -9,7 +9,7 @@ use Rattle.mailparse.specs.Mail.{Node, Tree, tree, Forest, no_parts, part_and, c
 module _ (manner : Manner) (known : Charsets) where
   -- its headers are read from all its bytes, they give the message the same type as in the port, and it is split in the same way
   pub record IsReadAlike (node : Node) : Type 0 where
-    pub headers : header_part manner.ends_at_dashes node.bytes ≡ node.bytes
+    pub headers : header_part manner.lenient_headers node.bytes ≡ node.bytes
     pub type : (in_digest : Bool) → manner.type_of in_digest node.headers ≡ node_type known in_digest node.headers
     pub cut : cut_of_as manner.whole_lines node.ctype node.bytes (length node.block) ≡ cut_of node.ctype node.bytes (length node.block)
 

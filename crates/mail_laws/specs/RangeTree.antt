@@ -120,12 +120,12 @@ module _ (manner : Manner) (mail : List ℕ) where
   range_parts read whole block ctype = do
     let cut = cut_of_as manner.whole_lines ctype (slice mail whole) block.index
     parts ← range_each (read (is_digest ctype)) (map (moved whole.start) cut.parts)
-    Ok (range_tree (range_node whole (header_part manner.ends_at_dashes (slice mail whole)) block ctype cut) parts)
+    Ok (range_tree (range_node whole (header_part manner.lenient_headers (slice mail whole)) block ctype cut) parts)
 
   -- the message at this range, if its own level is left
   abbrev pub range_message : (Bool → Range → Reads RangeTree) → Bool → Range → Reads RangeTree
   range_message read in_digest whole = do
-    block ← read_block manner.ends_at_dashes (slice mail whole)
+    block ← read_block manner.lenient_headers (slice mail whole)
     range_parts read whole block (manner.type_of in_digest block.headers)
 
   -- the message at a range, with at most `levels` levels, its own included

@@ -2,6 +2,7 @@ pub mod Places
 pub mod Header
 pub mod Block
 pub mod HeaderPart
+pub mod BareKeys
 pub mod DashLines
 pub mod Outcome
 pub mod Refusal

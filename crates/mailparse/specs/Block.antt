@@ -1,8 +1,8 @@
 -- The block of headers at the front of a message, with the blank line that ends it (RFC 5322, section 2.1).
-use Rattle.std.specs.Prelude.{ℕ, zero, suc, ◌+◌, Bool, false, ◌&&◌, ◌||◌, ◌==◌, not, nat_lt, List, [], ◌∷◌, length, take, drop, Option, Some, None, Result, Ok, Err, codes, if◌then◌else◌}
-use Rattle.mail_codec.specs.Ascii.{line_feed, carriage_return, space}
-use Rattle.mail_codec.specs.Places.{first_place, has_prefix, is_empty, least, values_below}
-use Rattle.mailparse.specs.Refusal.{Refusal, leading_space, lone_carriage_return}
+use Rattle.std.specs.Prelude.{ℕ, zero, suc, ◌+◌, Bool, false, ◌&&◌, ◌||◌, ◌==◌, not, nat_lt, List, [], ◌∷◌, length, take, drop, map, Option, Some, None, Result, Ok, Err, codes, if◌then◌else◌}
+use Rattle.mail_codec.specs.Ascii.{is_blank, line_feed, carriage_return, space}
+use Rattle.mail_codec.specs.Places.{first_place, has_prefix, is_empty, least, trimmed_at_end, values_below}
+use Rattle.mailparse.specs.Refusal.{◌>>=◌, Refusal, leading_space, lone_carriage_return}
 use Rattle.mailparse.specs.Header.{Header, has_colon, header_of, header_length}
 
 -- the length of the blank line at the front: LF or CR LF, and 0 without one
@@ -68,10 +68,32 @@ header_lines_end raw = suc (first_place ends_header_lines raw)
 unfoldable pub before_dash_line : List ℕ → List ℕ
 before_dash_line raw = if is_dash_line (drop (header_lines_end raw) raw) then take (header_lines_end raw) raw else raw
 
--- the bytes that headers are read from, if the headers end before such a line, or not
-abbrev pub header_part : Bool → List ℕ → List ℕ
-header_part ends_at_dashes raw = if ends_at_dashes then before_dash_line raw else raw
+-- a key without the blanks at its end; one of blanks alone is empty
+abbrev pub bare_key : List ℕ → List ℕ
+bare_key key = trimmed_at_end is_blank key
 
--- the headers at the front of those bytes, or the refusal
-abbrev pub read_block : Bool → List ℕ → Result HeaderList Refusal
-read_block ends_at_dashes raw = read_headers (header_part ends_at_dashes raw)
+-- a header without the blanks at the end of its key
+abbrev pub bare_header : Header → Header
+bare_header header = record { key = bare_key header.key; value = header.value }
+
+-- the same of each header that was read, or the refusal
+abbrev pub with_bare_keys : Result HeaderList Refusal → Result HeaderList Refusal
+with_bare_keys read = read >>= λ block. Ok (record { headers = map bare_header block.headers; index = block.index })
+
+-- the headers at the front of the bytes before such a line, each without the blanks at the end of its key, or the refusal
+abbrev pub read_lenient_headers : List ℕ → Result HeaderList Refusal
+read_lenient_headers raw = with_bare_keys (read_headers (before_dash_line raw))
+
+-- In this manner headers are read leniently, or not.
+module _ (lenient : Bool) where
+  -- the bytes that they are read from
+  abbrev pub header_part : List ℕ → List ℕ
+  header_part raw = if lenient then before_dash_line raw else raw
+
+  -- one of them, given as it is there
+  abbrev pub header_as : Header → Header
+  header_as header = if lenient then bare_header header else header
+
+  -- the headers at the front of the bytes, or the refusal
+  abbrev pub read_block : List ℕ → Result HeaderList Refusal
+  read_block raw = if lenient then read_lenient_headers raw else read_headers raw

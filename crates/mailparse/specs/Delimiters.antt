@@ -2,12 +2,12 @@
 -- as mail is written). The dash-boundary is `--` and the boundary; a line that begins with it is a delimiter, and the rest of the
 -- line matters only for which delimiter is the close-delimiter. The preamble comes before the first delimiter; the epilogue
 -- follows the close-delimiter and is in no part. Offsets are counted from the first byte.
-use Rattle.std.specs.Prelude.{ℕ, zero, suc, ◌+◌, ◌-◌, Bool, false, not, ◌||◌, ◌&&◌, ◌==◌, nat_lt, List, length, drop, map, filter_map, Option, Some, None, option_map, codes, if◌then◌else◌}
+use Rattle.std.specs.Prelude.{ℕ, zero, suc, ◌+◌, ◌-◌, Bool, false, not, ◌||◌, ◌&&◌, ◌==◌, nat_lt, List, length, drop, take, map, filter_map, Option, Some, None, option_map, codes, if◌then◌else◌}
+use Rattle.std.specs.List.{list_all}
 use Rattle.std.specs.Option.{option_map_or}
 use Rattle.mail_codec.specs.Ascii.{is_blank, line_feed, carriage_return}
 use Rattle.mail_codec.specs.Places.{begins, has_prefix, byte_place, least, values_below, first_place}
 use Rattle.mailparse.specs.Header.{is_line_feed}
-use Rattle.mailparse.specs.Block.{headers_end}
 use Rattle.mailparse.specs.Options.{◌>>=◌}
 use Rattle.mailparse.specs.Ranges.{Range}
 
@@ -56,9 +56,13 @@ pub record Cut : Type 0 where
   pub body : Range
   pub parts : List Range
 
--- only blanks precede the end of the line
+-- only CRs precede the next LF, or the end of the bytes
+abbrev pub is_line_over : List ℕ → Bool
+is_line_over rest = list_all (λ b. b == carriage_return) (take (first_place (begins is_line_feed) rest) rest)
+
+-- only blanks precede the end of the line, which may have several CRs
 unfoldable pub is_blank_line : List ℕ → Bool
-is_blank_line rest = headers_end (drop (first_place (begins (λ b. not (is_blank b))) rest) rest)
+is_blank_line rest = is_line_over (drop (first_place (begins (λ b. not (is_blank b))) rest) rest)
 
 -- only `--`, or nothing, and then blanks precede the end of the line
 unfoldable pub ends_line : List ℕ → Bool

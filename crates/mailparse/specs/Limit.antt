@@ -39,8 +39,8 @@ module _ (manner : Manner) where
   unfoldable pub items_met : ℕ → Bool → List ℕ → ℕ
   items_met zero in_digest bytes = 1
   items_met (suc levels) in_digest bytes =
-      1 + (headers_met (read_block manner.ends_at_dashes bytes)
-      + met_after (read_levels manner levels) (items_met levels) in_digest bytes (read_block manner.ends_at_dashes bytes))
+      1 + (headers_met (read_block manner.lenient_headers bytes)
+      + met_after (read_levels manner levels) (items_met levels) in_digest bytes (read_block manner.lenient_headers bytes))
 
   -- the message in the bytes, refused if more than `most` items are met before any other refusal
   unfoldable pub read_mail_within : ℕ → ℕ → List ℕ → Reads Tree

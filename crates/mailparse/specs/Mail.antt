@@ -154,7 +154,7 @@ module _ (known : Charsets) where
 
   -- the manner of the port
   abbrev pub strict : Manner
-  strict = record { type_of = node_type; keeps_refused = false; whole_lines = false; ends_at_dashes = false }
+  strict = record { type_of = node_type; keeps_refused = false; whole_lines = false; lenient_headers = false }
 
 -- a refused message that is kept: plain text without headers, with all its bytes as its body
 abbrev pub kept_message : List ℕ → Tree
@@ -181,7 +181,7 @@ module _ (manner : Manner) where
   -- the message in the bytes, if its own level is left; `read` reads its parts
   abbrev pub read_message : (Bool → List ℕ → Reads Tree) → Bool → List ℕ → Reads Tree
   read_message read in_digest bytes = do
-    block ← read_block manner.ends_at_dashes bytes
+    block ← read_block manner.lenient_headers bytes
     read_parts read bytes block (manner.type_of in_digest block.headers)
 
   -- the message in the bytes, with at most `levels` levels, including its own; it is refused if that is 0, otherwise for its own

@@ -11,5 +11,5 @@ pub record Manner : Type 0 where
   pub keeps_refused : Bool
   -- a delimiter is a line on which only `--`, or nothing, and blanks follow the dash-boundary
   pub whole_lines : Bool
-  -- headers also end before a line that begins with `--` and has no colon
-  pub ends_at_dashes : Bool
+  -- headers also end before a line that begins with `--` and has no colon, and their keys before the blanks at their end
+  pub lenient_headers : Bool

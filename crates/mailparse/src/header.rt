@@ -5,6 +5,7 @@ ghost use Rattle.mailparse.specs.Header.{Header, key_text};
 ghost use Rattle.mailparse.specs.Outcome.{Answers, AnswersOrMemory, GivesText, ReadsText};
 ghost use Rattle.mailparse.specs.Value.{IsPlain, lenient_value, lenient_value_in, strict_value};
 
+pub(crate) mod bare;
 mod encoded_word;
 pub(crate) mod parse;
 pub(crate) mod plain;

@@ -6,6 +6,7 @@ ghost use Rattle.mailparse.specs.Mail.{HeaderBlock};
 
 pub(crate) mod block;
 pub(crate) mod dashes;
+pub(crate) mod lenient;
 pub(crate) mod map;
 
 use crate::header::MailHeader;

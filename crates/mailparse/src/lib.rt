@@ -38,6 +38,7 @@ pub use header::parse::{HeaderPlaces, header_places, parse_header};
 pub use header::{MailHeader, value_text, value_text_in};
 pub use headers::block::{count_headers, parse_headers};
 pub use headers::dashes::before_dash_line;
+pub use headers::lenient::parse_lenient_headers;
 pub use headers::map::MailHeaderMap;
 pub use mail::types::DefaultType;
 pub use mail::{

@@ -23,7 +23,8 @@ use crate::content_type::ParsedContentType;
 use crate::error::MailParseError;
 use crate::header::MailHeader;
 use crate::headers::block::parse_headers;
-use crate::headers::dashes::{before_dash_line, parse_headers_before_dashes};
+use crate::headers::dashes::before_dash_line;
+use crate::headers::lenient::{parse_lenient_headers, with_bare_keys};
 use crate::manner::{ReadingManner, Strict};
 use delimiters::{cut_part, cut_preamble};
 use limit::{check_headers, less};
@@ -227,8 +228,8 @@ pub fn parse_mail_as<'a, M: ReadingManner>(
     ensures places { IfOk result (λ mail. placements_of mail
         ≡ placements_as (M.manner manner.now).whole_lines 0 (tree_of mail)) }
     ensures no_alloc { (M.manner manner.now).keeps_refused ≡ false →
-        header_count (header_part (M.manner manner.now).ends_at_dashes raw.now) ≡ 0 →
-        IsErr (read_block (M.manner manner.now).ends_at_dashes raw.now) →
+        header_count (header_part (M.manner manner.now).lenient_headers raw.now) ≡ 0 →
+        IsErr (read_block (M.manner manner.now).lenient_headers raw.now) →
         Answers tree_of result (read_mail_as (M.manner manner.now) levels raw.now) }
 {
     parse_whole(alloc, &mut None, raw, levels + 1, manner)
@@ -277,8 +278,8 @@ pub fn parse_mail_within<'a, M: ReadingManner>(
     ensures places { IfOk result (λ mail. placements_of mail
         ≡ placements_as (M.manner manner.now).whole_lines 0 (tree_of mail)) }
     ensures no_alloc { (M.manner manner.now).keeps_refused ≡ false →
-        header_count (header_part (M.manner manner.now).ends_at_dashes raw.now) ≡ 0 →
-        IsErr (read_block (M.manner manner.now).ends_at_dashes raw.now) →
+        header_count (header_part (M.manner manner.now).lenient_headers raw.now) ≡ 0 →
+        IsErr (read_block (M.manner manner.now).lenient_headers raw.now) →
         Answers tree_of result (read_mail_within (M.manner manner.now) levels most raw.now) }
 {
     let mut left = Some(most);
@@ -319,8 +320,8 @@ fn parse_whole<'a, M: ReadingManner>(
     ensures places { IfOk result (λ mail. placements_of mail
         ≡ placements_as (M.manner manner.now).whole_lines 0 (tree_of mail)) }
     ensures no_alloc { (M.manner manner.now).keeps_refused ≡ false → 0 < levels →
-        header_count (header_part (M.manner manner.now).ends_at_dashes raw.now) ≡ 0 →
-        IsErr (read_block (M.manner manner.now).ends_at_dashes raw.now) →
+        header_count (header_part (M.manner manner.now).lenient_headers raw.now) ≡ 0 →
+        IsErr (read_block (M.manner manner.now).lenient_headers raw.now) →
         Answers tree_of result
         (limited left.old (items_met (M.manner manner.now) levels false raw.now)
         (read_levels (M.manner manner.now) levels false raw.now)) }
@@ -441,8 +442,8 @@ fn push_message<'a, M: ReadingManner>(
         (reading_left (M.manner manner.now) left.old levels (in_digest source.now.default)
         source.now.raw.now)) }
     ensures no_alloc { (M.manner manner.now).keeps_refused ≡ false → 0 < levels →
-        header_count (header_part (M.manner manner.now).ends_at_dashes source.now.raw.now) ≡ 0 →
-        IsErr (read_block (M.manner manner.now).ends_at_dashes source.now.raw.now) →
+        header_count (header_part (M.manner manner.now).lenient_headers source.now.raw.now) ≡ 0 →
+        IsErr (read_block (M.manner manner.now).lenient_headers source.now.raw.now) →
         IfErr result (λ e. IsRefusal e
         (reading_left (M.manner manner.now) left.old levels (in_digest source.now.default)
         source.now.raw.now)) }
@@ -467,8 +468,8 @@ fn read_message<'a, M: ReadingManner>(
         (reading_left (M.manner manner.now) left.old levels (in_digest source.now.default)
         source.now.raw.now)) }
     ensures no_alloc { (M.manner manner.now).keeps_refused ≡ false → 0 < levels →
-        header_count (header_part (M.manner manner.now).ends_at_dashes source.now.raw.now) ≡ 0 →
-        IsErr (read_block (M.manner manner.now).ends_at_dashes source.now.raw.now) →
+        header_count (header_part (M.manner manner.now).lenient_headers source.now.raw.now) ≡ 0 →
+        IsErr (read_block (M.manner manner.now).lenient_headers source.now.raw.now) →
         IfErr result (λ e. IsRefusal e
         (reading_left (M.manner manner.now) left.old levels (in_digest source.now.default)
         source.now.raw.now)) }
@@ -507,8 +508,7 @@ fn read_message<'a, M: ReadingManner>(
     Ok((mail, Some(split)))
 }
 
-/// Reads the headers of a message, from all of its bytes or from those before a line that looks
-/// like a delimiter.
+/// Reads the headers of a message in this manner.
 ///
 /// Reads no more headers than are left, which `check_headers` did not refuse.
 // It is not inlined, so that the frame of the reader of a message, which calls itself, stays small.
@@ -520,19 +520,21 @@ fn parse_block<'a, M: ReadingManner>(
     manner: &M,
 ) -> Result<(Vec<MailHeader<'a>>, usize), MailParseError>
     ensures read { AnswersOrMemory header_list result
-        (read_block (M.manner manner.now).ends_at_dashes raw.now) }
+        (read_block (M.manner manner.now).lenient_headers raw.now) }
     ensures bounds { IfOk result (λ found.
         (vec_len found.0 ≤ found.1) × (found.1 ≤ length raw.now)) }
-    ensures no_alloc { header_count (header_part (M.manner manner.now).ends_at_dashes raw.now) ≡ 0 →
-        Answers header_list result (read_block (M.manner manner.now).ends_at_dashes raw.now) }
+    ensures no_alloc { header_count (header_part (M.manner manner.now).lenient_headers raw.now) ≡ 0 →
+        Answers header_list result (read_block (M.manner manner.now).lenient_headers raw.now) }
 {
-    if !manner.ends_at_dashes() {
+    if !manner.has_lenient_headers() {
         return parse_headers(alloc, raw);
     }
     match left {
         // All bytes could have more headers than those before such a line, and than are left.
-        Some(most) if most < raw.len() => parse_headers(alloc, before_dash_line(raw)),
-        _ => parse_headers_before_dashes(alloc, raw),
+        Some(most) if most < raw.len() => {
+            with_bare_keys(parse_headers(alloc, before_dash_line(raw)))
+        }
+        _ => parse_lenient_headers(alloc, raw),
     }
 }
 
@@ -585,10 +587,10 @@ fn kept<'a>(
 /// Returns the bytes that the headers of a message are read from: all, or those before a line that
 /// looks like a delimiter.
 fn header_part<'a, M: ReadingManner>(raw: &'a [u8], manner: &M) -> &'a [u8]
-    ensures value { result.now ≡ header_part (M.manner manner.now).ends_at_dashes raw.now }
+    ensures value { result.now ≡ header_part (M.manner manner.now).lenient_headers raw.now }
     ensures within { length result.now ≤ length raw.now }
 {
-    if !manner.ends_at_dashes() {
+    if !manner.has_lenient_headers() {
         return raw;
     }
     before_dash_line(raw)

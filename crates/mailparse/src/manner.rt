@@ -74,19 +74,19 @@ pub trait ReadingManner {
     fn has_whole_lines(&self) -> bool
         ensures { result ≡ (manner self.now).whole_lines };
 
-    /// Whether headers also end before a line that begins with `--` and has no colon, as
-    /// `before_dash_line` returns it. Otherwise they end at the blank line alone (RFC 5322, section
-    /// 2.1).
+    /// Whether headers are read as `parse_lenient_headers` reads them: they also end before a line
+    /// that begins with `--` and has no colon, and blanks before a colon are in no key (RFC 5322,
+    /// section 4.5). Otherwise `parse_headers` reads them (RFC 5322, section 2.1).
     ///
     /// # Examples
     ///
     /// ```rust
     /// use mailparse::{ReadingManner, Strict};
     ///
-    /// assert!(rt; !Strict(&()).ends_at_dashes());
+    /// assert!(rt; !Strict(&()).has_lenient_headers());
     /// ```
-    fn ends_at_dashes(&self) -> bool
-        ensures { result ≡ (manner self.now).ends_at_dashes };
+    fn has_lenient_headers(&self) -> bool
+        ensures { result ≡ (manner self.now).lenient_headers };
 }
 
 /// The manner of the other calls of this crate, under these charsets: the first `Content-Type` is
@@ -115,7 +115,7 @@ impl<'k, K: KnownCharsets> ReadingManner for Strict<'k, K> {
         false
     }
 
-    fn ends_at_dashes(&self) -> bool {
+    fn has_lenient_headers(&self) -> bool {
         false
     }
 }

@@ -64,9 +64,9 @@ module _ (manner : Manner) where
   unfolding read_levels
   read_levels-own zero in_digest bytes t e = or_kept-own bytes (Err recursion_limit) t e (λ h. absurd (cc))
   read_levels-own (suc levels) in_digest bytes t e =
-      or_kept-own bytes (read_message manner (read_levels manner levels) in_digest bytes) t e (λ h. by_block (read_block manner.ends_at_dashes bytes) refl h (λ digest. read_levels-own levels digest))
+      or_kept-own bytes (read_message manner (read_levels manner levels) in_digest bytes) t e (λ h. by_block (read_block manner.lenient_headers bytes) refl h (λ digest. read_levels-own levels digest))
     where
-      by_parts : (block : HeaderList) (ctype : ContentType) → read_block manner.ends_at_dashes bytes ≡ Ok block → (parts : Reads Forest)
+      by_parts : (block : HeaderList) (ctype : ContentType) → read_block manner.lenient_headers bytes ≡ Ok block → (parts : Reads Forest)
           → read_each (read_levels manner levels (is_digest ctype)) (map (slice bytes) (cut_of_as manner.whole_lines ctype bytes block.index).parts) ≡ parts
           → read_map (tree (node_with bytes block ctype (cut_of_as manner.whole_lines ctype bytes block.index))) parts ≡ Ok t
           → ReadsOwn (read_levels manner levels (is_digest ctype)) → AllOwn (trees_within t)
@@ -75,9 +75,9 @@ module _ (manner : Manner) where
           let cut = cut_of_as manner.whole_lines ctype bytes block.index in
           let same : tree (node_with bytes block ctype cut) parts ≡ t = cc in
           let all = read_each-own (read_levels manner levels (is_digest ctype)) ih (map (slice bytes) cut.parts) parts f in
-          subst (λ (u : Tree). AllOwn (trees_within u)) same (read_block-first manner.ends_at_dashes bytes block read, all)
+          subst (λ (u : Tree). AllOwn (trees_within u)) same (read_block-first manner.lenient_headers bytes block read, all)
 
-      by_block : (block : Reads HeaderList) → read_block manner.ends_at_dashes bytes ≡ block
+      by_block : (block : Reads HeaderList) → read_block manner.lenient_headers bytes ≡ block
           → ◌>>=◌ block (λ b. read_parts manner (read_levels manner levels) bytes b (manner.type_of in_digest b.headers)) ≡ Ok t
           → ((digest : Bool) → ReadsOwn (read_levels manner levels digest)) → AllOwn (trees_within t)
       by_block (Err refusal) read h ih = absurd (cc)

@@ -92,4 +92,4 @@ module _ (known : Charsets) where
 
   -- the manner itself
   abbrev pub lenient : Manner
-  lenient = record { type_of = lenient_type_of; keeps_refused = true; whole_lines = true; ends_at_dashes = true }
+  lenient = record { type_of = lenient_type_of; keeps_refused = true; whole_lines = true; lenient_headers = true }

@@ -78,7 +78,7 @@ impl<'k, K: KnownCharsets> ReadingManner for Lenient<'k, K> {
         true
     }
 
-    fn ends_at_dashes(&self) -> bool {
+    fn has_lenient_headers(&self) -> bool {
         true
     }
 }

@@ -44,7 +44,7 @@ module _ (manner : Manner) where
   levels-bytes zero in_digest bytes t e = kept-bytes bytes manner.keeps_refused (Err recursion_limit) t e (λ h. absurd (cc))
   levels-bytes (suc levels) in_digest bytes t e =
       kept-bytes bytes manner.keeps_refused (read_message manner (read_levels manner levels) in_digest bytes) t e
-      (block-bytes (read_levels manner levels) in_digest bytes (read_block manner.ends_at_dashes bytes) t)
+      (block-bytes (read_levels manner levels) in_digest bytes (read_block manner.lenient_headers bytes) t)
 
 -- those of a mail that was read with a limit
 pub mail_bytes : (known : Charsets) (limit : ℕ) (bytes : List ℕ) (t : Tree) → mail_reading known limit bytes ≡ Ok t → (root t).bytes ≡ bytes

@@ -174,13 +174,13 @@ module _ (manner : Manner) (mail : List ℕ) where
       by_manner true (Err refusal) h = ap Ok (kept-there mail whole) ∙ ap (kept_if_refused (slice mail whole)) h
 
   parts-there : (ranges : Bool → Range → Reads RangeTree) (read : Bool → List ℕ → Reads Tree) → ((digest : Bool) → Gives mail (ranges digest) (read digest))
-      → (whole : Range) (block : HeaderList) (ctype : ContentType) → read_block manner.ends_at_dashes (slice mail whole) ≡ Ok block
+      → (whole : Range) (block : HeaderList) (ctype : ContentType) → read_block manner.lenient_headers (slice mail whole) ≡ Ok block
       → read_map (tree_there mail) (range_parts manner mail ranges whole block ctype) ≡ read_parts manner read (slice mail whole) block ctype
   parts-there ranges read gives whole block ctype headers =
       let raw = slice mail whole in
       let cut = cut_of_as manner.whole_lines ctype raw block.index in
-      let apart = cut_of_as-apart manner.whole_lines ctype raw block.index (read_block-bounded manner.ends_at_dashes raw block headers).index in
-      tree-there mail (range_node whole (header_part manner.ends_at_dashes raw) block ctype cut) (node_with raw block ctype cut) (node-there manner.whole_lines manner.ends_at_dashes mail whole block ctype headers)
+      let apart = cut_of_as-apart manner.whole_lines ctype raw block.index (read_block-bounded manner.lenient_headers raw block headers).index in
+      tree-there mail (range_node whole (header_part manner.lenient_headers raw) block ctype cut) (node_with raw block ctype cut) (node-there manner.whole_lines manner.lenient_headers mail whole block ctype headers)
       (range_each (ranges (is_digest ctype)) (map (moved whole.start) cut.parts))
       ∙ ap (read_map (tree (node_with raw block ctype cut)))
       (each-there mail (ranges (is_digest ctype)) (read (is_digest ctype)) (gives (is_digest ctype)) whole 3 cut.body.end cut.parts apart.2)
@@ -190,9 +190,9 @@ module _ (manner : Manner) (mail : List ℕ) where
   levels-there zero in_digest whole = or_kept-there whole (Err recursion_limit) (Err recursion_limit) refl
   levels-there (suc levels) in_digest whole =
       or_kept-there whole (range_message manner mail (range_levels manner mail levels) in_digest whole) (read_message manner (read_levels manner levels) in_digest (slice mail whole))
-      (by_block (read_block manner.ends_at_dashes (slice mail whole)) refl (λ digest. levels-there levels digest))
+      (by_block (read_block manner.lenient_headers (slice mail whole)) refl (λ digest. levels-there levels digest))
     where
-      by_block : (block : Reads HeaderList) → read_block manner.ends_at_dashes (slice mail whole) ≡ block
+      by_block : (block : Reads HeaderList) → read_block manner.lenient_headers (slice mail whole) ≡ block
           → ((digest : Bool) → Gives mail (range_levels manner mail levels digest) (read_levels manner levels digest))
           → read_map (tree_there mail) (◌>>=◌ block (λ b. range_parts manner mail (range_levels manner mail levels) whole b (manner.type_of in_digest b.headers)))
           ≡ ◌>>=◌ block (λ b. read_parts manner (read_levels manner levels) (slice mail whole) b (manner.type_of in_digest b.headers))
@@ -297,9 +297,9 @@ module _ (manner : Manner) (mail : List ℕ) (Fits : Range → RangeTree → Typ
       by_part (Ok t) (Ok others) f h ih = let same : ranges_and t others ≡ parts = cc in subst (FitEach Fits (r ∷ rs)) same (fits r t f, ih others refl)
 
   module _ (kept : (whole : Range) → Fits whole (kept_range whole))
-      (step : (whole : Range) (block : HeaderList) (ctype : ContentType) → read_block manner.ends_at_dashes (slice mail whole) ≡ Ok block → (parts : RangeForest)
+      (step : (whole : Range) (block : HeaderList) (ctype : ContentType) → read_block manner.lenient_headers (slice mail whole) ≡ Ok block → (parts : RangeForest)
       → FitEach Fits (map (moved whole.start) (cut_of_as manner.whole_lines ctype (slice mail whole) block.index).parts) parts
-      → Fits whole (range_tree (range_node whole (header_part manner.ends_at_dashes (slice mail whole)) block ctype (cut_of_as manner.whole_lines ctype (slice mail whole) block.index)) parts)) where
+      → Fits whole (range_tree (range_node whole (header_part manner.lenient_headers (slice mail whole)) block ctype (cut_of_as manner.whole_lines ctype (slice mail whole) block.index)) parts)) where
     or_kept-fits : (whole : Range) (ranges : Reads RangeTree) (t : RangeTree) → or_kept_at manner mail whole ranges ≡ Ok t → (ranges ≡ Ok t → Fits whole t) → Fits whole t
     or_kept-fits whole ranges t e fits = by_manner manner.keeps_refused ranges e fits
       where
@@ -315,17 +315,17 @@ module _ (manner : Manner) (mail : List ℕ) (Fits : Range → RangeTree → Typ
     unfolding range_levels
     levels-fit zero in_digest whole t e = or_kept-fits whole (Err recursion_limit) t e (λ h. absurd (cc))
     levels-fit (suc levels) in_digest whole t e =
-        or_kept-fits whole (range_message manner mail (range_levels manner mail levels) in_digest whole) t e (λ h. by_block (read_block manner.ends_at_dashes (slice mail whole)) refl h (levels-fit levels))
+        or_kept-fits whole (range_message manner mail (range_levels manner mail levels) in_digest whole) t e (λ h. by_block (read_block manner.lenient_headers (slice mail whole)) refl h (levels-fit levels))
       where
-        by_parts : (block : HeaderList) (ctype : ContentType) → read_block manner.ends_at_dashes (slice mail whole) ≡ Ok block → (parts : Reads RangeForest)
-            → read_map (range_tree (range_node whole (header_part manner.ends_at_dashes (slice mail whole)) block ctype (cut_of_as manner.whole_lines ctype (slice mail whole) block.index))) parts ≡ Ok t
+        by_parts : (block : HeaderList) (ctype : ContentType) → read_block manner.lenient_headers (slice mail whole) ≡ Ok block → (parts : Reads RangeForest)
+            → read_map (range_tree (range_node whole (header_part manner.lenient_headers (slice mail whole)) block ctype (cut_of_as manner.whole_lines ctype (slice mail whole) block.index))) parts ≡ Ok t
             → ((found : RangeForest) → parts ≡ Ok found → FitEach Fits (map (moved whole.start) (cut_of_as manner.whole_lines ctype (slice mail whole) block.index).parts) found) → Fits whole t
         by_parts block ctype read (Err refusal) h each = absurd (cc)
         by_parts block ctype read (Ok parts) h each =
-            let same : range_tree (range_node whole (header_part manner.ends_at_dashes (slice mail whole)) block ctype (cut_of_as manner.whole_lines ctype (slice mail whole) block.index)) parts ≡ t = cc in
+            let same : range_tree (range_node whole (header_part manner.lenient_headers (slice mail whole)) block ctype (cut_of_as manner.whole_lines ctype (slice mail whole) block.index)) parts ≡ t = cc in
             subst (Fits whole) same (step whole block ctype read parts (each parts refl))
 
-        by_block : (block : Reads HeaderList) → read_block manner.ends_at_dashes (slice mail whole) ≡ block
+        by_block : (block : Reads HeaderList) → read_block manner.lenient_headers (slice mail whole) ≡ block
             → ◌>>=◌ block (λ b. range_parts manner mail (range_levels manner mail levels) whole b (manner.type_of in_digest b.headers)) ≡ Ok t
             → ((digest : Bool) (part : Range) (u : RangeTree) → range_levels manner mail levels digest part ≡ Ok u → Fits part u) → Fits whole t
         by_block (Err refusal) read h ih = absurd (cc)
@@ -355,8 +355,8 @@ module _ (manner : Manner) (mail : List ℕ) where
   levels-nested : (levels : ℕ) (in_digest : Bool) (whole : Range) (t : RangeTree) → range_levels manner mail levels in_digest whole ≡ Ok t → IsNested whole t
   levels-nested = levels-fit manner mail IsNested kept-nested (λ whole block ctype read parts each order.
       let cut = cut_of_as manner.whole_lines ctype (slice mail whole) block.index in
-      let node = range_node whole (header_part manner.ends_at_dashes (slice mail whole)) block ctype cut in
-      let lie = node-in_order mail whole manner.ends_at_dashes block read manner.whole_lines ctype order in
+      let node = range_node whole (header_part manner.lenient_headers (slice mail whole)) block ctype cut in
+      let lie = node-in_order mail whole manner.lenient_headers block read manner.whole_lines ctype order in
       let all = each-nested 3 node.body.end (map (moved whole.start) cut.parts) whole.end lie.parts parts each in
       (refl, (subst (LieInOrder node) (sym all.0) lie, all.1)))
 

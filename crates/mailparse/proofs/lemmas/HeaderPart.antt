@@ -1,12 +1,14 @@
 -- Lemmas on the bytes that headers are read from: all, or those before a line that looks like a delimiter.
-use Rattle.std.proofs.Common.{◌≡◌, ℕ, suc, ◌+◌, ◌<◌, ◌≤◌, Bool, true, false, ◌&&◌, ◌||◌, cond, eqb, get_or, List, [], ◌∷◌, Ok, length, take, drop, refl, sym, ap, ◌∙◌, subst, arith, ⊎_elim}
+use Rattle.std.proofs.Common.{◌≡◌, ℕ, suc, ◌+◌, ◌<◌, ◌≤◌, Bool, true, false, ◌&&◌, ◌||◌, cond, eqb, get_or, List, [], ◌∷◌, Ok, Err, length, take, drop, map, refl, sym, ap, ◌∙◌, subst, arith, ⊎_elim}
 use Rattle.std.proofs.lemmas.Bool.{and_parts, cases_lt}
-use Rattle.std.proofs.lemmas.List.{drop_more, length-take, take_all}
+use Rattle.std.proofs.lemmas.List.{drop_more, length-map, length-take, map-id, take_all}
 use Rattle.std.proofs.Math.ListN.{drop_of_length-le}
 use Rattle.mail_codec.specs.Places.{begins, first_place, place_from}
 use Rattle.mail_codec.proofs.lemmas.Places.{begins-at, place_from_here, place_from_next, place_from_passes}
 use Rattle.mailparse.specs.Header.{is_line_feed}
-use Rattle.mailparse.specs.Block.{HeaderList, headers_end, is_dash_line, ends_header_lines, header_lines_end, before_dash_line, header_part, read_block}
+use Rattle.mailparse.specs.Block.{HeaderList, headers_end, is_dash_line, ends_header_lines, header_lines_end, bare_header, before_dash_line, header_as, header_part, read_block, read_headers, with_bare_keys}
+use Rattle.mailparse.specs.Limit.{headers_met}
+use Rattle.mailparse.specs.Refusal.{Reads, Refusal}
 use Rattle.mailparse.proofs.lemmas.Block.{read_headers-bounded}
 
 -- ---- the front of the bytes
@@ -26,14 +28,14 @@ before_dash_line-front raw = by_test (is_dash_line (drop (header_lines_end raw) 
     by_test true = take-front (header_lines_end raw) raw
     by_test false = sym (take_all (length raw) raw (omega arith))
 
-pub header_part-front : (at_dashes : Bool) (raw : List ℕ) → header_part at_dashes raw ≡ take (length (header_part at_dashes raw)) raw
+pub header_part-front : (lenient : Bool) (raw : List ℕ) → header_part lenient raw ≡ take (length (header_part lenient raw)) raw
 header_part-front true raw = before_dash_line-front raw
 header_part-front false raw = sym (take_all (length raw) raw (omega arith))
 
-pub header_part-≤ : (at_dashes : Bool) (raw : List ℕ) → length (header_part at_dashes raw) ≤ length raw
-header_part-≤ at_dashes raw =
-    let size = length-take (length (header_part at_dashes raw)) raw in
-    let same = ap length (header_part-front at_dashes raw) in
+pub header_part-≤ : (lenient : Bool) (raw : List ℕ) → length (header_part lenient raw) ≤ length raw
+header_part-≤ lenient raw =
+    let size = length-take (length (header_part lenient raw)) raw in
+    let same = ap length (header_part-front lenient raw) in
     omega (arith, size, same)
 
 -- the headers that are read fit into the block, and the block into the bytes
@@ -41,11 +43,58 @@ pub record FitsIn (raw : List ℕ) (block : HeaderList) : Type 0 where
   pub headers : length block.headers ≤ block.index
   pub index : block.index ≤ length raw
 
-pub read_block-bounded : (at_dashes : Bool) (raw : List ℕ) (block : HeaderList) → read_block at_dashes raw ≡ Ok block → FitsIn raw block
-read_block-bounded at_dashes raw block e =
-    let bounded = read_headers-bounded (header_part at_dashes raw) block e in
-    let within = header_part-≤ at_dashes raw in
-    record { headers = omega (arith, bounded.headers); index = omega (arith, bounded.index, within) }
+-- a block in a manner, beside what is read from those bytes
+pub record IsReadFrom (lenient : Bool) (raw : List ℕ) (block : HeaderList) : Type 0 where
+  pub whole : HeaderList
+  pub read : read_headers (header_part lenient raw) ≡ Ok whole
+  pub headers : block.headers ≡ map (header_as lenient) whole.headers
+  pub index : block.index ≡ whole.index
+
+bare_from : (raw : List ℕ) (read : Reads HeaderList) (block : HeaderList) → read_headers (before_dash_line raw) ≡ read → with_bare_keys read ≡ Ok block → IsReadFrom true raw block
+bare_from raw (Ok whole) block is e =
+    let same : ◌≡◌ {A = HeaderList} (record { headers = map bare_header whole.headers; index = whole.index }) block = cc in
+    record {
+      whole = whole;
+      read = is;
+      headers = sym (ap (λ (b : HeaderList). b.headers) same);
+      index = sym (ap (λ (b : HeaderList). b.index) same);
+    }
+bare_from raw (Err r) block is e = absurd (cc)
+
+pub read_block-from : (lenient : Bool) (raw : List ℕ) (block : HeaderList) → read_block lenient raw ≡ Ok block → IsReadFrom lenient raw block
+read_block-from true raw block e = bare_from raw (read_headers (before_dash_line raw)) block refl e
+read_block-from false raw block e = record { whole = block; read = e; headers = sym (map-id block.headers); index = refl }
+
+-- it is refused for its bytes alone
+bare-refused : (read : Reads HeaderList) (r : Refusal) → with_bare_keys read ≡ Err r → read ≡ Err r
+bare-refused (Ok whole) r e = absurd (cc)
+bare-refused (Err other) r e = cc
+
+pub read_block-refused : (lenient : Bool) (raw : List ℕ) (r : Refusal) → read_block lenient raw ≡ Err r → read_headers (header_part lenient raw) ≡ Err r
+read_block-refused true raw r e = bare-refused (read_headers (before_dash_line raw)) r e
+read_block-refused false raw r e = e
+
+pub read_block-refuses : (lenient : Bool) (raw : List ℕ) (r : Refusal) → read_headers (header_part lenient raw) ≡ Err r → read_block lenient raw ≡ Err r
+read_block-refuses true raw r e = ap with_bare_keys e
+read_block-refuses false raw r e = e
+
+-- and has as many headers
+bare-met : (read : Reads HeaderList) → headers_met (with_bare_keys read) ≡ headers_met read
+bare-met (Ok whole) = length-map bare_header whole.headers
+bare-met (Err r) = refl
+
+pub read_block-met : (lenient : Bool) (raw : List ℕ) → headers_met (read_block lenient raw) ≡ headers_met (read_headers (header_part lenient raw))
+read_block-met true raw = bare-met (read_headers (before_dash_line raw))
+read_block-met false raw = refl
+
+pub read_block-bounded : (lenient : Bool) (raw : List ℕ) (block : HeaderList) → read_block lenient raw ≡ Ok block → FitsIn raw block
+read_block-bounded lenient raw block e =
+    let from = read_block-from lenient raw block e in
+    let bounded = read_headers-bounded (header_part lenient raw) from.whole from.read in
+    let many : length block.headers ≡ length from.whole.headers = ap length from.headers ∙ length-map (header_as lenient) from.whole.headers in
+    let index = from.index in
+    let within = header_part-≤ lenient raw in
+    record { headers = omega (arith, bounded.headers, many, index); index = omega (arith, bounded.index, within, index) }
 
 -- ---- the line that ends them
 

@@ -226,12 +226,12 @@ module _ (manner : Manner) where
   after_headers levels in_digest raw block = met_after manner (read_levels manner (levels - 1)) (items_met manner (levels - 1)) in_digest raw block
 
   items_met-some : (levels : ℕ) (in_digest : Bool) (raw : List ℕ) → 0 < levels
-      → items_met manner levels in_digest raw ≡ 1 + (headers_met (read_block manner.ends_at_dashes raw) + after_headers levels in_digest raw (read_block manner.ends_at_dashes raw))
+      → items_met manner levels in_digest raw ≡ 1 + (headers_met (read_block manner.lenient_headers raw) + after_headers levels in_digest raw (read_block manner.lenient_headers raw))
   unfolding items_met
   items_met-some zero in_digest raw some = absurd (omega arith)
   items_met-some (suc levels) in_digest raw some =
       let same : levels ≡ suc levels - 1 = omega arith in
-      ap (λ n. 1 + (headers_met (read_block manner.ends_at_dashes raw) + met_after manner (read_levels manner n) (items_met manner n) in_digest raw (read_block manner.ends_at_dashes raw))) same
+      ap (λ n. 1 + (headers_met (read_block manner.lenient_headers raw) + met_after manner (read_levels manner n) (items_met manner n) in_digest raw (read_block manner.lenient_headers raw))) same
 
   -- at least the message itself is met
   pub items_met-own : (levels : ℕ) (in_digest : Bool) (raw : List ℕ) → (more : ℕ) × (items_met manner levels in_digest raw ≡ 1 + more)
@@ -241,22 +241,22 @@ module _ (manner : Manner) where
 
   -- and then its headers
   pub met_after_own : ℕ → Bool → List ℕ → ℕ
-  met_after_own levels in_digest raw = after_headers levels in_digest raw (read_block manner.ends_at_dashes raw)
+  met_after_own levels in_digest raw = after_headers levels in_digest raw (read_block manner.lenient_headers raw)
 
   pub items_met-headers : (levels : ℕ) (in_digest : Bool) (raw : List ℕ) → 0 < levels
-      → items_met manner levels in_digest raw ≡ 1 + (headers_met (read_block manner.ends_at_dashes raw) + met_after_own levels in_digest raw)
+      → items_met manner levels in_digest raw ≡ 1 + (headers_met (read_block manner.lenient_headers raw) + met_after_own levels in_digest raw)
   unfolding met_after_own
   items_met-headers levels in_digest raw some = items_met-some levels in_digest raw some
 
   -- one that is refused for its own headers
-  pub items_met-refused : (levels : ℕ) (in_digest : Bool) (raw : List ℕ) (r : Refusal) → 0 < levels → read_block manner.ends_at_dashes raw ≡ Err r → items_met manner levels in_digest raw ≡ 1
+  pub items_met-refused : (levels : ℕ) (in_digest : Bool) (raw : List ℕ) (r : Refusal) → 0 < levels → read_block manner.lenient_headers raw ≡ Err r → items_met manner levels in_digest raw ≡ 1
   items_met-refused levels in_digest raw r some refused =
       items_met-some levels in_digest raw some
       ∙ ap (λ (block : Reads HeaderList). 1 + (headers_met block + after_headers levels in_digest raw block)) refused
 
   -- a message with this block and this type
   module _ (levels : ℕ) (in_digest : Bool) (raw : List ℕ) (headers : List Header) (index : ℕ) (ctype : ContentType)
-      (some : 0 < levels) (read : read_block manner.ends_at_dashes raw ≡ Ok (record { headers = headers; index = index })) (type : manner.type_of in_digest headers ≡ ctype) where
+      (some : 0 < levels) (read : read_block manner.lenient_headers raw ≡ Ok (record { headers = headers; index = index })) (type : manner.type_of in_digest headers ≡ ctype) where
     met_typed : items_met manner levels in_digest raw
         ≡ 1 + (length headers + met_in_parts manner (read_levels manner (levels - 1)) (items_met manner (levels - 1)) raw index ctype)
     met_typed =

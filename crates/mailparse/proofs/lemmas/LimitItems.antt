@@ -130,9 +130,9 @@ module _ (manner : Manner) where
       (λ r keeps h same. subst (λ (u : Tree). 1 ≡ items (nodes u)) same (sym (items-kept bytes)))
   items_met-counts (suc levels) in_digest bytes t e =
       or_kept-cases bytes (read_message manner (read_levels manner levels) in_digest bytes) t e
-      (λ h. by_block (read_block manner.ends_at_dashes bytes) h (λ digest. items_met-counts levels digest))
-      (λ r keeps h same. subst (λ (u : Tree). 1 + (headers_met (read_block manner.ends_at_dashes bytes) + met_after manner (read_levels manner levels) (items_met manner levels) in_digest bytes (read_block manner.ends_at_dashes bytes)) ≡ items (nodes u)) same
-      (by_kept (read_block manner.ends_at_dashes bytes) r keeps h ∙ sym (items-kept bytes)))
+      (λ h. by_block (read_block manner.lenient_headers bytes) h (λ digest. items_met-counts levels digest))
+      (λ r keeps h same. subst (λ (u : Tree). 1 + (headers_met (read_block manner.lenient_headers bytes) + met_after manner (read_levels manner levels) (items_met manner levels) in_digest bytes (read_block manner.lenient_headers bytes)) ≡ items (nodes u)) same
+      (by_kept (read_block manner.lenient_headers bytes) r keeps h ∙ sym (items-kept bytes)))
     where
       cut : HeaderList → ContentType → List (List ℕ)
       cut block ctype = map (slice bytes) (cut_of_as manner.whole_lines ctype bytes block.index).parts

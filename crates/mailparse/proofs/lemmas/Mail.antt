@@ -182,19 +182,19 @@ module _ (manner : Manner) where
       ∙ ap (λ (k : Bool). if k then kept_if_refused raw (reading levels in_digest raw) else reading levels in_digest raw) (refuses (levels - 1) digest part e refused) ∙ h
 
   -- a message that is refused for its own headers
-  pub reading-refused : (levels : ℕ) (in_digest : Bool) (raw : List ℕ) (e : Refusal) → read_block manner.ends_at_dashes raw ≡ Err e → reading levels in_digest raw ≡ Err e
+  pub reading-refused : (levels : ℕ) (in_digest : Bool) (raw : List ℕ) (e : Refusal) → read_block manner.lenient_headers raw ≡ Err e → reading levels in_digest raw ≡ Err e
   reading-refused levels in_digest raw e refused = rw refused refl
 
   -- a message with this block and this type
   module _ (levels : ℕ) (in_digest : Bool) (raw : List ℕ) (headers : List Header) (index : ℕ) (ctype : ContentType) where
-    typed : read_block manner.ends_at_dashes raw ≡ Ok (record { headers = headers; index = index }) → manner.type_of in_digest headers ≡ ctype
+    typed : read_block manner.lenient_headers raw ≡ Ok (record { headers = headers; index = index }) → manner.type_of in_digest headers ≡ ctype
         → reading levels in_digest raw ≡ read_parts manner (read_levels manner (levels - 1)) raw (record { headers = headers; index = index }) ctype
     typed read type =
         ap (λ (r : Reads HeaderList). ◌>>=◌ r (λ block. read_parts manner (read_levels manner (levels - 1)) raw block (manner.type_of in_digest block.headers))) read
         ∙ ap (λ (t : ContentType). read_parts manner (read_levels manner (levels - 1)) raw (record { headers = headers; index = index }) t) type
 
     -- one that has no parts
-    pub read_levels-leaf : 0 < levels → read_block manner.ends_at_dashes raw ≡ Ok (record { headers = headers; index = index }) → manner.type_of in_digest headers ≡ ctype
+    pub read_levels-leaf : 0 < levels → read_block manner.lenient_headers raw ≡ Ok (record { headers = headers; index = index }) → manner.type_of in_digest headers ≡ ctype
         → dash_boundary_of ctype ≡ None
         → read_levels manner levels in_digest raw
         ≡ Ok (tree (record { bytes = raw; block = take index raw; headers = headers; ctype = ctype; body = slice_range raw index (length raw) }) no_parts)
@@ -204,7 +204,7 @@ module _ (manner : Manner) where
     cut_at dash_boundary e = rw e refl
 
     -- one that may have parts
-    pub reading-parts : (dash_boundary : List ℕ) → read_block manner.ends_at_dashes raw ≡ Ok (record { headers = headers; index = index })
+    pub reading-parts : (dash_boundary : List ℕ) → read_block manner.lenient_headers raw ≡ Ok (record { headers = headers; index = index })
         → manner.type_of in_digest headers ≡ ctype → dash_boundary_of ctype ≡ Some dash_boundary
         → reading levels in_digest raw
         ≡ read_map (tree (record { bytes = raw; block = take index raw; headers = headers; ctype = ctype; body = slice_range raw index (preamble_end_as (whole_lines_for manner.whole_lines dash_boundary) dash_boundary raw index) }))
@@ -250,7 +250,7 @@ IsLineDelimiter-of line_delimiter ctype e =
 module _ (manner : Manner) where
   -- the reading of a message that may have parts, in the terms of the code
   pub reading-whole : (levels : ℕ) (in_digest : Bool) (raw : List ℕ) (headers : List Header) (index : ℕ) (ctype : ContentType) (line_delimiter : List ℕ) (digest : Bool) (end : ℕ)
-      → read_block manner.ends_at_dashes raw ≡ Ok (record { headers = headers; index = index }) → manner.type_of in_digest headers ≡ ctype
+      → read_block manner.lenient_headers raw ≡ Ok (record { headers = headers; index = index }) → manner.type_of in_digest headers ≡ ctype
       → Some line_delimiter ≡ option_map (λ dash_boundary. 10 ∷ dash_boundary) (dash_boundary_of ctype) → digest ≡ is_digest ctype → end ≡ preamble_end_as (whole_lines_for manner.whole_lines (drop 1 line_delimiter)) (drop 1 line_delimiter) raw index
       → reading manner levels in_digest raw
       ≡ read_map (tree (record { bytes = raw; block = take index raw; headers = headers; ctype = ctype; body = slice_range raw index end }))

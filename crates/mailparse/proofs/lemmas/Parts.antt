@@ -35,13 +35,13 @@ placement_first mail place places e =
 
 -- a message that is refused for its own headers, and not kept, is not read
 pub begun_refused : (manner : Manner) (limit left : Option ℕ) (levels : ℕ) (digest : Bool) (raw : List ℕ) (offset : ℕ) (split : Option Split) (mail : ParsedMail)
-    → IsBegun manner limit left levels digest raw offset split mail → manner.keeps_refused ≡ false → 0 < levels → IsErr (read_block manner.ends_at_dashes raw) → ⊥
+    → IsBegun manner limit left levels digest raw offset split mail → manner.keeps_refused ≡ false → 0 < levels → IsErr (read_block manner.lenient_headers raw) → ⊥
 begun_refused manner limit left levels digest raw offset (Some split) mail is refuses some refused =
     let clash : false ≡ true = subst (λ (r : Reads HeaderList). IsErr r) is.read refused in
     absurd (cc)
-begun_refused manner limit left levels digest raw offset None mail is refuses some refused = by_block (read_block manner.ends_at_dashes raw) refl refused
+begun_refused manner limit left levels digest raw offset None mail is refuses some refused = by_block (read_block manner.lenient_headers raw) refl refused
   where
-    by_block : (block : Reads HeaderList) → read_block manner.ends_at_dashes raw ≡ block → IsErr block → ⊥
+    by_block : (block : Reads HeaderList) → read_block manner.lenient_headers raw ≡ block → IsErr block → ⊥
     by_block (Ok block) e h = let clash : false ≡ true = h in absurd (cc)
     by_block (Err r) e h =
         let own = limited-read limit (items_met manner levels digest raw) (read_levels manner levels digest raw) (tree_of mail) is.read in

@@ -44,7 +44,7 @@ pub record IsSplit (manner : Manner) (limit left : Option ℕ) (levels : ℕ) (d
   pub ctype : ContentType
   pub own : Option ℕ
   pub some : 0 < levels
-  pub read : read_block manner.ends_at_dashes raw ≡ Ok (record { headers = headers; index = index })
+  pub read : read_block manner.lenient_headers raw ≡ Ok (record { headers = headers; index = index })
   pub within : index ≤ length raw
   pub type : manner.type_of digest headers ≡ ctype
   pub delimiter : Some split.line_delimiter.items ≡ option_map (λ dash_boundary. line_feed ∷ dash_boundary) (dash_boundary_of ctype)

@@ -5,10 +5,11 @@
 ghost use Rattle.std.specs.Prelude.{◌≡◌, true, not, ℕ, suc, ◌+◌, ◌<◌, ◌≤◌, List, [], ◌∷◌, length, drop, option_map, IfSome};
 ghost use Rattle.mail_codec.specs.Ascii.{is_blank, line_feed};
 ghost use Rattle.mail_codec.specs.Places.{begins, first_place, text_place};
-ghost use Rattle.mailparse.specs.Delimiters.{starts_line, is_delimiter, delimiter_from, delimiter_from_as, ends_line, is_blank_line, line_after, is_close_delimiter};
+ghost use Rattle.mailparse.specs.Delimiters.{starts_line, is_delimiter, delimiter_from, delimiter_from_as, ends_line, is_blank_line, is_line_over, line_after, is_close_delimiter};
 ghost use Rattle.mailparse.specs.Delimiters.{before_byte, before_line_end, end_from_as, first_part_as, next_part_as, preamble_end_as};
 ghost use Rattle.mailparse.specs.private.Delimiters.{IsLineDelimiter};
 
+use crate::header::parse::line_feed_from;
 use bstr::ByteSlice;
 use mail_codec::bytescan::{find_byte, find_pair};
 
@@ -128,19 +129,20 @@ fn ends_line(rest: &[u8]) -> bool
     is_blank_line(rest)
 }
 
-/// Whether only blanks precede the end of the line.
-#[tactic(auto, unfolding(crate::specs::Delimiters::is_blank_line, crate::specs::Block::headers_end, crate::specs::Block::blank_line))]
+/// Whether only blanks precede the end of the line, which may have several CRs.
+#[tactic(auto, unfolding(crate::specs::Delimiters::is_blank_line))]
 fn is_blank_line(rest: &[u8]) -> bool
     ensures { result ≡ is_blank_line rest.now }
 {
-    let end = trim_blanks(rest);
-    if end.is_empty() {
-        return true;
-    }
-    if end.starts_with(b"\n") {
-        return true;
-    }
-    end.starts_with(b"\r\n")
+    is_line_over(trim_blanks(rest))
+}
+
+/// Whether only CRs precede the next LF, or the end of the bytes.
+fn is_line_over(rest: &[u8]) -> bool
+    ensures { result ≡ is_line_over rest.now }
+{
+    let end = line_feed_from(rest, 0);
+    rest[..end].iter().all(|byte| *byte == b'\r')
 }
 
 /// Returns the bytes without the blanks at their front.

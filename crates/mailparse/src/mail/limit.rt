@@ -33,7 +33,7 @@ pub(super) fn check_headers<M: ReadingManner>(
     manner: &M,
 ) -> Result<(), MailParseError>
     ensures { Answers (λ found. found) result
-        (limited left (headers_met (read_block (M.manner manner.now).ends_at_dashes raw.now))
+        (limited left (headers_met (read_block (M.manner manner.now).lenient_headers raw.now))
         (Ok tt)) }
 {
     let Some(most) = left else {

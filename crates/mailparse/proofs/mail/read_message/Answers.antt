@@ -83,7 +83,7 @@ returns-in_err-check_headers-clause-refused g c =
     let some : 0 < c.args.levels = omega (arith, c.if-levels-eq0.false) in
     let reading = read_levels manner c.args.levels (in_digest c.args.source.now.default) raw in
     let all = items_met manner c.args.levels (in_digest c.args.source.now.default) raw in
-    let headers = headers_met (read_block manner.ends_at_dashes raw) in
+    let headers = headers_met (read_block manner.lenient_headers raw) in
     let after = met_after_own manner c.args.levels (in_digest c.args.source.now.default) raw in
     let left = leaves_spent c.args.left.now all c.args.left.now c.in_ok-left.field-0 1 (headers + after) (leaves_all c.args.left.now all (1 + (headers + after)) (items_met-headers manner c.args.levels (in_digest c.args.source.now.default) raw some)) c.in_ok-left.ensures in
     rw (p.1, p.2) (IsRefusalOrMemory-from c.in_err-check_headers.field-0.0 (limited c.args.left.now all reading)
@@ -97,7 +97,7 @@ returns-in_err-check_headers-clause-no_alloc g c = λ refuses levels none refuse
     let some : 0 < c.args.levels = omega (arith, c.if-levels-eq0.false) in
     let reading = read_levels manner c.args.levels (in_digest c.args.source.now.default) raw in
     let all = items_met manner c.args.levels (in_digest c.args.source.now.default) raw in
-    let headers = headers_met (read_block manner.ends_at_dashes raw) in
+    let headers = headers_met (read_block manner.lenient_headers raw) in
     let after = met_after_own manner c.args.levels (in_digest c.args.source.now.default) raw in
     let left = leaves_spent c.args.left.now all c.args.left.now c.in_ok-left.field-0 1 (headers + after) (leaves_all c.args.left.now all (1 + (headers + after)) (items_met-headers manner c.args.levels (in_digest c.args.source.now.default) raw some)) c.in_ok-left.ensures in
     rw (p.1, p.2) (leaves_refused c.args.left.now all c.in_ok-left.field-0 headers after (tt {0}) reading c.in_err-check_headers.field-0.0 left c.in_err-check_headers.ensures)
@@ -110,11 +110,11 @@ returns-in_err-whole-in-Err-clause-refused g c =
     let digest = in_digest c.args.source.now.default in
     let p = err_from_is_err_and c.from_residual-in_err-whole-in-Err.result c.from_residual-in_err-whole-in-Err.ensures.1 in
     let some : 0 < c.args.levels = omega (arith, c.if-levels-eq0.false) in
-    let h : AnswersOrMemory header_list (Err c.in-Err.refusal) (read_block manner.ends_at_dashes raw) = subst (λ r. AnswersOrMemory header_list r (read_block manner.ends_at_dashes raw)) c.in-Err.is c.parse_block.ensures.read in
+    let h : AnswersOrMemory header_list (Err c.in-Err.refusal) (read_block manner.lenient_headers raw) = subst (λ r. AnswersOrMemory header_list r (read_block manner.lenient_headers raw)) c.in-Err.is c.parse_block.ensures.read in
     let limit = c.args.left.now in
     let all = items_met manner c.args.levels digest raw in
     let whole = read_levels manner c.args.levels digest raw in
-    rw (p.1, p.2) (answer_given manner raw (Err c.in_err-whole-in-Err.field-0.0) c.in-Err.refusal (read_block manner.ends_at_dashes raw) (limited limit all whole) h c.in_err-whole-in-Err.ensures.read
+    rw (p.1, p.2) (answer_given manner raw (Err c.in_err-whole-in-Err.field-0.0) c.in-Err.refusal (read_block manner.lenient_headers raw) (limited limit all whole) h c.in_err-whole-in-Err.ensures.read
     (λ r refused. leaves_read limit all c.in_ok-left.field-0 whole (leaves_spent limit all limit c.in_ok-left.field-0 1 0 (leaves_all limit all 1 (items_met-refused manner c.args.levels digest raw r some refused)) c.in_ok-left.ensures)
     ∙ read_levels-step manner c.args.levels digest raw some
     ∙ ap (or_kept manner raw) (reading-refused manner c.args.levels digest raw r refused)))
@@ -126,14 +126,14 @@ returns-in_err-whole-in-Err-clause-no_alloc g c = λ refuses some none refused.
     let digest = in_digest c.args.source.now.default in
     let p = err_from_is_err_and c.from_residual-in_err-whole-in-Err.result c.from_residual-in_err-whole-in-Err.ensures.1 in
     let own = reading manner c.args.levels digest raw in
-    let h : Answers header_list (Err c.in-Err.refusal) (read_block manner.ends_at_dashes raw) = subst (λ r. Answers header_list r (read_block manner.ends_at_dashes raw)) c.in-Err.is (c.parse_block.ensures.no_alloc none) in
+    let h : Answers header_list (Err c.in-Err.refusal) (read_block manner.lenient_headers raw) = subst (λ r. Answers header_list r (read_block manner.lenient_headers raw)) c.in-Err.is (c.parse_block.ensures.no_alloc none) in
     let limit = c.args.left.now in
     let all = items_met manner c.args.levels digest raw in
     let whole = read_levels manner c.args.levels digest raw in
-    rw (p.1, p.2) (answer_refused (Err c.in_err-whole-in-Err.field-0.0) c.in-Err.refusal (read_block manner.ends_at_dashes raw) h
+    rw (p.1, p.2) (answer_refused (Err c.in_err-whole-in-Err.field-0.0) c.in-Err.refusal (read_block manner.lenient_headers raw) h
     (λ r refused. leaves_read limit all c.in_ok-left.field-0 whole (leaves_spent limit all limit c.in_ok-left.field-0 1 0 (leaves_all limit all 1 (items_met-refused manner c.args.levels digest raw r some refused)) c.in_ok-left.ensures)
     ∙ read_levels-step manner c.args.levels digest raw some)
-    (c.in_err-whole-in-Err.ensures.no_alloc refuses own (IsRefusal-along c.in-Err.refusal (read_block manner.ends_at_dashes raw) own (reading-refused manner c.args.levels digest raw) h)))
+    (c.in_err-whole-in-Err.ensures.no_alloc refuses own (IsRefusal-along c.in-Err.refusal (read_block manner.lenient_headers raw) own (reading-refused manner c.args.levels digest raw) h)))
 
 pub returns-in-Err-clause-read : goal.returns-in-Err-clause-read
 returns-in-Err-clause-read g c =
@@ -141,16 +141,16 @@ returns-in-Err-clause-read g c =
     let raw = c.args.source.now.raw.now in
     let digest = in_digest c.args.source.now.default in
     let some : 0 < c.args.levels = omega (arith, c.if-levels-eq0.false) in
-    let h : AnswersOrMemory header_list (Err c.in-Err.refusal) (read_block manner.ends_at_dashes raw) = subst (λ r. AnswersOrMemory header_list r (read_block manner.ends_at_dashes raw)) c.in-Err.is c.parse_block.ensures.read in
+    let h : AnswersOrMemory header_list (Err c.in-Err.refusal) (read_block manner.lenient_headers raw) = subst (λ r. AnswersOrMemory header_list r (read_block manner.lenient_headers raw)) c.in-Err.is c.parse_block.ensures.read in
     let limit = c.args.left.now in
     let all = items_met manner c.args.levels digest raw in
     let whole = read_levels manner c.args.levels digest raw in
     record {
-      read = answer_given manner raw (Ok c.in_ok-whole-in-Err.whole) c.in-Err.refusal (read_block manner.ends_at_dashes raw) (limited limit all whole) h c.in_ok-whole-in-Err.ensures.read
+      read = answer_given manner raw (Ok c.in_ok-whole-in-Err.whole) c.in-Err.refusal (read_block manner.lenient_headers raw) (limited limit all whole) h c.in_ok-whole-in-Err.ensures.read
           (λ r refused. leaves_read limit all c.in_ok-left.field-0 whole (leaves_spent limit all limit c.in_ok-left.field-0 1 0 (leaves_all limit all 1 (items_met-refused manner c.args.levels digest raw r some refused)) c.in_ok-left.ensures)
           ∙ read_levels-step manner c.args.levels digest raw some
           ∙ ap (or_kept manner raw) (reading-refused manner c.args.levels digest raw r refused));
-      spent = ok_given manner raw (Ok c.in_ok-whole-in-Err.whole) c.in-Err.refusal (read_block manner.ends_at_dashes raw) h c.in_ok-whole-in-Err.ensures.read
+      spent = ok_given manner raw (Ok c.in_ok-whole-in-Err.whole) c.in-Err.refusal (read_block manner.lenient_headers raw) h c.in_ok-whole-in-Err.ensures.read
           (λ r refused. leaves_end limit all c.in_ok-left.field-0 (leaves_spent limit all limit c.in_ok-left.field-0 1 0 (leaves_all limit all 1 (items_met-refused manner c.args.levels digest raw r some refused)) c.in_ok-left.ensures));
       places = c.in_ok-whole-in-Err.ensures.places manner.whole_lines;
     }
@@ -172,8 +172,8 @@ returns-in_err-left-2-clause-refused g c =
     let headers = c.in-Ok.block.0.items in
     let many : c.len.result ≡ length headers = omega (arith, c.len.ensures, c.in-Ok.block.0.ok.0) in
     let after = met_after_own manner c.args.levels (in_digest c.args.source.now.default) raw in
-    let read = block_read c.parse_block.result c.in-Ok.block (read_block manner.ends_at_dashes raw) c.in-Ok.is c.parse_block.ensures.read in
-    let same : headers_met (read_block manner.ends_at_dashes raw) ≡ c.len.result = ap headers_met read ∙ sym many in
+    let read = block_read c.parse_block.result c.in-Ok.block (read_block manner.lenient_headers raw) c.in-Ok.is c.parse_block.ensures.read in
+    let same : headers_met (read_block manner.lenient_headers raw) ≡ c.len.result = ap headers_met read ∙ sym many in
     let left = leaves_spent c.args.left.now all c.args.left.now c.in_ok-left.field-0 1 (c.len.result + after)
     (leaves_all c.args.left.now all (1 + (c.len.result + after)) (items_met-headers manner c.args.levels (in_digest c.args.source.now.default) raw some ∙ ap (λ n. 1 + (n + after)) same)) c.in_ok-left.ensures in
     rw (p.1, p.2) (IsRefusalOrMemory-from c.in_err-left-2.field-0.0 (limited c.args.left.now all reading)
@@ -192,7 +192,7 @@ returns-in_default-clause-read g c =
     let type = sym c.in_ok-ctype.ensures in
     let nothing : None ≡ option_map (λ dash_boundary. 10 ∷ dash_boundary) (dash_boundary_of ctype) = sym (ap (option_map (λ (l : Vec ℕ). l.items)) c.in_default.is) ∙ c.in_ok-line_delimiter.ensures in
     let none = line_delimiter_none (dash_boundary_of ctype) nothing in
-    let read = block_read c.parse_block.result c.in-Ok.block (read_block manner.ends_at_dashes raw) c.in-Ok.is c.parse_block.ensures.read in
+    let read = block_read c.parse_block.result c.in-Ok.block (read_block manner.lenient_headers raw) c.in-Ok.is c.parse_block.ensures.read in
     let many : c.len.result ≡ length headers = omega (arith, c.len.ensures, c.in-Ok.block.0.ok.0) in
     let limit = c.args.left.now in
     let all = items_met manner c.args.levels digest raw in
@@ -234,7 +234,7 @@ returns-clause-read g c =
       ctype = ctype;
       own = c.in_ok-left.field-0;
       some = omega (arith, c.if-levels-eq0.false);
-      read = block_read c.parse_block.result c.in-Ok.block (read_block manner.ends_at_dashes raw) c.in-Ok.is c.parse_block.ensures.read;
+      read = block_read c.parse_block.result c.in-Ok.block (read_block manner.lenient_headers raw) c.in-Ok.is c.parse_block.ensures.read;
       within = bounds.1;
       type = sym c.in_ok-ctype.ensures;
       delimiter = made c.in_ok-line_delimiter.field-0 c.in-Some.line_delimiter _ c.in-Some.is c.in_ok-line_delimiter.ensures;
