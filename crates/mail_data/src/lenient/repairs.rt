@@ -195,10 +195,7 @@ fn missing(is_alone: bool, position: Position, left: &str) -> &'static str
         return "";
     };
     match position {
-        Position::AfterWord => {
-            semicolon_unless(c.is_ascii_whitespace() || c == ';' || c == '/', c)
-        }
-        Position::AfterText => semicolon_unless(c.is_ascii_whitespace() || c == ';', c),
+        Position::AfterWord | Position::AfterText => semicolon_unless(may_follow(position, c), c),
         Position::InName | Position::AfterStar => underscore_before(c),
         Position::BeforeExtended => {
             if c.is_ascii_whitespace() || c == '"' {

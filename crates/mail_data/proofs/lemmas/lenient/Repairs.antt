@@ -1,5 +1,5 @@
 -- Lemmas on what is missing in values with parameters.
-use Rattle.std.proofs.Common.{◌≡◌, ◌≢◌, ◌<◌, ◌≤◌, ℕ, zero, suc, ◌-◌, Bool, true, false, eqb, leb, cond, not, ◌&&◌, ◌||◌, inl, inr, List, [], ◌∷◌, ◌++◌, length, arith, refl, sym, ap, ◌∙◌, append_assoc}
+use Rattle.std.proofs.Common.{◌≡◌, ◌≢◌, ◌<◌, ◌≤◌, ℕ, zero, suc, ◌-◌, Bool, true, false, eqb, leb, cond, not, ◌&&◌, ◌||◌, inl, inr, ◌⊎◌, List, [], ◌∷◌, ◌++◌, length, arith, refl, sym, ap, subst, ◌∙◌, append_assoc}
 use Rattle.std.proofs.Math.Bool.{and-false}
 use Rattle.std.proofs.lemmas.Bool.{cases_Bool, cond-true, cond-false, eq-eqb, false≢true, leb-true, lt-ltb, ne_eqb, or_from}
 use Rattle.std.proofs.lemmas.Str.{chars-nil, chars_past_char, encodes-chars}
@@ -145,6 +145,25 @@ pub begins-letter : (text rest next : List ℕ) (c : ℕ) → IsUtf8 text → re
     → ends_name (chars next) ≡ begins_parameter (chars text)
 begins-letter text rest next c utf8 all e letter =
     sym (ap begins_parameter (chars_past_char text next c utf8 (sym all ∙ e)) ∙ ap (λ (t : Bool). t && ends_name (chars next)) letter)
+
+-- what is missing after a word or a text
+at_position : (is_alone : Bool) (c : ℕ) (cs : List ℕ) (position other : Position) → position ≡ other
+    → semicolon_unless (may_follow other c) c ≡ missing is_alone other (c ∷ cs)
+    → semicolon_unless (may_follow position c) c ≡ missing is_alone position (c ∷ cs)
+at_position is_alone c cs position other at is =
+    subst (λ (p : Position). semicolon_unless (may_follow p c) c ≡ missing is_alone p (c ∷ cs)) (sym at) is
+
+after_value : (is_alone : Bool) (c : ℕ) (cs : List ℕ) (position : Position) → (position ≡ AfterWord) ⊎ (position ≡ AfterText)
+    → semicolon_unless (may_follow position c) c ≡ missing is_alone position (c ∷ cs)
+after_value is_alone c cs position (inl at) = at_position is_alone c cs position AfterWord at refl
+after_value is_alone c cs position (inr at) = at_position is_alone c cs position AfterText at refl
+
+pub missing-after : (is_alone : Bool) (position : Position) (text rest next made : List ℕ) (c : ℕ) (follows : Bool) → IsUtf8 text → rest ≡ text
+    → rest ≡ encode_utf8 c ++ next → (position ≡ AfterWord) ⊎ (position ≡ AfterText) → follows ≡ may_follow position c
+    → made ≡ semicolon_unless follows c → made ≡ missing is_alone position (chars text)
+missing-after is_alone position text rest next made c follows utf8 all e at is m =
+    m ∙ ap (λ (t : Bool). semicolon_unless t c) is ∙ after_value is_alone c (chars next) position at
+    ∙ sym (ap (λ (cs : List ℕ). missing is_alone position cs) (chars_past_char text next c utf8 (sym all ∙ e)))
 
 -- ---- apostrophes
 
