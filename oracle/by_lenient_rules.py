@@ -194,6 +194,7 @@ def headers_of(data, level=0):
         headers, at = block_of(header_part(data))
     except Refused:
         return []
+    headers = [(key.rstrip(b" \t"), value) for key, value in headers]
     value = next((value for key, value in headers if lower(key.decode("latin-1")) == "content-type"), None)
     kind, boundary = type_of(value) if value is not None else ("", None)
     found = [(key.decode("latin-1"), header_text(value)) for key, value in headers]

@@ -5,7 +5,7 @@ use Rattle.std.specs.Prelude.{ℕ, zero, suc, Bool, not, ◌||◌, List, [], ◌
 use Rattle.std.specs.Str.{bytes_eq, trim}
 use Rattle.mail_codec.specs.Charset.{Charsets}
 use Rattle.mail_codec.specs.Places.{is_empty}
-use Rattle.mailparse.specs.Block.{HeaderList, read_headers}
+use Rattle.mailparse.specs.Block.{HeaderList, read_lenient_headers}
 use Rattle.mailparse.specs.Header.{Header, key_text}
 use Rattle.mailparse.specs.Mail.{Node}
 use Rattle.mailparse.specs.Refusal.{Refusal}
@@ -59,9 +59,9 @@ abbrev pub headers_or_none : Result HeaderList Refusal → List Header
 headers_or_none (Ok found) = found.headers
 headers_or_none (Err refusal) = []
 
--- the fields of a block, which are written as headers are
+-- the fields of a block, which are read as headers are read leniently
 unfoldable pub fields : List ℕ → List Header
-fields block = headers_or_none (read_headers block)
+fields block = headers_or_none (read_lenient_headers block)
 
 -- Under the charsets that are known.
 module _ (known : Charsets) where

@@ -105,9 +105,9 @@ pub fn recipients<K: KnownCharsets>(
 ///
 /// The mail has to be a `multipart/report`; the first of its own parts that is a `message/rfc822`,
 /// a `text/rfc822-headers`, a `message/global` or a `message/global-headers` is used. Its id is
-/// read as `archive::message_id` reads one. Headers that `parse_headers` refuses have no id. The
-/// body is read without its transfer encoding, as `lenient_content` reads it. Allocates the body if
-/// it is encoded, the headers and the id.
+/// read as `archive::message_id` reads one, in headers that `parse_lenient_headers` reads; if it
+/// refuses them there is no id. The body is read without its transfer encoding, as
+/// `lenient_content` reads it. Allocates the body if it is encoded, the headers and the id.
 ///
 /// # Errors
 ///

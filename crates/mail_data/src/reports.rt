@@ -13,7 +13,7 @@ ghost use Rattle.mail_data.specs.ReportViews.{block_view, field_view};
 use crate::lenient::part_content;
 use crate::line_ends::{empty_line, is_empty_line, line_place};
 use mail_codec::charset::KnownCharsets;
-use mailparse::{MailHeader, MailParseError, ParsedMail, parse_headers};
+use mailparse::{MailHeader, MailParseError, ParsedMail, parse_lenient_headers};
 use std::alloc::{AllocError, Global};
 
 /// A block of a report, as `report_blocks` returns it.
@@ -38,9 +38,9 @@ pub struct Field {
 /// section 2; RFC 8098, section 3.1).
 ///
 /// Blocks are separated by empty lines. The body is read without its transfer encoding, as
-/// `lenient_content` reads it. A block is read as `parse_headers` reads one, and has no fields if
-/// that refuses it; a value is read as `MailHeader::get_value_in` does, in the charsets `known`.
-/// Allocates the body if it is encoded, the headers of each block, and the texts.
+/// `lenient_content` reads it. A block is read as `parse_lenient_headers` reads one, and has no
+/// fields if that refuses it; a value is read as `MailHeader::get_value_in` does, in the charsets
+/// `known`. Allocates the body if it is encoded, the headers of each block, and the texts.
 ///
 /// # Errors
 ///
@@ -252,7 +252,7 @@ pub(crate) fn fields<'s>(
     ensures read { IfOk result (λ headers. headers.items ≡ fields block.now) }
     ensures only_memory { IfErr result IsMemory }
 {
-    match parse_headers(alloc, block) {
+    match parse_lenient_headers(alloc, block) {
         Ok((headers, _)) => Ok(headers),
         Err(MailParseError::Memory(error)) => Err(MailParseError::Memory(error)),
         Err(_) => Ok(Vec::new(alloc)),

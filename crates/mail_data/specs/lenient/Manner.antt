@@ -1,7 +1,8 @@
 -- The manner in which mail is read leniently: types with comments, without a readable name or with
 -- parameters that lack something, whole delimiter lines, headers that end before a line that looks
--- like a delimiter, and refused messages that are kept (RFC 2045, sections 5.1 and 5.2; RFC 2046,
--- section 5.1.1; RFC 2231, section 4).
+-- like a delimiter, whose keys have no blanks before the colon, and refused messages that are kept
+-- (RFC 2045, sections 5.1 and 5.2; RFC 2046, section 5.1.1; RFC 2231, section 4; RFC 5322, section
+-- 4.5).
 use Rattle.std.specs.Prelude.{ℕ, Bool, true, ◌||◌, ◌==◌, List, ◌∷◌, ◌++◌, None, false, is_some, codes, if◌then◌else◌}
 use Rattle.std.specs.List.{list_any, before_first, after_first}
 use Rattle.std.specs.Option.{option_map_or}

@@ -34,8 +34,9 @@ const PLAIN_NAME: &str = "text/plain";
 /// semicolons, closing quotes and apostrophes of extended values are put in, whose charset may be
 /// missing or unknown (RFC 2231, section 4). A boundary that contains a line end does not count, and
 /// a delimiter is a whole line (RFC 2046, section 5.1.1). Headers also end before a line that begins
-/// with `--` and has no colon, as `mailparse::before_dash_line` says; the body of a multipart
-/// without a delimiter is all that follows its headers. No mail is refused: a message that
+/// with `--` and has no colon, and blanks before the colon of a header are in no key, as
+/// `mailparse::parse_lenient_headers` says (RFC 5322, section 4.5); the body of a multipart without
+/// a delimiter is all that follows its headers. No mail is refused: a message that
 /// `parse_mail` would refuse is kept as plain text without headers, and `refusal` returns why.
 ///
 /// # Examples

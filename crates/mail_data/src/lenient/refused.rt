@@ -5,7 +5,7 @@ ghost use Rattle.mailparse.specs.Outcome.{refusal_of};
 ghost use Rattle.mailparse.specs.Views.{tree_of};
 ghost use Rattle.mail_data.specs.lenient.Refused.{kept_for, was_kept};
 
-use mailparse::{MailParseError, ParsedMail, before_dash_line, parse_headers};
+use mailparse::{MailParseError, ParsedMail, parse_lenient_headers};
 use std::alloc::{AllocError, Global};
 
 /// Returns why a message or part is refused by `parse_mail`, if a manner that keeps refused
@@ -41,7 +41,7 @@ pub fn refusal(alloc: Global, mail: &ParsedMail<'_>) -> Result<Option<MailParseE
     if !was_kept(mail) {
         return Ok(None);
     }
-    match parse_headers(alloc, before_dash_line(mail.raw_bytes)) {
+    match parse_lenient_headers(alloc, mail.raw_bytes) {
         Ok(_) => Ok(Some(MailParseError::Generic("Recursion limit reached"))),
         Err(MailParseError::Memory(error)) => Err(error),
         Err(error) => Ok(Some(error)),
