@@ -173,7 +173,7 @@ def header_part(data):
 def parts_of(data, at, boundary):
     """The bytes of the parts, between whole lines that are delimiters."""
     dash = b"--" + boundary.encode()
-    line = re.compile(rb"(?:(?<=\n)|\A)" + re.escape(dash) + rb"(--)?[ \t]*(?:\r?\n|\Z)")
+    line = re.compile(rb"(?:(?<=\n)|\A)" + re.escape(dash) + rb"(--)?[ \t]*\r*(?:\n|\Z)")
     body, begin, found = data[at:], None, []
     for delimiter in line.finditer(body):
         if begin is not None:
