@@ -160,6 +160,20 @@ def test_inside():
     assert found(line) == [b"refused", str(2 * len(head)), str(2 * len(head) + 3), b"1.1"]
 
 
+def test_paths():
+    """A finding has the path of an object of `parts` in which its range is, also in a mail with parts inside a part."""
+    double = b"Subject: a\nSubject: b\n"
+    forwarded = b"Content-Type: message/rfc822\n\n"
+    inner = double + multipart(b"c", double + b"\none\n", forwarded + double + multipart(b"d", double + b"\ntwo\n"))
+    raw = double + multipart(b"b", forwarded + double + b"\nthree\n", forwarded + inner)
+    line = json.loads(run([*command("json"), "--mail", "--check"], raw).stdout)
+    ranges = {part["path"]: (part["start"], part["end"]) for part in line["parts"]}
+    assert [it["path"] for it in line["findings"]] == ["", "1.1", "2.0", "2.1", "2.2.0", "2.2.1"]
+    for it in line["findings"]:
+        start, end = ranges[it["path"]]
+        assert it["name"] == "duplicate" and start <= it["start"] <= it["end"] <= end
+
+
 def test_charsets():
     """The text that Python writes in a charset has no finding, and the same without its last byte has one."""
     texts = {"gbk": "\u4f60\u597d", "gb18030": "\u4f60\u00e9", "gb2312": "\u4f60\u597d", "big5": "\u4e2d\u6587", "euc-kr": "\ud55c\uae00",

@@ -28,7 +28,7 @@ use Rattle.mail_check.specs.Senders.{is_bad_sender}
 use Rattle.mail_check.specs.Texts.{has_bad_text}
 use Rattle.mail_check.specs.WordBytes.{has_bad_octets}
 use Rattle.mail_check.specs.Words.{has_join, is_bad_name, is_bad_piece, is_worded, pieces}
-use Rattle.mail_check.specs.Parameters.{has_extended, has_other_name, has_quoted_pair, has_quoted_special, has_repeat, has_word, is_bad_value, none_seen, parameter_names, strict_value}
+use Rattle.mail_check.specs.Parameters.{has_extended, has_other_name, has_quoted_pair, has_quoted_special, has_repeat, has_word, is_bad_value, is_type, none_seen, parameter_names, strict_value}
 use Rattle.mail_check.specs.declared.names.Class.{Class}
 use Rattle.mail_check.specs.declared.names.Name.{Name}
 use Rattle.mail_check.specs.declared.names.Name.TheVariants as name
@@ -112,13 +112,21 @@ line_findings spot size line =
     ++ (listed_if spot name.CommentFold (has_comment_fold line)
     ++ listed_if spot name.Header8bit (has_high_value line))))
 
+-- the name of an asterisk in the name of a parameter: in a type it may be that of the boundary
+abbrev pub extended_name : HeaderLine → Name
+extended_name line = if is_type line then name.TypeExtended else name.ExtendedParameter
+
+-- that of an encoded word in a parameter
+abbrev pub word_name : HeaderLine → Name
+word_name line = if is_type line then name.TypeWord else name.WordParameter
+
 -- a type or a disposition whose value is of this text, if that has the syntax that all programs know
-abbrev pub value_findings : Spot → List ℕ → List Finding
-value_findings spot bytes =
+abbrev pub value_findings : Spot → HeaderLine → List ℕ → List Finding
+value_findings spot line bytes =
     listed_if spot name.QuotedSpecial (has_quoted_special bytes)
     ++ (listed_if spot name.QuotedPair (has_quoted_pair bytes)
-    ++ (listed_if spot name.ExtendedParameter (has_extended bytes)
-    ++ listed_if spot name.WordParameter (has_word bytes)))
+    ++ (listed_if spot (extended_name line) (has_extended bytes)
+    ++ listed_if spot (word_name line) (has_word bytes)))
 
 -- one whose parameters have these names
 abbrev pub name_findings : Spot → HeaderLine → List (List ℕ) → List Finding
@@ -130,7 +138,7 @@ name_findings spot line names =
 abbrev pub strict_findings : Spot → HeaderLine → Option (List ℕ) → List Finding
 strict_findings spot line None = []
 strict_findings spot line (Some bytes) =
-    value_findings spot bytes ++ name_findings spot line (parameter_names bytes)
+    value_findings spot line bytes ++ name_findings spot line (parameter_names bytes)
 
 -- a header as a type or a disposition
 abbrev pub parameter_findings : Spot → HeaderLine → List Finding

@@ -1,5 +1,6 @@
 -- The findings of the mails inside a mail (RFC 2046, section 5.2.1); this crate's own words.
-use Rattle.std.specs.Prelude.{ℕ, zero, suc, List, [], ◌∷◌, ◌++◌, flat_map, length, map, Option, Some, None, Ok, Err, if◌then◌else◌}
+use Rattle.std.specs.Prelude.{ℕ, zero, suc, List, [], ◌∷◌, ◌++◌, flat_map, length, map, Option, Some, None, Ok, Err, codes, if◌then◌else◌}
+use Rattle.std.specs.Str.{bytes_eq}
 use Rattle.mail_codec.specs.Charset.{Charsets}
 use Rattle.mailparse.specs.Limit.{read_mail_within}
 use Rattle.mailparse.specs.Mail.{Tree, root, strict}
@@ -29,21 +30,26 @@ moved_range start range = record {
   end = plus start range.end;
 }
 
--- a message of such a mail
-abbrev pub moved : ℕ → Place → Place
-moved start place = record {
-  path = place.path;
+-- the path of a part of a mail that is inside the part with the path `inside`, or in none: the mail inside, if it has parts, has the
+-- path of that part and `.0`, so that no two parts have one path
+abbrev pub path_shown : Option (List ℕ) → List ℕ → List ℕ
+path_shown None path = path
+path_shown (Some inside) path = if bytes_eq path inside then path ++ codes ".0" else path
+
+-- a message of such a mail, which is in the body of this one
+abbrev pub moved : Place → Place → Place
+moved outer place = record {
+  path = path_shown (Some outer.path) place.path;
   part = place.part;
   placement = record {
-    whole = moved_range start place.placement.whole;
-    body = moved_range start place.placement.body;
+    whole = moved_range outer.placement.body.start place.placement.whole;
+    body = moved_range outer.placement.body.start place.placement.body;
   };
 }
 
 -- the messages of a mail in the body of one
 abbrev pub places_in : Place → Tree → List Place
-places_in place mail =
-    map (moved place.placement.body.start) (places_under place.path mail (placements 0 mail))
+places_in place mail = map (moved place) (places_under place.path mail (placements 0 mail))
 
 -- Under the charsets that are known.
 module _ (known : Charsets) where

@@ -1,6 +1,6 @@
 //! The findings of the mails inside a mail.
 ghost use Rattle.std.specs.Prelude.{◌≡◌, ◌++◌, [], ◌∷◌, IfErr, IfOk, OnOk, flat_map, map};
-ghost use Rattle.std.specs.Prelude.{option_map};
+ghost use Rattle.std.specs.Prelude.{Some, option_map, string_bytes};
 ghost use Rattle.mailparse.specs.BodyViews.{Content};
 ghost use Rattle.mailparse.specs.Outcome.{AnswersOrMemory, IsMemory};
 ghost use Rattle.mailparse.specs.Placement.{placements};
@@ -9,8 +9,8 @@ ghost use Rattle.mail_data.specs.PlaceViews.{place_view};
 ghost use Rattle.mail_data.specs.lenient.Encoding.{LenientKind};
 ghost use Rattle.mail_data.specs.lenient.EncodingViews.{IsLenientBody};
 ghost use Rattle.mail_check.specs.FindingViews.{finding_view};
-ghost use Rattle.mail_check.specs.Inside.{inner_mail, inside_findings, mail_in, moved, places_in};
-ghost use Rattle.mail_check.specs.Inside.{plain_bytes, tree_findings};
+ghost use Rattle.mail_check.specs.Inside.{inner_mail, inside_findings, mail_in, moved, path_shown};
+ghost use Rattle.mail_check.specs.Inside.{places_in, plain_bytes, tree_findings};
 
 use crate::listing::{Finding, push_messages, push_refused};
 use mail_codec::charset::KnownCharsets;
@@ -155,21 +155,21 @@ fn places_in<'m, 'a>(
         ≡ places_in (place_view place.now) (tree_of mail.now)) }
 {
     let messages = places_under(alloc, mail, place.path.as_str())?;
-    moved_places(alloc, messages.as_slice(), place.body_range.start)
+    moved_places(alloc, messages.as_slice(), place)
 }
 
-/// Returns the messages of a mail that begins at an offset of another one, as they are in that one.
+/// Returns the messages of a mail in the body of another one, as they are in that one.
 fn moved_places<'m, 'a>(
     alloc: Global,
     messages: &[Place<'m, 'a>],
-    start: usize,
+    outer: &Place<'_, '_>,
 ) -> Result<Vec<Place<'m, 'a>>, AllocError>
-    ensures { IfOk result (λ found.
-        map place_view found.items ≡ map (moved start) (map place_view messages.now)) }
+    ensures { IfOk result (λ found. map place_view found.items
+        ≡ map (moved (place_view outer.now)) (map place_view messages.now)) }
 {
     let mut found = Vec::new(alloc);
     for place in messages {
-        push_moved(alloc, &mut found, place, start)?;
+        push_moved(alloc, &mut found, place, outer)?;
     }
     Ok(found)
 }
@@ -179,17 +179,30 @@ fn push_moved<'m, 'a>(
     alloc: Global,
     found: &mut Vec<Place<'m, 'a>>,
     place: &Place<'m, 'a>,
-    start: usize,
+    outer: &Place<'_, '_>,
 ) -> Result<(), AllocError>
-    ensures { OnOk result (map place_view found.new.items
-        ≡ map place_view found.old.items ++ moved start (place_view place.now) ∷ []) }
+    ensures { OnOk result (map place_view found.new.items ≡ map place_view found.old.items
+        ++ moved (place_view outer.now) (place_view place.now) ∷ []) }
 {
+    let start = outer.body_range.start;
     let (whole, body) = (&place.byte_range, &place.body_range);
     found.push(Place {
-        path: String::from_str(alloc, place.path.as_str())?,
+        path: path_shown(alloc, outer.path.as_str(), place.path.as_str())?,
         part: place.part,
         byte_range: start.saturating_add(whole.start)..start.saturating_add(whole.end),
         body_range: start.saturating_add(body.start)..start.saturating_add(body.end),
     })?;
     Ok(())
+}
+
+/// Returns the path of a message of a mail in the part with the path `inside`. A mail inside that has
+/// parts is part `0` there, since IMAP has one name for it and that part.
+fn path_shown(alloc: Global, inside: &str, path: &str) -> Result<String, AllocError>
+    ensures { IfOk result (λ text. string_bytes text ≡ path_shown (Some inside.now) path.now) }
+{
+    if path == inside {
+        format!(in alloc; "{path}.0")
+    } else {
+        String::from_str(alloc, path)
+    }
 }

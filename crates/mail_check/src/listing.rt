@@ -11,7 +11,7 @@ ghost use Rattle.mail_data.specs.PlaceViews.{place_view};
 ghost use Rattle.mail_check.specs.FindingViews.{finding_view, spot_view};
 ghost use Rattle.mail_check.specs.Findings.{base64_findings, block_findings, body_findings, byte_findings};
 ghost use Rattle.mail_check.specs.Findings.{delimiter_findings, file_line, first_findings};
-ghost use Rattle.mail_check.specs.Findings.{encoded_findings, file_findings, finding_at};
+ghost use Rattle.mail_check.specs.Findings.{encoded_findings, extended_name, file_findings, finding_at};
 ghost use Rattle.mail_check.specs.Findings.{findings_from, header_findings, is_far};
 ghost use Rattle.mail_check.specs.Findings.{leaf_findings, line_findings, listed, listed_if};
 ghost use Rattle.mail_check.specs.Findings.{message_findings, multipart_findings};
@@ -20,7 +20,7 @@ ghost use Rattle.mail_check.specs.Findings.{has_none, is_single, quoted_findings
 ghost use Rattle.mail_check.specs.Findings.{name_findings, repeated_findings, spot_in};
 ghost use Rattle.mail_check.specs.Findings.{spot_of_body, strict_findings, value_findings};
 ghost use Rattle.mail_check.specs.Findings.{text_findings, type_findings};
-ghost use Rattle.mail_check.specs.Findings.{word_findings, worded_findings};
+ghost use Rattle.mail_check.specs.Findings.{word_findings, word_name, worded_findings};
 ghost use Rattle.mail_check.specs.Inside.{all_findings};
 ghost use Rattle.mail_check.specs.LineViews.{line_view};
 ghost use Rattle.mail_codec.specs.Ascii.{colon};
@@ -80,7 +80,7 @@ pub struct Finding {
     pub range: Range<usize>,
     /// The path of the part, as IMAP numbers parts (RFC 3501, section 6.4.5): `2.1` is the first
     /// part of the second part. The path of the whole mail is `1`, that of its body, if it has no
-    /// parts, and otherwise empty.
+    /// parts, and otherwise empty. A mail with parts that the second part forwards is `2.0`.
     pub path: String,
 }
 
@@ -505,7 +505,7 @@ fn push_strict(
         ++ strict_findings (spot_view spot.now) (line_view line.now)
         (Some value.now.bytes.now)) }
 {
-    push_value(alloc, found, spot, value)?;
+    push_value(alloc, found, spot, line, value)?;
     push_names(alloc, found, spot, line, value.names.as_slice())
 }
 
@@ -534,22 +534,46 @@ fn push_value(
     alloc: Global,
     found: &mut Vec<Finding>,
     spot: &Spot<'_>,
+    line: &HeaderLine<'_>,
     value: &StrictValue<'_>,
 ) -> Result<(), AllocError>
     requires special { value.now.has_quoted_special ≡ has_quoted_special value.now.bytes.now }
     requires extended { value.now.has_extended ≡ has_extended value.now.bytes.now }
     ensures { OnOk result (map finding_view found.new.items
         ≡ map finding_view found.old.items
-        ++ value_findings (spot_view spot.now) value.now.bytes.now) }
+        ++ value_findings (spot_view spot.now) (line_view line.now) value.now.bytes.now) }
 {
     let is_special = value.has_quoted_special;
     push_if(alloc, found, spot, Name::QuotedSpecial, is_special)?;
     let has_pair = has_quoted_pair(value.bytes);
     push_if(alloc, found, spot, Name::QuotedPair, has_pair)?;
     let is_extended = value.has_extended;
-    push_if(alloc, found, spot, Name::ExtendedParameter, is_extended)?;
+    push_if(alloc, found, spot, extended_name(line), is_extended)?;
     let has_word = has_word(value.bytes);
-    push_if(alloc, found, spot, Name::WordParameter, has_word)
+    push_if(alloc, found, spot, word_name(line), has_word)
+}
+
+/// Returns the name of an asterisk in the name of a parameter: in a type it may be that of the
+/// boundary.
+fn extended_name(line: &HeaderLine<'_>) -> Name
+    ensures { result ≡ extended_name (line_view line.now) }
+{
+    if is_type(line) {
+        Name::TypeExtended
+    } else {
+        Name::ExtendedParameter
+    }
+}
+
+/// Returns the name of an encoded word in a parameter.
+fn word_name(line: &HeaderLine<'_>) -> Name
+    ensures { result ≡ word_name (line_view line.now) }
+{
+    if is_type(line) {
+        Name::TypeWord
+    } else {
+        Name::WordParameter
+    }
 }
 
 /// Appends the findings of what a header says of its message.

@@ -79,8 +79,12 @@ pub enum Name {
     QuotedPair,
     /// `extended-parameter`
     ExtendedParameter,
+    /// `type-extended`
+    TypeExtended,
     /// `word-parameter`
     WordParameter,
+    /// `type-word`
+    TypeWord,
     /// `no-type`
     NoType,
     /// `two-names`
@@ -168,7 +172,9 @@ impl Name {
             Name::QuotedSpecial => "quoted-special",
             Name::QuotedPair => "quoted-pair",
             Name::ExtendedParameter => "extended-parameter",
+            Name::TypeExtended => "type-extended",
             Name::WordParameter => "word-parameter",
+            Name::TypeWord => "type-word",
             Name::NoType => "no-type",
             Name::TwoNames => "two-names",
             Name::UnsafeName => "unsafe-name",
@@ -234,6 +240,8 @@ impl Name {
             | Name::NoClose
             | Name::LateDelimiter
             | Name::DuplicateParameter
+            | Name::TypeExtended
+            | Name::TypeWord
             | Name::Refused => Class::Structure,
             Name::Header8bit
             | Name::QuotedSpecial
@@ -321,8 +329,14 @@ impl Name {
             Name::ExtendedParameter => {
                 "A parameter has an asterisk in its name: some readers do not join or decode it."
             }
+            Name::TypeExtended => {
+                "A parameter of the type has an asterisk in its name: some readers do not join or decode it, and read another boundary or charset."
+            }
             Name::WordParameter => {
                 "A parameter has an encoded word: some readers decode it, others do not."
+            }
+            Name::TypeWord => {
+                "A parameter of the type has an encoded word: some readers decode it, and read another boundary or charset."
             }
             Name::NoType => {
                 "The part has a file name and no type: some readers read no name then."

@@ -1,5 +1,5 @@
 -- What is shown of each part of a mail; the program's own form.
-use Rattle.std.specs.Prelude.{◌≡◌, ℕ, ◌+◌, ◌^◌, ◌-◌, min, Bool, true, false, not, ◌&&◌, List, ◌++◌, map, Option, Some, None, option_map, codes, if◌then◌else◌}
+use Rattle.std.specs.Prelude.{◌≡◌, ℕ, ◌+◌, ◌^◌, ◌-◌, min, Bool, true, false, not, ◌&&◌, List, map, Option, Some, None, option_map, codes, if◌then◌else◌}
 use Rattle.std.specs.Cmp.Lexicographic.{slice_cmp}
 use Rattle.std.specs.List.Sorted.{IsStrictlySortedBy}
 use Rattle.std.specs.Map.{lookup}
@@ -42,12 +42,6 @@ is_attachment part disposition name = is_leaf part && describes_attachment dispo
 abbrev pub is_read : Tree → Option Kind → Bool
 is_read part disposition =
     not (is_attachment_disposition disposition) && is_leaf part && has_prefix (codes "text/") (text_type_of part)
-
--- the path of a part of a mail that is inside the part with the path `inside`, or in none: the mail inside, if it has
--- parts, has the path of that part and `.0`, so that no two parts have one path
-abbrev pub path_shown : Option (List ℕ) → List ℕ → List ℕ
-path_shown None path = path
-path_shown (Some inside) path = if bytes_eq path inside then path ++ codes ".0" else path
 
 -- an offset in the input, by the start of the mail in which it is counted; none, if that mail is encoded
 abbrev pub place_in : Option ℕ → ℕ → Option ℕ

@@ -25,6 +25,7 @@ use Rattle.mail_data.specs.lenient.Refused.{kept_for}
 use Rattle.mail_data.specs.lenient.Texts.{text_read}
 use Rattle.mail_data.specs.lenient.Values.{header_text}
 use Rattle.mail_check.specs.Findings.{Finding}
+use Rattle.mail_check.specs.Inside.{path_shown}
 use Rattle.mail_check.specs.Names.{class_text, sentence_of, text_of}
 use Rattle.mail_check.specs.Reading.{mail_findings}
 use Rattle.mail_address.specs.Addresses.{Element, Single, single, group}
@@ -39,7 +40,7 @@ use Rattle.mail_data.specs.InnerMails.{InnerMail, places_under}
 use Rattle.mail_data.specs.Reading.{mail_placements}
 use Rattle.mail_json.specs.Inside.{Listed, mails_among, mails_inside, parts_inside, without_bytes}
 use Rattle.mail_json.specs.Origin.{Origin}
-use Rattle.mail_json.specs.Part.{Lists, content_if, hash_of, html_shown, is_attachment, is_read, path_shown, place_in, recipients_if, report_if, text_shown}
+use Rattle.mail_json.specs.Part.{Lists, content_if, hash_of, html_shown, is_attachment, is_read, place_in, recipients_if, report_if, text_shown}
 use Rattle.mail_json.specs.TextFiles.{ListedFile, files_if}
 use Rattle.mail_json.specs.Options.{Options}
 use Rattle.mail_json.specs.Reports.{delivery_value}

@@ -15,8 +15,8 @@ use Rattle.mail_data.specs.PartPlaces.{Place}
 use Rattle.mail_check.specs.Bodies.{is_base64_lines}
 use Rattle.mail_check.specs.HiddenBits.{hidden_bits}
 use Rattle.mail_check.specs.Bytes.{earlier, first_byte, first_offset, is_bad_escape, is_control, is_end_blank, is_escaped_end, is_high, is_lone_return, is_nul, mixed_line_end}
-use Rattle.mail_check.specs.Findings.{Finding, Spot, block_findings, body_findings, byte_findings, delimiter_findings, encoded_findings, finding_at, has_none, header_findings, is_far, is_single, file_line, first_findings}
-use Rattle.mail_check.specs.Findings.{line_findings, listed, listed_if, message_findings, multipart_findings, parameter_findings, part_findings, quoted_findings, file_findings, name_findings, repeated, sender_findings, strict_findings, word_findings, worded_findings}
+use Rattle.mail_check.specs.Findings.{Finding, Spot, block_findings, body_findings, byte_findings, delimiter_findings, encoded_findings, extended_name, finding_at, has_none, header_findings, is_far, is_single, file_line, first_findings}
+use Rattle.mail_check.specs.Findings.{line_findings, listed, listed_if, message_findings, multipart_findings, parameter_findings, part_findings, quoted_findings, file_findings, name_findings, repeated, sender_findings, strict_findings, word_findings, word_name, worded_findings}
 use Rattle.mail_check.specs.Findings.{spot_in, spot_of_body, type_findings, value_findings}
 use Rattle.mail_check.specs.FileNames.{has_two_names, has_unsafe_name, has_untyped_name}
 use Rattle.mail_check.specs.LineTests.{first_line, is_long_line}
@@ -74,11 +74,11 @@ on_line spot size line =
     (both spot.path _ _ (on_listed_if spot name.BlankFold (has_blank_fold line))
     (both spot.path _ _ (on_listed_if spot name.CommentFold (has_comment_fold line)) (on_listed_if spot name.Header8bit (has_high_value line)))))
 
-on_value : (spot : Spot) (bytes : List ℕ) → On spot.path (value_findings spot bytes)
-on_value spot bytes =
+on_value : (spot : Spot) (line : HeaderLine) (bytes : List ℕ) → On spot.path (value_findings spot line bytes)
+on_value spot line bytes =
     both spot.path _ _ (on_listed_if spot name.QuotedSpecial (has_quoted_special bytes))
     (both spot.path _ _ (on_listed_if spot name.QuotedPair (has_quoted_pair bytes))
-    (both spot.path _ _ (on_listed_if spot name.ExtendedParameter (has_extended bytes)) (on_listed_if spot name.WordParameter (has_word bytes))))
+    (both spot.path _ _ (on_listed_if spot (extended_name line) (has_extended bytes)) (on_listed_if spot (word_name line) (has_word bytes))))
 
 on_names : (spot : Spot) (line : HeaderLine) (names : List (List ℕ)) → On spot.path (name_findings spot line names)
 on_names spot line names =
@@ -86,7 +86,7 @@ on_names spot line names =
 
 on_strict : (spot : Spot) (line : HeaderLine) (value : Option (List ℕ)) → On spot.path (strict_findings spot line value)
 on_strict spot line None = none spot.path
-on_strict spot line (Some bytes) = both spot.path _ _ (on_value spot bytes) (on_names spot line (parameter_names bytes))
+on_strict spot line (Some bytes) = both spot.path _ _ (on_value spot line bytes) (on_names spot line (parameter_names bytes))
 
 on_parameters : (spot : Spot) (line : HeaderLine) → On spot.path (parameter_findings spot line)
 on_parameters spot line = both spot.path _ _ (on_listed_if spot name.TypeSyntax (is_bad_value line)) (on_strict spot line (strict_value line))

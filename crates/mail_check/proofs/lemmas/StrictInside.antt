@@ -37,10 +37,10 @@ within_read known greatest most bytes t e =
 
 -- ---- the places of a mail inside
 
-moved_parts : (start : ℕ) (found : List Place)
-    → map (λ (p : Place). p.part) (map (moved start) found) ≡ map (λ (p : Place). p.part) found
-moved_parts start [] = refl
-moved_parts start (p ∷ found) = ap (λ (ts : List Tree). p.part ∷ ts) (moved_parts start found)
+moved_parts : (outer : Place) (found : List Place)
+    → map (λ (p : Place). p.part) (map (moved outer) found) ≡ map (λ (p : Place). p.part) found
+moved_parts outer [] = refl
+moved_parts outer (p ∷ found) = ap (λ (ts : List Tree). p.part ∷ ts) (moved_parts outer found)
 
 under_there : (known : Charsets) (bytes : List ℕ) (t : Tree) → read_mail_in known 100 bytes ≡ Ok t → (path : List ℕ)
     → AreThere bytes t (places_under path t (placements 0 t))
@@ -52,7 +52,7 @@ inner_there : (known : Charsets) (place : Place) (bytes : List ℕ) (t : Tree) �
 inner_there known place bytes t e =
     let under = under_there known bytes t (within_read known 100 1000000 bytes t e) place.path in
     record {
-      parts = moved_parts place.placement.body.start (places_under place.path t (placements 0 t)) ∙ under.parts;
+      parts = moved_parts place (places_under place.path t (placements 0 t)) ∙ under.parts;
       whole = under.whole;
       each = under.each;
     }

@@ -16,7 +16,7 @@ use Rattle.mail_check.specs.Bodies.{is_base64_lines}
 use Rattle.mail_check.specs.Bytes.{first_byte, first_offset, is_bad_escape, is_blank_fold, is_comment_fold, is_control}
 use Rattle.mail_check.specs.Bytes.{is_end_blank, is_escaped_end}
 use Rattle.mail_check.specs.FileNames.{lacks_type}
-use Rattle.mail_check.specs.Findings.{findings_from, has_none}
+use Rattle.mail_check.specs.Findings.{extended_name, findings_from, has_none, word_name}
 use Rattle.mail_check.specs.Lines.{HeaderLine, header_lines, lines_from, second_named}
 use Rattle.mail_check.specs.Multiparts.{dash_of, is_inside, is_tailed}
 use Rattle.mail_check.specs.strict.Bodies.{HasStrictBody, IsEncoded}
@@ -34,7 +34,7 @@ use Rattle.mail_check.specs.strict.Named.{is_part_name, is_text_name, is_word_na
 use Rattle.mail_check.specs.strict.PlainParameters.{HasPlainValue}
 use Rattle.mail_check.specs.strict.Texts.{HasStrictText}
 use Rattle.mail_check.specs.strict.Worded.{HasSenderValue, HasWordedValue}
-use Rattle.mail_check.specs.Parameters.{is_bad_value, strict_value}
+use Rattle.mail_check.specs.Parameters.{is_bad_value, is_type, strict_value}
 use Rattle.mail_check.specs.declared.names.Name.{Name}
 use Rattle.mail_check.specs.declared.names.Name.TheVariants as name
 use Rattle.mailparse.proofs.lemmas.Block.{read_headers-bounded}
@@ -60,7 +60,7 @@ use Rattle.mail_check.proofs.lemmas.StrictNamed.{BlockLacks, BodyLacks, BytesLac
 use Rattle.mail_check.proofs.lemmas.StrictNamed.{FieldsLack, FilesLack, LineLacks, MailLacks, MessageLacks, NamesLack}
 use Rattle.mail_check.proofs.lemmas.StrictNamed.{ParametersLack, PartsLack, SenderLacks, TypeLacks, all_found, all_free}
 use Rattle.mail_check.proofs.lemmas.StrictNamed.{all_map, block_free, body_free, bytes_free, far_free, far_lacks, fields_free}
-use Rattle.mail_check.proofs.lemmas.StrictNamed.{files_free, found_all, lacks_some, own_fields_free, parameters_free}
+use Rattle.mail_check.proofs.lemmas.StrictNamed.{either_named, files_free, found_all, lacks_some, own_fields_free, parameters_free}
 use Rattle.mail_check.proofs.lemmas.StrictNamed.{parts_free, senders_free, some_lacks, text_after, text_free, words_free}
 use Rattle.mail_check.proofs.lemmas.StrictReading.{AreThere, IsRead, all_of_map, all_with, map_of_all}
 use Rattle.mail_check.proofs.lemmas.StrictTexts.{text_strict}
@@ -186,17 +186,23 @@ strict_fields test node is h =
           (λ n most. one_most n node.headers most (header_lines node) same) once_names h.once;
     }
 
+extended_parameter : (line : HeaderLine) → is_parameter_name (extended_name line) ≡ true
+extended_parameter line = either_named is_parameter_name (is_type line) name.TypeExtended name.ExtendedParameter refl refl
+
+word_parameter : (line : HeaderLine) → is_parameter_name (word_name line) ≡ true
+word_parameter line = either_named is_parameter_name (is_type line) name.TypeWord name.WordParameter refl refl
+
 -- the types and dispositions of one message, if all names of them are asked for
 module _ (test : Name → Bool) (asked : (n : Name) → is_parameter_name n ≡ true → test n ≡ true) where
   plain_line : (ctype : ContentType) (line : HeaderLine) → TypeLacks test ctype line → ParametersLack test line
       → HasPlainValue (of_line line)
   plain_line ctype line h k = found_plain line (h.syntax (asked name.TypeSyntax refl)) (λ text e.
-      let lacks = some_lacks test (strict_value line) k text e in
+      let lacks = some_lacks test line (strict_value line) k text e in
       record {
         special = lacks.special (asked name.QuotedSpecial refl);
         pair = lacks.pair (asked name.QuotedPair refl);
-        extended = lacks.extended (asked name.ExtendedParameter refl);
-        word = lacks.word (asked name.WordParameter refl);
+        extended = lacks.extended (asked (extended_name line) (extended_parameter line));
+        word = lacks.word (asked (word_name line) (word_parameter line));
         repeats = lacks.repeats (asked name.DuplicateParameter refl);
       })
 
@@ -211,7 +217,7 @@ line_plain : (test : Name → Bool) (line : HeaderLine) → HasPlainValue (of_li
 line_plain test line h =
     let found = plain_found line h in (
       found.0,
-      lacks_some test (strict_value line) (λ text e.
+      lacks_some test line (strict_value line) (λ text e.
           let lacks = found.1 text e in
           record {
             special = λ e. lacks.special;

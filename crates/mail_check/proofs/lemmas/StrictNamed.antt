@@ -17,13 +17,13 @@ use Rattle.mail_data.specs.PartPlaces.{Place, placed, places}
 use Rattle.mail_check.specs.Bytes.{earlier, first_byte, first_offset, is_bad_escape, is_control, is_end_blank, is_escaped_end, is_high, is_lone_return, is_nul, mixed_line_end}
 use Rattle.mail_check.specs.HiddenBits.{hidden_bits}
 use Rattle.mail_check.specs.Bodies.{is_base64_lines}
-use Rattle.mail_check.specs.Findings.{Finding, Spot, block_findings, body_findings, byte_findings, encoded_findings, file_findings, findings, findings_from, first_findings, has_none, header_findings, is_far, is_single}
-use Rattle.mail_check.specs.Findings.{leaf_findings, line_findings, listed, listed_if, multipart_findings, parameter_findings, repeated, repeated_findings, sender_findings, spot_in, file_line, spot_of_body, strict_findings, text_findings, type_findings, value_findings, worded_findings}
+use Rattle.mail_check.specs.Findings.{Finding, Spot, block_findings, body_findings, byte_findings, encoded_findings, extended_name, file_findings, findings, findings_from, first_findings, has_none, header_findings, is_far, is_single}
+use Rattle.mail_check.specs.Findings.{leaf_findings, line_findings, listed, listed_if, multipart_findings, parameter_findings, repeated, repeated_findings, sender_findings, spot_in, file_line, spot_of_body, strict_findings, text_findings, type_findings, value_findings, word_name, worded_findings}
 use Rattle.mail_check.specs.FileNames.{has_two_names, has_unsafe_name, has_untyped_name}
 use Rattle.mail_check.specs.Texts.{has_bad_text}
 use Rattle.mail_check.specs.LineTests.{first_line, is_long_line}
 use Rattle.mail_check.specs.Lines.{HeaderLine, ends_block, has_blank_fold, has_comment_fold, has_high_value, header_lines, is_bad_encoding, is_bad_key, is_composite, is_encoding, is_named, is_other_message, second_named, single_names}
-use Rattle.mail_check.specs.Parameters.{has_extended, has_other_name, has_quoted_pair, has_quoted_special, has_repeat, has_word, is_bad_value, none_seen, parameter_names, strict_value}
+use Rattle.mail_check.specs.Parameters.{has_extended, has_other_name, has_quoted_pair, has_quoted_special, has_repeat, has_word, is_bad_value, is_type, none_seen, parameter_names, strict_value}
 use Rattle.mail_check.specs.Multiparts.{dash_of, is_bad_boundary, is_close, is_inside, is_tailed, late_delimiter}
 use Rattle.mail_check.specs.strict.Named.{Lacks, group_of, is_block_name, is_body_name, is_core, is_field_name, is_line_name, is_part_name, is_text_name}
 use Rattle.mail_check.specs.strict.Senders.{IsSenderValue}
@@ -56,34 +56,34 @@ pub record TypeLacks (test : Name → Bool) (ctype : ContentType) (line : Header
   pub message : test name.OtherMessage ≡ true → (is_named (codes "Content-Type") line && is_other_message ctype) ≡ false
   pub boundary : test name.BadBoundary ≡ true → (is_named (codes "Content-Type") line && is_bad_boundary ctype) ≡ false
 
--- nor has the text of a value that has the syntax that all programs know
-pub record TextLacks (test : Name → Bool) (text : List ℕ) : Type 0 where
+-- nor has the text of its value, if that has the syntax that all programs know
+pub record TextLacks (test : Name → Bool) (line : HeaderLine) (text : List ℕ) : Type 0 where
   pub special : test name.QuotedSpecial ≡ true → has_quoted_special text ≡ false
   pub pair : test name.QuotedPair ≡ true → has_quoted_pair text ≡ false
-  pub extended : test name.ExtendedParameter ≡ true → has_extended text ≡ false
-  pub word : test name.WordParameter ≡ true → has_word text ≡ false
+  pub extended : test (extended_name line) ≡ true → has_extended text ≡ false
+  pub word : test (word_name line) ≡ true → has_word text ≡ false
   pub repeats : test name.DuplicateParameter ≡ true → has_repeat none_seen (parameter_names text) ≡ false
 
 -- if there is one
-abbrev pub SomeLacks : (Name → Bool) → Option (List ℕ) → Type 0
-SomeLacks test None = ⊤
-SomeLacks test (Some text) = TextLacks test text
+abbrev pub SomeLacks : (Name → Bool) → HeaderLine → Option (List ℕ) → Type 0
+SomeLacks test line None = ⊤
+SomeLacks test line (Some text) = TextLacks test line text
 
-pub some_lacks : (test : Name → Bool) (value : Option (List ℕ)) → SomeLacks test value → (text : List ℕ) → value ≡ Some text
-    → TextLacks test text
-some_lacks test None h text e = absurd (cc)
-some_lacks test (Some other) h text e =
+pub some_lacks : (test : Name → Bool) (line : HeaderLine) (value : Option (List ℕ)) → SomeLacks test line value → (text : List ℕ)
+    → value ≡ Some text → TextLacks test line text
+some_lacks test line None h text e = absurd (cc)
+some_lacks test line (Some other) h text e =
     let same : other ≡ text = cc in
-    subst (TextLacks test) same h
+    subst (TextLacks test line) same h
 
-pub lacks_some : (test : Name → Bool) (value : Option (List ℕ)) → ((text : List ℕ) → value ≡ Some text → TextLacks test text)
-    → SomeLacks test value
-lacks_some test None f = tt
-lacks_some test (Some text) f = f text refl
+pub lacks_some : (test : Name → Bool) (line : HeaderLine) (value : Option (List ℕ))
+    → ((text : List ℕ) → value ≡ Some text → TextLacks test line text) → SomeLacks test line value
+lacks_some test line None f = tt
+lacks_some test line (Some text) f = f text refl
 
 -- nor has that of a header
 abbrev pub ParametersLack : (Name → Bool) → HeaderLine → Type 0
-ParametersLack test line = SomeLacks test (strict_value line)
+ParametersLack test line = SomeLacks test line (strict_value line)
 
 -- nor have the names of its parameters
 abbrev pub NamesLack : (Name → Bool) → HeaderLine → Type 0
@@ -277,13 +277,13 @@ module _ (known : Charsets) (test : Name → Bool) (others : (n : Name) → is_c
       (false_listed test spot name.BadBoundary (is_named (codes "Content-Type") line && is_bad_boundary ctype) h.boundary)))
 
   some_lack : (spot : Spot) (line : HeaderLine) (value : Option (List ℕ)) → Lacks test (strict_findings spot line value)
-      → SomeLacks test value
+      → SomeLacks test line value
   some_lack spot line None h = tt
   some_lack spot line (Some text) h =
       let special = listed_if spot name.QuotedSpecial (has_quoted_special text) in
       let pair = listed_if spot name.QuotedPair (has_quoted_pair text) in
-      let extended = listed_if spot name.ExtendedParameter (has_extended text) in
-      let word = listed_if spot name.WordParameter (has_word text) in
+      let extended = listed_if spot (extended_name line) (has_extended text) in
+      let word = listed_if spot (word_name line) (has_word text) in
       let repeats = listed_if spot name.DuplicateParameter (has_repeat none_seen (parameter_names text)) in
       let names = repeats ++ listed_if spot name.TwoNames (has_other_name line (parameter_names text)) in
       let own = lacks_left test (special ++ (pair ++ (extended ++ word))) names h in
@@ -293,8 +293,8 @@ module _ (known : Charsets) (test : Name → Bool) (others : (n : Name) → is_c
       record {
         special = listed_false test spot name.QuotedSpecial _ (lacks_left test special (pair ++ (extended ++ word)) own);
         pair = listed_false test spot name.QuotedPair _ (lacks_left test pair (extended ++ word) first);
-        extended = listed_false test spot name.ExtendedParameter _ (lacks_left test extended word second);
-        word = listed_false test spot name.WordParameter _ (lacks_right test extended word second);
+        extended = listed_false test spot (extended_name line) _ (lacks_left test extended word second);
+        word = listed_false test spot (word_name line) _ (lacks_right test extended word second);
         repeats = listed_false test spot name.DuplicateParameter _
             (lacks_left test repeats (listed_if spot name.TwoNames (has_other_name line (parameter_names text))) later);
       }
@@ -308,9 +308,9 @@ module _ (known : Charsets) (test : Name → Bool) (others : (n : Name) → is_c
       let names = listed_if spot name.TwoNames (has_other_name line (parameter_names other)) in
       subst (λ (xs : List ℕ). has_other_name line (parameter_names xs) ≡ false) same
       (listed_false test spot name.TwoNames (has_other_name line (parameter_names other))
-      (lacks_right test repeats names (lacks_right test (value_findings spot other) (repeats ++ names) h)) t)
+      (lacks_right test repeats names (lacks_right test (value_findings spot line other) (repeats ++ names) h)) t)
 
-  lack_some : (spot : Spot) (line : HeaderLine) (value : Option (List ℕ)) → SomeLacks test value
+  lack_some : (spot : Spot) (line : HeaderLine) (value : Option (List ℕ)) → SomeLacks test line value
       → ((text : List ℕ) → value ≡ Some text → test name.TwoNames ≡ true → has_other_name line (parameter_names text) ≡ false)
       → Lacks test (strict_findings spot line value)
   lack_some spot line None h names = tt
@@ -318,8 +318,8 @@ module _ (known : Charsets) (test : Name → Bool) (others : (n : Name) → is_c
       both _ _
       (both _ _ (false_listed test spot name.QuotedSpecial (has_quoted_special text) h.special)
       (both _ _ (false_listed test spot name.QuotedPair (has_quoted_pair text) h.pair)
-      (both _ _ (false_listed test spot name.ExtendedParameter (has_extended text) h.extended)
-      (false_listed test spot name.WordParameter (has_word text) h.word))))
+      (both _ _ (false_listed test spot (extended_name line) (has_extended text) h.extended)
+      (false_listed test spot (word_name line) (has_word text) h.word))))
       (both _ _ (false_listed test spot name.DuplicateParameter (has_repeat none_seen (parameter_names text)) h.repeats)
       (false_listed test spot name.TwoNames (has_other_name line (parameter_names text)) (names text refl)))
 
@@ -756,6 +756,11 @@ module _ (known : Charsets) (test : Name → Bool) (others : (n : Name) → is_c
 not_asked : (test : Name → Bool) (n : Name) → test n ≡ false → {A : Type 0} → test n ≡ true → A
 not_asked test n other h = absurd (cc)
 
+-- one of two names
+pub either_named : (test : Name → Bool) (is : Bool) (n m : Name) → test n ≡ true → test m ≡ true → test (if is then n else m) ≡ true
+either_named test true n m h k = h
+either_named test false n m h k = k
+
 pub bytes_free : (test : Name → Bool) → ((n : Name) → is_line_name n ≡ true → test n ≡ false) → (bytes : List ℕ) → BytesLack test bytes
 bytes_free test free bytes = record {
   nul = not_asked test name.Nul (free name.Nul refl);
@@ -798,11 +803,13 @@ fields_free test free node =
 pub parameters_free : (test : Name → Bool) → ((n : Name) → of_parameters (group_of n) ≡ true → test n ≡ false) → (node : Node)
     → AllByRecursion (ParametersLack test) (header_lines node)
 parameters_free test free node =
-    all_free (ParametersLack test) (λ line. lacks_some test (strict_value line) (λ text e. record {
+    all_free (ParametersLack test) (λ line. lacks_some test line (strict_value line) (λ text e. record {
       special = not_asked test name.QuotedSpecial (free name.QuotedSpecial refl);
       pair = not_asked test name.QuotedPair (free name.QuotedPair refl);
-      extended = not_asked test name.ExtendedParameter (free name.ExtendedParameter refl);
-      word = not_asked test name.WordParameter (free name.WordParameter refl);
+      extended = not_asked test (extended_name line) (free (extended_name line)
+          (either_named (λ n. of_parameters (group_of n)) (is_type line) name.TypeExtended name.ExtendedParameter refl refl));
+      word = not_asked test (word_name line) (free (word_name line)
+          (either_named (λ n. of_parameters (group_of n)) (is_type line) name.TypeWord name.WordParameter refl refl));
       repeats = not_asked test name.DuplicateParameter (free name.DuplicateParameter refl);
     })) (header_lines node)
 

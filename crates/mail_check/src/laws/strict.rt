@@ -62,8 +62,8 @@ pub fn fields_are_strict()
 {}
 
 /// A mail that the port reads has no finding `type-syntax`, `quoted-special`, `quoted-pair`,
-/// `extended-parameter`, `word-parameter` and `duplicate-parameter` exactly if the value of each
-/// `Content-Type` and `Content-Disposition` of each of its messages is plain by the grammar: its
+/// `extended-parameter`, `type-extended`, `word-parameter`, `type-word` and `duplicate-parameter`
+/// exactly if the value of each `Content-Type` and `Content-Disposition` of each of its messages is plain by the grammar: its
 /// parameters have different names without asterisks, each value is a token, or a text in quotes
 /// without backslashes, semicolons, control characters and outer spaces, and `=?` is nowhere.
 #[tactic(auto, using(crate::proofs::lemmas::StrictMails::parameters_are_of_grammar))]
@@ -73,7 +73,7 @@ pub fn parameters_are_strict()
         Lacks is_parameter_name (findings known t (placements 0 t)) ↔ AreStrictParameters t }
 {}
 
-/// A mail that the port reads has no finding `no-type`, `two-names` or one of the six names of
+/// A mail that the port reads has no finding `no-type`, `two-names` or one of the eight names of
 /// `parameters_are_strict` exactly if the values of types and dispositions are plain, no type has a
 /// parameter `filename`, no disposition a parameter `name`, and each message whose disposition has a
 /// `filename` has no other `name` in its type, and a `Content-Type` if that `filename` is not blank.

@@ -18,7 +18,8 @@ use Rattle.mailparse.specs.Views.{kind, tree_of}
 use Rattle.mail_data.specs.lenient.Content.{Content}
 use Rattle.mail_data.specs.lenient.ContentViews.{content_view}
 use Rattle.mail_data.specs.lenient.Encoding.{lenient_body_kind}
-use Rattle.mail_json.specs.Part.{Lists, content_if, hash_of, is_attachment, is_read, path_shown}
+use Rattle.mail_check.specs.Inside.{path_shown}
+use Rattle.mail_json.specs.Part.{Lists, content_if, hash_of, is_attachment, is_read}
 use Rattle.mail_json.specs.Printed.{list_of, number_value, object_of, string_or_null, text_of}
 use Rattle.mail_json.specs.TextFiles.{files_if}
 use Rattle.mail_json.specs.Values.{IsPartValue, body_members, disposition_members, decoded_members, files_value, header_value, part_members, report_value}
