@@ -19,6 +19,7 @@ pub mod RangeTree
 pub mod Placement
 pub mod Manners
 pub mod LenientAgreement
+pub mod BareKeys
 pub mod RenderViews
 pub mod RenderConditions
 pub mod RenderHeaders

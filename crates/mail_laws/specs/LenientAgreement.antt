@@ -1,9 +1,10 @@
 -- Which mails need no lenient reading; the project's own terms.
 use Rattle.std.specs.Prelude.{ℕ, Bool, true, not, ◌&&◌, List, [], ◌∷◌, length, drop, codes}
+use Rattle.std.specs.List.{list_all}
 use Rattle.std.specs.Option.{option_map_or}
 use Rattle.std.specs.Str.{bytes_eq}
 use Rattle.mail_codec.specs.Charset.{Charsets}
-use Rattle.mailparse.specs.Block.{header_lines_end, is_dash_line}
+use Rattle.mailparse.specs.Block.{bare_key, header_lines_end, is_dash_line}
 use Rattle.mailparse.specs.Delimiters.{Cut}
 use Rattle.mailparse.specs.Header.{Header}
 use Rattle.mailparse.specs.Mail.{Node, Tree, tree, Forest, no_parts, part_and, cut_of, cut_of_as}
@@ -29,6 +30,14 @@ has_whole_delimiters node =
 abbrev pub has_no_dash_line : Node → Bool
 has_no_dash_line node = not (is_dash_line (drop (header_lines_end node.bytes) node.bytes))
 
+-- no key of these headers ends in a blank
+abbrev pub has_bare_keys : List Header → Bool
+has_bare_keys headers = list_all (λ h. bytes_eq (bare_key h.key) h.key) headers
+
+-- its headers are read as they are, and from all its bytes
+abbrev pub has_strict_headers : Node → Bool
+has_strict_headers node = has_bare_keys node.headers && has_no_dash_line node
+
 -- Under the charsets that are known.
 module _ (known : Charsets) where
   -- the first `Content-Type` of these headers, if there is one, needs no lenient reading
@@ -38,7 +47,7 @@ module _ (known : Charsets) where
 
   -- a message needs no lenient reading
   abbrev pub is_strict_message : Node → Bool
-  is_strict_message node = has_strict_type node.headers && (has_whole_delimiters node && has_no_dash_line node)
+  is_strict_message node = has_strict_type node.headers && (has_whole_delimiters node && has_strict_headers node)
 
   abbrev mutual
     -- nor does it or any of its parts

@@ -13,7 +13,7 @@ use Rattle.mailparse.specs.Delimiters.{Cut}
 use Rattle.mailparse.specs.Mail.{Node, Tree, tree, Forest, no_parts, part_and, cut_of_as, is_digest, strict}
 use Rattle.mailparse.specs.Placement.{Placement}
 use Rattle.mailparse.specs.Ranges.{Range, Apart, moved, slice}
-use Rattle.mail_laws.specs.Spans.{key_range, value_range}
+use Rattle.mail_laws.specs.Spans.{key_range_as, value_range}
 
 -- the ranges of the key and the value of a header
 pub record HeaderRanges : Type 0 where
@@ -77,20 +77,25 @@ read_there mail ranges = do
 
 -- ---- the reading
 
--- the ranges of the headers that are read from bytes at this place of the mail
-abbrev pub headers_at : ℕ → List ℕ → List HeaderRanges
-headers_at place bytes =
-    values_below (header_count bytes) (λ j. record { key = moved place (key_range bytes j); value = moved place (value_range bytes j) })
+-- In this manner headers are read leniently, or not.
+module _ (lenient : Bool) where
+  -- the ranges of the header with this number in bytes at this place of the mail
+  abbrev pub header_ranges : ℕ → List ℕ → ℕ → HeaderRanges
+  header_ranges place bytes j = record { key = moved place (key_range_as lenient bytes j); value = moved place (value_range bytes j) }
 
--- the message at this range, with the bytes that its headers are read from, this block, this type and this cut
-abbrev pub range_node : Range → List ℕ → HeaderList → ContentType → Cut → RangeNode
-range_node whole bytes block ctype cut = record {
-  whole = whole;
-  block = moved whole.start (record { start = 0; end = block.index });
-  headers = headers_at whole.start bytes;
-  ctype = ctype;
-  body = moved whole.start cut.body;
-}
+  -- those of all headers
+  abbrev pub headers_at : ℕ → List ℕ → List HeaderRanges
+  headers_at place bytes = values_below (header_count bytes) (header_ranges place bytes)
+
+  -- the message at this range with these bytes, this block, this type and this cut
+  abbrev pub range_node : Range → List ℕ → HeaderList → ContentType → Cut → RangeNode
+  range_node whole bytes block ctype cut = record {
+    whole = whole;
+    block = moved whole.start (record { start = 0; end = block.index });
+    headers = headers_at whole.start (header_part lenient bytes);
+    ctype = ctype;
+    body = moved whole.start cut.body;
+  }
 
 -- what is read at each range, in order; the first refusal refuses all
 abbrev pub range_each : (Range → Reads RangeTree) → List Range → Reads RangeForest
@@ -120,7 +125,7 @@ module _ (manner : Manner) (mail : List ℕ) where
   range_parts read whole block ctype = do
     let cut = cut_of_as manner.whole_lines ctype (slice mail whole) block.index
     parts ← range_each (read (is_digest ctype)) (map (moved whole.start) cut.parts)
-    Ok (range_tree (range_node whole (header_part manner.lenient_headers (slice mail whole)) block ctype cut) parts)
+    Ok (range_tree (range_node manner.lenient_headers whole (slice mail whole) block ctype cut) parts)
 
   -- the message at this range, if its own level is left
   abbrev pub range_message : (Bool → Range → Reads RangeTree) → Bool → Range → Reads RangeTree

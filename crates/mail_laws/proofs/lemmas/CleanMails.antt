@@ -40,10 +40,11 @@ use Rattle.mail_check.proofs.lemmas.StrictHeaders.{all_head, all_tail, are_true,
 use Rattle.mail_check.proofs.lemmas.StrictKeys.{lines_are_headers, of_line}
 use Rattle.mail_check.proofs.lemmas.StrictMails.{mail_strict}
 use Rattle.mail_check.proofs.lemmas.StrictReading.{IsRead, all_joined, all_of_map, all_with, mail-there, map_of_all}
-use Rattle.mail_laws.specs.LenientAgreement.{are_strict, has_no_dash_line, has_strict_type, has_whole_delimiters}
-use Rattle.mail_laws.specs.LenientAgreement.{is_strict_mail, is_strict_message, offsets}
+use Rattle.mail_laws.specs.LenientAgreement.{are_strict, has_bare_keys, has_no_dash_line, has_strict_headers, has_strict_type}
+use Rattle.mail_laws.specs.LenientAgreement.{has_whole_delimiters, is_strict_mail, is_strict_message, offsets}
 use Rattle.mail_laws.proofs.lemmas.FlatPairs.{all_both, is_low, low_ascii}
 use Rattle.mail_laws.proofs.lemmas.FoldedTypes.{plain_type_strict}
+use Rattle.mail_laws.proofs.lemmas.BareKeys.{block_bare}
 use Rattle.mail_laws.proofs.lemmas.HeaderLines.{block_undashed}
 use Rattle.mail_laws.proofs.lemmas.LenientAgreement.{strict-mails-agree}
 use Rattle.mail_laws.proofs.lemmas.PlainValues.{type_meant}
@@ -287,20 +288,31 @@ module _ (known : Charsets) where
       let ranges : Cut → List ℕ = λ cut. offsets (cut.body ∷ cut.parts) in
       (bytes_eq-Decides (ranges (cut_of_as true ctype bytes i)) (ranges (cut_of ctype bytes i))).1 (ap ranges same)
 
+  -- its header block, and the bytes after it
+  whole_bytes : (t : Tree) → (is : IsClean t) → (root t).block ++ drop is.read.index (root t).bytes ≡ (root t).bytes
+  whole_bytes t is =
+      ap (λ (xs : List ℕ). xs ++ drop is.read.index (root t).bytes) is.read.block ∙ take-append-drop is.read.index (root t).bytes
+
+  bare_keys : (t : Tree) → IsClean t → has_bare_keys (root t).headers ≡ true
+  bare_keys t is =
+      let node = root t in
+      block_bare node.block (drop is.read.index node.bytes) node.headers is.read.index is.block
+      (ap read_headers (whole_bytes t is) ∙ is.read.headers)
+
   no_dash_line : (t : Tree) → IsClean t → has_no_dash_line (root t) ≡ true
   no_dash_line t is =
       let node = root t in
-      let whole : node.block ++ drop is.read.index node.bytes ≡ node.bytes =
-      ap (λ (xs : List ℕ). xs ++ drop is.read.index node.bytes) is.read.block ∙ take-append-drop is.read.index node.bytes in
+      let whole = whole_bytes t is in
       is_not (is_dash_line (drop (header_lines_end node.bytes) node.bytes))
       (subst (λ (xs : List ℕ). is_dash_line (drop (header_lines_end xs) xs) ≡ false) whole
       (block_undashed node.block (drop is.read.index node.bytes) is.block))
 
   message_strict : (t : Tree) → IsClean t → is_strict_message known (root t) ≡ true
   message_strict t is =
-      are_true (has_strict_type known (root t).headers) (has_whole_delimiters (root t) && has_no_dash_line (root t))
+      are_true (has_strict_type known (root t).headers) (has_whole_delimiters (root t) && has_strict_headers (root t))
       (type_is_strict t is)
-      (are_true (has_whole_delimiters (root t)) (has_no_dash_line (root t)) (whole_delimiters t is) (no_dash_line t is))
+      (are_true (has_whole_delimiters (root t)) (has_strict_headers (root t)) (whole_delimiters t is)
+      (are_true (has_bare_keys (root t).headers) (has_no_dash_line (root t)) (bare_keys t is) (no_dash_line t is)))
 
   -- ---- all messages
 

@@ -1,11 +1,13 @@
 -- Mails that need no lenient reading are read leniently as the port reads them.
-use Rattle.std.proofs.Common.{◌≡◌, ℕ, Bool, true, not, ◌&&◌, List, [], ◌∷◌, length, drop, Option, Some, None, Ok, refl}
+use Rattle.std.proofs.Common.{◌≡◌, ℕ, Bool, true, not, ◌&&◌, List, [], ◌∷◌, length, drop, map, Option, Some, None, Ok, refl, ap, ◌∙◌}
+use Rattle.std.specs.List.{list_all}
 use Rattle.std.specs.Option.{option_map_or}
+use Rattle.std.specs.Str.{bytes_eq}
 use Rattle.std.specs.Prelude.{codes}
 use Rattle.std.proofs.lemmas.Bool.{and_parts, cond-false, not-true}
 use Rattle.std.proofs.lemmas.Slice.Eq.{bytes_eq-Decides}
 use Rattle.mail_codec.specs.Charset.{Charsets}
-use Rattle.mailparse.specs.Block.{before_dash_line, header_lines_end, is_dash_line}
+use Rattle.mailparse.specs.Block.{bare_header, bare_key, before_dash_line, header_lines_end, is_dash_line}
 use Rattle.mailparse.specs.ContentType.{content_type_in}
 use Rattle.mailparse.specs.Delimiters.{Cut}
 use Rattle.mailparse.specs.Header.{Header}
@@ -16,7 +18,7 @@ use Rattle.mailparse.specs.Value.{lenient_value_in}
 use Rattle.mail_data.specs.lenient.Agreement.{is_strict_value}
 use Rattle.mail_data.specs.lenient.Manner.{lenient, lenient_type_from, lenient_type_of}
 use Rattle.mail_data.proofs.lemmas.lenient.Agreement.{values-agree}
-use Rattle.mail_laws.specs.LenientAgreement.{offsets, is_same_cut, has_whole_delimiters, has_no_dash_line, has_strict_type, is_strict_message, is_strict_mail, are_strict}
+use Rattle.mail_laws.specs.LenientAgreement.{offsets, is_same_cut, has_whole_delimiters, has_no_dash_line, has_bare_keys, has_strict_headers, has_strict_type, is_strict_message, is_strict_mail, are_strict}
 use Rattle.mail_laws.specs.Manners.{IsReadAlike, AreReadAlike, AllReadAlike}
 use Rattle.mail_laws.proofs.lemmas.Manners.{mails-agree}
 
@@ -44,6 +46,15 @@ undashed : (bytes : List ℕ) → not (is_dash_line (drop (header_lines_end byte
 unfolding before_dash_line
 undashed bytes none = cond-false _ _ _ (not-true _ none)
 
+-- headers whose keys end in no blank
+keys-same : (headers : List Header) → has_bare_keys headers ≡ true → map bare_header headers ≡ headers
+keys-same [] bare = refl
+keys-same (h ∷ hs) bare =
+    let both = and_parts (bytes_eq (bare_key h.key) h.key) (has_bare_keys hs) bare in
+    ap (λ (key : List ℕ). let one : Header = record { key = key; value = h.value } in one ∷ map bare_header hs)
+    ((bytes_eq-Decides (bare_key h.key) h.key).0 both.0)
+    ∙ ap (λ (rest : List Header). h ∷ rest) (keys-same hs both.1)
+
 module _ (known : Charsets) where
   types-same : (in_digest : Bool) (headers : List Header) → has_strict_type known headers ≡ true
       → lenient_type_of known in_digest headers ≡ node_type known in_digest headers
@@ -58,10 +69,12 @@ module _ (known : Charsets) where
 
   message-alike : (node : Node) → is_strict_message known node ≡ true → IsReadAlike (lenient known) known node
   message-alike node strict =
-      let parts = and_parts (has_strict_type known node.headers) (has_whole_delimiters node && has_no_dash_line node) strict in
-      let others = and_parts (has_whole_delimiters node) (has_no_dash_line node) parts.1 in
+      let parts = and_parts (has_strict_type known node.headers) (has_whole_delimiters node && has_strict_headers node) strict in
+      let others = and_parts (has_whole_delimiters node) (has_strict_headers node) parts.1 in
+      let headers = and_parts (has_bare_keys node.headers) (has_no_dash_line node) others.1 in
       record {
-        headers = undashed node.bytes others.1;
+        headers = undashed node.bytes headers.1;
+        keys = keys-same node.headers headers.0;
         type = λ in_digest. types-same in_digest node.headers parts.0;
         cut = cuts-same (cut_of_as true node.ctype node.bytes (length node.block)) (cut_of node.ctype node.bytes (length node.block)) others.0;
       }

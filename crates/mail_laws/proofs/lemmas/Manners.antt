@@ -3,7 +3,8 @@ use Rattle.std.proofs.Common.{◌≡◌, ℕ, zero, suc, Bool, true, false, List
 use Rattle.std.specs.Prelude.{if◌then◌else◌}
 use Rattle.std.proofs.lemmas.List.{length-take}
 use Rattle.mail_codec.specs.Charset.{Charsets}
-use Rattle.mailparse.specs.Block.{HeaderList, read_headers}
+use Rattle.mailparse.specs.Block.{HeaderList, header_as, header_part, read_block, read_headers, with_bare_keys}
+use Rattle.mailparse.specs.Header.{Header}
 use Rattle.mailparse.specs.ContentType.{ContentType}
 use Rattle.mailparse.specs.Delimiters.{Cut}
 use Rattle.mailparse.specs.Manner.{Manner}
@@ -26,6 +27,16 @@ or_kept-ok manner bytes reading keeps = subst (λ k. IsOk (if k then kept_if_ref
 pub nothing-refused : (manner : Manner) (greatest : ℕ) (mail : List ℕ) → manner.keeps_refused ≡ true → IsOk (read_mail_as manner greatest mail)
 unfolding read_levels
 nothing-refused manner greatest mail keeps = or_kept-ok manner mail (read_message manner (read_levels manner greatest) false mail) keeps
+
+-- ---- the same headers
+
+-- those that are read from all bytes, and whose keys are the same in a manner
+block_alike : (lenient : Bool) (bytes : List ℕ) (block : HeaderList) → header_part lenient bytes ≡ bytes
+    → map (header_as lenient) block.headers ≡ block.headers → read_headers bytes ≡ Ok block → read_block lenient bytes ≡ Ok block
+block_alike false bytes block whole keys read = read
+block_alike true bytes block whole keys read =
+    ap (λ (raw : List ℕ). with_bare_keys (read_headers raw)) whole ∙ ap with_bare_keys read
+    ∙ ap (λ (hs : List Header). Ok (record { headers = hs; index = block.index })) keys
 
 -- ---- the same as the port
 
@@ -86,8 +97,8 @@ module _ (manner : Manner) (known : Charsets) where
           let cuts : cut_of_as manner.whole_lines ctype bytes block.index ≡ cut =
           subst (λ n. cut_of_as manner.whole_lines ctype bytes n ≡ cut_of ctype bytes n) front here.cut in
           let more = each-agree (read (is_digest ctype)) (other (is_digest ctype)) (agree (is_digest ctype)) (map (slice bytes) cut.parts) parts f both.1 in
-          ap (λ (raw : List ℕ). ◌>>=◌ (read_headers raw) (λ b. read_parts manner other bytes b (manner.type_of in_digest b.headers))) here.headers
-          ∙ ap (λ (r : Reads HeaderList). ◌>>=◌ r (λ b. read_parts manner other bytes b (manner.type_of in_digest b.headers))) is
+          ap (λ (r : Reads HeaderList). ◌>>=◌ r (λ b. read_parts manner other bytes b (manner.type_of in_digest b.headers)))
+          (block_alike manner.lenient_headers bytes block here.headers here.keys is)
           ∙ ap (λ (c : ContentType). read_parts manner other bytes block c) (here.type in_digest)
           ∙ ap (λ (c : Cut). read_map (tree (node_with bytes block ctype c)) (read_each (other (is_digest ctype)) (map (slice bytes) c.parts))) cuts
           ∙ ap (read_map (tree node)) more ∙ ap Ok same

@@ -8,7 +8,6 @@ use Rattle.mailparse.specs.Delimiters.{Cut}
 use Rattle.mailparse.specs.Mail.{strict, Node, Tree, cut_of_as, nodes, read_mail_as, read_mail_in, root, trees_in, trees_within}
 use Rattle.mailparse.specs.Placement.{Placement, placements, placements_as, placements_in_as}
 use Rattle.mailparse.specs.Ranges.{Range, Apart, moved, slice}
-use Rattle.mailparse.specs.Block.{header_part}
 use Rattle.mailparse.proofs.lemmas.HeaderPart.{read_block-bounded}
 use Rattle.mailparse.proofs.lemmas.Ranges.{cut_of_as-apart}
 use Rattle.mailparse.proofs.lemmas.Refusal.{read_map}
@@ -65,7 +64,7 @@ levels-placed manner mail = levels-fit manner mail (IsPlaced manner.whole_lines 
     let lines = manner.whole_lines in
     let raw = slice mail whole in
     let cut = cut_of_as lines ctype raw block.index in
-    let node = range_node whole (header_part manner.lenient_headers raw) block ctype cut in
+    let node = range_node manner.lenient_headers whole raw block ctype cut in
     let index = (read_block-bounded manner.lenient_headers raw block read).index in
     let apart = cut_of_as-apart lines ctype raw block.index index in
     let ends = slice-whole mail whole order fits in

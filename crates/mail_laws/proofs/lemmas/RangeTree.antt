@@ -5,19 +5,19 @@ use Rattle.std.proofs.lemmas.List.{length-take, take_all, take-take, drop-take, 
 use Rattle.mail_codec.specs.Charset.{Charsets}
 use Rattle.mail_codec.specs.Places.{values_below}
 use Rattle.mailparse.specs.Refusal.{◌>>=◌, recursion_limit, Reads}
-use Rattle.mailparse.specs.Header.{Header}
-use Rattle.mailparse.specs.Block.{HeaderList, header_count, header_part, header_place, read_block, read_headers}
+use Rattle.mailparse.specs.Header.{Header, header_of}
+use Rattle.mailparse.specs.Block.{HeaderList, header_as, header_count, header_part, header_place, read_block, read_headers, rest_at}
 use Rattle.mailparse.specs.ContentType.{ContentType, default_type}
 use Rattle.mailparse.specs.Manner.{Manner}
 use Rattle.mailparse.specs.Mail.{strict, Node, Tree, tree, Forest, no_parts, part_and, cut_of_as, is_digest, node_with, read_each, kept_message, kept_if_refused, or_kept, read_levels, read_mail_as, read_mail_in, read_message, read_parts}
 use Rattle.mailparse.specs.Ranges.{Range, Apart, moved, slice}
-use Rattle.mailparse.proofs.lemmas.Block.{header_place-≤, header_place-first, read_headers-index, values_below-same}
-use Rattle.mailparse.proofs.lemmas.HeaderPart.{header_part-front, header_part-≤, read_block-bounded}
+use Rattle.mailparse.proofs.lemmas.Block.{header_place-≤, header_place-first, read_headers-index, read_headers-list, values_below-same}
+use Rattle.mailparse.proofs.lemmas.HeaderPart.{header_part-front, header_part-≤, read_block-bounded, read_block-from}
 use Rattle.mailparse.proofs.lemmas.Ranges.{cut_of_as-apart}
 use Rattle.mailparse.proofs.lemmas.Refusal.{read_map}
-use Rattle.mail_laws.specs.Spans.{AreOrderedBefore, header_at, key_range, value_range}
-use Rattle.mail_laws.specs.RangeTree.{HeaderRanges, RangeNode, RangeTree, range_tree, RangeForest, no_ranges, ranges_and, range_root, header_there, node_there, tree_there, forest_there, headers_at, range_node, range_each, kept_range, kept_if_refused_at, or_kept_at, range_parts, range_message, range_levels, ranges_as, ranges_in, header_fields, wholes, LieInOrder, AreNested, AllNested, blocks_and_bodies, blocks_and_bodies_in, IsInRange}
-use Rattle.mail_laws.proofs.lemmas.Spans.{headers-at_ranges, ranges-in_order}
+use Rattle.mail_laws.specs.Spans.{AreOrderedBefore, header_at_as, key_range_as, value_range}
+use Rattle.mail_laws.specs.RangeTree.{HeaderRanges, RangeNode, RangeTree, range_tree, RangeForest, no_ranges, ranges_and, range_root, header_there, node_there, tree_there, forest_there, header_ranges, headers_at, range_node, range_each, kept_range, kept_if_refused_at, or_kept_at, range_parts, range_message, range_levels, ranges_as, ranges_in, header_fields, wholes, LieInOrder, AreNested, AllNested, blocks_and_bodies, blocks_and_bodies_in, IsInRange}
+use Rattle.mail_laws.proofs.lemmas.Spans.{header-at, ranges-in_order}
 
 -- ---- slices of slices
 
@@ -51,46 +51,50 @@ map-values f zero g = refl
 map-values {Y = Y} f (suc n) g = ap (λ (ys : List Y). f (g 0) ∷ ys) (map-values f n (λ k. g (suc k)))
 
 module _ (mail : List ℕ) (whole : Range) where
-  header-there : (j : ℕ) → header_at (slice mail whole) j
-      ≡ header_there mail (record { key = moved whole.start (key_range (slice mail whole) j); value = moved whole.start (value_range (slice mail whole) j) })
+  header-there : (lenient : Bool) (j : ℕ) → header_at_as lenient (slice mail whole) j ≡ header_there mail (header_ranges lenient whole.start (slice mail whole) j)
   unfolding header_from
-  header-there j =
+  header-there lenient j =
       let raw = slice mail whole in
-      let order = ranges-in_order raw j in
+      let order = ranges-in_order lenient raw j in
       let place = header_place-≤ raw (suc j) in
       let first = order.first_is_range in
       let apart = order.apart in
       let second = order.second_is_range in
       let ends = order.ends in
-      ap (λ (key : List ℕ). header_from key (slice raw (value_range raw j))) (slice-moved mail whole (key_range raw j) first (omega arith))
-      ∙ ap (header_from (slice mail (moved whole.start (key_range raw j)))) (slice-moved mail whole (value_range raw j) second (omega arith))
+      ap (λ (key : List ℕ). header_from key (slice raw (value_range raw j))) (slice-moved mail whole (key_range_as lenient raw j) first (omega arith))
+      ∙ ap (header_from (slice mail (moved whole.start (key_range_as lenient raw j)))) (slice-moved mail whole (value_range raw j) second (omega arith))
 
-  headers-there : (block : HeaderList) → read_headers (slice mail whole) ≡ Ok block → map (header_there mail) (headers_at whole.start (slice mail whole)) ≡ block.headers
-  headers-there block read =
+  headers-there : (lenient : Bool) (block : HeaderList) → read_headers (slice mail whole) ≡ Ok block
+      → map (header_there mail) (headers_at lenient whole.start (slice mail whole)) ≡ map (header_as lenient) block.headers
+  headers-there lenient block read =
       let raw = slice mail whole in
-      map-values (header_there mail) (header_count raw) (λ j. record { key = moved whole.start (key_range raw j); value = moved whole.start (value_range raw j) })
-      ∙ sym (headers-at_ranges raw block read ∙ values_below-same (header_count raw) (header_at raw)
-      (λ j. header_there mail (record { key = moved whole.start (key_range raw j); value = moved whole.start (value_range raw j) })) header-there)
+      let count = header_count raw in
+      let own : ℕ → Header = λ j. header_of (rest_at raw j) in
+      map-values (header_there mail) count (header_ranges lenient whole.start raw)
+      ∙ sym (ap (map (header_as lenient)) (read_headers-list raw block read) ∙ map-values (header_as lenient) count own
+      ∙ values_below-same count (λ j. header_as lenient (own j)) (λ j. header_there mail (header_ranges lenient whole.start raw j))
+      (λ j. header-at lenient raw j ∙ header-there lenient j))
 
   -- the headers that are read from the front of the bytes
-  front-there : (at_dashes : Bool) → slice mail (record { start = whole.start; end = whole.start + length (header_part at_dashes (slice mail whole)) }) ≡ header_part at_dashes (slice mail whole)
-  front-there at_dashes =
+  front-there : (lenient : Bool) → slice mail (record { start = whole.start; end = whole.start + length (header_part lenient (slice mail whole)) }) ≡ header_part lenient (slice mail whole)
+  front-there lenient =
       let raw = slice mail whole in
-      let size = length (header_part at_dashes raw) in
-      let within = header_part-≤ at_dashes raw in
+      let size = length (header_part lenient raw) in
+      let within = header_part-≤ lenient raw in
       let fits = slice-length mail whole in
       let same : whole.start + size - whole.start ≡ size = omega arith in
       ap (λ n. take n (drop whole.start mail)) same
-      ∙ sym (header_part-front at_dashes raw ∙ take-take size (whole.end - whole.start) (drop whole.start mail) (omega arith))
+      ∙ sym (header_part-front lenient raw ∙ take-take size (whole.end - whole.start) (drop whole.start mail) (omega arith))
 
-pub front-headers : (mail : List ℕ) (whole : Range) (at_dashes : Bool) (block : HeaderList) → read_block at_dashes (slice mail whole) ≡ Ok block
-    → map (header_there mail) (headers_at whole.start (header_part at_dashes (slice mail whole))) ≡ block.headers
-front-headers mail whole at_dashes block read =
-    let part = header_part at_dashes (slice mail whole) in
+pub front-headers : (mail : List ℕ) (whole : Range) (lenient : Bool) (block : HeaderList) → read_block lenient (slice mail whole) ≡ Ok block
+    → map (header_there mail) (headers_at lenient whole.start (header_part lenient (slice mail whole))) ≡ block.headers
+front-headers mail whole lenient block read =
+    let part = header_part lenient (slice mail whole) in
+    let found = read_block-from lenient (slice mail whole) block read in
     let front : Range = record { start = whole.start; end = whole.start + length part } in
-    let there : slice mail front ≡ part = front-there mail whole at_dashes in
-    ap (λ (bytes : List ℕ). map (header_there mail) (headers_at whole.start bytes)) (sym there)
-    ∙ headers-there mail front block (ap read_headers there ∙ read)
+    let there : slice mail front ≡ part = front-there mail whole lenient in
+    ap (λ (bytes : List ℕ). map (header_there mail) (headers_at lenient whole.start bytes)) (sym there)
+    ∙ headers-there mail front lenient found.whole (ap read_headers there ∙ found.read) ∙ sym found.headers
 
 module _ (mail : List ℕ) (whole : Range) where
   pub block-there : (index : ℕ) → index ≤ length (slice mail whole) → slice mail (moved whole.start (record { start = 0; end = index })) ≡ take index (slice mail whole)
@@ -108,20 +112,20 @@ node_of : List ℕ → List ℕ → List Header → ContentType → List ℕ →
 node_of bytes block headers ctype body = record { bytes = bytes; block = block; headers = headers; ctype = ctype; body = body }
 
 -- the message with this block, without its parts
-node-there : (lines at_dashes : Bool) (mail : List ℕ) (whole : Range) (block : HeaderList) (ctype : ContentType) → read_block at_dashes (slice mail whole) ≡ Ok block
-    → node_there mail (range_node whole (header_part at_dashes (slice mail whole)) block ctype (cut_of_as lines ctype (slice mail whole) block.index))
+node-there : (lines lenient : Bool) (mail : List ℕ) (whole : Range) (block : HeaderList) (ctype : ContentType) → read_block lenient (slice mail whole) ≡ Ok block
+    → node_there mail (range_node lenient whole (slice mail whole) block ctype (cut_of_as lines ctype (slice mail whole) block.index))
     ≡ node_with (slice mail whole) block ctype (cut_of_as lines ctype (slice mail whole) block.index)
 unfolding node_of
-node-there lines at_dashes mail whole block ctype read =
+node-there lines lenient mail whole block ctype read =
     let raw = slice mail whole in
-    let index = (read_block-bounded at_dashes raw block read).index in
+    let index = (read_block-bounded lenient raw block read).index in
     let cut = cut_of_as lines ctype raw block.index in
     let apart = cut_of_as-apart lines ctype raw block.index index in
     let front = slice mail (moved whole.start (record { start = 0; end = block.index })) in
-    let fields = map (header_there mail) (headers_at whole.start (header_part at_dashes raw)) in
+    let fields = map (header_there mail) (headers_at lenient whole.start (header_part lenient raw)) in
     let order : cut.body.start ≤ cut.body.end = omega (arith, apart.0, apart.1) in
     ap (λ (x : List ℕ). node_of raw x fields ctype (slice mail (moved whole.start cut.body))) (block-there mail whole block.index index)
-    ∙ ap (λ (x : List Header). node_of raw (take block.index raw) x ctype (slice mail (moved whole.start cut.body))) (front-headers mail whole at_dashes block read)
+    ∙ ap (λ (x : List Header). node_of raw (take block.index raw) x ctype (slice mail (moved whole.start cut.body))) (front-headers mail whole lenient block read)
     ∙ ap (λ (x : List ℕ). node_of raw (take block.index raw) block.headers ctype x)
     (sym (slice-moved mail whole cut.body order (Apart-order 3 cut.body.end cut.parts (length raw) apart.2)))
 
@@ -180,7 +184,7 @@ module _ (manner : Manner) (mail : List ℕ) where
       let raw = slice mail whole in
       let cut = cut_of_as manner.whole_lines ctype raw block.index in
       let apart = cut_of_as-apart manner.whole_lines ctype raw block.index (read_block-bounded manner.lenient_headers raw block headers).index in
-      tree-there mail (range_node whole (header_part manner.lenient_headers raw) block ctype cut) (node_with raw block ctype cut) (node-there manner.whole_lines manner.lenient_headers mail whole block ctype headers)
+      tree-there mail (range_node manner.lenient_headers whole raw block ctype cut) (node_with raw block ctype cut) (node-there manner.whole_lines manner.lenient_headers mail whole block ctype headers)
       (range_each (ranges (is_digest ctype)) (map (moved whole.start) cut.parts))
       ∙ ap (read_map (tree (node_with raw block ctype cut)))
       (each-there mail (ranges (is_digest ctype)) (read (is_digest ctype)) (gives (is_digest ctype)) whole 3 cut.body.end cut.parts apart.2)
@@ -238,14 +242,14 @@ fields-apart (suc n) f place fit =
     let rest = Apart-wider 0 (place 1) (header_fields (values_below n (λ j. f (suc j)))) (place (suc n)) (f 0).value.end (place (suc n)) order.ends (omega arith) more in
     (omega (arith, (fit 0).0), order.first_is_range, (omega (arith, order.apart), order.second_is_range, rest))
 
-module _ (mail : List ℕ) (whole : Range) (at_dashes : Bool) (block : HeaderList) (read : read_block at_dashes (slice mail whole) ≡ Ok block) where
-  fields-within : Apart 0 (moved whole.start (record { start = 0; end = block.index })).start (header_fields (headers_at whole.start (header_part at_dashes (slice mail whole))))
+module _ (mail : List ℕ) (whole : Range) (lenient : Bool) (block : HeaderList) (read : read_block lenient (slice mail whole) ≡ Ok block) where
+  fields-within : Apart 0 (moved whole.start (record { start = 0; end = block.index })).start (header_fields (headers_at lenient whole.start (header_part lenient (slice mail whole))))
       (moved whole.start (record { start = 0; end = block.index })).end
   fields-within =
-      let raw = header_part at_dashes (slice mail whole) in
-      let f : ℕ → HeaderRanges = λ j. record { key = moved whole.start (key_range raw j); value = moved whole.start (value_range raw j) } in
+      let raw = header_part lenient (slice mail whole) in
+      let f = header_ranges lenient whole.start raw in
       let fit : FieldsFit f (λ j. whole.start + header_place raw j) = λ j.
-      let order = ranges-in_order raw j in (
+      let order = ranges-in_order lenient raw j in (
         omega arith,
         record {
           first_is_range = omega (arith, order.first_is_range);
@@ -255,17 +259,19 @@ module _ (mail : List ℕ) (whole : Range) (at_dashes : Bool) (block : HeaderLis
         },
       ) in
       let first = header_place-first raw in
-      let index = read_headers-index raw block read in
-      Apart-wider 0 (whole.start + header_place raw 0) (header_fields (headers_at whole.start raw)) (whole.start + header_place raw (header_count raw))
+      let found = read_block-from lenient (slice mail whole) block read in
+      let same = found.index in
+      let index = read_headers-index raw found.whole found.read in
+      Apart-wider 0 (whole.start + header_place raw 0) (header_fields (headers_at lenient whole.start raw)) (whole.start + header_place raw (header_count raw))
       (whole.start + 0) (whole.start + block.index) (omega arith) (omega arith) (fields-apart (header_count raw) f (λ j. whole.start + header_place raw j) fit)
 
   node-in_order : (lines : Bool) (ctype : ContentType) → whole.start ≤ whole.end
-      → LieInOrder (range_node whole (header_part at_dashes (slice mail whole)) block ctype (cut_of_as lines ctype (slice mail whole) block.index))
+      → LieInOrder (range_node lenient whole (slice mail whole) block ctype (cut_of_as lines ctype (slice mail whole) block.index))
       (map (moved whole.start) (cut_of_as lines ctype (slice mail whole) block.index).parts)
   node-in_order lines ctype order =
       let raw = slice mail whole in
       let cut = cut_of_as lines ctype raw block.index in
-      let apart = cut_of_as-apart lines ctype raw block.index (read_block-bounded at_dashes raw block read).index in
+      let apart = cut_of_as-apart lines ctype raw block.index (read_block-bounded lenient raw block read).index in
       let size = slice-length mail whole in
       let start = apart.0 in
       let end = apart.1 in
@@ -299,7 +305,7 @@ module _ (manner : Manner) (mail : List ℕ) (Fits : Range → RangeTree → Typ
   module _ (kept : (whole : Range) → Fits whole (kept_range whole))
       (step : (whole : Range) (block : HeaderList) (ctype : ContentType) → read_block manner.lenient_headers (slice mail whole) ≡ Ok block → (parts : RangeForest)
       → FitEach Fits (map (moved whole.start) (cut_of_as manner.whole_lines ctype (slice mail whole) block.index).parts) parts
-      → Fits whole (range_tree (range_node whole (header_part manner.lenient_headers (slice mail whole)) block ctype (cut_of_as manner.whole_lines ctype (slice mail whole) block.index)) parts)) where
+      → Fits whole (range_tree (range_node manner.lenient_headers whole (slice mail whole) block ctype (cut_of_as manner.whole_lines ctype (slice mail whole) block.index)) parts)) where
     or_kept-fits : (whole : Range) (ranges : Reads RangeTree) (t : RangeTree) → or_kept_at manner mail whole ranges ≡ Ok t → (ranges ≡ Ok t → Fits whole t) → Fits whole t
     or_kept-fits whole ranges t e fits = by_manner manner.keeps_refused ranges e fits
       where
@@ -318,11 +324,11 @@ module _ (manner : Manner) (mail : List ℕ) (Fits : Range → RangeTree → Typ
         or_kept-fits whole (range_message manner mail (range_levels manner mail levels) in_digest whole) t e (λ h. by_block (read_block manner.lenient_headers (slice mail whole)) refl h (levels-fit levels))
       where
         by_parts : (block : HeaderList) (ctype : ContentType) → read_block manner.lenient_headers (slice mail whole) ≡ Ok block → (parts : Reads RangeForest)
-            → read_map (range_tree (range_node whole (header_part manner.lenient_headers (slice mail whole)) block ctype (cut_of_as manner.whole_lines ctype (slice mail whole) block.index))) parts ≡ Ok t
+            → read_map (range_tree (range_node manner.lenient_headers whole (slice mail whole) block ctype (cut_of_as manner.whole_lines ctype (slice mail whole) block.index))) parts ≡ Ok t
             → ((found : RangeForest) → parts ≡ Ok found → FitEach Fits (map (moved whole.start) (cut_of_as manner.whole_lines ctype (slice mail whole) block.index).parts) found) → Fits whole t
         by_parts block ctype read (Err refusal) h each = absurd (cc)
         by_parts block ctype read (Ok parts) h each =
-            let same : range_tree (range_node whole (header_part manner.lenient_headers (slice mail whole)) block ctype (cut_of_as manner.whole_lines ctype (slice mail whole) block.index)) parts ≡ t = cc in
+            let same : range_tree (range_node manner.lenient_headers whole (slice mail whole) block ctype (cut_of_as manner.whole_lines ctype (slice mail whole) block.index)) parts ≡ t = cc in
             subst (Fits whole) same (step whole block ctype read parts (each parts refl))
 
         by_block : (block : Reads HeaderList) → read_block manner.lenient_headers (slice mail whole) ≡ block
@@ -355,7 +361,7 @@ module _ (manner : Manner) (mail : List ℕ) where
   levels-nested : (levels : ℕ) (in_digest : Bool) (whole : Range) (t : RangeTree) → range_levels manner mail levels in_digest whole ≡ Ok t → IsNested whole t
   levels-nested = levels-fit manner mail IsNested kept-nested (λ whole block ctype read parts each order.
       let cut = cut_of_as manner.whole_lines ctype (slice mail whole) block.index in
-      let node = range_node whole (header_part manner.lenient_headers (slice mail whole)) block ctype cut in
+      let node = range_node manner.lenient_headers whole (slice mail whole) block ctype cut in
       let lie = node-in_order mail whole manner.lenient_headers block read manner.whole_lines ctype order in
       let all = each-nested 3 node.body.end (map (moved whole.start) cut.parts) whole.end lie.parts parts each in
       (refl, (subst (LieInOrder node) (sym all.0) lie, all.1)))

@@ -33,7 +33,7 @@ use Rattle.mail_check.proofs.lemmas.StrictParts.{boundary_inner}
 -- ---- ends of lines
 
 left_blank : (xs : List ℕ) → EndsLine xs → is_blank_line xs ≡ true
-unfolding is_blank_line headers_end blank_line
+unfolding is_blank_line
 left_blank xs no_more_bytes = refl
 left_blank xs (line_ends rest (inl e) made) =
     subst (λ (ys : List ℕ). is_blank_line ys ≡ true) (sym (made ∙ ap (λ (line : List ℕ). line ++ rest) e)) refl

@@ -45,8 +45,8 @@ pub fn limits_count_items()
 
 /// The port's own manner reads each mail as the port does. Any other manner reads a mail as the
 /// same tree, if the port reads the mail, and if the manner ends the headers of no message before
-/// a line that looks like a delimiter, gives each message the same type, and splits it in the same
-/// way.
+/// a line that looks like a delimiter, takes no blank from a key, gives each message the same type,
+/// and splits it in the same way.
 pub fn manners_agree()
     ensures strict { (known : Charsets) (greatest : ℕ) (mail : List ℕ) →
         read_mail_as (strict known) greatest mail ≡ read_mail_in known greatest mail }
@@ -59,7 +59,8 @@ pub fn manners_agree()
 ///
 /// That is decidable: the type of each message is strict and has no encoded word that the port
 /// decodes (`is_strict_value`), its whole delimiter lines split it as all lines that begin with its
-/// dash-boundary do, and no line that looks like a delimiter is among its headers.
+/// dash-boundary do, no line that looks like a delimiter is among its headers, and none of their
+/// keys ends in a blank.
 pub fn strict_mails_are_read_alike()
     ensures { (known : Charsets) (greatest : ℕ) (mail : List ℕ) (parsed : Tree) →
         read_mail_in known greatest mail ≡ Ok parsed → is_strict_mail known parsed ≡ true →
