@@ -80,7 +80,7 @@ read_block-refuses false raw r e = e
 
 -- and has as many headers
 bare-met : (read : Reads HeaderList) → headers_met (with_bare_keys read) ≡ headers_met read
-bare-met (Ok whole) = length-map bare_header whole.headers
+bare-met (Ok whole) = length-map whole.headers bare_header
 bare-met (Err r) = refl
 
 pub read_block-met : (lenient : Bool) (raw : List ℕ) → headers_met (read_block lenient raw) ≡ headers_met (read_headers (header_part lenient raw))
@@ -91,7 +91,7 @@ pub read_block-bounded : (lenient : Bool) (raw : List ℕ) (block : HeaderList) 
 read_block-bounded lenient raw block e =
     let from = read_block-from lenient raw block e in
     let bounded = read_headers-bounded (header_part lenient raw) from.whole from.read in
-    let many : length block.headers ≡ length from.whole.headers = ap length from.headers ∙ length-map (header_as lenient) from.whole.headers in
+    let many : length block.headers ≡ length from.whole.headers = ap length from.headers ∙ length-map from.whole.headers (header_as lenient) in
     let index = from.index in
     let within = header_part-≤ lenient raw in
     record { headers = omega (arith, bounded.headers, many, index); index = omega (arith, bounded.index, within, index) }

@@ -59,9 +59,13 @@ pub(crate) fn with_bare_keys<'a>(
     ensures no_alloc { (given : Reads HeaderList) → Answers header_list read.entry given →
         Answers header_list result (with_bare_keys given) }
 {
-    let (mut headers, body) = read?;
-    make_keys_bare(headers.as_mut_slice());
-    Ok((headers, body))
+    match read {
+        Ok((mut headers, body)) => {
+            make_keys_bare(headers.as_mut_slice());
+            Ok((headers, body))
+        }
+        Err(refusal) => Err(refusal),
+    }
 }
 
 /// Removes the blanks at the end of each key.

@@ -7,4 +7,4 @@ pub returns-in-Some-clause-bounds : goal.returns-in-Some-clause-bounds
 returns-in-Some-clause-bounds g c =
     let size = header_part-≤ true c.args.raw.now in
     let same = ap length c.before_dash_line.ensures in
-    IfOk-weaker c.parse_headers-in-Some.result _ _ (λ found bounds. (bounds.0, omega (arith, bounds.1, size, same))) c.parse_headers-in-Some.ensures.bounds
+    c.with_bare_keys.ensures.bounds (length c.args.raw.now) (IfOk-weaker c.parse_headers-in-Some.result _ _ (λ found bounds. (bounds.0, omega (arith, bounds.1, size, same))) c.parse_headers-in-Some.ensures.bounds)
