@@ -16,9 +16,7 @@ use super::manner::Lenient;
 use super::repairs::repaired;
 use crate::files::{NameReading, cut_text, decoded_name, filled, filled_parameter, name_by};
 use mail_codec::charset::{Decode, KnownCharsets};
-use mailparse::{
-    MailParseError, ParsedMail, parse_content_disposition_in, parse_content_type_in,
-};
+use mailparse::{MailParseError, ParsedMail, parse_content_disposition_in, parse_content_type_in};
 use percent_encoding::percent_decode;
 use std::alloc::{AllocError, Global};
 use std::collections::BTreeMap;
