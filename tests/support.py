@@ -6,6 +6,7 @@ import os
 import re
 import subprocess
 import sys
+import unicodedata
 from pathlib import Path
 
 import pytest
@@ -14,7 +15,22 @@ TOP = Path(__file__).resolve().parent.parent
 SAMPLES = sorted((TOP / "samples").glob("*.eml"))
 SUBCOMMANDS = ("check", "extract", "json", "show")
 FROM = b"From a@b Thu Jan  1 00:00:00 1970\n"
+DIRECTIONS = {"LRE", "RLE", "LRO", "RLO", "PDF", "LRI", "RLI", "FSI", "PDI"}
+# the marks, which have the class of a letter or a number
+MARKS = {"ARABIC LETTER MARK", "LEFT-TO-RIGHT MARK", "RIGHT-TO-LEFT MARK"}
 sys.path[:0] = [str(TOP / "oracle"), str(TOP / "bench"), str(TOP / "tools")]
+
+
+def is_hidden(character):
+    """Whether a character is not shown as itself, by Python's table of Unicode."""
+    return (
+        unicodedata.category(character) in ("Cc", "Zl", "Zp")
+        or unicodedata.bidirectional(character) in DIRECTIONS
+        or unicodedata.name(character, "") in MARKS
+    )
+
+
+HIDDEN = [character for character in map(chr, range(0x3000)) if is_hidden(character)]
 
 
 def missing(why):

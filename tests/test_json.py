@@ -2,7 +2,7 @@
 
 The mails are those of samples/, and made ones: with control characters, with surrogates in UTF-8, with a refused body,
 of 100 levels and of 101, of 100,000 parts, of parts at known offsets, and mailboxes, which are also read in parts.
-Each line is one object that fits docs/mail_json.schema.json, without control characters, U+2028 and U+2029.
+Each line is one object that fits docs/mail_json.schema.json, without hidden characters, by Python's unicodedata.
 """
 import base64
 import email
@@ -20,7 +20,7 @@ import tempfile
 import jsonschema
 import pytest
 
-from support import FROM, SAMPLES, TOP, command, multipart, program, uuencoded
+from support import FROM, HIDDEN, SAMPLES, TOP, command, multipart, program, uuencoded
 
 from by_email import all_parts, mail_object, parts_anywhere, report_of, saved_files
 
@@ -41,11 +41,11 @@ TEXTS = {
     "ks_c_5601-1987": "한글", "euc-jp": "請求書", "Shift_JIS": "請求書 \uff83\uff7d\uff84", "iso-2022-jp": "請求書のテスト",
 }
 OPTIONAL = {"date_zone_unknown", "date_error", "findings", "findings_error", "error", "text_charset", "damaged"}
-# what no text escapes: the replacement character, marks that turn the direction of writing, four bytes of UTF-8
-SHOWN = "a\ufffd\u200f\u202e\ufeff\U0001f600\U0010ffff/..z"
+# what no text escapes: the replacement character, four bytes of UTF-8, and neighbors of what is escaped
+SHOWN = "a\ufffd\ufeff\U0001f600\U0010ffff/..z\xa0\u061b\u061d\u063f\u200d\u2010\u2027\u202f\u2065\u206a\u20ac"
 MANY = "Too many parts and headers"
 SPACE = "Header cannot start with a space; it is likely an overhanging line from a previous header"
-HIDDEN = re.compile("[\x00-\x1f\x7f-\x9f\u2028\u2029]")
+HIDDEN_ONE = re.compile("[" + "".join(HIDDEN) + "]")
 
 SCHEMA = jsonschema.Draft202012Validator(json.loads((TOP / "docs" / "mail_json.schema.json").read_text()))
 
@@ -66,7 +66,7 @@ def lines(output, what):
     values = []
     assert output == b"" or output.endswith(b"\n"), f"{what}: the last line has no end"
     for line in output.decode("utf-8").split("\n")[:-1]:
-        assert not HIDDEN.search(line), f"{what}: a line has hidden characters"
+        assert not HIDDEN_ONE.search(line), f"{what}: a line has hidden characters"
         value = json.loads(line)
         fault = jsonschema.exceptions.best_match(SCHEMA.iter_errors(value))
         assert fault is None, f"{what}: a line is not as the schema says: {fault and fault.message!s:.300}"
@@ -140,6 +140,10 @@ def test_characters():
     assert (found["subject"], found["parts"][0]["file_name"]) == (SHOWN, SHOWN), "characters that are shown"
     data = b"Subject: a\nContent-Type: text/plain; charset=utf-8\n\n" + SHOWN.encode()
     assert objects([], data, 0, "a text of such")[0]["parts"][0]["text"] == SHOWN, "a text of such"
+    turning = "".join(f"a{character}" for character in HIDDEN[65:]) + "b\u202e"
+    ended = run([], data.replace(SHOWN.encode(), turning.encode()).replace(b"Subject: a", b"Subject: " + turning.encode()))
+    assert [line["subject"] for line in lines(ended.stdout, "characters that turn text")] == [turning]
+    assert ended.stdout.decode().count(json.dumps(turning)) == 3, "the subject, the header and the text, as Python escapes them"
     found = objects([], b"Sub\x9bject: \xe9\x9b\n\n", 0, "a key of high bytes")
     assert found[0]["parts"][0]["headers"][0][0] == "Sub\x9bject", "a key of high bytes"
     found = objects([], b"Content-Type: text/plain; charset=koi8-r\n\n\xc4\xc1", 0, "KOI8-R")

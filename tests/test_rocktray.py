@@ -19,12 +19,9 @@ import zipfile
 
 import pytest
 
-from support import FROM, LOGIC, SAMPLES, SUBCOMMANDS, TOP, VERSION, command, multipart, program, run, text_of
+from support import DIRECTIONS, FROM, HIDDEN, LOGIC, SAMPLES, SUBCOMMANDS, TOP, VERSION, command, multipart, program, run, text_of
 
 MAIL = b"Subject: %b\n\none\n"
-DIRECTIONS = {"LRE", "RLE", "LRO", "RLO", "PDF", "LRI", "RLI", "FSI", "PDI"}
-# the marks, which have the class of a letter or a number
-MARKS = {"ARABIC LETTER MARK", "LEFT-TO-RIGHT MARK", "RIGHT-TO-LEFT MARK"}
 HELP = "For more information, try '--help'."
 
 
@@ -97,10 +94,9 @@ def test_control_characters():
 
 def test_characters_that_turn_text():
     """A name that changes the direction of text does not change that of a message; which do is as in Python."""
-    turning = [chr(code) for code in range(0x110000) if unicodedata.bidirectional(chr(code)) in DIRECTIONS]
-    turning += [character for character in map(chr, range(0x3000)) if unicodedata.name(character, "") in MARKS]
-    assert len(turning) == 12
-    for character in ("\x85", "\u2028", "\u2029", *turning):
+    assert not any(unicodedata.bidirectional(chr(code)) in DIRECTIONS for code in range(0x3000, 0x110000))
+    assert len(HIDDEN) == 65 + 2 + 12
+    for character in ("\x85", *HIDDEN[65:]):
         ended = run([*command("check"), f"a{character}b"])
         assert ended.stderr.decode() == f"rocktray: a\\u{{{ord(character):x}}}b: No such file or directory (os error 2)\n"
 

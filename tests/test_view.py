@@ -5,11 +5,10 @@ line, and hostile ones. Which characters are hidden is taken from Python's unico
 """
 import email
 import re
-import unicodedata
 
 import pytest
 
-from support import FROM, SAMPLES, command, multipart, run
+from support import FROM, SAMPLES, command, is_hidden, multipart, run
 
 from by_email import addresses_of, body_of, file_name, has_parts, is_file, parts_of, text_of, value_of, walk
 
@@ -17,19 +16,7 @@ ADDRESSES = {"from": "From:     ", "reply-to": "Reply-To: ", "to": "To:       ",
 VALUES = {"date": "Date:     ", "subject": "Subject:  "}
 PREFIXES = (*ADDRESSES.values(), *VALUES.values(), "Text:     ", "Part:     ", "Refused:  ", "-- ", "  ")
 SPECIALS = re.compile(r'[()<>\[\]:;@\\,"]')
-DIRECTIONS = {"LRE", "RLE", "LRO", "RLO", "PDF", "LRI", "RLI", "FSI", "PDI"}
-# the marks, which have the class of a letter or a number
-MARKS = {"ARABIC LETTER MARK", "LEFT-TO-RIGHT MARK", "RIGHT-TO-LEFT MARK"}
 MANY = "Too many parts and headers"
-
-
-def is_hidden(character):
-    """Whether a character is not shown as itself."""
-    return (
-        unicodedata.category(character) in ("Cc", "Zl", "Zp")
-        or unicodedata.bidirectional(character) in DIRECTIONS
-        or unicodedata.name(character, "") in MARKS
-    )
 
 
 def shown(text):

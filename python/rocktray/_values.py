@@ -15,14 +15,14 @@ _FIRST, _LAST = (
     (time.replace(tzinfo=timezone.utc) - _EPOCH) // timedelta(seconds=1) for time in (datetime.min, datetime.max)
 )
 
-# what needs quotes in a display name, and what could begin a line or move a terminal
+# what needs quotes in a display name, and what could begin a line, move a terminal or turn text
 _SPECIAL = re.compile(r'[][()<>@,:;".\\]')
-_CONTROL = re.compile("[\x00-\x1f\x7f-\x9f\u2028\u2029]")
+_HIDDEN = re.compile("[\x00-\x1f\x7f-\x9f\u061c\u200e\u200f\u2028-\u202e\u2066-\u2069]")
 
 
 class Address(NamedTuple):
     """A mailbox: its display name and its address. Text that is no address is a name with an empty address. `str` shows
-    it to people, with U+FFFD for control characters. It is no value of a header: there a name is encoded if it has
+    it to people, with U+FFFD for hidden characters. It is no value of a header: there a name is encoded if it has
     characters outside ASCII, or looks like an encoded word.
 
     >>> str(Address("Ana Lima", "ana@example.org")), str(Address("Lima, Ana", "a@b")), str(Address("", "a@b"))
@@ -37,7 +37,7 @@ class Address(NamedTuple):
         if self.name and self.address:
             name = '"' + re.sub(r'(["\\])', r"\\\1", self.name) + '"' if _SPECIAL.search(self.name) else self.name
             text = f"{name} <{self.address}>"
-        return _CONTROL.sub("\ufffd", text)
+        return _HIDDEN.sub("\ufffd", text)
 
 
 class Recipient(NamedTuple):

@@ -1,39 +1,53 @@
 -- JSON text of strings and numbers (RFC 8259, sections 6 and 7), as this program writes them.
-use Rattle.std.specs.Prelude.{ℕ, zero, suc, ◌^◌, ◌-◌, ◌/◌, ◌%◌, min, ℤ, pos, negsuc, Bool, ◌&&◌, ◌||◌, ◌==◌, nat_le, nat_lt, List, [], ◌∷◌, ◌++◌, codes, decimal, slice_index, if◌then◌else◌}
+use Rattle.std.specs.Prelude.{ℕ, zero, suc, ◌^◌, ◌+◌, ◌-◌, ◌*◌, ◌/◌, ◌%◌, min, ℤ, pos, negsuc, Bool, ◌&&◌, ◌||◌, not, ◌==◌, nat_lt, List, [], ◌∷◌, ◌++◌, codes, decimal, slice_index, if◌then◌else◌}
 use Rattle.std.specs.Char.{digit_char, encode_utf8}
 use Rattle.json.specs.Print.{escape_byte}
+use Rattle.mail_codec.specs.Hidden.{is_hidden, is_no_character}
 
--- the bytes begin with a control from U+0080 to U+009F in UTF-8; with one of the separators U+2028 and U+2029
-abbrev pub begins_control : List ℕ → Bool
-begins_control bytes =
-    slice_index bytes 0 == 194 && (nat_le 128 (slice_index bytes 1) && nat_lt (slice_index bytes 1) 160)
+-- the number of the character with which bytes begin in UTF-8, if it has two bytes; if it has three, the first of which
+-- is E2
+abbrev pub two_number : List ℕ → ℕ
+two_number bytes = (slice_index bytes 0 % 32) * 64 + slice_index bytes 1 % 64
 
-abbrev pub begins_separator : List ℕ → Bool
-begins_separator bytes =
-    slice_index bytes 0 == 226 && (slice_index bytes 1 == 128 && (slice_index bytes 2 == 168 || slice_index bytes 2 == 169))
+abbrev pub three_number : List ℕ → ℕ
+three_number bytes = 8192 + (slice_index bytes 1 % 64) * 64 + slice_index bytes 2 % 64
 
--- `\u` and the four digits of a number below 256
-abbrev pub unicode_escape : ℕ → List ℕ
-unicode_escape n = codes "\\u00" ++ (digit_char (n / 16) ∷ digit_char (n % 16) ∷ [])
+-- the bytes begin with a hidden character of two bytes, the first of which is then C2 or D8; of three bytes, the first two
+-- of which are then E2 80 or E2 81
+abbrev pub begins_two : List ℕ → Bool
+begins_two bytes =
+    (slice_index bytes 0 == 194 || slice_index bytes 0 == 216)
+    && (slice_index bytes 1 / 64 == 2 && is_hidden (two_number bytes))
+
+abbrev pub begins_three : List ℕ → Bool
+begins_three bytes =
+    slice_index bytes 0 == 226
+    && ((slice_index bytes 1 == 128 || slice_index bytes 1 == 129)
+    && (slice_index bytes 2 / 64 == 2 && is_hidden (three_number bytes)))
+
+-- `\u` and the hexadecimal digits of two bytes
+abbrev pub unicode_escape : ℕ → ℕ → List ℕ
+unicode_escape upper lower =
+    codes "\\u" ++ (digit_char (upper / 16) ∷ digit_char (upper % 16) ∷ digit_char (lower / 16) ∷ digit_char (lower % 16) ∷ [])
+
+-- `\u` and the number of a character in four hexadecimal digits
+abbrev pub four_digits : ℕ → List ℕ
+four_digits c = unicode_escape (c / 256) (c % 256)
 
 -- the text of a byte: `"`, `\`, a control and DEL have the shortest escape, any other byte is itself
 abbrev pub byte_text : ℕ → List ℕ
-byte_text b = if b == 127 then unicode_escape b else escape_byte b
+byte_text b = if b == 127 then unicode_escape 0 b else escape_byte b
 
--- the text of the separator with this last byte
-abbrev pub separator_text : ℕ → List ℕ
-separator_text last = if last == 168 then codes "\\u2028" else codes "\\u2029"
-
--- the text of the first byte; or of the whole character, if the bytes begin with a control or a separator
+-- the text of the first byte; or of the whole character, if the bytes begin with a hidden one that is not in ASCII
 unfoldable pub first_text : List ℕ → List ℕ
 first_text bytes =
-    if begins_control bytes then unicode_escape (slice_index bytes 1) else
-    if begins_separator bytes then separator_text (slice_index bytes 2) else
+    if begins_two bytes then four_digits (two_number bytes) else
+    if begins_three bytes then four_digits (three_number bytes) else
     byte_text (slice_index bytes 0)
 
 -- the number of bytes after the first that this text is for
 unfoldable pub more_bytes : List ℕ → ℕ
-more_bytes bytes = if begins_control bytes then 1 else if begins_separator bytes then 2 else 0
+more_bytes bytes = if begins_two bytes then 1 else if begins_three bytes then 2 else 0
 
 -- the text of the bytes after the first k; of all
 unfoldable pub escaped_after : ℕ → List ℕ → List ℕ
@@ -50,21 +64,11 @@ json_text text = 34 ∷ (escaped text ++ 34 ∷ [])
 
 -- ---- the same by characters
 
--- a character, which JSON allows in a string, that moves the cursor of a terminal or ends a line for some readers: DEL,
--- the controls from U+0080 to U+009F, and the separators U+2028 and U+2029
-unfoldable pub is_hidden : ℕ → Bool
-is_hidden c = (nat_lt 126 c && nat_lt c 160) || (c == 8232 || c == 8233)
-
--- `\u` and the number of a character in four hexadecimal digits
-abbrev pub four_digits : ℕ → List ℕ
-four_digits c =
-    codes "\\u" ++ (digit_char (c / 4096) ∷ digit_char (c / 256 % 16) ∷ digit_char (c / 16 % 16) ∷ digit_char (c % 16) ∷ [])
-
--- the text of a character: its number if it is hidden, its shortest escape if it is in ASCII, otherwise itself
+-- the text of a character: that of its byte if it is in ASCII, its number if it is a hidden character, otherwise itself
 unfoldable pub character_text : ℕ → List ℕ
 character_text c =
-    if is_hidden c then four_digits c else
-    if nat_lt c 128 then escape_byte c else encode_utf8 c
+    if nat_lt c 128 then byte_text c else
+    if is_hidden c && not (is_no_character c) then four_digits c else encode_utf8 c
 
 -- ---- numbers
 

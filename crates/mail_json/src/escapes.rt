@@ -2,11 +2,14 @@
 //! section 7).
 ghost use Rattle.std.specs.Prelude.{◌≡◌, ◌<◌, length, slice_index};
 ghost use Rattle.std.specs.Char.{digit_char};
-ghost use Rattle.mail_json.specs.JsonText.{begins_control, begins_separator, byte_text, escaped};
-ghost use Rattle.mail_json.specs.JsonText.{first_text, more_bytes, separator_text, unicode_escape};
+ghost use Rattle.mail_codec.specs.Hidden.{is_hidden};
+ghost use Rattle.mail_json.specs.JsonText.{begins_three, begins_two, byte_text, escaped};
+ghost use Rattle.mail_json.specs.JsonText.{first_text, four_digits, more_bytes, three_number};
+ghost use Rattle.mail_json.specs.JsonText.{two_number, unicode_escape};
 ghost use Rattle.mail_program.specs.Streams.{Writes};
 
 use mail_codec::bytescan::find_escape;
+use mail_codec::hidden::is_hidden;
 use mail_program::Fault;
 use std::io::Write;
 
@@ -25,32 +28,20 @@ pub(crate) fn write_escaped<W: Write>(out: &mut W, bytes: &[u8]) -> Result<(), F
     write_bytes(out, &bytes[at..])
 }
 
-/// Writes the text of the first byte, or of the whole character if the bytes begin with a control
-/// or a separator.
+/// Writes the text of the first byte, or of the whole character if the bytes begin with a hidden
+/// one that is not in ASCII.
 #[inline(always)]
 #[tactic(auto, unfolding(crate::specs::JsonText::first_text))]
 fn write_first<W: Write>(out: &mut W, bytes: &[u8]) -> Result<(), Fault>
     ensures { Writes (W.contents out.old) (W.contents out.new) result (first_text bytes.now) }
 {
-    if begins_control(bytes) {
-        return write_unicode(out, byte_at(bytes, 1));
+    if begins_two(bytes) {
+        return write_number(out, two_number(bytes));
     }
-    if begins_separator(bytes) {
-        return write_separator(out, byte_at(bytes, 2));
+    if begins_three(bytes) {
+        return write_number(out, three_number(bytes));
     }
     write_byte(out, byte_at(bytes, 0))
-}
-
-/// Writes the text of the separator with this last byte.
-#[inline(always)]
-fn write_separator<W: Write>(out: &mut W, last: u8) -> Result<(), Fault>
-    ensures { Writes (W.contents out.old) (W.contents out.new) result (separator_text last) }
-{
-    if last == 0xA8 {
-        write_bytes(out, b"\\u2028")
-    } else {
-        write_bytes(out, b"\\u2029")
-    }
 }
 
 /// Returns the number of bytes after the first that this text is for.
@@ -61,30 +52,62 @@ fn more_bytes(bytes: &[u8]) -> usize
     ensures value { result ≡ more_bytes bytes.now }
     ensures bounds { result < length bytes.now }
 {
-    if begins_control(bytes) {
+    if begins_two(bytes) {
         1
-    } else if begins_separator(bytes) {
+    } else if begins_three(bytes) {
         2
     } else {
         0
     }
 }
 
-/// Returns whether the bytes begin with a control from U+0080 to U+009F.
+/// Returns whether the bytes begin with a hidden character of two bytes.
 #[inline(always)]
-fn begins_control(bytes: &[u8]) -> bool
-    ensures { result ≡ begins_control bytes.now }
+fn begins_two(bytes: &[u8]) -> bool
+    ensures { result ≡ begins_two bytes.now }
 {
-    byte_at(bytes, 0) == 0xC2 && (0x80 <= byte_at(bytes, 1) && byte_at(bytes, 1) < 0xA0)
+    (byte_at(bytes, 0) == 0xC2 || byte_at(bytes, 0) == 0xD8)
+        && (byte_at(bytes, 1) / 64 == 2 && is_hidden_number(two_number(bytes)))
 }
 
-/// Returns whether the bytes begin with U+2028 or U+2029.
+/// Returns whether the bytes begin with a hidden character of three bytes.
 #[inline(always)]
-fn begins_separator(bytes: &[u8]) -> bool
-    ensures { result ≡ begins_separator bytes.now }
+fn begins_three(bytes: &[u8]) -> bool
+    ensures { result ≡ begins_three bytes.now }
 {
     byte_at(bytes, 0) == 0xE2
-        && (byte_at(bytes, 1) == 0x80 && (byte_at(bytes, 2) == 0xA8 || byte_at(bytes, 2) == 0xA9))
+        && ((byte_at(bytes, 1) == 0x80 || byte_at(bytes, 1) == 0x81)
+            && (byte_at(bytes, 2) / 64 == 2 && is_hidden_number(three_number(bytes))))
+}
+
+/// Returns the number of the character of two bytes at the start.
+#[inline(always)]
+fn two_number(bytes: &[u8]) -> u16
+    ensures value { result ≡ two_number bytes.now }
+    ensures bounds { result < 0x3000 }
+{
+    u16::from(byte_at(bytes, 0) % 32) * 64 + u16::from(byte_at(bytes, 1) % 64)
+}
+
+/// Returns the number of the character of three bytes at the start, the first of which is E2.
+#[inline(always)]
+fn three_number(bytes: &[u8]) -> u16
+    ensures value { result ≡ three_number bytes.now }
+    ensures bounds { result < 0x3000 }
+{
+    0x2000 + u16::from(byte_at(bytes, 1) % 64) * 64 + u16::from(byte_at(bytes, 2) % 64)
+}
+
+/// Returns whether the character with this number is hidden.
+#[inline(always)]
+fn is_hidden_number(number: u16) -> bool
+    requires { number < 0x3000 }
+    ensures { result ≡ is_hidden number }
+{
+    match char::from_u32(u32::from(number)) {
+        Some(character) => is_hidden(character),
+        None => true,
+    }
 }
 
 /// Returns the byte at an offset, or 0 past the end.
@@ -109,17 +132,25 @@ fn write_byte<W: Write>(out: &mut W, byte: u8) -> Result<(), Fault>
         b'\r' => write_bytes(out, b"\\r"),
         8 => write_bytes(out, b"\\b"),
         12 => write_bytes(out, b"\\f"),
-        0..=31 | 127 => write_unicode(out, byte),
+        0..=31 | 127 => write_unicode(out, 0, byte),
         _ => write_bytes(out, &[byte]),
     }
 }
 
 /// Writes `\u` and the four digits of a number.
-fn write_unicode<W: Write>(out: &mut W, number: u8) -> Result<(), Fault>
-    ensures { Writes (W.contents out.old) (W.contents out.new) result (unicode_escape number) }
+fn write_number<W: Write>(out: &mut W, number: u16) -> Result<(), Fault>
+    ensures { Writes (W.contents out.old) (W.contents out.new) result (four_digits number) }
 {
-    let (upper, lower) = (digit_char(number / 16), digit_char(number % 16));
-    write_bytes(out, &[b'\\', b'u', b'0', b'0', upper, lower])
+    write_unicode(out, (number / 256) as u8, (number % 256) as u8)
+}
+
+/// Writes `\u` and the digits of two bytes.
+fn write_unicode<W: Write>(out: &mut W, upper: u8, lower: u8) -> Result<(), Fault>
+    ensures { Writes (W.contents out.old) (W.contents out.new) result (unicode_escape upper lower) }
+{
+    let (first, second) = (digit_char(upper / 16), digit_char(upper % 16));
+    let (third, fourth) = (digit_char(lower / 16), digit_char(lower % 16));
+    write_bytes(out, &[b'\\', b'u', first, second, third, fourth])
 }
 
 /// Returns the hexadecimal digit of a number.

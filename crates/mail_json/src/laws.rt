@@ -1,9 +1,10 @@
 //! Laws: each line is JSON, a line without texts is the whole line without them, and the lines of
 //! all parts of an input are those of the whole.
 ghost use Rattle.std.specs.Prelude.{◌++◌, ◌<◌, ◌^◌, ◌≡◌, ◌≤◌, Bool, List, Ok, Option, codes, drop};
-ghost use Rattle.std.specs.Prelude.{encode_utf8_all, false, length, true, ℕ};
+ghost use Rattle.std.specs.Prelude.{encode_utf8_all, false, length, not, true, ℕ};
 ghost use Rattle.std.specs.List.{flat_map, list_all};
 ghost use Rattle.json.specs.Json.{Json};
+ghost use Rattle.mail_codec.specs.Hidden.{IsShown, is_no_character};
 ghost use Rattle.mail_codec.specs.Places.{values_below};
 ghost use Rattle.mail_data.specs.declared.mailbox.formats.Format.{Format};
 ghost use Rattle.mailparse.specs.Mail.{Tree, root};
@@ -26,11 +27,14 @@ ghost use Rattle.mail_json.specs.Values.{AreJsonLines, IsJsonLine, IsLineValue, 
 ghost use Rattle.mail_json.specs.Values.{unread_value};
 ghost use Rattle.mail_json.specs.WithoutText.{without_text};
 
-/// A string in UTF-8 is written character by character, between quotation marks.
-#[tactic(auto, using(crate::proofs::lemmas::Characters::json_text_characters))]
+/// A string in UTF-8 is written character by character, between quotation marks, and contains no
+/// hidden character.
 pub fn strings_are_characters()
-    ensures { (characters : List ℕ) → json_text (encode_utf8_all characters)
+    ensures written { (characters : List ℕ) → json_text (encode_utf8_all characters)
         ≡ codes "\"" ++ (flat_map character_text characters ++ codes "\"") }
+    ensures shown { (characters : List ℕ) →
+        list_all (λ c. not (is_no_character c)) characters ≡ true →
+        IsShown (json_text (encode_utf8_all characters)) }
 {}
 
 /// Each line that is written of an input is JSON, and ends in its only LF: the parser of the crate

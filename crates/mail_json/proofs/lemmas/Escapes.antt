@@ -1,7 +1,7 @@
 -- How the kit's parser reads a written string: each byte and each character has an escape that is read back, or is
 -- unchanged.
-use Rattle.std.proofs.Common.{◌≡◌, ℕ, zero, suc, ◌<◌, ◌≤◌, Bool, true, false, cond, not, ◌&&◌, ◌||◌, ◌==◌, nat_le, codes, List, [], ◌∷◌, ◌++◌, take, drop, slice_index, Option, Some, None, inl, inr, refl, sym, ap, ap₂, subst, ◌∙◌, arith, append_assoc, append-nil, bytes_eq, true≢false}
-use Rattle.std.proofs.lemmas.Bool.{agree_below, agree_below_at, and_parts, and_from, cases_lt, cases_Bool, eqb-true, le-leb, le-ltb, leb-true, ltb-true, ne_eqb, or_cases, or_parts, not-true, eqb-false, ltb-false}
+use Rattle.std.proofs.Common.{◌≡◌, ℕ, zero, suc, ◌<◌, ◌≤◌, ◌/◌, Bool, true, false, cond, not, ◌&&◌, ◌||◌, ◌==◌, nat_le, List, [], ◌∷◌, ◌++◌, take, drop, Option, Some, None, inl, inr, refl, sym, ap, ap₂, subst, ◌∙◌, arith, append_assoc, append-nil, bytes_eq, true≢false, false≢true}
+use Rattle.std.proofs.lemmas.Bool.{agree_below, agree_below_at, and_parts, and_from, cases_lt, cases_Bool, eqb-true, le-leb, le-ltb, ne_eqb, or_cases, or_parts, not-true, eqb-false, ltb-false}
 use Rattle.std.proofs.lemmas.List.{take-append-drop}
 use Rattle.std.proofs.lemmas.List.Folds.{list_all-append}
 use Rattle.std.proofs.lemmas.Slice.Eq.{bytes_eq-Decides}
@@ -14,7 +14,7 @@ use Rattle.json.specs.Print.{escape_byte}
 use Rattle.json.specs.Run.{is_plain}
 use Rattle.json.specs.Text.{content, plain, prepend, code_unit, short_escape, is_high_surrogate, is_low_surrogate}
 use Rattle.json.specs.Word.{is_operator, is_space}
-use Rattle.mail_json.specs.JsonText.{begins_control, begins_separator, byte_text, escaped, escaped_after, first_text, json_text, more_bytes, separator_text, unicode_escape}
+use Rattle.mail_json.specs.JsonText.{begins_three, begins_two, byte_text, escaped, escaped_after, first_text, four_digits, json_text, more_bytes, three_number, two_number}
 use Rattle.mail_json.specs.Values.{is_within_line}
 
 -- how both readers read a piece of a string before any text; and no byte of the piece is a control
@@ -165,7 +165,7 @@ passes_then a b p q f g = record {
   one_line = list_all-append is_within_line p q ∙ and_from _ _ f.one_line g.one_line;
 }
 
--- ---- the text of a byte, and of a character
+-- ---- the text of a byte
 
 bytes_read : agree_below (λ x. stands_for (x ∷ []) (byte_text x)) (λ x. true) 128 ≡ true
 unfolding escape_byte short_escape code_unit encode_utf8
@@ -178,55 +178,79 @@ byte_passes x = elim (cases_lt x 128) [
       (plain_passes x (λ e. omega arith) (λ e. omega arith) (omega arith) (λ e. omega arith)))
 ]
 
-abbrev is_control_read : ℕ → Bool
-is_control_read c = not (nat_le 128 c) || stands_for (194 ∷ c ∷ []) (unicode_escape c)
+-- ---- the text of a hidden character
 
-controls_read : agree_below is_control_read (λ c. true) 160 ≡ true
+given : (t u : Bool) → not t || u ≡ true → t ≡ true → u ≡ true
+given true u h e = h
+given false u h e = absurd (false≢true e)
+
+-- the escape of a character of two bytes is read as these, and that of one of three
+abbrev is_two_read : ℕ → ℕ → Bool
+is_two_read a b = stands_for (a ∷ b ∷ []) (four_digits (two_number (a ∷ b ∷ [])))
+
+abbrev is_three_read : ℕ → ℕ → Bool
+is_three_read b c = stands_for (226 ∷ b ∷ c ∷ []) (four_digits (three_number (226 ∷ b ∷ c ∷ [])))
+
+-- whatever the last byte is
+abbrev are_read : ℕ → Bool
+are_read c = not (c / 64 == 2) || (is_two_read 194 c && is_two_read 216 c && is_three_read 128 c && is_three_read 129 c)
+
+all_read : agree_below are_read (λ c. true) 192 ≡ true
 unfolding short_escape code_unit encode_utf8
-controls_read = refl
+all_read = refl
 
-control_passes : (c : ℕ) → 128 ≤ c → c < 160 → Passes (194 ∷ c ∷ []) (unicode_escape c)
-control_passes c least most =
-    let read : not (nat_le 128 c) || stands_for (194 ∷ c ∷ []) (unicode_escape c) ≡ true = agree_below_at is_control_read (λ d. true) 160 c controls_read most in
-    stands_for-passes (194 ∷ c ∷ []) (unicode_escape c) (rw (le-leb 128 c least) at read)
+read_at : (c : ℕ) → (c / 64 == 2) ≡ true → is_two_read 194 c && is_two_read 216 c && is_three_read 128 c && is_three_read 129 c ≡ true
+read_at c e =
+    let is = eqb-true (c / 64) 2 e in
+    given (c / 64 == 2) _ (agree_below_at are_read (λ d. true) 192 c all_read (omega (arith, is))) e
 
-separators_read : (stands_for (226 ∷ 128 ∷ 168 ∷ []) (codes "\\u2028") ≡ true) × (stands_for (226 ∷ 128 ∷ 169 ∷ []) (codes "\\u2029") ≡ true)
-unfolding short_escape code_unit encode_utf8
-separators_read = (refl, refl)
+two_passes : (a b : ℕ) → (a == 194 || a == 216) ≡ true → (b / 64 == 2) ≡ true → Passes (a ∷ b ∷ []) (four_digits (two_number (a ∷ b ∷ [])))
+two_passes a b lead e =
+    let three = and_parts (is_two_read 194 b && is_two_read 216 b && is_three_read 128 b) _ (read_at b e) in
+    let two = and_parts (is_two_read 194 b && is_two_read 216 b) _ three.0 in
+    let one = and_parts (is_two_read 194 b) _ two.0 in
+    elim (or_cases (a == 194) (a == 216) lead) [
+      | inl is ↦ subst (λ d. Passes (d ∷ b ∷ []) (four_digits (two_number (d ∷ b ∷ [])))) (sym (eqb-true a 194 is))
+          (stands_for-passes (194 ∷ b ∷ []) (four_digits (two_number (194 ∷ b ∷ []))) one.0)
+      | inr is ↦ subst (λ d. Passes (d ∷ b ∷ []) (four_digits (two_number (d ∷ b ∷ [])))) (sym (eqb-true a 216 is))
+          (stands_for-passes (216 ∷ b ∷ []) (four_digits (two_number (216 ∷ b ∷ []))) one.1)
+    ]
+
+three_passes : (b c : ℕ) → (b == 128 || b == 129) ≡ true → (c / 64 == 2) ≡ true → Passes (226 ∷ b ∷ c ∷ []) (four_digits (three_number (226 ∷ b ∷ c ∷ [])))
+three_passes b c second e =
+    let three = and_parts (is_two_read 194 c && is_two_read 216 c && is_three_read 128 c) _ (read_at c e) in
+    let two = and_parts (is_two_read 194 c && is_two_read 216 c) _ three.0 in
+    elim (or_cases (b == 128) (b == 129) second) [
+      | inl is ↦ subst (λ d. Passes (226 ∷ d ∷ c ∷ []) (four_digits (three_number (226 ∷ d ∷ c ∷ [])))) (sym (eqb-true b 128 is))
+          (stands_for-passes (226 ∷ 128 ∷ c ∷ []) (four_digits (three_number (226 ∷ 128 ∷ c ∷ []))) two.1)
+      | inr is ↦ subst (λ d. Passes (226 ∷ d ∷ c ∷ []) (four_digits (three_number (226 ∷ d ∷ c ∷ [])))) (sym (eqb-true b 129 is))
+          (stands_for-passes (226 ∷ 129 ∷ c ∷ []) (four_digits (three_number (226 ∷ 129 ∷ c ∷ []))) three.1)
+    ]
 
 -- ---- what the bytes begin with
 
--- a control is two bytes
-control_first : (b : ℕ) (bytes : List ℕ) → begins_control (b ∷ bytes) ≡ true → Passes (b ∷ take 1 bytes) (unicode_escape (slice_index bytes 0))
-control_first b [] e = absurd (true≢false (sym (and_parts (b == 194) _ e).1))
-control_first b (c ∷ bytes) e =
-    let p = and_parts (b == 194) _ e in
-    let q = and_parts (nat_le 128 c) _ p.1 in
-    subst (λ a. Passes (a ∷ c ∷ []) (unicode_escape c)) (sym (eqb-true b 194 p.0)) (control_passes c (leb-true 128 c q.0) (ltb-true c 160 q.1))
+two_first : (a : ℕ) (bytes : List ℕ) → begins_two (a ∷ bytes) ≡ true → Passes (a ∷ take 1 bytes) (four_digits (two_number (a ∷ bytes)))
+two_first a [] e = absurd (true≢false (sym (and_parts (a == 194 || a == 216) _ e).1))
+two_first a (b ∷ bytes) e =
+    let p = and_parts (a == 194 || a == 216) _ e in
+    two_passes a b p.0 (and_parts (b / 64 == 2) _ p.1).0
 
-separator_passes : (c : ℕ) → (c == 168 || c == 169) ≡ true → Passes (226 ∷ 128 ∷ c ∷ []) (separator_text c)
-separator_passes c e = elim (or_cases (c == 168) (c == 169) e) [
-  | inl is ↦ subst (λ d. Passes (226 ∷ 128 ∷ d ∷ []) (separator_text d)) (sym (eqb-true c 168 is)) (stands_for-passes _ _ separators_read.0)
-  | inr is ↦ subst (λ d. Passes (226 ∷ 128 ∷ d ∷ []) (separator_text d)) (sym (eqb-true c 169 is)) (stands_for-passes _ _ separators_read.1)
-]
-
--- a separator is three
-separator_first : (b : ℕ) (bytes : List ℕ) → begins_separator (b ∷ bytes) ≡ true → Passes (b ∷ take 2 bytes) (separator_text (slice_index bytes 1))
-separator_first b [] e = absurd (true≢false (sym (and_parts (b == 226) _ e).1))
-separator_first b (c ∷ []) e =
-    let p = and_parts (b == 226) _ e in let q = and_parts (c == 128) _ p.1 in absurd (true≢false (sym q.1))
-separator_first b (c ∷ d ∷ bytes) e =
-    let p = and_parts (b == 226) _ e in
-    let q = and_parts (c == 128) _ p.1 in
-    subst (λ a. Passes (a ∷ c ∷ d ∷ []) (separator_text d)) (sym (eqb-true b 226 p.0))
-    (subst (λ a. Passes (226 ∷ a ∷ d ∷ []) (separator_text d)) (sym (eqb-true c 128 q.0)) (separator_passes d q.1))
+three_first : (a : ℕ) (bytes : List ℕ) → begins_three (a ∷ bytes) ≡ true → Passes (a ∷ take 2 bytes) (four_digits (three_number (a ∷ bytes)))
+three_first a [] e = absurd (true≢false (sym (and_parts (a == 226) _ e).1))
+three_first a (b ∷ []) e =
+    let p = and_parts (a == 226) _ e in absurd (true≢false (sym (and_parts (b == 128 || b == 129) _ p.1).1))
+three_first a (b ∷ c ∷ bytes) e =
+    let p = and_parts (a == 226) _ e in
+    let q = and_parts (b == 128 || b == 129) _ p.1 in
+    subst (λ d. Passes (d ∷ b ∷ c ∷ []) (four_digits (three_number (d ∷ b ∷ c ∷ [])))) (sym (eqb-true a 226 p.0))
+    (three_passes b c q.0 (and_parts (c / 64 == 2) _ q.1).0)
 
 first_passes : (b : ℕ) (bytes : List ℕ) → Passes (b ∷ take (more_bytes (b ∷ bytes)) bytes) (first_text (b ∷ bytes))
 unfolding first_text more_bytes
-first_passes b bytes = elim (cases_Bool (begins_control (b ∷ bytes))) [
-  | inl e ↦ rw e (control_first b bytes e)
-  | inr e ↦ elim (cases_Bool (begins_separator (b ∷ bytes))) [
-    | inl f ↦ rw (e, f) (separator_first b bytes f)
+first_passes b bytes = elim (cases_Bool (begins_two (b ∷ bytes))) [
+  | inl e ↦ rw e (two_first b bytes e)
+  | inr e ↦ elim (cases_Bool (begins_three (b ∷ bytes))) [
+    | inl f ↦ rw (e, f) (three_first b bytes f)
     | inr f ↦ rw (e, f) (byte_passes b)
   ]
 ]
