@@ -17,10 +17,11 @@ import resource
 import signal
 import stat
 import subprocess
+import urllib.parse
 
 import pytest
 
-from support import FROM, SAMPLES, command, multipart, run, uuencoded
+from support import FROM, HIDDEN, SAMPLES, command, multipart, run, uuencoded
 
 from by_email import SHOWN_TYPES, body_of, is_saved, saved_files
 
@@ -349,6 +350,20 @@ def test_windows_paths_in_quotes(path, escaped, tmp_path):
     mail = b"Content-Disposition: attachment; filename=\"%b\"\n\nx" % quoted.encode()
     ended = run([*command("extract"), "--into", tmp_path, "--mail"], mail)
     assert (ended.returncode, [file.name for file in tmp_path.iterdir()]) == (0, [ntpath.basename(path)])
+
+
+def test_names_without_hidden_characters(tmp_path):
+    """U+202E and its like, and what is shown as nothing, are `_` in the names of files, and escaped in the JSON."""
+    names = [f"a{c}gnp.exe" for c in (*HIDDEN[32:], *"\xad\u200b\u200c\u200d\u2060\ufeff")]
+    mail = multipart(b"b", *(
+        b"Content-Disposition: attachment; filename*=utf-8''%b\n\nx" % urllib.parse.quote(name).encode() for name in names))
+    ended = run([*command("extract"), "--into", tmp_path, "--mail"], mail)
+    assert (ended.returncode, ended.stderr) == (0, b"")
+    assert {re.sub(r"-\d+", "", path.name) for path in tmp_path.iterdir()} == {"a_gnp.exe"}
+    assert len(list(tmp_path.iterdir())) == len(names)
+    ended = run([*command("json")], mail)
+    assert [part["file_name"] for part in json.loads(ended.stdout)["parts"][1:]] == names
+    assert '"file_name":"a\\u202egnp.exe"' in ended.stdout.decode()
 
 
 # Microsoft, "Naming Files, Paths, and Namespaces": the names of devices and the reserved characters
@@ -742,14 +757,13 @@ def test_stdout_of_a_mailbox():
 
 
 def test_lines_are_escaped():
-    """A line escapes what a line of JSON escapes: every control character, and the separators of lines and paragraphs."""
-    label = "".join(map(chr, [*range(1, 32), 34, 92, *range(127, 161), 0x2028, 0x2029, 0x1F600]))
+    """A line escapes what a line of JSON escapes: every hidden character."""
+    label = '"\\\xa0\U0001f600' + "".join(HIDDEN[1:])
     for data in (parted(), b"A: b\n" * 99):
         ended = run([*command("extract"), "--label", label, "--only", "2", "--by-hash", "--max-items", "99"], data, cwd="/proc")
         other = run([*command("json"), "--label", label, "--max-items", "99"], data)
         text = ended.stdout.decode()
-        assert text.count("\n") == 1 and text.endswith("\n") and not any(c < " " or c == "\x7f" for c in text[:-1])
-        assert not any(c in text for c in map(chr, [*range(128, 160), 0x2028, 0x2029]))
+        assert text.endswith("\n") and not any(c in text[:-1] for c in HIDDEN)
         assert json.loads(text)["file"] == label
         written = text.split('"file":', 1)[1].split(',"number"')[0]
         assert written in other.stdout.decode()

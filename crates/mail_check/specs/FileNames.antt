@@ -1,5 +1,5 @@
 -- Names of files that other programs may read differently (RFC 2183, section 2.3); this crate's own words.
-use Rattle.std.specs.Prelude.{ℕ, ◌-◌, Bool, false, ◌&&◌, ◌||◌, ◌==◌, not, nat_lt, List, length, drop, Option, Some, None, is_none, is_some, chars, codes}
+use Rattle.std.specs.Prelude.{ℕ, ◌-◌, Bool, false, ◌&&◌, ◌||◌, ◌==◌, not, List, length, drop, Option, Some, None, is_none, is_some, chars, codes}
 use Rattle.std.specs.List.{list_any}
 use Rattle.std.specs.Str.{bytes_eq}
 use Rattle.mail_codec.specs.Ascii.{colon, is_blank}
@@ -37,18 +37,9 @@ has_untyped_name shown node =
 
 -- ---- names that are not safe
 
--- a character is in a range
-abbrev pub is_within : ℕ → ℕ → ℕ → Bool
-is_within low high c = not (nat_lt c low) && not (nat_lt high c)
-
--- a character that changes the direction of text, or that ends a line or a paragraph
-abbrev pub is_direction : ℕ → Bool
-is_direction c =
-    c == 0x61C || (is_within 0x200E 0x200F c || (is_within 0x2028 0x202E c || is_within 0x2066 0x2069 c))
-
--- a slash, a backslash, a colon, a control character, or one of these
+-- a character that no safe name contains, or a colon
 abbrev pub is_risky : ℕ → Bool
-is_risky c = is_unsafe c || (c == colon || is_direction c)
+is_risky c = is_unsafe c || c == colon
 
 -- a name contains such a character
 abbrev pub has_risky : List ℕ → Bool

@@ -5,10 +5,10 @@ ghost use Rattle.mailparse.specs.Mail.{root};
 ghost use Rattle.mailparse.specs.Views as views;
 ghost use Rattle.mailparse.specs.Views.{content_type, tree_of};
 ghost use Rattle.mail_check.specs.FileNames.{are_two, has_filler, has_risky, has_two_names};
-ghost use Rattle.mail_check.specs.FileNames.{has_unsafe_name, has_untyped_name, is_direction};
+ghost use Rattle.mail_check.specs.FileNames.{has_unsafe_name, has_untyped_name};
 ghost use Rattle.mail_check.specs.FileNames.{is_filler, is_risky, lacks_type};
 
-use mail_data::files::{filled_parameter, named_file};
+use mail_data::files::{filled_parameter, is_unsafe, named_file};
 use mailparse::{MailHeaderMap, ParsedContentDisposition, ParsedContentType, ParsedMail};
 use std::alloc::{AllocError, Global};
 
@@ -69,8 +69,7 @@ pub(crate) fn has_unsafe_name(
     }
 }
 
-/// Returns whether a name contains a character that a path may have, a control character, or one
-/// that changes the direction of text.
+/// Returns whether a name contains a character that no safe name contains, or a colon.
 fn has_risky(name: &str) -> bool
     ensures { result ≡ has_risky name.now }
 {
@@ -86,20 +85,7 @@ fn has_risky(name: &str) -> bool
 fn is_risky(c: char) -> bool
     ensures { result ≡ is_risky c }
 {
-    c == '/' || c == '\\' || c.is_control() || c == ':' || is_direction(c)
-}
-
-/// Returns whether a character changes the direction of text, or ends a line or a paragraph.
-fn is_direction(c: char) -> bool
-    ensures { result ≡ is_direction c }
-{
-    matches!(
-        c,
-        '\u{61c}'
-            | '\u{200e}'..='\u{200f}'
-            | '\u{2028}'..='\u{202e}'
-            | '\u{2066}'..='\u{2069}'
-    )
+    is_unsafe(c) || c == ':'
 }
 
 /// Returns whether a name has a dot or a blank at an end.

@@ -1,15 +1,22 @@
 -- Names of files that are safe in any directory; the crate's own rule. A text is the list of its
 -- bytes in UTF-8.
 use Rattle.std.specs.Prelude.{◌≡◌, ◌≢◌, ℕ, suc, ◌-◌, ◌≤◌, Bool, true, false, not, ◌&&◌, ◌||◌, ◌==◌, nat_lt, List, [], ◌∷◌, ◌++◌, length, take, drop, map, chars, encode_utf8_all, codes, if◌then◌else◌}
-use Rattle.std.specs.Char.{is_ascii_alphabetic, is_control}
+use Rattle.std.specs.Char.{is_ascii_alphabetic}
+use Rattle.std.specs.Int.{is_in_range}
 use Rattle.std.specs.List.{list_all, suffix_len}
 use Rattle.std.specs.Str.{bytes_eq}
 use Rattle.mail_codec.specs.Ascii.{backslash, colon, slash, underscore}
+use Rattle.mail_codec.specs.Hidden.{is_hidden}
 use Rattle.mail_codec.specs.Places.{is_empty, least}
 
--- a character that no safe name contains: `/`, `\` or a control character, including NUL
+-- a character that is shown as nothing: a soft hyphen, a space without width, one that does or does not join, the joiner of
+-- words, or a byte order mark
+abbrev pub is_invisible : ℕ → Bool
+is_invisible c = c == 0xAD || is_in_range 0x200B 0x200D c || c == 0x2060 || c == 0xFEFF
+
+-- a character that no safe name contains: `/`, `\`, a hidden character, such as a control, or one that is shown as nothing
 abbrev pub is_unsafe : ℕ → Bool
-is_unsafe c = c == slash || c == backslash || is_control c
+is_unsafe c = c == slash || c == backslash || is_hidden c || is_invisible c
 
 -- a name of no file: no text, or the name of a directory
 abbrev pub is_reserved : List ℕ → Bool

@@ -31,7 +31,7 @@ use mailparse::{
     DispositionType, MailParseError, ParsedContentDisposition, ParsedContentType, ParsedMail,
     Strict,
 };
-pub use names::safe_file_name;
+pub use names::{is_unsafe, safe_file_name};
 use naming::WithPaths;
 pub(crate) use naming::{NameReading, cut_text, decoded_name, name_by};
 pub use no_charsets::NoCharsets;

@@ -11,6 +11,7 @@ use Rattle.std.proofs.lemmas.List.Sums.{suffix_len-take_no, suffix_len-take_yes}
 use Rattle.std.proofs.lemmas.Slice.Eq.{bytes_eq-Decides}
 use Rattle.std.proofs.lemmas.Str.{chars-nil, chars-encodes, chars_past_char, encodes-append, encodes-chars, scalars-chars, length-encode, len_utf8_bounds}
 use lib.Utf8.{scalar, scalars}
+use Rattle.mail_codec.specs.Hidden.{is_hidden}
 use Rattle.mail_codec.specs.Places.{is_empty, least}
 use Rattle.mail_data.specs.FileNames.{after_dot, ending, fits, front_length, front_name, is_reserved, is_unsafe, is_windows_path, kept_ending, last_component, made_safe, most, safe_name, shortened, size, trailing, IsSafeName}
 
@@ -131,6 +132,7 @@ pub all_safe : List ℕ → Bool
 all_safe cs = list_all (λ c. not (is_unsafe c)) cs
 
 made_safe-safe : (c : ℕ) → not (is_unsafe (made_safe c)) ≡ true
+unfolding is_hidden
 made_safe-safe c = cond_both (is_unsafe c) 95 c (λ d. not (is_unsafe d) ≡ true) (λ unsafe. refl) (λ safe. ap not safe)
 
 all-made : (cs : List ℕ) → all_safe (map made_safe cs) ≡ true
@@ -292,7 +294,7 @@ shortened-same cs h =
 -- ---- the whole name
 
 single : IsSafeName (95 ∷ [])
-unfolding chars
+unfolding chars is_hidden
 single = record {
   some = λ e. let h = ap length e in omega arith;
   not_here = λ e. let h : ◌≡◌ {A = ℕ} 95 46 = ap (λ (l : List ℕ). get_or l 0 0) e in omega arith;

@@ -7,6 +7,7 @@ use Rattle.std.specs.Str.{chars, encode_utf8_all, IsUtf8}
 use Rattle.std.proofs.lemmas.Bool.{cond-false, cond_both, and_parts, and_from, not-true, false≢true}
 use Rattle.std.proofs.lemmas.Str.{chars-encodes, encodes-chars, scalars-chars, length-encode, len_utf8_bounds}
 use lib.Utf8.{scalar, scalars}
+use Rattle.mail_codec.specs.Hidden.{is_hidden}
 use Rattle.mail_data.specs.FileNames.{IsSafeName, fits, is_unsafe, size}
 use Rattle.mail_data.specs.WindowsNames.{IsWindowsName, after_underscore, all_allowed, allowed, allowed_last, ends_in, is_device, is_forbidden, is_no_end, no_device}
 use Rattle.mail_data.proofs.lemmas.FileNames.{fits-short, scalars-are, size-at_least}
@@ -188,6 +189,7 @@ some-characters name utf8 some = some-list (chars name) (λ e. some (sym (encode
 
 -- the characters of a safe name, made allowed
 pub allowed_from : (name : List ℕ) → IsUtf8 name → IsSafeName name → IsWindowsName (encode_utf8_all (no_device (all_allowed (chars name))))
+unfolding is_hidden
 allowed_from name utf8 h =
     let cs = chars name in
     let short = h.short in

@@ -1,10 +1,11 @@
 //! Names of files that are safe in any directory of a POSIX system.
 ghost use Rattle.std.specs.Prelude.{◌≡◌, ◌++◌, ◌≤◌, IfOk, IsTrue, OnOk, chars, encode_utf8_all, length, map, string_bytes};
 ghost use Rattle.mail_data.specs.FileNames.{IsSafeName, ending, fits, front_length};
-ghost use Rattle.mail_data.specs.FileNames.{front_name, is_reserved, is_windows_path, kept_ending};
-ghost use Rattle.mail_data.specs.FileNames.{last_component};
+ghost use Rattle.mail_data.specs.FileNames.{front_name, is_invisible, is_reserved, is_unsafe};
+ghost use Rattle.mail_data.specs.FileNames.{is_windows_path, kept_ending, last_component};
 ghost use Rattle.mail_data.specs.FileNames.{made_safe, safe_name, shortened, size, trailing};
 
+use mail_codec::hidden::is_hidden;
 use std::alloc::{AllocError, Global};
 
 /// The greatest length of a safe name in bytes.
@@ -18,11 +19,11 @@ const MOST_OF_ENDING: usize = 17;
 /// `windows_file_name` changes them too.
 ///
 /// Of a Windows path, which begins with a drive, such as `C:\`, or with `\\`, only the text after
-/// the last `\` stays. Each `/`, `\` and control character, including NUL, becomes `_`. A name of
-/// more than 255 bytes is cut between characters, before its ending: the last dot and at most 16
-/// bytes after it. If the result is empty, `.` or `..`, it becomes `_`. A name that is already safe
-/// stays as it is. Characters that change the text direction stay. Allocates the name and its
-/// characters.
+/// the last `\` stays. Each unsafe character becomes `_`: `/`, `\`, controls, including NUL,
+/// characters that change the direction of text, and others of `is_unsafe`. A name of more than 255
+/// bytes is cut between characters, before its ending: the last dot and at most 16 bytes after it.
+/// If the result is empty, `.` or `..`, it becomes `_`. A name that is already safe stays as it is.
+/// Allocates the name and its characters.
 ///
 /// # Errors
 ///
@@ -218,11 +219,37 @@ fn shortened(alloc: Global, characters: &[char]) -> Result<String, AllocError>
     Ok(text)
 }
 
+/// Returns whether no safe name contains a character: `/`, `\`, a hidden character of
+/// `mail_codec::hidden`, such as a control, or one that is shown as nothing, of U+00AD, U+200B to
+/// U+200D, U+2060 and U+FEFF. Does not allocate.
+///
+/// # Examples
+///
+/// ```rust
+/// use mail_data::files::is_unsafe;
+///
+/// assert!(rt; is_unsafe('/'));
+/// assert!(rt; is_unsafe('\u{202e}'));
+/// assert!(rt; !is_unsafe('é'));
+/// ```
+pub fn is_unsafe(c: char) -> bool
+    ensures { result ≡ is_unsafe c }
+{
+    c == '/' || c == '\\' || is_hidden(c) || is_invisible(c)
+}
+
+/// Returns whether a character is shown as nothing.
+fn is_invisible(c: char) -> bool
+    ensures { result ≡ is_invisible c }
+{
+    matches!(c, '\u{ad}' | '\u{200b}'..='\u{200d}' | '\u{2060}' | '\u{feff}')
+}
+
 /// Returns the character, or `_` in the place of an unsafe one.
 fn made_safe(c: char) -> char
     ensures { result ≡ made_safe c }
 {
-    if c == '/' || c == '\\' || c.is_control() {
+    if is_unsafe(c) {
         '_'
     } else {
         c
