@@ -164,7 +164,8 @@ three_escaped c rest h l true e =
     rw (three_no_two c ((128 + c / 64 % 64) ∷ (128 + c % 64) ∷ rest), three_begins c rest h l ∙ e)
     (ap (λ n. four_digits n ++ escaped rest) (three_is c rest third.0 (omega (arith, most))))
 three_escaped c rest h l false e =
-    high_escaped (224 + c / 4096) ((128 + c / 64 % 64) ∷ (128 + c % 64) ∷ rest) (omega arith) (three_no_two c _) (three_begins c rest h l ∙ e)
+    high_escaped (224 + c / 4096) ((128 + c / 64 % 64) ∷ (128 + c % 64) ∷ rest) (omega arith) (three_no_two c ((128 + c / 64 % 64) ∷ (128 + c % 64) ∷ rest))
+    (three_begins c rest h l ∙ e)
     ∙ ap (λ (t : List ℕ). (224 + c / 4096) ∷ t) (other (128 + c / 64 % 64) ((128 + c % 64) ∷ rest) (omega arith) (inl (omega arith))
     ∙ ap (λ (t : List ℕ). (128 + c / 64 % 64) ∷ t) (other (128 + c % 64) rest (omega arith) (inl (omega arith))))
 
