@@ -249,8 +249,9 @@ uint32_t rocktray_type(const void *raw_value, size_t raw_value_length, uint64_t 
 uint32_t rocktray_file_name(const void *raw_disposition, size_t raw_disposition_length, const void *raw_type,
                             size_t raw_type_length, void *buffer, size_t capacity, size_t *needed);
 
-/* Writes a name that is safe in any directory, made from a file name: at most 255 bytes, without `/`, `\` and control
- * characters, and neither empty nor `.` nor `..`. Refuses with ROCKTRAY_NOT_UTF8. */
+/* Writes a name that is safe in any directory, made from a file name: at most 255 bytes, without `/`, `\`, control
+ * characters, those that change the direction of text or are shown as nothing, and neither empty nor `.` nor `..`. Refuses
+ * with ROCKTRAY_NOT_UTF8. */
 uint32_t rocktray_safe_name(const void *name, size_t name_length, void *buffer, size_t capacity, size_t *needed);
 
 /* Writes the decoded bytes of a body: the file, if it is one. `encoding` is that of the part's record; any other number

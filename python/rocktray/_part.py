@@ -115,8 +115,8 @@ class Part:
 
     @property
     def safe_name(self) -> Optional[str]:
-        """The file name made safe for any directory, or `None`: at most 255 bytes, without slashes and control characters,
-        and neither empty nor '.' nor '..'.
+        """The file name made safe for any directory, or `None`: at most 255 bytes, without slashes, control
+        characters and those that change the direction of text or are shown as nothing, and neither empty nor '.' nor '..'.
 
         >>> part = next(parse(b"Content-Type: image/png; name=../../logo.png\\n\\n").walk())
         >>> part.file_name, part.safe_name
