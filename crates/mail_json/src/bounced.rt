@@ -14,7 +14,7 @@ ghost use Rattle.mail_json.specs.DecodedViews.{IsDecoded, decoded_tree};
 use crate::decoded::Decoded;
 use mail_data::archive::ids_of;
 use mail_data::lenient::{IdRule, lenient_content};
-use mailparse::{MailParseError, ParsedMail, parse_headers};
+use mailparse::{MailParseError, ParsedMail, parse_lenient_headers};
 use std::alloc::Global;
 
 /// Returns the id of the mail that a bounce with these parts returns, as
@@ -125,7 +125,7 @@ fn id_in(alloc: Global, mail: &[u8]) -> Result<Option<String>, MailParseError>
     ensures read { IfOk result (λ id. text_found id ≡ id_among (fields mail.now)) }
     ensures only_memory { IfErr result IsMemory }
 {
-    match parse_headers(alloc, mail) {
+    match parse_lenient_headers(alloc, mail) {
         Ok((headers, _)) => {
             let ids = ids_of(alloc, &headers, "Message-ID", IdRule::Any)?;
             Ok(ids.into_iter().next())
