@@ -550,6 +550,27 @@ static bool is_all_given(long at)
     return calls < at;
 }
 
+/* RFC 5322, section 4.5: blanks before a colon are not of the name. */
+static void check_blanks(void)
+{
+    const struct bytes mail = BYTES("Subject \t: x\n\n"), name = BYTES("subject");
+    struct rocktray_header_record header;
+    struct records records;
+    size_t needed = 77;
+    char value[2];
+    count(rocktray_headers(mail.at, mail.length, 1, &header, 1, &needed) == ROCKTRAY_DONE && needed == 1
+              && header.start == 0 && header.key_end == 7 && header.value_start == 11 && header.value_end == 12
+              && header.end == 13,
+          "a block with blanks before a colon", 0);
+    count(records_of(mail, &records) == ROCKTRAY_DONE && records.headers_length == 1
+              && memcmp(records.headers, &header, sizeof header) == 0,
+          "a mail with blanks before a colon", 0);
+    free_records(&records);
+    count(rocktray_header(mail.at, mail.length, name.at, name.length, 0, value, sizeof value, &needed) == ROCKTRAY_DONE
+              && needed == 1 && value[0] == 'x',
+          "a header with blanks before its colon", 0);
+}
+
 static void check_records(void)
 {
     const struct bytes mail = BYTES(TREE), nothing = NOTHING, space = BYTES(" x"), block = BYTES("A: b\n\nx");
@@ -558,6 +579,7 @@ static void check_records(void)
     struct records records;
     long all;
     check_fields();
+    check_blanks();
     count(fills(mail, SIZE_MAX, 4, 5, ROCKTRAY_DONE, 4, 5), "the right arrays", 0);
     count(fills(mail, SIZE_MAX, 9, 9, ROCKTRAY_DONE, 4, 5), "larger arrays", 0);
     count(fills(mail, SIZE_MAX, 3, 5, ROCKTRAY_TOO_SHORT, 4, 5), "too few parts", 0);

@@ -133,8 +133,9 @@ struct rocktray_part {
     uint64_t flags;                  /* a sum of enum rocktray_flag */
 };
 
-/* A header. The key is without the colon. The raw value is without the spaces before it and the line end after it, but
- * with the line ends inside it. */
+/* A header. The key is without the colon and the spaces and tabs before the colon, which old mails may have (RFC 5322,
+ * section 4.5). The raw value is without the spaces before it and the line end after it, but with the line ends inside
+ * it. */
 struct rocktray_header_record {
     uint64_t start, key_end;         /* the key, which begins where the header does */
     uint64_t value_start, value_end; /* the raw value */
@@ -334,8 +335,8 @@ uint32_t rocktray_content(const void *part, size_t part_length, void *buffer, si
 uint32_t rocktray_text(const void *part, size_t part_length, void *buffer, size_t capacity, size_t *needed);
 
 /* Writes the text of a header in UTF-8, as rocktray_value does. `number` selects one of the headers
- * with this name, counting from 0. The name is in any case, and without a colon. Only the headers are read that
- * rocktray_headers finds.
+ * with this name, counting from 0. The name is in any case, and without a colon and blanks before it. Only the headers
+ * are read that rocktray_headers finds.
  * Returns ROCKTRAY_ABSENT if there is no such header. Refuses with ROCKTRAY_LEADING_SPACE or _LONE_CARRIAGE_RETURN for
  * the block, and with ROCKTRAY_NOT_UTF8 for the name. */
 uint32_t rocktray_header(const void *part, size_t part_length, const void *name, size_t name_length,

@@ -24,6 +24,8 @@ _PADDED = re.compile(rb"[A-Za-z0-9+/]{2}(?:[A-Za-z0-9+/]=|==)")
 class Header(_engine.Header):
     """A header of a part: its `name`, its decoded `value`, and its `raw` value.
 
+    A name is without spaces and tabs before the colon.
+
     >>> mail = parse(b"Subject: =?utf-8?q?caf=C3=A9?=\\r\\n at noon\\r\\n\\r\\n")
     >>> mail.headers[0].name, mail.headers[0].value, mail.headers[0].raw
     ('Subject', 'café at noon', b'=?utf-8?q?caf=C3=A9?=\\r\\n at noon')

@@ -20,7 +20,7 @@ def raw_values(part):
 ODD = [
     b"A: b", b"A", b"", b"\n", b"A\n", b"A: b\n", b"A:\n", b"A:\r\n", b"A: \r\n b\r\n\r\n", b"A\n\tb: c\n", b"A\r\nB: \n \n\t\n\n x",
     b"A:  b \r\r\n\r\n", b"A: b\n c\n\td\r\n e: f\nG: h\n \n", b":x\n:\n : y", b"A: b\n ", b"A: \n\n", b"A: b\rC: d\n", b"A: b\r",
-    b"A: b\n--c\nA: d", b"A: b\n \n--c\nA: d\n\n", b"--c\nA: b\r\n\t\r\n--c: d\n--\n e",
+    b"A : b\nA\t: c", b" \t: b\nA \t\n", b"A: b\n--c\nA: d", b"A: b\n \n--c\nA: d\n\n", b"--c\nA: b\r\n\t\r\n--c: d\n--\n e",
 ]  # fmt: skip
 
 
@@ -35,6 +35,17 @@ def test_raw_values_are_those_of_the_library(hostile, samples):
                     assert found == raw_values(part), raw
                     made += len(found)
     assert made > 10_000
+
+
+def test_blanks_before_a_colon():
+    """RFC 5322, section 4.5"""
+    mail = rocktray.parse(b"Subject : x\nDate \t: Mon, 1 Jan 2024 00:00:00 +0000\nContent-Type\t: text/html\n\n<p>y")
+    assert [header.name for header in mail.headers] == ["Subject", "Date", "Content-Type"]
+    assert (mail.subject, mail["subject"], mail.header("Subject ")) == ("x", "x", None)
+    assert mail.date.timestamp() == 1704067200
+    assert next(mail.walk()).content_type == "text/html"
+    unread = rocktray.Mail(mail.raw)
+    assert unread["subject"] == "x"
 
 
 def test_raw_values_in_linear_time():

@@ -1,12 +1,12 @@
 -- The records of a mail, of its parts and of their headers; the crate's own form.
-use Rattle.std.specs.Prelude.{ℕ, suc, ◌+◌, Bool, not, ◌&&◌, ◌||◌, nat_le, true, List, [], ◌∷◌, ◌++◌, length, drop, flat_map, Option, Result, Ok, Err, if◌then◌else◌}
+use Rattle.std.specs.Prelude.{ℕ, suc, ◌+◌, Bool, not, ◌&&◌, ◌||◌, nat_le, List, [], ◌∷◌, ◌++◌, length, drop, flat_map, Option, Result, Ok, Err, if◌then◌else◌}
 use Rattle.std.specs.Option.{option_map_or}
 use Rattle.mail_codec.specs.Charset.{Charsets}
 use Rattle.mail_codec.specs.Places.{values_below}
-use Rattle.mailparse.specs.Block.{HeaderList, before_dash_line, header_place, read_block}
+use Rattle.mailparse.specs.Block.{HeaderList, bare_key, before_dash_line, header_place, read_headers}
 use Rattle.mailparse.specs.Body.{in_base64, in_quoted_printable, in_7bit, in_8bit, in_binary}
 use Rattle.mailparse.specs.Disposition.{Kind, inline, attachment, form_data, extension}
-use Rattle.mailparse.specs.Header.{header_length, key_end, value_end, value_start}
+use Rattle.mailparse.specs.Header.{header_length, header_of, value_end, value_start}
 use Rattle.mailparse.specs.Mail.{Forest, Tree, no_parts, part_and, root, tree, trees_within}
 use Rattle.mailparse.specs.Placement.{Placement}
 use Rattle.mail_data.specs.Files.{is_leaf, is_shown}
@@ -90,13 +90,17 @@ items_of _ _ _ = []
 
 -- ---- records
 
+-- where the key of the header at the front of the bytes ends, without the blanks at its end
+abbrev pub bare_key_end : List ℕ → ℕ
+bare_key_end raw = length (bare_key (header_of raw).key)
+
 -- the record of the header with this number in a message that starts at this offset
 abbrev pub header_record : ℕ → List ℕ → ℕ → HeaderRecord
 header_record start bytes number =
     let first = start + header_place bytes number in
     let rest = drop (header_place bytes number) bytes in record {
       start = first;
-      key_end = first + key_end rest;
+      key_end = first + bare_key_end rest;
       value_start = first + value_start rest;
       value_end = first + value_end rest;
       end = first + header_length rest;
@@ -121,7 +125,7 @@ block_records limit raw (Err code) = Err code
 
 -- the records of the headers of a mail or a part, which end where those of a mail that is read leniently do
 unfoldable pub header_block : ℕ → List ℕ → Result (List HeaderRecord) ℕ
-header_block limit raw = block_records limit (before_dash_line raw) (coded (read_block true raw))
+header_block limit raw = let front = before_dash_line raw in block_records limit front (coded (read_headers front))
 
 -- Under the charsets that are known.
 module _ (known : Charsets) where

@@ -1,19 +1,21 @@
 //! The offsets of a header that was read, from the lengths of its key and its value.
 ghost use Rattle.std.specs.Prelude.{◌≡◌, ◌≤◌, ◌==◌, suc, drop, min, not, length};
-ghost use Rattle.mail_codec.specs.Ascii.{space};
+ghost use Rattle.mail_codec.specs.Ascii.{is_blank, space};
 ghost use Rattle.mail_codec.specs.Places.{begins, place_from};
+ghost use Rattle.mailparse.specs.Block.{bare_header};
 ghost use Rattle.mailparse.specs.Header.{header_length, header_of, is_line_feed};
 ghost use Rattle.mailparse.specs.Header.{key_end, value_end, value_start};
+ghost use Rattle.mail_c.specs.Records.{bare_key_end};
 
 use mailparse::{HeaderPlaces, MailHeader};
 
-/// Returns the offsets in the header that was read at the front of `raw`. Its key and its value are
-/// not searched.
+/// Returns the offsets in the header that was read at the front of `raw`, whose key has no blanks at
+/// its end. Its key and its value are not searched.
 #[inline(always)]
 #[tactic(auto, using(crate::proofs::lemmas::HeaderLengths::lengths))]
 pub(crate) fn places_of(raw: &[u8], header: &MailHeader<'_>) -> HeaderPlaces
-    requires { header.now ≡ header_of raw.now }
-    ensures key { result.key_end ≡ key_end raw.now }
+    requires { header.now ≡ bare_header (header_of raw.now) }
+    ensures key { result.key_end ≡ bare_key_end raw.now }
     ensures start { result.value_start ≡ value_start raw.now }
     ensures end { result.value_end ≡ value_end raw.now }
     ensures len { result.length ≡ header_length raw.now }
@@ -21,7 +23,7 @@ pub(crate) fn places_of(raw: &[u8], header: &MailHeader<'_>) -> HeaderPlaces
         × (result.value_end ≤ result.length) × (result.length ≤ length raw.now) }
 {
     let key_end = header.get_key_raw().len();
-    let value_start = value_start(raw, key_end);
+    let value_start = value_start(raw, after_blanks(raw, key_end));
     let value_end = value_start + header.get_value_raw().len();
     let end = line_feed_from(raw, value_end);
     HeaderPlaces {
@@ -30,6 +32,21 @@ pub(crate) fn places_of(raw: &[u8], header: &MailHeader<'_>) -> HeaderPlaces
         value_end,
         length: length_to(raw, end),
     }
+}
+
+/// Returns the end of a key that ends at `key`, without the blanks at its end.
+#[inline(always)]
+#[tactic(auto, using(crate::proofs::lemmas::HeaderLengths::key_blanks))]
+pub(crate) fn bare_key_end(raw: &[u8], key: usize) -> usize
+    requires { key ≡ key_end raw.now }
+    ensures value { result ≡ bare_key_end raw.now }
+    ensures bounds { result ≤ key }
+{
+    let mut end = key;
+    'blanks: while 0 < end && is_blank_at(raw, end - 1) {
+        end -= 1;
+    }
+    end
 }
 
 /// Returns the start of the value of a header whose key ends at `key`.
@@ -43,6 +60,31 @@ fn value_start(raw: &[u8], key: usize) -> usize
         return key;
     }
     after_spaces(raw, key + 1)
+}
+
+/// Returns the offset of the first byte at or after `from` that is neither a space nor a tab, or the
+/// length if all are.
+#[inline(always)]
+fn after_blanks(raw: &[u8], from: usize) -> usize
+    requires within { from ≤ length raw.now }
+    ensures { result ≡ place_from (begins (λ b. not (is_blank b))) raw.now from }
+{
+    let mut at = from;
+    while is_blank_at(raw, at) {
+        at += 1;
+    }
+    at
+}
+
+/// Returns whether a space or a tab is at `offset`.
+#[inline(always)]
+fn is_blank_at(raw: &[u8], offset: usize) -> bool
+    ensures { result ≡ begins is_blank (drop offset raw.now) }
+{
+    match raw.get(offset) {
+        Some(found) => *found == b' ' || *found == b'\t',
+        None => false,
+    }
 }
 
 /// Returns the offset of the first byte at or after `from` that is not a space, or the length if

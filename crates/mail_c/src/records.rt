@@ -22,7 +22,7 @@ ghost use Rattle.mail_json.specs.Part.{is_attachment};
 use crate::codes::{NO_MEMORY, TOO_MANY, code_of};
 use crate::lookup::first_header;
 use crate::nameless::is_nameless_part;
-use crate::places::places_of;
+use crate::places::{bare_key_end, places_of};
 use mail_data::files::{is_attachment_disposition, is_leaf, is_shown};
 use mail_data::inner_mails::forwards;
 use mail_data::lenient::{LenientBody, lenient_body, lenient_disposition, lenient_file_name};
@@ -72,7 +72,7 @@ pub struct Part {
 pub struct HeaderRecord {
     /// The start of the header and of its key.
     pub start: u64,
-    /// The end of its key.
+    /// The end of its key, before the blanks at the end of the key.
     pub key_end: u64,
     /// The start of its value.
     pub value_start: u64,
@@ -384,10 +384,11 @@ fn push_headers(
     let mut at = 0;
     for number in 0..count {
         let places = header_places(&raw[at..]);
+        let key_end = bare_key_end(&raw[at..], places.key_end);
         let first = start + at;
         headers.push(HeaderRecord {
             start: first as u64,
-            key_end: (first + places.key_end) as u64,
+            key_end: (first + key_end) as u64,
             value_start: (first + places.value_start) as u64,
             value_end: (first + places.value_end) as u64,
             end: (first + places.length) as u64,

@@ -18,7 +18,7 @@ use mail_data::reading::read_mail;
 use mail_html::{Links, References, html_text};
 use mail_json::{LineOptions, Origin, write_mail};
 use mailparse::{
-    KnownCharsets, MailHeaderMap, MailParseError, ParsedMail, before_dash_line, parse_headers,
+    KnownCharsets, MailHeaderMap, MailParseError, ParsedMail, parse_lenient_headers,
 };
 use std::alloc::{AllocError, Global};
 use std::borrow::{CowSlice, CowStr};
@@ -153,7 +153,7 @@ pub(crate) fn raw_value(
     ensures { AnswersOrMemory bytes_found result (raw_value raw.now name.now number) }
 {
     let name = text_in(name)?;
-    let (headers, _) = parse_headers(alloc, before_dash_line(raw))?;
+    let (headers, _) = parse_lenient_headers(alloc, raw)?;
     let named = headers.get_all_headers(alloc, name)?;
     match named.as_slice().get(number) {
         Some(header) => Ok(Some(header.get_value_raw().to_vec(alloc)?)),
@@ -174,7 +174,7 @@ pub(crate) fn value<K: KnownCharsets>(
         (value (K.known known.now) raw.now name.now number) }
 {
     let name = text_in(name)?;
-    let (headers, _) = parse_headers(alloc, before_dash_line(raw))?;
+    let (headers, _) = parse_lenient_headers(alloc, raw)?;
     let named = headers.get_all_headers(alloc, name)?;
     match named.as_slice().get(number) {
         Some(header) => {

@@ -1,12 +1,14 @@
--- Headers that end before a line that looks like a delimiter are the first ones of all bytes.
-use Rattle.std.proofs.Common.{◌≡◌, ℕ, zero, suc, ◌+◌, ◌-◌, ◌<◌, ◌≤◌, Bool, true, false, ◌&&◌, not, eqb, min, List, [], ◌∷◌, ◌++◌, length, take, drop, slice_range, get_or, Ok, inl, inr, refl, sym, ap, subst, ◌∙◌, arith, length-drop, length-take, length-append}
+-- Headers that end before a line that looks like a delimiter are the first ones of all bytes, and so are they without the blanks at
+-- the end of their keys.
+use Rattle.std.proofs.Common.{◌≡◌, ℕ, zero, suc, ◌+◌, ◌-◌, ◌<◌, ◌≤◌, Bool, true, false, ◌&&◌, not, eqb, min, List, [], ◌∷◌, ◌++◌, length, take, drop, slice_range, get_or, map, Ok, Err, inl, inr, refl, sym, ap, subst, ◌∙◌, arith, length-drop, length-take, length-append}
 use Rattle.std.proofs.lemmas.Bool.{and_parts, cases_Bool, eqb-true, false≢true}
 use Rattle.std.proofs.lemmas.List.{drop-append-le, take-append-le, take-append-drop}
 use Rattle.mail_codec.specs.Ascii.{is_blank}
 use Rattle.mail_codec.specs.Places.{begins, first_place, place_from, values_below}
 use Rattle.mail_codec.proofs.lemmas.Places.{first_place-here, first_place-past, first_place-passes}
 use Rattle.mailparse.specs.Header.{Header, ends_header, ends_key, has_colon, header_end, header_length, header_of, is_line_feed, key_end, value_end, value_start}
-use Rattle.mailparse.specs.Block.{HeaderList, before_dash_line, ends_header_lines, header_count, header_lines_end, header_place, is_dash_line, read_block, read_headers, rest_at}
+use Rattle.mailparse.specs.Block.{HeaderList, bare_header, before_dash_line, ends_header_lines, header_count, header_lines_end, header_place, is_dash_line, read_headers, read_lenient_headers, rest_at, with_bare_keys}
+use Rattle.mailparse.specs.Refusal.{Reads}
 use Rattle.mailparse.proofs.lemmas.Block.{has_header-nonempty, header_count-before, read_headers-list, rest_at-first, rest_at-more, values_below-same}
 use Rattle.mailparse.proofs.lemmas.Header.{header_end-key, header_length-≤, value-in_order}
 use Rattle.mailparse.proofs.lemmas.HeaderPart.{ends_header_lines_is_feed}
@@ -179,11 +181,17 @@ length-values_below : {X : Type 0} (n : ℕ) (f : ℕ → X) → length (values_
 length-values_below zero f = refl
 length-values_below (suc n) f = ap suc (length-values_below n (λ k. f (suc k)))
 
--- headers at these places are the first ones
-first-at : (raw : List ℕ) (n : ℕ) (headers : List Header) → headers ≡ values_below n (λ j. header_of (rest_at raw j)) → AreFirstHeaders raw headers
+map-values_below : {X Y : Type 0} (g : X → Y) (n : ℕ) (f : ℕ → X) → map g (values_below n f) ≡ values_below n (λ j. g (f j))
+map-values_below g zero f = refl
+map-values_below {X} {Y} g (suc n) f = ap (λ (ys : List Y). g (f 0) ∷ ys) (map-values_below g n (λ k. f (suc k)))
+
+-- headers at these places are the first ones, without the blanks at the end of their keys
+first-at : (raw : List ℕ) (n : ℕ) (headers : List Header) → headers ≡ values_below n (λ j. header_of (rest_at raw j)) → AreFirstHeaders raw (map bare_header headers)
 first-at raw n headers e =
-    let count : length headers ≡ n = ap (λ (hs : List Header). length hs) e ∙ length-values_below n (λ j. header_of (rest_at raw j)) in
-    e ∙ ap (λ k. values_below k (λ j. header_of (rest_at raw j))) (sym count)
+    let bare : ℕ → Header = λ j. bare_header (header_of (rest_at raw j)) in
+    let is : map bare_header headers ≡ values_below n bare = ap (map bare_header) e ∙ map-values_below bare_header n (λ j. header_of (rest_at raw j)) in
+    let count : length (map bare_header headers) ≡ n = ap (λ (hs : List Header). length hs) is ∙ length-values_below n bare in
+    is ∙ ap (λ k. values_below k bare) (sym count)
 
 -- a line that looks like a delimiter does not begin with a blank
 dash-plain : (r : List ℕ) → is_dash_line r ≡ true → (begins is_blank r ≡ false) × (0 < length r)
@@ -209,12 +217,11 @@ before-feed raw low =
     let p = first_place ends_header_lines raw in
     feed-take p raw (omega arith) (ends_header_lines_is_feed (drop p raw) (first_place-passes ends_header_lines raw (omega arith)))
 
--- the headers that were read are the first ones of all bytes
-pub read_block-first : (at_dashes : Bool) (raw : List ℕ) (block : HeaderList) → read_block at_dashes raw ≡ Ok block → AreFirstHeaders raw block.headers
-read_block-first false raw block e = first-at raw (header_count raw) block.headers (read_headers-list raw block e)
-read_block-first true raw block e = by_line (is_dash_line (drop (header_lines_end raw) raw)) refl
+-- the headers in it are the first ones of all bytes
+front-first : (raw : List ℕ) (block : HeaderList) → read_headers (before_dash_line raw) ≡ Ok block → AreFirstHeaders raw (map bare_header block.headers)
+front-first raw block e = by_line (is_dash_line (drop (header_lines_end raw) raw)) refl
   where
-    by_line : (v : Bool) → is_dash_line (drop (header_lines_end raw) raw) ≡ v → AreFirstHeaders raw block.headers
+    by_line : (v : Bool) → is_dash_line (drop (header_lines_end raw) raw) ≡ v → AreFirstHeaders raw (map bare_header block.headers)
     by_line false line = first-at raw (header_count raw) block.headers (read_headers-list raw block (ap read_headers (sym (before-whole raw line)) ∙ e))
     by_line true line =
         let n = header_lines_end raw in
@@ -228,6 +235,18 @@ read_block-first true raw block e = by_line (is_dash_line (drop (header_lines_en
         (list ∙ sym (headers-front (header_count f) f r (before-feed raw (omega arith)) plain.0 (λ j low. has_header-nonempty (rest_at f j) (header_count-before f j low)))
         ∙ ap (λ (xs : List ℕ). values_below (header_count f) (λ j. header_of (rest_at xs j))) (take-append-drop n raw))
 
+-- and so are those that were read leniently
+pub read_lenient-first : (raw : List ℕ) (block : HeaderList) → read_lenient_headers raw ≡ Ok block → AreFirstHeaders raw block.headers
+read_lenient-first raw block e = by_front (read_headers (before_dash_line raw)) refl e
+  where
+    by_front : (front : Reads HeaderList) → read_headers (before_dash_line raw) ≡ front → with_bare_keys front ≡ Ok block → AreFirstHeaders raw block.headers
+    by_front (Err refusal) is h = absurd (cc)
+    by_front (Ok front) is h =
+        let made : HeaderList = record { headers = map bare_header front.headers; index = front.index } in
+        let here : ◌≡◌ {A = Reads HeaderList} (Ok made) (Ok block) = h in
+        let same : ◌≡◌ {A = HeaderList} made block = cc in
+        subst (λ (b : HeaderList). AreFirstHeaders raw b.headers) same (front-first raw front is)
+
 -- ---- one of them
 
 value-at : {X : Type 0} (n : ℕ) (f : ℕ → X) (i : ℕ) (d : X) → i < n → get_or (values_below n f) i d ≡ f i
@@ -237,7 +256,7 @@ value-at (suc n) f (suc i) d low = value-at n (λ k. f (suc k)) i d (omega arith
 
 -- the header with this number is the one at its place
 pub first-header : (raw rest : List ℕ) (at : ℕ) → rest ≡ drop at raw → (headers : List Header) (i : ℕ) (x : Header) → AreFirstHeaders raw headers → at ≡ header_place raw i
-    → i < length headers → x ≡ get_or headers i x → x ≡ header_of rest
+    → i < length headers → x ≡ get_or headers i x → x ≡ bare_header (header_of rest)
 first-header raw rest at left headers i x own place low is =
-    is ∙ ap (λ (hs : List Header). get_or hs i x) own ∙ value-at (length headers) (λ j. header_of (rest_at raw j)) i x low
-    ∙ ap (λ n. header_of (drop n raw)) (sym place) ∙ ap header_of (sym left)
+    is ∙ ap (λ (hs : List Header). get_or hs i x) own ∙ value-at (length headers) (λ j. bare_header (header_of (rest_at raw j))) i x low
+    ∙ ap (λ n. bare_header (header_of (drop n raw))) (sym place) ∙ ap (λ (bytes : List ℕ). bare_header (header_of bytes)) (sym left)

@@ -1,14 +1,18 @@
--- The offsets of a header from the lengths of its key and of its value.
-use Rattle.std.proofs.Common.{◌≡◌, ℕ, suc, ◌+◌, ◌-◌, ◌<◌, ◌≤◌, Bool, true, false, ◌&&◌, ◌||◌, not, eqb, min, List, [], ◌∷◌, ◌++◌, length, take, drop, inl, inr, ⊎_elim, refl, sym, ap, subst, ◌∙◌, arith, length-drop, length-take}
+-- The offsets of a header from the lengths of its key, which has no blanks at its end, and of its value.
+use Rattle.std.proofs.Common.{◌≡◌, ℕ, suc, ◌+◌, ◌-◌, ◌<◌, ◌≤◌, Bool, true, false, ◌&&◌, ◌||◌, not, eqb, min, List, [], ◌∷◌, ◌++◌, length, take, drop, get_or, reverse, inl, inr, ⊎_elim, refl, sym, ap, subst, ◌∙◌, arith, length-drop, length-take}
 use Rattle.std.proofs.lemmas.Bool.{and_parts, cases_Bool, cases_lt, eqb-true, false≢true}
-use Rattle.std.proofs.lemmas.List.{drop-append-le, drop-drop, length-take-le, take-append-drop}
+use Rattle.std.proofs.lemmas.List.{drop-append-le, drop-drop, get_or-reverse, get_or-take, length-take-le, take-append-drop}
+use Rattle.std.proofs.lemmas.List.Sums.{prefix_len_passes, suffix_len-le-length}
 use Rattle.std.proofs.Math.ListN.{drop_of_length-le}
-use Rattle.std.specs.List.{list_all}
+use Rattle.std.specs.List.{list_all, suffix_len}
 use Rattle.mail_codec.specs.Ascii.{is_blank}
-use Rattle.mail_codec.specs.Places.{begins, first_place, place_from}
-use Rattle.mail_codec.proofs.lemmas.Places.{first_place-here, first_place-past, first_place-passes, first_place-before, place_from_bounds, place_from_here, place_from_next, place_from_passes}
+use Rattle.mail_codec.specs.Places.{IsFirstPlace, begins, first_place, place_from}
+use Rattle.mail_codec.proofs.lemmas.Places.{IsFirstPlace-unique, begins-at, first_place-here, first_place-is_first, first_place-past, first_place-passes, first_place-before, place_from_bounds, place_from_here, place_from_next, place_from_passes}
+use Rattle.mailparse.specs.Block.{bare_header, bare_key}
 use Rattle.mailparse.specs.Header.{Header, ends_header, ends_key, has_colon, header_end, header_length, header_of, is_line_end, is_line_feed, key_end, value_end, value_start}
 use Rattle.mailparse.proofs.lemmas.Header.{ends_header_is_feed, header_end->, header_end-≤, header_end-key, header_length-≤, key_end-≤, places-in_order, value-in_order, value_end-key}
+use Rattle.mailparse.proofs.lemmas.BareKeys.{AreBlanks, blanks_all, blanks_more}
+use Rattle.mail_c.specs.Records.{bare_key_end}
 
 -- ---- searches that other bytes follow
 
@@ -242,14 +246,110 @@ colon-within raw key is =
     ⊎_elim (λ low. omega arith)
     (λ past. absurd (false≢true (subst (λ (xs : List ℕ). begins (λ b. eqb b 58) xs ≡ true) (drop_of_length-le raw past) is))) (cases_lt key (length raw))
 
+-- ---- the key without the blanks at its end
+
+-- no blank
+abbrev no_blank : List ℕ → Bool
+no_blank bytes = begins (λ b. not (is_blank b)) bytes
+
+bare-length : (raw : List ℕ) → bare_key_end raw ≡ key_end raw - suffix_len is_blank (take (key_end raw) raw)
+bare-length raw =
+    let key = take (key_end raw) raw in
+    let size : length key ≡ key_end raw = key-length raw in
+    let cut = length-take (length key - suffix_len is_blank key) key in
+    omega arith
+
+bare-≤ : (raw : List ℕ) → bare_key_end raw ≤ key_end raw
+bare-≤ raw = let size = bare-length raw in omega arith
+
+-- the byte that ends a key is no blank
+ends_key-no_blank : (rest : List ℕ) → begins ends_key rest ≡ true → no_blank rest ≡ true
+ends_key-no_blank [] e = absurd (false≢true e)
+ends_key-no_blank (b ∷ rest) e = elim (cases_Bool (eqb b 58)) [
+  | inl colon ↦ ap (λ n. not (is_blank n)) (eqb-true b 58 colon)
+  | inr lacks ↦ let feed : eqb b 10 ≡ true = sym (ap (λ v. v || eqb b 10) lacks) ∙ e in ap (λ n. not (is_blank n)) (eqb-true b 10 feed)
+]
+
+key-stops : (raw : List ℕ) → key_end raw < length raw → no_blank (drop (key_end raw) raw) ≡ true
+unfolding key_end
+key-stops raw low = ends_key-no_blank (drop (first_place (begins ends_key) raw) raw) (first_place-passes (begins ends_key) raw low)
+
+-- the bytes before it are blanks
+blank-before : (raw : List ℕ) (count j : ℕ) → count ≡ suffix_len is_blank (take (key_end raw) raw) → j < count
+    → is_blank (get_or raw (key_end raw - count + j) 0) ≡ true
+blank-before raw count j is low =
+    let k = key_end raw in
+    let key = take k raw in
+    let size : length key ≡ k = key-length raw in
+    let most = suffix_len-le-length is_blank key in
+    let i = count - 1 - j in
+    let at : length key - 1 - i ≡ k - count + j = omega arith in
+    ap is_blank (sym (get_or-take k raw (k - count + j) 0 (omega arith)) ∙ ap (λ n. get_or key n 0) (sym at) ∙ sym (get_or-reverse key i 0 (omega arith)))
+    ∙ prefix_len_passes is_blank (reverse key) i 0 (omega arith)
+
+-- the key ends at the first byte that is no blank
+blanks-end : (raw : List ℕ) → place_from no_blank raw (bare_key_end raw) ≡ key_end raw
+blanks-end raw =
+    let k = key_end raw in
+    let count = suffix_len is_blank (take k raw) in
+    let n = bare_key_end raw in
+    let cut = bare-length raw in
+    let most = suffix_len-le-length is_blank (take k raw) in
+    let size : length (take k raw) ≡ k = key-length raw in
+    let within = key_end-≤ raw in
+    let left = length-drop n raw in
+    let sum : n + count ≡ k = omega arith in
+    let first : IsFirstPlace no_blank (drop n raw) count = record {
+      within = omega arith;
+      passes = λ low. ap no_blank (drop-drop count n raw ∙ ap (λ i. drop i raw) sum) ∙ key-stops raw (omega arith);
+      before = λ j low.
+          ap no_blank (drop-drop j n raw) ∙ begins-at (λ b. not (is_blank b)) raw (n + j) (omega arith)
+          ∙ ap (λ i. not (is_blank (get_or raw (i + j) 0))) cut ∙ ap not (blank-before raw count j refl low);
+    } in
+    ap (λ i. n + i) (IsFirstPlace-unique no_blank (drop n raw) (first_place no_blank (drop n raw)) count (first_place-is_first no_blank (drop n raw)) first) ∙ sum
+
+pub key-found : (raw : List ℕ) (n colon : ℕ) → n ≡ bare_key_end raw → colon ≡ place_from (begins (λ b. not (is_blank b))) raw n → colon ≡ key_end raw
+key-found raw n colon e found = found ∙ ap (place_from no_blank raw) e ∙ blanks-end raw
+
+pub bare-within : (raw : List ℕ) (n : ℕ) → n ≡ bare_key_end raw → n ≤ length raw
+bare-within raw n e = let low = bare-≤ raw in let within = key_end-≤ raw in omega arith
+
+-- the key and its end, sought from the end of the key in the bytes
+key-byte : (raw : List ℕ) (key end : ℕ) → key ≡ key_end raw → 0 < end → end ≤ length (take key raw)
+    → begins is_blank (drop (end - 1) (take key raw)) ≡ begins is_blank (drop (end - 1) raw)
+key-byte raw key end at some low =
+    let size = length-take-le key raw (subst (λ n. n ≤ length raw) (sym at) (key_end-≤ raw)) in
+    let within = key_end-≤ raw in
+    begins-at is_blank (take key raw) (end - 1) (omega arith) ∙ ap is_blank (get_or-take key raw (end - 1) 0 (omega arith))
+    ∙ sym (begins-at is_blank raw (end - 1) (omega arith))
+
+pub blanks-first : (raw : List ℕ) (key : ℕ) → key ≡ key_end raw → AreBlanks (take key raw) key
+blanks-first raw key at =
+    let size = length-take-le key raw (subst (λ n. n ≤ length raw) (sym at) (key_end-≤ raw)) in
+    record { within = omega arith; blank = λ k low high. absurd (omega arith) }
+
+pub blanks-next : (raw : List ℕ) (key end : ℕ) → key ≡ key_end raw → AreBlanks (take key raw) end → 0 < end → begins is_blank (drop (end - 1) raw) ≡ true
+    → AreBlanks (take key raw) (end - 1)
+blanks-next raw key end at h some here = blanks_more (take key raw) end h some (key-byte raw key end at some h.within ∙ here)
+
+pub blanks-done : (raw : List ℕ) (key end : ℕ) → key ≡ key_end raw → AreBlanks (take key raw) end → (0 < end → begins is_blank (drop (end - 1) raw) ≡ false)
+    → end ≡ bare_key_end raw
+blanks-done raw key end at h stops =
+    let within = h.within in
+    sym (length-take-le end (take key raw) within)
+    ∙ ap (λ (xs : List ℕ). length xs) (blanks_all (take key raw) end h (λ some. key-byte raw key end at some within ∙ stops some) ∙ ap (λ n. bare_key (take n raw)) at)
+
+-- the blanks at the end of a key
+pub ruleset key_blanks = (blanks-first, blanks-next, blanks-done)
+
 -- ---- a header that was read
 
 -- the end of its key
-pub key-read : (raw key : List ℕ) (header : Header) (n : ℕ) → header ≡ header_of raw → key ≡ header.key → n ≡ length key → n ≡ key_end raw
-key-read raw key header n e k l = l ∙ ap (λ (xs : List ℕ). length xs) (k ∙ ap (λ (h : Header). h.key) e) ∙ key-length raw
+pub key-read : (raw key : List ℕ) (header : Header) (n : ℕ) → header ≡ bare_header (header_of raw) → key ≡ header.key → n ≡ length key → n ≡ bare_key_end raw
+key-read raw key header n e k l = l ∙ ap (λ (xs : List ℕ). length xs) (k ∙ ap (λ (h : Header). h.key) e)
 
 -- that of its value, which is within the bytes
-pub value-read : (raw value : List ℕ) (header : Header) (start n : ℕ) → header ≡ header_of raw → value ≡ header.value → start ≡ value_start raw → n ≡ length value → start + n ≡ value_end raw
+pub value-read : (raw value : List ℕ) (header : Header) (start n : ℕ) → header ≡ bare_header (header_of raw) → value ≡ header.value → start ≡ value_start raw → n ≡ length value → start + n ≡ value_end raw
 value-read raw value header start n e v s l =
     ap (λ m. m + n) s ∙ ap (λ m. value_start raw + m) (l ∙ ap (λ (xs : List ℕ). length xs) (v ∙ ap (λ (h : Header). h.value) e)) ∙ value-length raw
 
@@ -259,8 +359,17 @@ value_end-≤ raw = let order = value-in_order raw in let third = order.2 in let
 pub stop-≤ : (raw : List ℕ) (stop : ℕ) → stop ≡ value_end raw → stop ≤ length raw
 stop-≤ raw stop at = let within = value_end-≤ raw in omega arith
 
+-- they are in order
+pub offsets-in_order : (raw : List ℕ) (key start stop len : ℕ) → key ≡ bare_key_end raw → start ≡ value_start raw → stop ≡ value_end raw → len ≡ header_length raw
+    → (key ≤ start) × (start ≤ stop) × (stop ≤ len) × (len ≤ length raw)
+offsets-in_order raw key start stop len k s e n =
+    let order = places-in_order raw (key_end raw) start stop len refl s e n in
+    let first = order.0 in
+    let within = bare-≤ raw in
+    (omega arith, order.1, order.2, order.3)
+
 -- the offsets of a header from its lengths
-pub ruleset lengths = (key-read, value-read, stop-≤, length-read, places-in_order)
+pub ruleset lengths = (key-read, key-found, bare-within, value-read, stop-≤, length-read, offsets-in_order)
 
 -- the start of its value
 pub ruleset starts = (start-without, start-with, colon-within)

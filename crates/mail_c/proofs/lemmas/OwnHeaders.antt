@@ -1,5 +1,5 @@
 -- The headers of each message that was read are the first ones of its bytes.
-use Rattle.std.proofs.Common.{◌≡◌, ℕ, zero, suc, Bool, true, false, List, [], ◌∷◌, ◌++◌, map, Ok, Err, refl, sym, subst}
+use Rattle.std.proofs.Common.{◌≡◌, ℕ, zero, suc, Bool, true, false, List, [], ◌∷◌, ◌++◌, map, Ok, Err, refl, sym, ap, subst, ◌∙◌}
 use Rattle.std.specs.Prelude.{if◌then◌else◌}
 use Rattle.mailparse.specs.Refusal.{◌>>=◌, recursion_limit, Reads}
 use Rattle.mailparse.specs.Block.{HeaderList, read_block}
@@ -16,7 +16,7 @@ use Rattle.mail_data.specs.Reading.{mail_reading}
 use Rattle.mail_data.specs.lenient.Manner.{lenient}
 use Rattle.mail_c.specs.OwnHeaders.{AllOwn, AreFirstHeaders, HasOwnHeaders}
 use Rattle.mailparse.specs.Header.{Header}
-use Rattle.mail_c.proofs.lemmas.FirstHeaders.{read_block-first}
+use Rattle.mail_c.proofs.lemmas.FirstHeaders.{read_lenient-first}
 
 -- the headers of a message are the first ones of its bytes
 pub own-of : (raw : List ℕ) (headers : List Header) (t : Tree) → raw ≡ (root t).bytes → headers ≡ (root t).headers → HasOwnHeaders t → AreFirstHeaders raw headers
@@ -45,8 +45,8 @@ read_each-own read own (piece ∷ pieces) parts e =
         let same : part_and t others ≡ parts = cc in
         subst (λ (f : Forest). AllOwn (trees_in f)) same (AllOwn-append (trees_within t) (trees_in others) (own piece t f) (ih others g))
 
--- In a manner of reading.
-module _ (manner : Manner) where
+-- In a manner that reads headers leniently.
+module _ (manner : Manner) (bare : manner.lenient_headers ≡ true) where
   -- a refused message that is kept has no headers
   or_kept-own : (bytes : List ℕ) (reading : Reads Tree) (t : Tree) → or_kept manner bytes reading ≡ Ok t
       → (reading ≡ Ok t → AllOwn (trees_within t)) → AllOwn (trees_within t)
@@ -75,7 +75,7 @@ module _ (manner : Manner) where
           let cut = cut_of_as manner.whole_lines ctype bytes block.index in
           let same : tree (node_with bytes block ctype cut) parts ≡ t = cc in
           let all = read_each-own (read_levels manner levels (is_digest ctype)) ih (map (slice bytes) cut.parts) parts f in
-          subst (λ (u : Tree). AllOwn (trees_within u)) same (read_block-first manner.lenient_headers bytes block read, all)
+          subst (λ (u : Tree). AllOwn (trees_within u)) same (read_lenient-first bytes block (ap (λ (v : Bool). read_block v bytes) (sym bare) ∙ read), all)
 
       by_block : (block : Reads HeaderList) → read_block manner.lenient_headers bytes ≡ block
           → ◌>>=◌ block (λ b. read_parts manner (read_levels manner levels) bytes b (manner.type_of in_digest b.headers)) ≡ Ok t
@@ -87,5 +87,5 @@ module _ (manner : Manner) where
 pub mail_reading-own : (known : Charsets) (limit : ℕ) (bytes : List ℕ) (t : Tree) → mail_reading known limit bytes ≡ Ok t → AllOwn (trees_within t)
 unfolding mail_reading read_mail_within
 mail_reading-own known limit bytes t e =
-    read_levels-own (lenient known) 101 false bytes t
+    read_levels-own (lenient known) refl 101 false bytes t
     (limited-read (Some limit) (items_met (lenient known) 101 false bytes) (read_mail_as (lenient known) 100 bytes) t e)

@@ -26,11 +26,11 @@ use Rattle.mail_c.specs.OwnHeaders.{AllOwn, HasOwnHeaders}
 use Rattle.mail_c.specs.RecordViews.{family_view, item_view}
 use Rattle.mail_codec.specs.Places.{values_below}
 use Rattle.mailparse.specs.Block.{header_place}
-use Rattle.mailparse.specs.Header.{header_length, key_end, value_end, value_start}
+use Rattle.mailparse.specs.Header.{header_length, value_end, value_start}
 use Rattle.mailparse.specs.Mail.{root}
 use Rattle.mail_data.specs.lenient.Dispositions.{lenient_disposition}
 use Rattle.mail_data.specs.lenient.FileNames.{lenient_file_name}
-use Rattle.mail_c.specs.Records.{Family, Item, block_records, disposition_number, encoding_number, families, flags, header_block, header_record, header_records, item_headers, items_of, limited, mail_records, none, part_record, part_records, records, records_in}
+use Rattle.mail_c.specs.Records.{Family, Item, bare_key_end, block_records, disposition_number, encoding_number, families, flags, header_block, header_record, header_records, item_headers, items_of, limited, mail_records, none, part_record, part_records, records, records_in}
 use Rattle.mail_c.specs.declared.records.HeaderRecord.{HeaderRecord}
 use Rattle.mail_c.specs.declared.records.Node.{Node}
 use Rattle.mail_c.specs.declared.records.Part.{Part}
@@ -211,7 +211,7 @@ next_place raw number at len e l =
 
 -- the record of a header was appended
 pub next_header : (start : ℕ) (raw : List ℕ) (number at key value last len : ℕ) (old made new : List HeaderRecord) → at ≡ header_place raw number
-    → key ≡ key_end (drop at raw) → value ≡ value_start (drop at raw) → last ≡ value_end (drop at raw) → len ≡ header_length (drop at raw)
+    → key ≡ bare_key_end (drop at raw) → value ≡ value_start (drop at raw) → last ≡ value_end (drop at raw) → len ≡ header_length (drop at raw)
     → made ≡ old ++ values_below number (header_record start raw)
     → new ≡ made ++ record { start = start + at; key_end = start + at + key; value_start = start + at + value; value_end = start + at + last; end = start + at + len } ∷ []
     → new ≡ old ++ values_below (number + 1) (header_record start raw)

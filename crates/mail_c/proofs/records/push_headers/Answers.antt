@@ -1,8 +1,9 @@
 use Rattle.std.proofs.Common.{ℕ, List, length, ap, ◌∙◌, arith, length-drop}
 use Rattle.std.proofs.lemmas.List.{append-nil, take_rest}
 use Rattle.std.proofs.Common.{sym}
-use Rattle.mailparse.specs.Header.{header_length, key_end, value_end, value_start}
+use Rattle.mailparse.specs.Header.{header_length, value_end, value_start}
 use Rattle.mailparse.proofs.lemmas.Block.{header_place-first}
+use Rattle.mail_c.specs.Records.{bare_key_end}
 use Rattle.mail_c.proofs.lemmas.Records.{next_header, next_place}
 use Rattle.mail_c.proofs.records.push_headers.Goals as goal
 
@@ -16,7 +17,7 @@ loop-number-preserved c =
     let before = c.loop-number.invariant in
     let is = c.header_places-places.ensures in
     let rest = take_rest raw at in
-    let key = is.key ∙ ap key_end rest in
+    let key = c.bare_key_end-key_end.ensures.value ∙ ap bare_key_end rest in
     let start = is.start ∙ ap value_start rest in
     let last = is.end ∙ ap value_end rest in
     let len = is.len ∙ ap header_length rest in
