@@ -239,6 +239,13 @@ UNENDED = [
 ]  # fmt: skip
 
 
+# Mails with blanks before colons, and at the end of lines without one.
+SPACED = [
+    b"Subject : x\nContent-Type \t: text/html; charset=utf-8\nContent-Transfer-Encoding\t:base64\n\nPHA+eQ==\n", b" \t: a\n\nx", b"\t : a\n\nx",
+    b"A \t\n\nx", b"A\t", b"Content-Type : multipart/mixed; boundary=b\n\n--b\nContent-Disposition\t : attachment; filename=a\n\nx\n--b--\n",
+]  # fmt: skip
+
+
 # Mails with uuencoded files in their texts, and such texts whose files are not listed.
 TEXT_FILES = [
     b"\nHi\n" + uuencoded(b"a b.bin", bytes(range(256))) + b"\n" + uuencoded(b"caf\xe9.txt", b"Cat", b""),
@@ -248,11 +255,11 @@ TEXT_FILES = [
 
 
 def test_records(check, hostile, tmp_path):
-    """Of the samples, of 20,000 made mails, of the rows with findings, of some mails where a blank line is missing and of
-    some with files in texts the records and the calls on ranges say what rocktray json writes, and the findings are those
-    of rocktray check."""
+    """Of the samples, of 20,000 made mails, of the rows with findings, of some mails where a blank line is missing, of some
+    with blanks before colons and of some with files in texts the records and the calls on ranges say what rocktray json
+    writes, and the findings are those of rocktray check."""
     found = [row.inputs[0] for row in rows_in(f"{DATA}/findings.txt") if row.call == "findings"]
-    made = [*UNENDED, *TEXT_FILES, *found]
+    made = [*UNENDED, *SPACED, *TEXT_FILES, *found]
     paths = [tmp_path / f"{number}.eml" for number in range(len(made))]
     for path, raw in zip(paths, made):
         path.write_bytes(raw)
