@@ -1,21 +1,14 @@
 -- Lemmas on keys without the blanks at their end.
-use Rattle.std.proofs.Common.{◌≡◌, ℕ, ◌+◌, ◌-◌, ◌<◌, ◌≤◌, true, false, List, [], ◌∷◌, ◌++◌, length, take, drop, map, get_or, set, refl, sym, ap, ◌∙◌, append-nil, append_assoc, subst, Ok, Err, Result, arith, inl, inr}
-use Rattle.std.specs.Global.{Vec}
+use Rattle.std.proofs.Common.{◌≡◌, ℕ, ◌+◌, ◌-◌, ◌<◌, ◌≤◌, true, false, List, [], ◌∷◌, ◌++◌, length, take, drop, map, get_or, set, sym, ap, ◌∙◌, append_assoc, arith, inl, inr}
 use Rattle.std.specs.List.{suffix_len}
 use Rattle.std.proofs.lemmas.Bool.{cases_lt}
-use Rattle.std.proofs.lemmas.List.{drop-drop, drop-set, drop_more, take_all, take_more_set}
+use Rattle.std.proofs.lemmas.List.{drop-drop, drop-set, drop_more, take_more_set}
 use Rattle.std.proofs.lemmas.List.Sums.{suffix_len_is}
-use Rattle.std.proofs.Math.ListN.{drop_of_length-le}
 use Rattle.mail_codec.specs.Ascii.{is_blank}
 use Rattle.mail_codec.specs.Places.{begins}
 use Rattle.mail_codec.proofs.lemmas.Places.{begins-at}
-use Rattle.mailparse.specs.Block.{HeaderList, bare_header, bare_key, with_bare_keys}
+use Rattle.mailparse.specs.Block.{bare_header, bare_key}
 use Rattle.mailparse.specs.Header.{Header}
-use Rattle.mailparse.specs.Outcome.{Answers, AnswersOrMemory, IsRefusal, IsRefusalOrMemory}
-use Rattle.mailparse.specs.Refusal.{Reads}
-use Rattle.mailparse.specs.Views.{header_list}
-use Rattle.mailparse.specs.declared.error.MailParseError.{MailParseError}
-use Rattle.mailparse.proofs.lemmas.Outcome.{IsRefusal-along, IsRefusalOrMemory-along}
 
 -- only blanks follow an offset in a key
 pub record AreBlanks (key : List ℕ) (end : ℕ) : Type 0 where
@@ -51,32 +44,3 @@ bare-step all headers i d h low before is =
     ∙ ap (λ (x : Header). take i headers ++ x ∷ map bare_header (drop (i + 1) headers)) is
     ∙ sym (ap (λ (after : List Header). take i headers ++ map bare_header after) (drop_more headers i d low))
     ∙ before
-
--- all of them are
-pub bare-all : (all headers : List Header) (i : ℕ) → length headers ≤ i → take i headers ++ map bare_header (drop i headers) ≡ all → headers ≡ all
-bare-all all headers i high before =
-    sym (append-nil headers)
-    ∙ ap (λ (front : List Header). front ++ []) (sym (take_all i headers high))
-    ∙ ap (λ (rest : List Header). take i headers ++ map bare_header rest) (sym (drop_of_length-le headers high))
-    ∙ before
-
-made : ℕ → List Header → Reads HeaderList
-made body headers = Ok (record { headers = headers; index = body })
-
--- what was read, then without them
-pub bare_read : (read : Result (Vec Header × ℕ) MailParseError) (given : Reads HeaderList) (headers : Vec Header) (body : ℕ) (new : List Header)
-    → read ≡ Ok (headers, body) → new ≡ map bare_header headers.items → AnswersOrMemory header_list read given
-    → with_bare_keys given ≡ Ok (record { headers = new; index = body })
-bare_read read given headers body new is bare h =
-    ap with_bare_keys (subst (λ r. AnswersOrMemory header_list r given) is h)
-    ∙ ap (made body) (sym bare)
-
-pub bare_refused : (read : Result (Vec Header × ℕ) MailParseError) (given : Reads HeaderList) (e : MailParseError) → read ≡ Err e
-    → AnswersOrMemory header_list read given → IsRefusalOrMemory e (with_bare_keys given)
-bare_refused read given e is h =
-    IsRefusalOrMemory-along e given (with_bare_keys given) (λ r refused. ap with_bare_keys refused) (subst (λ r. AnswersOrMemory header_list r given) is h)
-
-pub bare_refused_exactly : (read : Result (Vec Header × ℕ) MailParseError) (given : Reads HeaderList) (e : MailParseError) → read ≡ Err e
-    → Answers header_list read given → IsRefusal e (with_bare_keys given)
-bare_refused_exactly read given e is h =
-    IsRefusal-along e given (with_bare_keys given) (λ r refused. ap with_bare_keys refused) (subst (λ r. Answers header_list r given) is h)
