@@ -202,7 +202,8 @@ all_read = refl
 read_at : (c : ℕ) → (c / 64 == 2) ≡ true → is_two_read 194 c && is_two_read 216 c && is_three_read 128 c && is_three_read 129 c ≡ true
 read_at c e =
     let is = eqb-true (c / 64) 2 e in
-    given (c / 64 == 2) _ (agree_below_at are_read (λ d. true) 192 c all_read (omega (arith, is))) e
+    given (c / 64 == 2) (is_two_read 194 c && is_two_read 216 c && is_three_read 128 c && is_three_read 129 c)
+    (agree_below_at are_read (λ d. true) 192 c all_read (omega (arith, is))) e
 
 two_passes : (a b : ℕ) → (a == 194 || a == 216) ≡ true → (b / 64 == 2) ≡ true → Passes (a ∷ b ∷ []) (four_digits (two_number (a ∷ b ∷ [])))
 two_passes a b lead e =
