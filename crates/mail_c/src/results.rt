@@ -17,9 +17,7 @@ use mail_data::readable::readable_text;
 use mail_data::reading::read_mail;
 use mail_html::{Links, References, html_text};
 use mail_json::{LineOptions, Origin, write_mail};
-use mailparse::{
-    KnownCharsets, MailHeaderMap, MailParseError, ParsedMail, parse_lenient_headers,
-};
+use mailparse::{KnownCharsets, MailHeaderMap, MailParseError, ParsedMail, parse_lenient_headers};
 use std::alloc::{AllocError, Global};
 use std::borrow::{CowSlice, CowStr};
 

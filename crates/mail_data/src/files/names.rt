@@ -242,18 +242,17 @@ pub fn is_unsafe(c: char) -> bool
 fn is_invisible(c: char) -> bool
     ensures { result ≡ is_invisible c }
 {
-    matches!(c, '\u{ad}' | '\u{200b}'..='\u{200d}' | '\u{2060}' | '\u{feff}')
+    matches!(
+        c,
+        '\u{ad}' | '\u{200b}'..='\u{200d}' | '\u{2060}' | '\u{feff}'
+    )
 }
 
 /// Returns the character, or `_` in the place of an unsafe one.
 fn made_safe(c: char) -> char
     ensures { result ≡ made_safe c }
 {
-    if is_unsafe(c) {
-        '_'
-    } else {
-        c
-    }
+    if is_unsafe(c) { '_' } else { c }
 }
 
 /// Returns whether a name is no name of a file: it is empty or names a directory.

@@ -92,9 +92,9 @@ two_begins : (c : ℕ) (rest : List ℕ) → 128 ≤ c → c < 2048 → begins_t
 two_begins c rest h l =
     same_from (begins_two ((192 + c / 64) ∷ (128 + c % 64) ∷ rest)) (is_escaped c)
     (λ e. let p = and_parts (192 + c / 64 == 194 || 192 + c / 64 == 216) _ e in
-        escaped_from c (omega (arith, l)) (ap is_hidden (sym (two_is c rest l)) ∙ (and_parts ((128 + c % 64) / 64 == 2) _ p.1).1))
+    escaped_from c (omega (arith, l)) (ap is_hidden (sym (two_is c rest l)) ∙ (and_parts ((128 + c % 64) / 64 == 2) _ p.1).1))
     (λ e. and_from (192 + c / 64 == 194 || 192 + c / 64 == 216) _ (two_lead c h l (hidden_at c e))
-        (and_from ((128 + c % 64) / 64 == 2) _ (eq-eqb ((128 + c % 64) / 64) 2 (omega arith)) (ap is_hidden (two_is c rest l) ∙ (and_parts (is_hidden c) _ e).0)))
+    (and_from ((128 + c % 64) / 64 == 2) _ (eq-eqb ((128 + c % 64) / 64) 2 (omega arith)) (ap is_hidden (two_is c rest l) ∙ (and_parts (is_hidden c) _ e).0)))
 
 three_is : (c : ℕ) (rest : List ℕ) → 8192 ≤ c → c < 12288 → three_number ((224 + c / 4096) ∷ (128 + c / 64 % 64) ∷ (128 + c % 64) ∷ rest) ≡ c
 three_is c rest h l = omega (arith, h, l)
@@ -110,16 +110,16 @@ three_begins : (c : ℕ) (rest : List ℕ) → 2048 ≤ c → c < 65536
 three_begins c rest h l =
     same_from (begins_three ((224 + c / 4096) ∷ (128 + c / 64 % 64) ∷ (128 + c % 64) ∷ rest)) (is_escaped c)
     (λ e. let p = and_parts (224 + c / 4096 == 226) _ e in
-        let is = eqb-true (224 + c / 4096) 226 p.0 in
-        let q = and_parts (128 + c / 64 % 64 == 128 || 128 + c / 64 % 64 == 129) _ p.1 in
-        escaped_from c (omega (arith, is)) (ap is_hidden (sym (three_is c rest (omega (arith, is)) (omega (arith, is)))) ∙ (and_parts ((128 + c % 64) / 64 == 2) _ q.1).1))
+    let is = eqb-true (224 + c / 4096) 226 p.0 in
+    let q = and_parts (128 + c / 64 % 64 == 128 || 128 + c / 64 % 64 == 129) _ p.1 in
+    escaped_from c (omega (arith, is)) (ap is_hidden (sym (three_is c rest (omega (arith, is)) (omega (arith, is)))) ∙ (and_parts ((128 + c % 64) / 64 == 2) _ q.1).1))
     (λ e. let third = third_at c h e in
-        let least = third.0 in
-        let most = third.1 in
-        and_from (224 + c / 4096 == 226) _ (eq-eqb (224 + c / 4096) 226 (omega (arith, least, most)))
-        (and_from (128 + c / 64 % 64 == 128 || 128 + c / 64 % 64 == 129) _ (three_lead c least most)
-        (and_from ((128 + c % 64) / 64 == 2) _ (eq-eqb ((128 + c % 64) / 64) 2 (omega arith))
-        (ap is_hidden (three_is c rest least (omega (arith, most))) ∙ (and_parts (is_hidden c) _ e).0))))
+    let least = third.0 in
+    let most = third.1 in
+    and_from (224 + c / 4096 == 226) _ (eq-eqb (224 + c / 4096) 226 (omega (arith, least, most)))
+    (and_from (128 + c / 64 % 64 == 128 || 128 + c / 64 % 64 == 129) _ (three_lead c least most)
+    (and_from ((128 + c % 64) / 64 == 2) _ (eq-eqb ((128 + c % 64) / 64) 2 (omega arith))
+    (ap is_hidden (three_is c rest least (omega (arith, most))) ∙ (and_parts (is_hidden c) _ e).0))))
 
 -- ---- characters
 
