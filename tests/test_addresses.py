@@ -14,6 +14,7 @@ import pytest
 
 from support import program, run
 
+from by_lenient_rules import header_text
 from suite import Row, line_of
 
 PART = 5_000
@@ -172,12 +173,20 @@ def shown(text):
     return out
 
 
+class Name(bytes):
+    """The text of a display name, with the phrase that it was made of."""
+
+    phrase = b""
+
+
 def name_of(text):
     """The text of a display name, as bytes."""
     pieces = re.sub("w+$", "", re.sub("w+", "w", text.word.lstrip("w")))
     tokens = iter([it for it in text.tokens() if it[0] != "w"])
     phrase = b"".join(b" " if letter == "w" else meaning(*next(tokens)) for letter in pieces)
-    return shown(as_text(phrase)).encode()
+    name = Name(shown(as_text(phrase)).encode())
+    name.phrase = phrase
+    return name
 
 
 def address_of(local, domain):
@@ -417,7 +426,10 @@ def shown_names(items):
     """The names of the mailboxes and groups in these items as people see them: without the quotes around them."""
     names, items = [], iter(items)
     for kind in items:
-        name = next(items)
+        phrase = getattr(next(items), "phrase", b"")
+        # a CR or a LF with the whitespace after it is a space, and nothing at the end
+        line = re.sub(rb"[\r\n][ \t\r\n]*", b" ", re.sub(rb"[\r\n][ \t\r\n]*\Z", b"", phrase))
+        name = header_text(line).encode()
         if kind != "unknown":
             next(items)
             is_quoted = len(name) > 1 and name[:1] == name[-1:] and name[:1] in (b'"', b"'")

@@ -501,50 +501,50 @@ def test_unwritable_directory(tmp_path):
     assert ended.stderr.decode() == "rocktray: standard input: part 1: Permission denied (os error 13)\n"
 
 
-HIDDEN = b"Content-Disposition: attachment; filename=a.exe\n\nMZ"
+HIDDEN_FILE = b"Content-Disposition: attachment; filename=a.exe\n\nMZ"
 FILE = ("2", "a.exe", b"MZ")
 # mails whose file a reader misses that takes a type by the letter, refuses a mail for one part, or cuts at lines that
 # only begin with a delimiter; the names and bytes of their files by hand (RFC 2045, sections 5.1 and 5.2; RFC 2046,
 # section 5.1.1; RFC 2231)
 TRICKS = {
-    "a comment after the boundary": (b'multipart/mixed; boundary="b" (x)', b"\nHi", HIDDEN, [FILE]),
-    "a comment before the type": (b"(x) multipart/mixed; boundary=b", b"\nHi", HIDDEN, [FILE]),
-    "no semicolon": (b"multipart/mixed boundary=b", b"\nHi", HIDDEN, [FILE]),
-    "no semicolon after quotes": (b'multipart/mixed; x="y"boundary=b', b"\nHi", HIDDEN, [FILE]),
-    "no closing quote": (b'multipart/mixed; boundary="b', b"\nHi", HIDDEN, [FILE]),
-    "an extended boundary": (b"multipart/mixed; boundary*=us-ascii''b", b"\nHi", HIDDEN, [FILE]),
-    "an extended boundary without a charset": (b"multipart/mixed; boundary*=b", b"\nHi", HIDDEN, [FILE]),
-    "an extended boundary in an unknown charset": (b"multipart/mixed; boundary*=x''b", b"\nHi", HIDDEN, [FILE]),
-    "a boundary in sections": (b'multipart/mixed; boundary*0="b"; boundary*1=""', b"\nHi", HIDDEN, [FILE]),
-    "a charset that is extended": (b"multipart/mixed; charset*=x'y'z; boundary=b", b"\nHi", HIDDEN, [FILE]),
+    "a comment after the boundary": (b'multipart/mixed; boundary="b" (x)', b"\nHi", HIDDEN_FILE, [FILE]),
+    "a comment before the type": (b"(x) multipart/mixed; boundary=b", b"\nHi", HIDDEN_FILE, [FILE]),
+    "no semicolon": (b"multipart/mixed boundary=b", b"\nHi", HIDDEN_FILE, [FILE]),
+    "no semicolon after quotes": (b'multipart/mixed; x="y"boundary=b', b"\nHi", HIDDEN_FILE, [FILE]),
+    "no closing quote": (b'multipart/mixed; boundary="b', b"\nHi", HIDDEN_FILE, [FILE]),
+    "an extended boundary": (b"multipart/mixed; boundary*=us-ascii''b", b"\nHi", HIDDEN_FILE, [FILE]),
+    "an extended boundary without a charset": (b"multipart/mixed; boundary*=b", b"\nHi", HIDDEN_FILE, [FILE]),
+    "an extended boundary in an unknown charset": (b"multipart/mixed; boundary*=x''b", b"\nHi", HIDDEN_FILE, [FILE]),
+    "a boundary in sections": (b'multipart/mixed; boundary*0="b"; boundary*1=""', b"\nHi", HIDDEN_FILE, [FILE]),
+    "a charset that is extended": (b"multipart/mixed; charset*=x'y'z; boundary=b", b"\nHi", HIDDEN_FILE, [FILE]),
     "a word that ends a parameter": (
-        b'multipart/mixed; boundary=b; x="=?us-ascii?Q?=22=3B_boundary=3Da=3B_y=3D=22?="', b"\nHi", HIDDEN, [FILE],
+        b'multipart/mixed; boundary=b; x="=?us-ascii?Q?=22=3B_boundary=3Da=3B_y=3D=22?="', b"\nHi", HIDDEN_FILE, [FILE],
     ),
-    "a word in another line": (b"multipart/mixed; boundary=b; x=\n =?us-ascii?Q?1=3B_boundary=3Da?=", b"\nHi", HIDDEN, [FILE]),
-    "a no-break space before another boundary": (b"multipart/mixed; boundary=b;\xc2\xa0boundary=a", b"\nHi", HIDDEN, [FILE]),
-    "a no-break space in Latin-1": (b"multipart/mixed; boundary=b;\xa0boundary=a", b"\nHi", HIDDEN, [FILE]),
-    "a next line before another boundary": (b"multipart/mixed; boundary=b;\x85boundary=a", b"\nHi", HIDDEN, [FILE]),
-    "a no-break space after the name": (b"multipart/mixed; boundary=b; boundary\xa0=a", b"\nHi", HIDDEN, [FILE]),
-    "a vertical tab before another boundary": (b"multipart/mixed; boundary=b;\x0bboundary=a", b"\nHi", HIDDEN, [FILE]),
+    "a word in another line": (b"multipart/mixed; boundary=b; x=\n =?us-ascii?Q?1=3B_boundary=3Da?=", b"\nHi", HIDDEN_FILE, [FILE]),
+    "a no-break space before another boundary": (b"multipart/mixed; boundary=b;\xc2\xa0boundary=a", b"\nHi", HIDDEN_FILE, [FILE]),
+    "a no-break space in Latin-1": (b"multipart/mixed; boundary=b;\xa0boundary=a", b"\nHi", HIDDEN_FILE, [FILE]),
+    "a next line before another boundary": (b"multipart/mixed; boundary=b;\x85boundary=a", b"\nHi", HIDDEN_FILE, [FILE]),
+    "a no-break space after the name": (b"multipart/mixed; boundary=b; boundary\xa0=a", b"\nHi", HIDDEN_FILE, [FILE]),
+    "a vertical tab before another boundary": (b"multipart/mixed; boundary=b;\x0bboundary=a", b"\nHi", HIDDEN_FILE, [FILE]),
     "a no-break space before another file name": (
         b"multipart/mixed; boundary=b", b"\nHi",
         b'Content-Type: text/html\nContent-Disposition: attachment; filename="a.html";\xa0filename="safe.txt"\n\n<p>Hi',
         [("2", "a.html", b"<p>Hi")],
     ),
-    "a line that begins with the delimiter": (b"multipart/mixed; boundary=b", b"\nHi\n--bc", HIDDEN, [FILE]),
+    "a line that begins with the delimiter": (b"multipart/mixed; boundary=b", b"\nHi\n--bc", HIDDEN_FILE, [FILE]),
     "a boundary that begins another one": (
-        b"multipart/mixed; boundary=b", b"\nHi", b"Content-Type: multipart/mixed; boundary=bc\n\n--bc\n" + HIDDEN + b"\n--bc--",
+        b"multipart/mixed; boundary=b", b"\nHi", b"Content-Type: multipart/mixed; boundary=bc\n\n--bc\n" + HIDDEN_FILE + b"\n--bc--",
         [("2.1", "a.exe", b"MZ")],
     ),
     "a space before the headers of another part": (
-        b"multipart/mixed; boundary=b", b" A: b\n\nHi", HIDDEN, [("1", "unnamed.txt", b" A: b\n\nHi"), FILE],
+        b"multipart/mixed; boundary=b", b" A: b\n\nHi", HIDDEN_FILE, [("1", "unnamed.txt", b" A: b\n\nHi"), FILE],
     ),
     "a space before the headers of the file": (
-        b"multipart/mixed; boundary=b", b"\nHi", b" " + HIDDEN, [("2", "unnamed.txt", b" " + HIDDEN)],
+        b"multipart/mixed; boundary=b", b"\nHi", b" " + HIDDEN_FILE, [("2", "unnamed.txt", b" " + HIDDEN_FILE)],
     ),
     "a CR in the headers of the file": (
-        b"multipart/mixed; boundary=b", b"\nHi", HIDDEN.replace(b"\n\n", b"\n\r"),
-        [("2", "unnamed.txt", HIDDEN.replace(b"\n\n", b"\n\r"))],
+        b"multipart/mixed; boundary=b", b"\nHi", HIDDEN_FILE.replace(b"\n\n", b"\n\r"),
+        [("2", "unnamed.txt", HIDDEN_FILE.replace(b"\n\n", b"\n\r"))],
     ),
 }
 
@@ -569,7 +569,7 @@ def test_tricks(name, tmp_path):
 def test_word_as_boundary(tmp_path):
     """A boundary that looks like an encoded word is itself (RFC 2047, section 5)."""
     word = b"=?us-ascii?Q?a?="
-    mail = b'Content-Type: multipart/mixed; boundary="' + word + b'"\n\n--' + word + b"\n" + HIDDEN + b"\n--" + word + b"--\n"
+    mail = b'Content-Type: multipart/mixed; boundary="' + word + b'"\n\n--' + word + b"\n" + HIDDEN_FILE + b"\n--" + word + b"--\n"
     ended = run([*command("extract"), "--into", tmp_path], mail)
     lines = [json.loads(line) for line in ended.stdout.splitlines()]
     assert (ended.returncode, [(line["path"], line["saved"]) for line in lines]) == (0, [("1", "a.exe")])
@@ -587,7 +587,7 @@ def test_word_as_charset():
 @pytest.mark.parametrize("line", [b"\n \n", b"\n\t\n", b"\n \n \n", b"\n", b"\r\n \r\n"])
 def test_no_empty_line(line, tmp_path):
     """A file in the first part is saved if blanks, or nothing, are in the place of the empty line after the headers."""
-    mail = b"Content-Type: multipart/mixed; boundary=b" + line + b"--b\n" + HIDDEN + b"\n--b\n\nHi\n--b--\n"
+    mail = b"Content-Type: multipart/mixed; boundary=b" + line + b"--b\n" + HIDDEN_FILE + b"\n--b\n\nHi\n--b--\n"
     ended = run([*command("extract"), "--into", tmp_path], mail)
     lines = [json.loads(line) for line in ended.stdout.splitlines()]
     assert (ended.returncode, ended.stderr) == (0, b"")
