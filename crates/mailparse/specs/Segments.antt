@@ -1,7 +1,8 @@
 -- The segments of a value that has parameters, and the contents of quoted texts: RFC 2045, section 5.1, as this crate reads it.
 -- The text is split at each `;` outside of all quoted runs. A quoted run goes from a `"` to the next `"` that no `\` escapes, or
 -- to the end of the text.
-use Rattle.std.specs.Prelude.{◌≡◌, ◌≢◌, ℕ, zero, suc, ◌-◌, Bool, true, false, not, ◌&&◌, ◌==◌, nat_lt, List, [], ◌∷◌, ◌++◌, length, slice_index, slice_range, if◌then◌else◌}
+use Rattle.std.specs.Prelude.{◌≡◌, ◌≢◌, ℕ, zero, suc, ◌-◌, Bool, true, false, not, ◌&&◌, ◌==◌, nat_lt, List, [], ◌∷◌, ◌++◌, length, Option, Some, None, slice_index, slice_range, if◌then◌else◌}
+use Rattle.std.specs.Borrow.{Bor}
 use Rattle.std.specs.Str.{chars, encode_utf8_all}
 use Rattle.mail_codec.specs.Ascii.{quote, semicolon, backslash}
 
@@ -73,6 +74,11 @@ segments_from state (b ∷ bytes) =
 -- the segments of a text, in order; without a semicolon it is one
 unfoldable pub segments : List ℕ → List (List ℕ)
 segments text = segments_from outside text
+
+-- the segments of the text after a semicolon; none if there is no semicolon
+abbrev pub segments_of_rest : Option (Bor (List ℕ)) → List (List ℕ)
+segments_of_rest None = []
+segments_of_rest (Some rest) = segments rest.now
 
 -- ---- quoted texts
 

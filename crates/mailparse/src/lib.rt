@@ -48,4 +48,5 @@ pub use mail::{
 pub use mail_codec::charset::{Decode, KnownCharsets, SingleByteTable, table_for_label};
 pub use manner::{ReadingManner, Strict};
 pub use message_ids::{MessageIdList, msgidparse};
+pub use parameters::segments::cut_segment;
 pub use tables::{parse_content_disposition_with, parse_content_type_with, parse_mail_with};

@@ -7,7 +7,7 @@ mod continuations;
 mod extended_values;
 mod pairs;
 mod sections;
-mod segments;
+pub(crate) mod segments;
 mod trimmed;
 
 use continuations::resolve;

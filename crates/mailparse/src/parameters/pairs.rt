@@ -2,7 +2,7 @@
 ghost use Rattle.std.specs.Prelude.{◌≡◌, IfOk, option_map};
 ghost use Rattle.mailparse.specs.Pairs.{HasTexts, last_of, pair_of, pairs_in};
 ghost use Rattle.mailparse.specs.private.Pairs.{pair_view};
-ghost use Rattle.mailparse.specs.private.Segments.{segments_of_rest};
+ghost use Rattle.mailparse.specs.Segments.{segments_of_rest};
 
 use super::segments::{cut_segment, unescape};
 use super::trimmed::trimmed;

@@ -4,8 +4,8 @@ ghost use Rattle.std.specs.Str.{chars, encode_utf8_all};
 ghost use Rattle.std.specs.String.{string_bytes};
 ghost use Rattle.mail_codec.specs.Ascii.{backslash, quote};
 ghost use Rattle.mail_codec.specs.Places.{begins, first_place};
-ghost use Rattle.mailparse.specs.Segments.{after, ends, inside_quotes, is_quoted, segments, segments_from, unescape, with_front, without_escapes};
-ghost use Rattle.mailparse.specs.private.Segments.{plain_len, quote_state, segments_of_rest};
+ghost use Rattle.mailparse.specs.Segments.{after, ends, inside_quotes, is_quoted, segments, segments_from, segments_of_rest, unescape, with_front, without_escapes};
+ghost use Rattle.mailparse.specs.private.Segments.{plain_len, quote_state};
 
 use mail_codec::bytescan::{find_byte, find_either};
 use std::alloc::{AllocError, Global};
@@ -95,9 +95,26 @@ fn run_len(bytes: &[u8]) -> usize
     }
 }
 
-/// Returns the first segment of a text, and the text after its semicolon if it ends in one.
+/// Returns the first segment of a text with parameters, and the text after its semicolon, or `None`
+/// if it is the last (RFC 2045, section 5.1).
+///
+/// A segment ends at the first `;` outside quotes. In quotes a backslash escapes the next byte, and
+/// quotes that do not end go up to the end of the text. `mailparse` reads a value in the first
+/// segment of a text, and a parameter in each of the others. It does not allocate.
+///
+/// # Examples
+///
+/// ```rust
+/// use mailparse::cut_segment;
+///
+/// let (first, rest) = cut_segment("a; b=\";\"; c");
+/// assert_eq!(rt; first, "a");
+/// let (second, rest) = cut_segment(rest.ok_or("no rest")?);
+/// assert_eq!(rt; second, " b=\";\"");
+/// assert!(rest.is_some());
+/// ```
 #[tactic(auto, using(crate::proofs::lemmas::Segments::segment_cuts))]
-pub(super) fn cut_segment(text: &str) -> (&str, Option<&str>)
+pub fn cut_segment(text: &str) -> (&str, Option<&str>)
     ensures cut { segments text.now ≡ result.0.now ∷ segments_of_rest result.1 }
     ensures shorter { IfSome result.1 (λ rest. length rest.now < length text.now) }
 {

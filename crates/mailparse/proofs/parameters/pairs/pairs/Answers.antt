@@ -2,7 +2,7 @@ use Rattle.std.proofs.Common.{string_bytes, sym, ap, ◌∙◌}
 use Rattle.std.specs.Option.{option_map}
 use Rattle.mailparse.specs.Pairs.{text_at}
 use Rattle.mailparse.specs.private.Pairs.{pair_view}
-use Rattle.mailparse.specs.private.Segments.{segments_of_rest}
+use Rattle.mailparse.specs.Segments.{segments_of_rest}
 use Rattle.mailparse.proofs.lemmas.Pairs.{stores_pair, stored}
 use Rattle.mailparse.proofs.parameters.pairs.pairs.Goals as goal
 

@@ -1,7 +1,7 @@
 -- What the pairs of the rest make of the map is what the pairs of the whole text make.
 use Rattle.std.proofs.Common.{◌≡◌}
 use Rattle.mailparse.specs.Pairs.{last_of, pairs_in, text_at}
-use Rattle.mailparse.specs.private.Segments.{segments_of_rest}
+use Rattle.mailparse.specs.Segments.{segments_of_rest}
 use Rattle.mailparse.proofs.lemmas.Pairs.{stores, rest_length}
 use Rattle.mailparse.proofs.parameters.pairs.pairs.Given as goal
 
