@@ -6,14 +6,13 @@ use Rattle.mailparse.specs.ContentType.{content_type_in}
 use Rattle.mailparse.specs.Disposition.{disposition_in}
 use Rattle.mailparse.specs.Mail.{Node}
 use Rattle.mailparse.specs.Map.{first_with_key}
-use Rattle.mailparse.specs.Value.{lenient_value_in}
-use Rattle.mail_data.specs.Files.{filled, first_text, no_charsets, shown_name, text_of_octets, typed_name}
+use Rattle.mail_data.specs.Files.{filled, first_text, shown_name, text_of_octets, typed_name}
 use Rattle.mail_data.specs.lenient.Names.{name_text}
+use Rattle.mail_data.specs.lenient.Undecoded.{undecoded}
 
--- the text of a raw value, unfolded, in which encoded words stay as they are, so that none can end a parameter or begin one; bytes
--- that are not UTF-8 are windows-1252
+-- the text of a raw value, unfolded, in which encoded words stay as they are; bytes that are not UTF-8 are windows-1252
 unfoldable pub cut_text : List ℕ → List ℕ
-cut_text value = lenient_value_in no_charsets (text_of_octets value)
+cut_text value = undecoded (text_of_octets value)
 
 -- the file name in the first header with a name, given how one is read in the text of that header
 abbrev pub name_from : (List ℕ → Option (List ℕ)) → List ℕ → Node → Option (List ℕ)

@@ -10,6 +10,7 @@ pub mod Date
 pub mod DateViews
 pub mod Content
 pub mod ContentViews
+pub mod Quoting
 pub mod Repairs
 pub mod Texts
 pub mod TextViews
@@ -23,4 +24,5 @@ pub mod Folding
 pub mod Values
 pub mod ValueViews
 pub mod Names
+pub mod Undecoded
 pub mod Dispositions

@@ -12,10 +12,12 @@ mod ids;
 pub mod laws;
 mod manner;
 mod names;
+mod quoting;
 mod refused;
 mod repairs;
 mod shown;
 mod texts;
+mod undecoded;
 mod usual;
 mod values;
 
@@ -33,4 +35,5 @@ pub use names::lenient_name_text;
 pub use refused::{refusal, was_kept};
 pub use shown::{after_block, is_undivided};
 pub use texts::{BodyText, body_text, charset_used, lenient_text};
+pub(crate) use undecoded::undecoded;
 pub use values::{first_header_text, lenient_header_text, lenient_header_text_ref};

@@ -28,6 +28,8 @@ use Rattle.mail_data.specs.Attachments.{is_attachment_disposition}
 use Rattle.mail_data.specs.Files.{filled, first_text, is_leaf, no_charsets}
 use Rattle.mail_data.specs.HeaderNames.{cut_text, decoded_name, name_from}
 use Rattle.mail_data.proofs.lemmas.FileTexts.{octets-utf8}
+use Rattle.mail_data.proofs.lemmas.lenient.Quoting.{quotes_ascii}
+use Rattle.mail_data.proofs.lemmas.lenient.Undecoded.{undecoded_ascii}
 use Rattle.mail_data.specs.lenient.Dispositions.{lenient_disposition, lenient_kind}
 use Rattle.mail_data.specs.lenient.Values.{header_text}
 use Rattle.mail_data.specs.lenient.FileNames.{extended_text, lenient_file_name, lenient_name_in, name_among, shown_name, typed_name}
@@ -45,6 +47,7 @@ use Rattle.mailparse.specs.Value.{is_released, is_whitespace_token, is_word, kin
 use Rattle.mail_c.specs.Ranges.{file_name}
 use Rattle.mail_c.specs.Nameless.{has_am_after, is_a, is_m, is_nameless, is_nameless_after, is_nameless_part, lacks_name, may_encode, may_follow}
 use Rattle.mail_data.specs.lenient.Repairs as repairs
+use Rattle.mail_data.specs.lenient.Undecoded.{undecoded}
 use Rattle.mail_data.specs.lenient.Repairs.{after_name, after_quoted, after_run, after_value, apostrophes, begins_parameter, extended_are_alone, for_extended, is_other_space, lacking, missing, repaired, repaired_from, semicolon_unless, underscore_before}
 
 -- ---- parts of such a text
@@ -331,13 +334,18 @@ mended_after t spot last (c ∷ cs) h =
     let parts = and_parts _ _ h in
     spot_here t spot last c cs parts.0 (λ other. mended_after t other c cs parts.1)
 
-nameless-repaired : (text : List ℕ) → is_nameless text ≡ true → is_nameless (repaired text) ≡ true
-unfolding repaired
-nameless-repaired text h =
+nameless-mended : (text : List ℕ) → is_nameless text ≡ true → is_nameless (repairs.mended text) ≡ true
+unfolding repairs.mended
+nameless-mended text h =
     let alone = extended_are_alone text in
     let made = mended_after alone before_word 0 text h in
     ap (λ cs. is_nameless (encode_utf8_all (mended alone before_word cs))) (chars-IsAscii text (ascii 0 text h))
     ∙ ap is_nameless (encodes-IsAscii (mended alone before_word text) (ascii 0 (mended alone before_word text) made)) ∙ made
+
+nameless-repaired : (text : List ℕ) → is_nameless text ≡ true → is_nameless (repaired text) ≡ true
+nameless-repaired text h =
+    let made = nameless-mended text h in
+    ap is_nameless (quotes_ascii (repairs.mended text) (ascii 0 (repairs.mended text) made)) ∙ made
 
 -- ---- its segments
 
@@ -544,7 +552,8 @@ module _ (known : Charsets) where
 nameless-cut : (raw : List ℕ) → is_nameless raw ≡ true → is_nameless (cut_text raw) ≡ true
 unfolding cut_text
 nameless-cut raw h =
-    ap (λ text. is_nameless (lenient_value_in no_charsets text)) (sym (octets-utf8 raw (IsUtf8-from_ascii raw (ascii 0 raw h))))
+    ap (λ text. is_nameless (undecoded text)) (sym (octets-utf8 raw (IsUtf8-from_ascii raw (ascii 0 raw h))))
+    ∙ ap is_nameless (undecoded_ascii raw (ascii 0 raw h))
     ∙ nameless-decoded no_charsets raw h
 
 -- ---- the file name

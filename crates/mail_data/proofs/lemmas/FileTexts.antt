@@ -3,9 +3,9 @@ use Rattle.std.proofs.Common.{◌≡◌, ℕ, false, ltb, List, [], ◌∷◌, l
 use Rattle.std.specs.Prelude.{nat_eq}
 use Rattle.std.specs.List.{after_first, list_any, position_or_len}
 use Rattle.std.specs.Option.{is_some, option_map}
-use Rattle.std.specs.Str.{IsUtf8, is_utf8}
+use Rattle.std.specs.Str.{IsAscii, IsUtf8, is_utf8}
 use Rattle.std.proofs.lemmas.Bool.{cond-false, false_from_ne_true, le-ltb, or_parts}
-use Rattle.std.proofs.lemmas.Str.{IsUtf8-from_is_utf8, is_utf8-from_IsUtf8}
+use Rattle.std.proofs.lemmas.Str.{IsUtf8-from_ascii, IsUtf8-from_is_utf8, is_utf8-from_IsUtf8}
 use Rattle.mail_codec.specs.Charset.{text_of}
 use Rattle.mail_codec.specs.declared.charset.built_in.Charset.TheVariants.{Windows1252}
 use Rattle.mailparse.proofs.lemmas.EncodedWord.{any_from_place}
@@ -23,6 +23,8 @@ use Rattle.mailparse.specs.Value.{lenient_value_in}
 use Rattle.std.specs.Prelude.{codes}
 use Rattle.mail_data.specs.Files.{filled, first_text, left_over_text, name_among, no_charsets, shown_name, text_of_octets, typed_name, untagged}
 use Rattle.mail_data.specs.HeaderNames.{cut_text}
+use Rattle.mail_data.specs.lenient.Undecoded.{undecoded}
+use Rattle.mail_data.proofs.lemmas.lenient.Undecoded.{undecoded_ascii}
 
 -- a value with one apostrophe has no tags
 pub untagged-one : (value rest : List ℕ) → position_or_len (λ b. nat_eq b 39) rest ≡ length rest → rest ≡ after_first (λ b. nat_eq b 39) value
@@ -42,16 +44,23 @@ pub octets-other : (bytes : List ℕ) → (IsUtf8 bytes → ⊥) → text_of Win
 unfolding text_of_octets
 octets-other bytes none = rw (is_utf8-false bytes none) refl
 
--- a value in UTF-8 is cut as it is
-pub cut_utf8 : (value : List ℕ) → IsUtf8 value → cut_text value ≡ lenient_value_in no_charsets value
+-- a value of ASCII is cut as it is
+pub cut_ascii : (value : List ℕ) → IsAscii value → cut_text value ≡ lenient_value_in no_charsets value
 unfolding cut_text
-cut_utf8 value some = ap (lenient_value_in no_charsets) (sym (octets-utf8 value some))
+cut_ascii value ascii =
+    ap undecoded (sym (octets-utf8 value (IsUtf8-from_ascii value ascii))) ∙ undecoded_ascii value ascii
 
 -- ---- a text without a semicolon has no parameters
 
+byte_found : (text : List ℕ) (byte : ℕ) → is_some (byte_place text byte) ≡ list_any (λ b. nat_eq b byte) text
+byte_found text byte =
+    is_some_where _ _ ∙ ap (λ n. ltb n (length text)) (first_place-begins (λ b. nat_eq b byte) text) ∙ sym (any_from_place (λ b. nat_eq b byte) text)
+
 pub semicolon_found : (text : List ℕ) → is_some (byte_place text 59) ≡ list_any (λ b. nat_eq b 59) text
-semicolon_found text =
-    is_some_where _ _ ∙ ap (λ n. ltb n (length text)) (first_place-begins (λ b. nat_eq b 59) text) ∙ sym (any_from_place (λ b. nat_eq b 59) text)
+semicolon_found text = byte_found text 59
+
+pub quote_found : (text : List ℕ) → is_some (byte_place text 34) ≡ list_any (λ b. nat_eq b 34) text
+quote_found text = byte_found text 34
 
 no_end : (state : QuoteState) (b : ℕ) → nat_eq b 59 ≡ false → ends state b ≡ false
 no_end outside b other = other

@@ -6,6 +6,7 @@ pub mod Content
 pub mod Date
 pub mod Ids
 pub mod Manner
+pub mod Quoting
 pub mod Repairs
 pub mod Texts
 pub mod Usual
@@ -15,3 +16,4 @@ pub mod Shown
 pub mod Folding
 pub mod Values
 pub mod Names
+pub mod Undecoded

@@ -8,8 +8,9 @@ use Rattle.mailparse.specs.Pairs.{pairs_of}
 use Rattle.mailparse.specs.Sections.{is_star}
 use Rattle.mailparse.specs.Value.{lenient_value_in}
 use Rattle.mail_data.specs.lenient.Comments.{without_comments}
-use Rattle.mail_data.specs.lenient.Manner.{has_broken_boundary, lenient_name, undecoded}
+use Rattle.mail_data.specs.lenient.Manner.{has_broken_boundary, lenient_name}
 use Rattle.mail_data.specs.lenient.Repairs.{repaired}
+use Rattle.mail_data.specs.lenient.Undecoded.{undecoded}
 
 -- a text has no comment and lacks nothing
 abbrev pub is_complete : List ℕ → Bool

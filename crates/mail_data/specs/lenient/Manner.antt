@@ -16,11 +16,10 @@ use Rattle.mailparse.specs.Mail.{part_type}
 use Rattle.mailparse.specs.Manner.{Manner}
 use Rattle.mailparse.specs.Map.{first_with_key}
 use Rattle.mailparse.specs.Pairs.{Texts}
-use Rattle.mailparse.specs.Value.{lenient_value_in}
-use Rattle.mail_data.specs.Files.{no_charsets}
 use Rattle.mail_data.specs.lenient.Comments.{without_comments}
 use Rattle.mail_data.specs.lenient.Guess.{or_guessed}
 use Rattle.mail_data.specs.lenient.Repairs.{repaired}
+use Rattle.mail_data.specs.lenient.Undecoded.{undecoded}
 
 -- the name of plain text
 abbrev pub plain_name : List ℕ
@@ -66,11 +65,6 @@ made_lenient found = record {
   charset = found.charset;
   params = with_whole_boundary found.params;
 }
-
--- the text of a raw value in which types are read: its encoded words stay as they are, so that none
--- can end a parameter, begin one or be a boundary, a charset or a type
-abbrev pub undecoded : List ℕ → List ℕ
-undecoded value = lenient_value_in no_charsets value
 
 -- Under the charsets that are known.
 module _ (known : Charsets) where

@@ -7,6 +7,7 @@ use Rattle.mail_codec.specs.Ascii.{apostrophe, asterisk, backslash, equals_sign,
 use Rattle.mail_codec.specs.Charset.{charset_of_label}
 use Rattle.mail_codec.specs.Places.{is_empty, text_place}
 use Rattle.mailparse.specs.ExtendedValues.{label_in}
+use Rattle.mail_data.specs.lenient.Quoting.{with_quotes}
 use Rattle.mail_data.specs.declared.lenient.repairs.Position.{Position}
 use Rattle.mail_data.specs.declared.lenient.repairs.Position.TheVariants.{BeforeWord, InWord, AfterWord, InName, AfterStar, BeforeText, InText, AfterBlank, InQuotes, AfterBackslash, AfterText, BeforeExtended, InExtended, InRun, RunBackslash}
 
@@ -199,8 +200,12 @@ abbrev pub extended_are_alone : List ℕ → Bool
 extended_are_alone text = not (is_some (text_place text (codes "*0*")))
 
 -- a value with parameters with all that is missing
-unfoldable pub repaired : List ℕ → List ℕ
-repaired text = encode_utf8_all (repaired_from (extended_are_alone text) BeforeWord (chars text))
+unfoldable pub mended : List ℕ → List ℕ
+mended text = encode_utf8_all (repaired_from (extended_are_alone text) BeforeWord (chars text))
+
+-- the same, with quotes around each value that begins or ends with whitespace beyond ASCII
+abbrev pub repaired : List ℕ → List ℕ
+repaired text = with_quotes (mended text)
 
 -- ---- values that clearly lack nothing
 

@@ -17,12 +17,12 @@ ghost use Rattle.mail_data.specs.lenient.FileNames as names;
 use super::no_charsets::NoCharsets;
 use super::paths::with_paths_escaped;
 use super::{filled, shown_name, text_of_octets, typed_name};
-use crate::lenient::{Lenient, lenient_name_text};
+use crate::lenient::{Lenient, lenient_name_text, undecoded};
 use mail_codec::bytescan::find_byte;
 use mail_codec::charset::KnownCharsets;
 use mailparse::{
     MailHeader, MailHeaderMap, MailParseError, ParsedMail, Strict, parse_content_disposition_in,
-    parse_content_type_in, value_text_in,
+    parse_content_type_in,
 };
 use std::alloc::{AllocError, Global};
 use std::borrow::CowStr;
@@ -133,20 +133,20 @@ pub(crate) fn cut_text(alloc: Global, value: &[u8]) -> Result<String, MailParseE
     ensures { GivesText result (cut_text value.now) }
 {
     let text = text_of_octets(alloc, value)?;
-    value_text_in(alloc, text.as_bytes(), &NoCharsets)
+    undecoded(alloc, text.as_bytes())
 }
 
 /// Returns the text of the value of a header with its encoded words as they are, borrowed if it is
 /// plain.
-#[tactic(auto, using(crate::proofs::lemmas::FileTexts::cut_utf8))]
+#[tactic(auto, using(crate::proofs::lemmas::FileTexts::cut_ascii))]
 fn cut_value<'h>(alloc: Global, header: &'h MailHeader<'_>) -> Result<CowStr<'h>, MailParseError>
     ensures { AnswersOrMemory cow_str_bytes result (Ok (cut_text header.now.value)) }
 {
     let raw = header.get_value_raw();
-    match str::from_utf8(raw) {
-        Ok(_) => Ok(header.get_value_ref_in(alloc, &NoCharsets)?),
-        Err(_) => Ok(CowStr::Owned(cut_text(alloc, raw)?)),
+    if raw.is_ascii() {
+        return Ok(header.get_value_ref_in(alloc, &NoCharsets)?);
     }
+    Ok(CowStr::Owned(cut_text(alloc, raw)?))
 }
 
 /// Returns the file name in the disposition of a part, with its encoded words as they are.

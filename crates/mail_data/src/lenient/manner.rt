@@ -13,13 +13,13 @@ ghost use Rattle.mail_data.specs.lenient.Manner.{with_whole_boundary, without_bo
 use super::comments::without_comments;
 use super::guess::OrGuess;
 use super::repairs::repaired;
+use super::undecoded::{undecoded, undecoded_ref};
 use super::usual::usual_type;
-use crate::files::NoCharsets;
 use mail_codec::bytescan::find_either;
 use mail_codec::charset::KnownCharsets;
 use mailparse::{
     DefaultType, MailHeader, MailHeaderMap, MailParseError, ParsedContentType, ReadingManner,
-    parse_content_type_in, value_text_in,
+    parse_content_type_in,
 };
 use std::alloc::{AllocError, Global};
 use std::collections::BTreeMap;
@@ -98,8 +98,10 @@ fn type_of<K: KnownCharsets>(
     let Some(header) = headers.get_first_header("Content-Type") else {
         return default.content_type(alloc);
     };
-    let value = header.get_value_ref_in(alloc, &NoCharsets)?;
-    type_in(alloc, value.as_str(), known)
+    match undecoded_ref(alloc, header) {
+        Ok(value) => type_in(alloc, value.as_str(), known),
+        Err(_) => Err(AllocError),
+    }
 }
 
 /// Returns the type in the raw value of a `Content-Type` (RFC 2045, section 5.1), as `Lenient` reads
@@ -129,7 +131,7 @@ pub fn lenient_type<K: KnownCharsets>(
     ensures { AnswersOrMemory content_type result
         (Ok (lenient_type_from (K.known known.now) value.now)) }
 {
-    let text = value_text_in(alloc, value, &NoCharsets)?;
+    let text = undecoded(alloc, value)?;
     Ok(type_in(alloc, text.as_str(), known)?)
 }
 

@@ -57,7 +57,7 @@ fn folded_name_text<K: KnownCharsets>(
 }
 
 /// Returns bytes on one line.
-fn on_one_line(alloc: Global, bytes: &[u8]) -> Result<Vec<u8>, AllocError>
+pub(super) fn on_one_line(alloc: Global, bytes: &[u8]) -> Result<Vec<u8>, AllocError>
     ensures { IfOk result (λ line. line.items ≡ on_one_line false bytes.now) }
 {
     let mut line = Vec::new(alloc);

@@ -7,11 +7,12 @@ ghost use Rattle.mail_data.specs.lenient.Repairs.{apostrophes, begins_parameter,
 ghost use Rattle.mail_data.specs.lenient.Repairs.{ends_name, extended_are_alone};
 ghost use Rattle.mail_data.specs.lenient.Repairs.{for_extended, is_label, is_name, missing, missing_apostrophes};
 ghost use Rattle.mail_data.specs.lenient.Repairs.{is_other_space, lacking, lacks_nothing, may_follow};
-ghost use Rattle.mail_data.specs.lenient.Repairs.{missing_at_end, repaired};
+ghost use Rattle.mail_data.specs.lenient.Repairs.{mended, missing_at_end, repaired};
 ghost use Rattle.mail_data.specs.lenient.Repairs.{semicolon_unless, settled, underscore_before};
 ghost use Rattle.mail_data.specs.declared.lenient.repairs.Position.TheVariants.{BeforeWord};
 
 use super::file_names::label_in;
+use super::quoting::{into_quotes, with_quotes};
 use super::usual::is_usual;
 use mail_codec::bytescan::find;
 use mail_codec::charset::Charset;
@@ -54,8 +55,9 @@ pub(crate) enum Position {
 }
 
 /// Returns a value with parameters with the semicolons, closing quotes and apostrophes that are
-/// missing, and with underscores in names before whitespace that mails do not use. It is borrowed if
-/// it clearly lacks none.
+/// missing, with underscores in names before whitespace that mails do not use, and with quotes
+/// around values that begin or end with whitespace beyond ASCII. It is borrowed if it is ASCII and
+/// clearly lacks none.
 pub(crate) fn repaired(alloc: Global, text: &str) -> Result<CowStr<'_>, AllocError>
     ensures { IfOk result (λ made. cow_str_bytes made ≡ repaired text.now) }
 {
@@ -63,9 +65,10 @@ pub(crate) fn repaired(alloc: Global, text: &str) -> Result<CowStr<'_>, AllocErr
         return Ok(CowStr::Borrowed(text));
     }
     if lacks_nothing(text) {
-        return Ok(CowStr::Borrowed(text));
+        return with_quotes(alloc, text);
     }
-    Ok(CowStr::Owned(with_missing(alloc, text)?))
+    let made = with_missing(alloc, text)?;
+    Ok(CowStr::Owned(into_quotes(alloc, made)?))
 }
 
 /// Returns whether a value clearly lacks nothing, without a look at what follows a character.
@@ -99,7 +102,7 @@ fn may_follow(position: Position, c: char) -> bool
 
 /// Returns a value with parameters with all that is missing.
 fn with_missing(alloc: Global, text: &str) -> Result<String, AllocError>
-    ensures { IfOk result (λ made. string_bytes made ≡ repaired text.now) }
+    ensures { IfOk result (λ made. string_bytes made ≡ mended text.now) }
 {
     let is_alone = extended_are_alone(text);
     let mut made = String::new(alloc);

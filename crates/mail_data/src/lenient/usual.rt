@@ -22,7 +22,7 @@ use std::collections::BTreeMap;
 /// and parameters, each of which is a semicolon, at most one space, a name, `=`, and a word or a
 /// quoted text.
 pub(super) fn is_usual(text: &str) -> bool
-    ensures { result ≡ true → lacks_nothing BeforeWord (chars text.now) ≡ true }
+    ensures { result ≡ true → text.now ≡ repaired text.now }
 {
     if !text.is_ascii() {
         return false;

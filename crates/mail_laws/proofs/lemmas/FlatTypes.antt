@@ -8,14 +8,14 @@ use Rattle.std.specs.List.{list_all}
 use Rattle.std.specs.Str.{IsAscii, chars, encode_utf8_all, str_to_ascii_lowercase}
 use Rattle.std.proofs.lemmas.Bool.{cases_lt, cond-false, cond-true, eqb-true, false≢true, leb-true, or_cases, or_from}
 use Rattle.std.proofs.lemmas.Slice.Eq.{bytes_eq-Decides}
-use Rattle.std.proofs.lemmas.Str.{IsUtf8-from_ascii, chars-IsAscii, encodes-IsAscii}
+use Rattle.std.proofs.lemmas.Str.{chars-IsAscii, encodes-IsAscii}
 use Rattle.mail_codec.specs.Ascii.{asterisk, backslash, closing_parenthesis, equals_sign, is_blank, opening_parenthesis, quote}
 use Rattle.mail_codec.specs.Ascii.{semicolon, slash, space}
 use Rattle.mail_data.specs.lenient.Agreement.{is_complete}
 use Rattle.mail_data.specs.lenient.Comments.{depth_beside, outside_comments, quotes_next, string_after, without_comments}
 use Rattle.mail_data.specs.lenient.Repairs.{after_name, after_quoted, after_text, after_value, lacks_nothing}
 use Rattle.mail_data.specs.lenient.Repairs.{is_feed, is_other_space, repaired}
-use Rattle.mail_data.proofs.lemmas.lenient.Repairs.{whole-text}
+use Rattle.mail_data.proofs.lemmas.lenient.Repairs.{whole-ascii}
 use Rattle.mail_check.specs.strict.Parameters.{is_name_character, is_token_character}
 use Rattle.mail_check.specs.strict.PlainParameters.{is_plain_byte, IsPlainText, last_byte, more_bytes}
 use Rattle.mail_laws.specs.PlainValues.{IsValueOf, token_of, empty_of, quotes_of, Parameters}
@@ -341,5 +341,5 @@ flat_complete bytes ascii low is =
     let kept : without_comments bytes ≡ bytes =
     ap (λ (cs : List ℕ). encode_utf8_all (outside_comments false false 0 cs)) read ∙ ap encode_utf8_all (type_kept bytes is)
     ∙ encodes-IsAscii bytes ascii in
-    let whole = whole-text bytes (IsUtf8-from_ascii bytes ascii) (ap past_slash read ∙ type_lacks bytes low is) in
+    let whole = whole-ascii bytes ascii (ap past_slash read ∙ type_lacks bytes low is) in
     (bytes_eq-Decides (repaired (without_comments bytes)) bytes).1 (ap repaired kept ∙ sym whole)

@@ -25,7 +25,8 @@ use Rattle.mailparse.proofs.lemmas.ValueJoined.{joined_alone, joined_more, joine
 use Rattle.mailparse.proofs.lemmas.ValuePlain.{unfolded_value-joined}
 use Rattle.mail_data.specs.Files.{no_charsets}
 use Rattle.mail_data.specs.lenient.Agreement.{has_no_word, is_strict, is_strict_value}
-use Rattle.mail_data.specs.lenient.Manner.{undecoded}
+use Rattle.mail_data.specs.lenient.Names.{on_one_line}
+use Rattle.mail_data.specs.lenient.Undecoded.{undecoded}
 use Rattle.mail_check.specs.strict.Fields.{HasBoundary}
 use Rattle.mail_check.specs.strict.LineEnds.{IsLineEnd}
 use Rattle.mail_check.specs.strict.Parameters.{IsGap, no_gap, gap_blank, gap_fold, is_name_character, is_token_character}
@@ -620,7 +621,9 @@ plain_type_strict known value low is boundary =
     let two : List ℕ = type.second ∷ type.subtype in
     let text : List ℕ = (one ++ (slash ∷ two)) ++ found.flat in
     let same = value_shown known (one ++ (slash ∷ two)) value low found in
-    let raw : undecoded value ≡ text = value_shown no_charsets (one ++ (slash ∷ two)) value low found in
+    let raw : undecoded value ≡ text =
+    ap (lenient_value_in no_charsets) (cond-true (list_all is_low value) value (on_one_line false value) low)
+    ∙ value_shown no_charsets (one ++ (slash ∷ two)) value low found in
     are_true (has_no_word known value) (is_strict known (undecoded value))
     ((bytes_eq-Decides (undecoded value) (lenient_value_in known value)).1 (raw ∙ sym same))
     (subst (λ (xs : List ℕ). is_strict known xs ≡ true) (sym raw)

@@ -19,9 +19,10 @@ use Rattle.mailparse.proofs.lemmas.StarFree.{another_key, parameters_are_pairs}
 use Rattle.mail_data.specs.lenient.Agreement.{has_no_word, is_complete, is_named, is_star_free, is_strict, is_strict_value}
 use Rattle.mail_data.specs.lenient.Comments.{without_comments}
 use Rattle.mail_data.specs.lenient.Guess.{or_guessed}
-use Rattle.mail_data.specs.lenient.Manner.{has_broken_boundary, lenient_name, lenient_type_from, lenient_type_in, made_lenient, undecoded, with_whole_boundary, without_boundary}
+use Rattle.mail_data.specs.lenient.Manner.{has_broken_boundary, lenient_name, lenient_type_from, lenient_type_in, made_lenient, with_whole_boundary, without_boundary}
 use Rattle.mail_data.specs.lenient.Refused.{kept_for, refusal_with}
 use Rattle.mail_data.specs.lenient.Repairs.{repaired}
+use Rattle.mail_data.specs.lenient.Undecoded.{undecoded}
 
 -- no pair is put at a name with a star
 kept : (texts : Texts) (pairs : List (List ℕ × List ℕ)) (name : List ℕ) → is_star_free pairs ≡ true → has_star name ≡ true

@@ -2,13 +2,15 @@
 use Rattle.std.proofs.Common.{◌≡◌, ◌≢◌, ◌<◌, ◌≤◌, ℕ, zero, suc, ◌-◌, Bool, true, false, eqb, leb, cond, not, ◌&&◌, ◌||◌, inl, inr, ◌⊎◌, List, [], ◌∷◌, ◌++◌, length, arith, refl, sym, ap, subst, ◌∙◌, append_assoc}
 use Rattle.std.proofs.Math.Bool.{and-false}
 use Rattle.std.proofs.lemmas.Bool.{cases_Bool, cond-true, cond-false, eq-eqb, false≢true, leb-true, lt-ltb, ne_eqb, or_from}
-use Rattle.std.proofs.lemmas.Str.{chars-nil, chars_past_char, encodes-chars}
+use Rattle.std.proofs.lemmas.Str.{IsUtf8-from_ascii, chars-nil, chars_past_char, encodes-chars}
 use Rattle.std.specs.Char.{encode_utf8, is_ascii, is_ascii_alphabetic, is_ascii_whitespace, is_whitespace}
 use Rattle.std.specs.Int.{is_in_range}
-use Rattle.std.specs.Str.{chars, encode_utf8_all, IsUtf8}
+use Rattle.std.specs.Str.{chars, encode_utf8_all, IsAscii, IsUtf8}
 use Rattle.mail_codec.specs.Ascii.{apostrophe, equals_sign, semicolon}
 use Rattle.mail_codec.specs.Places.{is_empty}
-use Rattle.mail_data.specs.lenient.Repairs.{after, apostrophes, begins_parameter, ends_name, extended_are_alone, for_extended, is_feed, is_name, is_other_space, lacking, lacks_nothing, may_follow, missing, missing_apostrophes, missing_at_end, repaired, repaired_from, semicolon_unless, settled}
+use Rattle.mail_data.specs.lenient.Repairs.{after, apostrophes, begins_parameter, ends_name, extended_are_alone, for_extended, is_feed, is_name, is_other_space, lacking, lacks_nothing, may_follow, mended, missing, missing_apostrophes, missing_at_end, repaired, repaired_from, semicolon_unless, settled}
+use Rattle.mail_data.specs.lenient.Quoting.{with_quotes}
+use Rattle.mail_data.proofs.lemmas.lenient.Quoting.{quotes_ascii}
 use Rattle.mail_data.specs.declared.lenient.repairs.Position.{Position}
 use Rattle.mail_data.specs.declared.lenient.repairs.Position.TheVariants.{BeforeWord, InWord, AfterWord, InName, AfterStar, BeforeText, InText, AfterBlank, InQuotes, AfterBackslash, AfterText, BeforeExtended, InExtended, InRun, RunBackslash}
 
@@ -90,8 +92,8 @@ abbrev pub repaired_with : List ℕ → Bool → Position → List ℕ → List 
 repaired_with made is_alone position rest = made ++ encode_utf8_all (repaired_from is_alone position (chars rest))
 
 pub repaired-start : (text made rest : List ℕ) (is_alone : Bool) → made ≡ [] → rest ≡ text → is_alone ≡ extended_are_alone text
-    → repaired_with made is_alone BeforeWord rest ≡ repaired text
-unfolding repaired
+    → repaired_with made is_alone BeforeWord rest ≡ mended text
+unfolding mended
 repaired-start text made rest is_alone none all alone =
     ap (λ (m : List ℕ). repaired_with m is_alone BeforeWord rest) none
     ∙ ap (λ (r : List ℕ). encode_utf8_all (repaired_from is_alone BeforeWord (chars r))) all
@@ -246,10 +248,14 @@ unchanged is_alone position (c ∷ cs) none = go (may_follow position c) refl no
         ∙ ap (λ (t : List ℕ). c ∷ t) (ih rest)
     go false may rest ih = absurd (false≢true rest)
 
-pub whole-text : (text : List ℕ) → IsUtf8 text → lacks_nothing BeforeWord (chars text) ≡ true → text ≡ repaired text
-unfolding repaired
+pub whole-text : (text : List ℕ) → IsUtf8 text → lacks_nothing BeforeWord (chars text) ≡ true → text ≡ mended text
+unfolding mended
 whole-text text utf8 none =
     sym (ap encode_utf8_all (unchanged (extended_are_alone text) BeforeWord (chars text) none) ∙ encodes-chars text utf8)
+
+pub whole-ascii : (text : List ℕ) → IsAscii text → lacks_nothing BeforeWord (chars text) ≡ true → text ≡ repaired text
+whole-ascii text ascii none =
+    sym (ap with_quotes (sym (whole-text text (IsUtf8-from_ascii text ascii) none)) ∙ quotes_ascii text ascii)
 
 -- the test for that, in its loop
 

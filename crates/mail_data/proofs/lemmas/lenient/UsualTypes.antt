@@ -26,7 +26,7 @@ use Rattle.mailparse.proofs.lemmas.Trims.{trim-space, trim-visible}
 use Rattle.mail_data.specs.private.Usual.{HasPair, Holds, IsRun, IsValue, ends_run, ends_value, segments_left}
 use Rattle.mail_data.specs.lenient.Repairs.{lacks_nothing, repaired}
 use Rattle.mail_data.specs.declared.lenient.repairs.Position.TheVariants.{BeforeWord}
-use Rattle.mail_data.proofs.lemmas.lenient.Repairs.{whole-text}
+use Rattle.mail_data.proofs.lemmas.lenient.Repairs.{whole-ascii}
 use Rattle.mail_data.proofs.lemmas.lenient.Usual.{at_byte, others}
 
 -- ---- runs
@@ -344,10 +344,10 @@ put-pair bytes at end key value old new all low has put here =
 
 -- ---- types
 
-pub usual-built : (known : Charsets) (text : List ℕ) (end : ℕ) (mimetype charset : List ℕ) (params : Texts) → IsUtf8 text → IsAscii text → lacks_nothing BeforeWord text ≡ true
+pub usual-built : (known : Charsets) (text : List ℕ) (end : ℕ) (mimetype charset : List ℕ) (params : Texts) → IsAscii text → lacks_nothing BeforeWord text ≡ true
     → IsValue text end → Holds text end params → mimetype ≡ str_to_ascii_lowercase (take end text) → charset ≡ charset_named params
     → ◌≡◌ {A = ContentType} (record { mimetype = mimetype; charset = charset; params = params }) (content_type_in known (repaired text))
-usual-built known text end mimetype charset params utf8 ascii whole value holds name label =
+usual-built known text end mimetype charset params ascii whole value holds name label =
     let cut = cut-segment text (take end text) (drop end text) (sym (take-append-drop end text)) value.0 holds.ends in
     let pairs = pairs_in (segments_left (drop end text)) in
     let none : (q : List ℕ) → list_any is_star q ≡ true → last_of pairs q ≡ None = λ q star. sym (ap (λ (t : Texts). t q) holds.same) ∙ holds.starless q star in
@@ -355,4 +355,4 @@ usual-built known text end mimetype charset params utf8 ascii whole value holds 
     (λ q. ap (λ (t : Texts). t q) holds.same ∙ sym (parameters_are_pairs known pairs none q)
     ∙ ap (λ (ps : List (List ℕ × List ℕ)). parameters_in known ps q) (sym (pairs_of-later text (take end text) (segments_left (drop end text)) cut)))
     label
-    ∙ ap (content_type_in known) (whole-text text utf8 (ap (lacks_nothing BeforeWord) (chars-IsAscii text ascii) ∙ whole))
+    ∙ ap (content_type_in known) (whole-ascii text ascii (ap (lacks_nothing BeforeWord) (chars-IsAscii text ascii) ∙ whole))

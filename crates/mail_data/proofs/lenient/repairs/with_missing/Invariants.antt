@@ -2,7 +2,7 @@
 use Rattle.std.proofs.Common.{◌≡◌}
 use Rattle.std.specs.Str.{IsUtf8}
 use Rattle.std.specs.String.{string_bytes}
-use Rattle.mail_data.specs.lenient.Repairs.{repaired}
+use Rattle.mail_data.specs.lenient.Repairs.{mended}
 use Rattle.mail_data.proofs.lemmas.lenient.Repairs.{repaired_with}
 use Rattle.mail_data.proofs.lenient.repairs.with_missing.Given as goal
 
@@ -11,5 +11,5 @@ invariant-loop-c l = record {
   utf8 : IsUtf8 l.chars.rest.now;
   text : IsUtf8 l.left;
   left : l.left ≡ l.chars.rest.now;
-  made : repaired_with (string_bytes l.made) l.is_alone l.position l.chars.rest.now ≡ repaired l.text;
+  made : repaired_with (string_bytes l.made) l.is_alone l.position l.chars.rest.now ≡ mended l.text;
 }

@@ -2,9 +2,11 @@ use Rattle.std.proofs.Common.{ap, sym, ◌∙◌}
 use Rattle.std.proofs.lemmas.Str.{chars-IsAscii}
 use Rattle.mail_data.specs.lenient.Repairs.{lacks_nothing}
 use Rattle.mail_data.specs.declared.lenient.repairs.Position.TheVariants.{BeforeWord}
+use Rattle.mail_data.proofs.lemmas.lenient.Repairs.{whole-ascii}
 use Rattle.mail_data.proofs.lenient.usual.is_usual.Goals as goal
 
 pub returns : goal.returns
 returns c = λ is.
-    ap (lacks_nothing BeforeWord) (chars-IsAscii c.args.text.now c.if-not-is_ascii.ensures.cases ∙ sym c.as_bytes-bytes.ensures.value)
-    ∙ c.words_end.ensures.usual (c.ends_usually.ensures is)
+    whole-ascii c.args.text.now c.if-not-is_ascii.ensures.cases
+    (ap (lacks_nothing BeforeWord) (chars-IsAscii c.args.text.now c.if-not-is_ascii.ensures.cases ∙ sym c.as_bytes-bytes.ensures.value)
+    ∙ c.words_end.ensures.usual (c.ends_usually.ensures is))

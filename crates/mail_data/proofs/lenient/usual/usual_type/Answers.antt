@@ -24,4 +24,4 @@ returns c = λ known.
     ap (lacks_nothing BeforeWord) (sym same) ∙ c.words_end-end.ensures.usual (ap (λ (bytes : List ℕ). ends_value (drop end bytes)) same ∙ holds.ends) in
     c.in_ok-type_named.ensures
     ∙ ap (λ (name : List ℕ). type_with (str_to_ascii_lowercase name) params) (c.range.ensures.value ∙ ap (λ n. take n text) (sub-zero end))
-    ∙ usual-built known text end (str_to_ascii_lowercase (take end text)) (charset_named params) params c.utf8.text c.if-not-is_ascii.ensures.cases whole value holds refl refl
+    ∙ usual-built known text end (str_to_ascii_lowercase (take end text)) (charset_named params) params c.if-not-is_ascii.ensures.cases whole value holds refl refl
