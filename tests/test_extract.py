@@ -526,6 +526,10 @@ TRICKS = {
     "a next line before another boundary": (b"multipart/mixed; boundary=b;\x85boundary=a", b"\nHi", HIDDEN_FILE, [FILE]),
     "a no-break space after the name": (b"multipart/mixed; boundary=b; boundary\xa0=a", b"\nHi", HIDDEN_FILE, [FILE]),
     "a vertical tab before another boundary": (b"multipart/mixed; boundary=b;\x0bboundary=a", b"\nHi", HIDDEN_FILE, [FILE]),
+    "a no-break space before another boundary in the next line": (
+        b"multipart/mixed; boundary=b;\n \xc2\xa0boundary=a", b"\nHi", HIDDEN_FILE, [FILE],
+    ),
+    "a no-break space in Latin-1 in the next line": (b"multipart/mixed; boundary=b;\r\n\t\xa0boundary=a", b"\nHi", HIDDEN_FILE, [FILE]),
     "a no-break space before another file name": (
         b"multipart/mixed; boundary=b", b"\nHi",
         b'Content-Type: text/html\nContent-Disposition: attachment; filename="a.html";\xa0filename="safe.txt"\n\n<p>Hi',
@@ -547,6 +551,29 @@ TRICKS = {
         [("2", "unnamed.txt", HIDDEN_FILE.replace(b"\n\n", b"\n\r"))],
     ),
 }
+
+
+# values without quotes that begin or end with whitespace beyond ASCII, and the boundary that each names by the letter
+SPACED_BOUNDARIES = {
+    "boundary=b\u00a0": "b\u00a0",
+    "boundary= \u00a0b\t; x=y": "\u00a0b",
+    "boundary=b\u3000\n ;x=y": "b\u3000",
+    "boundary=b\u00a0c\u2003 x=y": "b\u00a0c\u2003",
+    'boundary=b"\\\u00a0': 'b"\\\u00a0',
+    "x=\u00a0;\n boundary*0=b;\n boundary*1=c\u00a0": "bc\u00a0",
+}
+
+
+@pytest.mark.parametrize("parameters", SPACED_BOUNDARIES)
+def test_spaces_around_values(parameters, tmp_path):
+    """Only whitespace of ASCII is trimmed around a value: a delimiter without the other whitespace ends no part."""
+    boundary = SPACED_BOUNDARIES[parameters]
+    parts = [f"--{boundary}", "Content-Disposition: attachment; filename=a.exe", "", "MZ", "--b", "", "Hi", f"--{boundary}--", ""]
+    mail = "\n".join([f"Content-Type: multipart/mixed; {parameters}", "", *parts])
+    ended = run([*command("extract"), "--into", tmp_path], mail.encode())
+    lines = [json.loads(line) for line in ended.stdout.splitlines()]
+    assert (ended.returncode, ended.stderr) == (0, b"")
+    assert [(line["saved"], (tmp_path / line["saved"]).read_bytes()) for line in lines] == [("a.exe", b"MZ\n--b\n\nHi")]
 
 
 @pytest.mark.parametrize("name", TRICKS)
