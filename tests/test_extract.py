@@ -261,10 +261,17 @@ def test_stdout_of_a_text_file():
 
 
 def test_limit_on_text_files(tmp_path):
-    """As many blocks of a text are read as the limit says."""
+    """A mail of which a text has more blocks than the limit is refused, so that no file is left out, as is one inside a mail."""
     mail = b"\n" + b"".join(uuencoded(b"%d" % number, b"%d" % number) for number in range(20))
-    ended = run([*command("extract"), "--into", tmp_path, "--max-items", "9"], mail)
-    assert (ended.returncode, sorted(path.name for path in tmp_path.iterdir())) == (0, [str(number) for number in range(9)])
+    ended = run([*command("extract"), "--into", tmp_path, "--max-items", "20"], mail)
+    assert (ended.returncode, sorted(path.name for path in tmp_path.iterdir())) == (0, sorted(str(number) for number in range(20)))
+    ended = run([*command("extract"), "--into", tmp_path, "--max-items", "19"], mail)
+    assert (ended.returncode, json.loads(ended.stdout)["error"]) == (3, "Too many parts and headers")
+    outer = multipart(b"b", b"Content-Type: message/rfc822\n\n" + mail, b"\n" + uuencoded(b"last", b"last"))
+    ended = run([*command("extract"), "--into", tmp_path, "--max-items", "19"], outer)
+    lines = [json.loads(line) for line in ended.stdout.splitlines()]
+    errors = [(line["path"], line["error"]) for line in lines]
+    assert (ended.returncode, errors) == (3, [("1", None), ("2.u1", None), ("1", "Too many parts and headers")])
 
 
 def test_names_by_hash(tmp_path):

@@ -260,6 +260,12 @@ def test_faults():
     found = objects([], b"", 0, "no bytes")[0]
     assert (found["subject"], found["date"], found["references"]) == (None, None, []), "no bytes"
     assert found["parts"][0]["headers"] == [], "no bytes"
+    many = b"\n" + uuencoded(b"a", b"a") * 9 + uuencoded(b"last.exe", b"a")
+    assert len(objects(["--max-items", "10"], many, 0, "as many blocks as the limit")[0]["parts"][0]["text_files"]) == 10
+    found = objects(["--max-items", "9"], many, 3, "a file after the limit")
+    assert [value["error"] for value in found] == [MANY], "a file after the limit"
+    found = objects(["--max-items", "9"], b"Content-Type: message/rfc822\n\n" + many, 0, "a file after the limit in a mail inside")[0]
+    assert [(value["path"], value["error"]) for value in found["forwarded"]] == [("1", MANY)], "a file after the limit in a mail inside"
     found = objects(["--max-items", "2"], b"A: b\nC: d\n\n", 3, "a refused mail")
     assert [(value["start"], value["end"], value["error"]) for value in found] == [(0, 11, MANY)], "a refused mail"
     found = objects([], b" x", 0, "a mail that is kept")[0]["parts"]

@@ -8,17 +8,18 @@ use Rattle.mail_codec.specs.Charset.{Charsets}
 use Rattle.mailparse.specs.Mail.{Tree}
 use Rattle.mailparse.specs.Refusal.{Reads}
 use Rattle.mail_data.specs.FileNames.{IsSafeName}
-use Rattle.mail_data.specs.InnerMails.{InnerMail, inner_mails_within}
+use Rattle.mail_data.specs.InnerMails.{InnerMail}
 use Rattle.mail_data.specs.Mailbox.{Entry, front_length}
 use Rattle.mail_data.specs.MailboxFormats.{entries_in, mail_in}
 use Rattle.mail_data.specs.PartPlaces.{places}
-use Rattle.mail_data.specs.Reading.{mail_placements, mail_reading}
+use Rattle.mail_data.specs.Reading.{mail_placements}
 use Rattle.mail_data.specs.declared.mailbox.formats.Format.{Format}
 use Rattle.mail_json.specs.FileLine.{FileLine}
 use Rattle.mail_json.specs.JsonLines.{format_of, is_mailbox}
 use Rattle.mail_program.specs.Refusal.{refusal_text}
 use Rattle.mail_json.specs.Part.{saturating_add}
 use Rattle.mail_program.specs.Fault.{IsEnd, IsFault}
+use Rattle.mail_json.specs.Reading.{inner_mails_within, mail_reading}
 use Rattle.mail_json.specs.declared.options.InputKind.{InputKind}
 use Rattle.mail_program.specs.declared.fault.Fault.{Fault}
 use Rattle.mail_program.specs.declared.outcome.Outcome as program

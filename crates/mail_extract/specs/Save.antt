@@ -7,12 +7,13 @@ use Rattle.mailparse.specs.Mail.{Node, Tree, root}
 use Rattle.mailparse.specs.Placement.{Placement}
 use Rattle.mail_data.specs.Attachments.{is_extracted}
 use Rattle.mail_data.specs.Files.{text_of_octets}
-use Rattle.mail_data.specs.InnerMails.{InnerMail, forwards, inner_mails_within, places_under}
+use Rattle.mail_data.specs.InnerMails.{InnerMail, forwards, places_under}
 use Rattle.mail_data.specs.PartPlaces.{Place, places}
 use Rattle.mail_data.specs.RawPaths.{file_name_or_path}
-use Rattle.mail_data.specs.Reading.{mail_placements, mail_reading}
+use Rattle.mail_data.specs.Reading.{mail_placements}
 use Rattle.mail_data.specs.TextFiles.{TextFile, file_bytes, is_plain_text, text_file_path, text_files}
 use Rattle.mail_data.specs.lenient.Content.{Content, message_content}
+use Rattle.mail_json.specs.Reading.{inner_mails_within, mail_reading}
 use Rattle.mail_extract.specs.Choice.{Choice, keeps}
 use Rattle.mail_extract.specs.Content.{content}
 use Rattle.mail_extract.specs.Endings.{ending_of}

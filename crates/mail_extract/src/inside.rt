@@ -2,13 +2,13 @@
 ghost use Rattle.std.specs.List.{AllByRecursion};
 ghost use Rattle.std.specs.Prelude.{◌≡◌, IfErr, IfOk, Ok, false, map, option_map};
 ghost use Rattle.mailparse.specs.Views.{placements_of, tree_of};
-ghost use Rattle.mail_data.specs.InnerMails.{mails_in_place};
 ghost use Rattle.mail_data.specs.Reading.{mail_placements};
 ghost use Rattle.mail_json.specs.DecodedViews.{IsDecoded, decoded_place};
 ghost use Rattle.mail_extract.specs.ChoiceViews.{options_view};
 ghost use Rattle.mail_extract.specs.Input.{AreInside, Ends, IsMailOf, Saved};
 ghost use Rattle.mail_program.specs.Fault.{IsEnd};
 ghost use Rattle.mail_json.specs.Inside.{mails_among};
+ghost use Rattle.mail_json.specs.Reading.{mails_in_place};
 
 use crate::directory::Directory;
 use crate::level::{Level, Saving, Within};
@@ -18,8 +18,8 @@ use crate::parts::extract_places;
 use crate::report::report_refused;
 use mail_data::inner_mails::{holds_mail, mail_start, places_under};
 use mail_data::places::places;
-use mail_data::reading::{DEFAULT_LIMIT, read_mail};
-use mail_json::{Decoded, LineOptions, decoded_parts, mail_in};
+use mail_data::reading::DEFAULT_LIMIT;
+use mail_json::{Decoded, LineOptions, decoded_parts, mail_in, read_mail};
 use mail_program::{Fault, Outcome, refusal_of};
 use mailparse::{KnownCharsets, MAX_LEVELS, ParsedMail};
 use std::alloc::Global;

@@ -18,6 +18,7 @@ pub mod Mail
 pub mod JsonLines
 pub mod Stream
 pub mod Range
+pub mod Reading
 pub mod LinesAreJson
 pub mod WithoutText
 pub mod OwnBytes

@@ -5,9 +5,10 @@ use Rattle.std.specs.Result.{result_ok}
 use Rattle.mail_codec.specs.Charset.{Charsets}
 use Rattle.mailparse.specs.Mail.{Tree}
 use Rattle.mailparse.specs.Refusal.{Reads, Refusal}
-use Rattle.mail_data.specs.InnerMails.{InnerMail, inner_mails_within, mails_in_place, places_under}
+use Rattle.mail_data.specs.InnerMails.{InnerMail, places_under}
 use Rattle.mail_data.specs.PartPlaces.{Place}
-use Rattle.mail_data.specs.Reading.{mail_placements, mail_reading}
+use Rattle.mail_data.specs.Reading.{mail_placements}
+use Rattle.mail_json.specs.Reading.{inner_mails_within, mail_reading, mails_in_place}
 
 -- the parts of a mail inside, with their paths in the whole mail; of one that is refused none
 abbrev pub parts_of_read : List ℕ → Reads Tree → List Place

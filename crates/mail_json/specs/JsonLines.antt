@@ -11,7 +11,6 @@ use Rattle.mail_program.specs.declared.fault.Fault.{Fault}
 use Rattle.mail_data.specs.Mailbox.{Entry, front_length}
 use Rattle.mail_data.specs.MailboxFormats.{entries_in, mail_in}
 use Rattle.mail_data.specs.MailboxParts.{Placed, placed_from}
-use Rattle.mail_data.specs.Reading.{mail_reading}
 use Rattle.mail_data.specs.Separator.{is_separator}
 use Rattle.mail_data.specs.declared.mailbox.formats.Format.{Format}
 use Rattle.mail_data.specs.declared.mailbox.formats.Format.TheVariants.{Plain}
@@ -19,6 +18,8 @@ use Rattle.mail_program.specs.Refusal.{refusal_text}
 use Rattle.mail_json.specs.Origin.{Origin}
 use Rattle.mail_json.specs.Part.{saturating_add}
 use Rattle.mail_json.specs.Printed.{line_of}
+use Rattle.mail_data.specs.Reading as plain
+use Rattle.mail_json.specs.Reading.{mail_reading}
 use Rattle.mail_json.specs.Values.{IsMailValue, error_value}
 use Rattle.mail_program.specs.Fault.{IsEnd, IsFault}
 use Rattle.mail_json.specs.Written.{is_clean}
@@ -70,6 +71,10 @@ format_of Either = Plain
 format_of Mail = Plain
 format_of (Mailbox format) = format
 
+-- the origin of a file that is one mail
+abbrev pub whole_origin : Option (List ℕ) → List ℕ → Origin
+whole_origin file bytes = record { file = file; number = None; start = 0; end = length bytes }
+
 -- Under these options.
 module _ (options : Options) where
   -- the line of a mail with this origin, or of its refusal
@@ -82,8 +87,12 @@ module _ (options : Options) where
   IsLine origin bytes = IsLineOf origin (mail_reading options.known options.limit bytes)
 
   -- the line of a file that is one mail
+  abbrev pub IsWholeLine : Option (List ℕ) → List ℕ → Lines
+  IsWholeLine file bytes = IsLine (whole_origin file bytes) bytes
+
+  -- that of one which is read as `mail_data` reads it, whatever files are in its texts
   abbrev pub IsMailLine : Option (List ℕ) → List ℕ → Lines
-  IsMailLine file bytes = IsLine (record { file = file; number = None; start = 0; end = length bytes }) bytes
+  IsMailLine file bytes = IsLineOf (whole_origin file bytes) (plain.mail_reading options.known options.limit bytes)
 
   -- the lines of mails in a format at their offsets, in order; the first has this number, if they are numbered
   abbrev pub AreLines : Format → Option (List ℕ) → Option ℕ → List Placed → Lines
@@ -101,7 +110,7 @@ module _ (options : Options) where
   -- the lines of an input that is a mailbox in a format, or one mail
   abbrev pub AreLinesOf : Format → Bool → Option (List ℕ) → List ℕ → Lines
   AreLinesOf format true file bytes = AreMailboxLines format file bytes
-  AreLinesOf format false file bytes = IsMailLine file bytes
+  AreLinesOf format false file bytes = IsWholeLine file bytes
 
   -- the lines of an input of this kind
   abbrev pub AreInputLines : InputKind → Option (List ℕ) → List ℕ → Lines

@@ -19,6 +19,7 @@ pub mod JsonLines
 pub mod Selection
 pub mod Stream
 pub mod Range
+pub mod Reading
 pub mod Values
 pub mod WithoutText
 pub mod Reports

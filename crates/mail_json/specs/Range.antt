@@ -10,7 +10,7 @@ use Rattle.mail_data.specs.MailboxParts.{Placed, in_range, part_start, placed_fr
 use Rattle.mail_data.specs.declared.mailbox.formats.Format.{Format}
 use Rattle.mail_data.specs.declared.mailbox.formats.Format.TheVariants.{Plain, Quoted, Counted}
 use Rattle.mail_json.specs.Selection.{AreInputChosen, OnlyIf}
-use Rattle.mail_json.specs.JsonLines.{AreAfterFront, AreLines, IsMailLine, Lines, format_of, is_mailbox}
+use Rattle.mail_json.specs.JsonLines.{AreAfterFront, AreLines, IsWholeLine, Lines, format_of, is_mailbox}
 use Rattle.mail_json.specs.Stream.{HasLeft, WritesUpTo}
 use Rattle.mail_json.specs.declared.selection.Selection.TheVariants.{Within}
 use Rattle.mail_json.specs.declared.options.InputKind.{InputKind}
@@ -54,7 +54,7 @@ module _ (options : Options) where
   -- the lines of an input without the numbers of mails, if it is a mailbox in a format, or one mail
   abbrev pub AreUnnumberedOf : Format → Bool → Option (List ℕ) → List ℕ → Lines
   AreUnnumberedOf format true file bytes = AreAfterFront file (take (front_length bytes) bytes) (AreLines options format file None (placed_in format bytes))
-  AreUnnumberedOf format false file bytes = IsMailLine options file bytes
+  AreUnnumberedOf format false file bytes = IsWholeLine options file bytes
 
   -- the lines of an input of this kind without the numbers of mails
   abbrev pub AreUnnumberedLines : InputKind → Option (List ℕ) → List ℕ → Lines

@@ -6,7 +6,7 @@ use Rattle.mail_data.specs.Mailbox.{Entry, front_length}
 use Rattle.mail_data.specs.MailboxFormats.{entries_in, mail_in}
 use Rattle.mail_data.specs.MailboxParts.{Placed, in_range, placed_from}
 use Rattle.mail_data.specs.declared.mailbox.formats.Format.{Format}
-use Rattle.mail_json.specs.JsonLines.{AreAfterFront, AreLines, IsLine, IsMailLine, Lines, format_of, is_mailbox, origin_at}
+use Rattle.mail_json.specs.JsonLines.{AreAfterFront, AreLines, IsLine, IsWholeLine, Lines, format_of, is_mailbox, origin_at}
 use Rattle.mail_json.specs.Part.{saturating_add}
 use Rattle.mail_json.specs.declared.selection.Selection.{Selection}
 use Rattle.mail_json.specs.declared.selection.Selection.TheVariants.{Numbered, Within}
@@ -67,7 +67,7 @@ module _ (options : Options) where
   -- the lines of an input that is a mailbox in a format, or one mail
   abbrev pub AreChosenOf : Format → Bool → Option (List ℕ) → Selection → List ℕ → Lines
   AreChosenOf format true file selection bytes = AreMailboxChosen format file selection bytes
-  AreChosenOf format false file selection bytes = IsMailLine options file bytes
+  AreChosenOf format false file selection bytes = IsWholeLine options file bytes
 
   -- the lines of an input of this kind
   abbrev pub AreInputChosen : InputKind → Option (List ℕ) → Selection → List ℕ → Lines

@@ -3,7 +3,7 @@ ghost use Rattle.std.specs.Prelude.{option_map};
 ghost use Rattle.mail_data.specs.MailboxViews.{entries_left};
 ghost use Rattle.mail_data.specs.MailboxFormats.{mail_in};
 ghost use Rattle.mail_data.specs.MailboxParts.{placed_from};
-ghost use Rattle.mail_json.specs.JsonLines.{IsFront, IsLine, IsMailLine, WritesLines, format_of};
+ghost use Rattle.mail_json.specs.JsonLines.{IsFront, IsLine, IsWholeLine, WritesLines, format_of};
 ghost use Rattle.mail_json.specs.JsonLines.{origin_at};
 ghost use Rattle.mail_json.specs.Options.{options_of};
 ghost use Rattle.mail_json.specs.Origin.{origin_of};
@@ -13,11 +13,11 @@ use crate::json_text::write_word;
 use crate::mail::write_mail;
 use crate::options::{LineOptions, Source};
 use crate::origin::{Origin, write_error};
+use crate::reading::read_mail;
 use crate::selection::{NextMail, Selection};
 use crate::written::Written;
 use mail_data::mailbox::quoted::unquoted;
 use mail_data::mailbox::{Format, Mailbox, MailboxEntry, read_mailbox};
-use mail_data::reading::read_mail;
 use mail_program::{Fault, is_all_whitespace, refusal_of};
 use mailparse::KnownCharsets;
 use std::alloc::Global;
@@ -54,7 +54,7 @@ pub fn write_single<W: Write, K: KnownCharsets>(
     options: LineOptions<'_>,
     known: &K,
 ) -> Result<Written, Fault>
-    ensures { WritesLines (W.contents out.old) (W.contents out.new) result (IsMailLine
+    ensures { WritesLines (W.contents out.old) (W.contents out.new) result (IsWholeLine
         (options_of (K.known known.now) options.entry) (option_map (λ name. name.now) file.entry)
         input.now) }
 {

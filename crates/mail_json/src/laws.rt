@@ -1,7 +1,7 @@
 //! Laws: each line is JSON, a line without texts is the whole line without them, and the lines of
 //! all parts of an input are those of the whole.
-ghost use Rattle.std.specs.Prelude.{◌++◌, ◌<◌, ◌^◌, ◌≡◌, ◌≤◌, Bool, List, Ok, Option, codes, drop};
-ghost use Rattle.std.specs.Prelude.{encode_utf8_all, false, length, not, true, ℕ};
+ghost use Rattle.std.specs.Prelude.{◌++◌, ◌<◌, ◌^◌, ◌≡◌, ◌≤◌, Bool, List, Ok, Option, codes};
+ghost use Rattle.std.specs.Prelude.{drop, encode_utf8_all, false, length, not, true, ℕ};
 ghost use Rattle.std.specs.List.{flat_map, list_all};
 ghost use Rattle.json.specs.Json.{Json};
 ghost use Rattle.mail_codec.specs.Hidden.{IsShown, is_no_character};
@@ -15,13 +15,14 @@ ghost use Rattle.mail_json.specs.FindingsLine.{findings_value};
 ghost use Rattle.mail_json.specs.JsonText.{character_text, json_text};
 ghost use Rattle.mail_data.specs.MailboxOffsets.{IsThere};
 ghost use Rattle.mail_data.specs.MailboxParts.{Placed};
-ghost use Rattle.mail_data.specs.Reading.{mail_reading};
+ghost use Rattle.mail_data.specs.TextFiles.{text_files};
 ghost use Rattle.mail_json.specs.JsonLines.{AreMailboxLines, IsLineOf, format_of, origin_at};
 ghost use Rattle.mail_json.specs.Options.{Options, decoding};
 ghost use Rattle.mail_json.specs.Origin.{HasMailAt, Origin};
 ghost use Rattle.mail_json.specs.Printed.{line_of};
 ghost use Rattle.mail_json.specs.Range.{ArePartLines, AreRangeLines, AreRangeLinesAt};
 ghost use Rattle.mail_json.specs.Range.{AreUnnumberedLines, has_parts, reading_start};
+ghost use Rattle.mail_json.specs.Reading.{has_many_blocks, mail_reading};
 ghost use Rattle.mail_json.specs.declared.options.InputKind.{InputKind};
 ghost use Rattle.mail_json.specs.Values.{AreJsonLines, IsJsonLine, IsLineValue, findings_if};
 ghost use Rattle.mail_json.specs.Values.{unread_value};
@@ -112,4 +113,13 @@ pub fn offsets_are_those_of_the_input()
     ensures { (file : Option (List ℕ)) (number : Option ℕ) (bytes : List ℕ) (mail : Placed) →
         length bytes < 2 ^ 64 → IsThere bytes mail →
         HasMailAt bytes (origin_at file number mail.start mail.entry) mail.entry.mail }
+{}
+
+/// If a text has at most as many blocks of uuencoded files as a limit says, no file in it is left
+/// out: `text_files` returns the same with any greater limit. `read_mail` refuses a mail if a text
+/// of it has more blocks.
+#[tactic(auto, using(crate::proofs::lemmas::Reading::all_files))]
+pub fn no_file_is_left_out()
+    ensures { (limit greater : ℕ) (text : List ℕ) → has_many_blocks limit text ≡ false →
+        limit ≤ greater → text_files greater text ≡ text_files limit text }
 {}

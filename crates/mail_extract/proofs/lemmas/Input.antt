@@ -20,7 +20,6 @@ use Rattle.mail_json.specs.FileLine.{FileLine}
 use Rattle.mail_program.specs.Refusal.{refusal_text}
 use Rattle.mail_data.specs.Mailbox.{Entry, front_length, has_front}
 use Rattle.mail_data.specs.MailboxFormats.{entries_in, mail_in}
-use Rattle.mail_data.specs.Reading.{mail_reading}
 use Rattle.mail_data.specs.declared.mailbox.formats.Format.{Format}
 use Rattle.mail_data.proofs.lemmas.MailboxFormats.{front_in-stays}
 use Rattle.mail_data.proofs.lemmas.MailboxFound.{front-stays}
@@ -28,6 +27,7 @@ use Rattle.mail_data.proofs.lemmas.MailboxParts.{front_length-≤}
 use Rattle.mail_json.proofs.lemmas.Stream.{form_stays}
 use Rattle.mail_json.specs.JsonLines.{format_of, is_mailbox}
 use Rattle.mail_json.specs.Part.{saturating_add}
+use Rattle.mail_json.specs.Reading.{mail_reading}
 use Rattle.mail_json.specs.Stream.{first_wanted, is_there}
 use Rattle.mail_json.specs.declared.options.InputKind.{InputKind}
 use Rattle.mail_program.specs.Fault.{IsEnd, IsFault}

@@ -5,13 +5,15 @@ use Rattle.std.proofs.lemmas.List.Concat.{flat_map-cons}
 use Rattle.std.specs.Prelude.{flat_map}
 use Rattle.mail_codec.specs.Charset.{Charsets}
 use Rattle.mailparse.specs.Mail.{Tree}
-use Rattle.mail_data.specs.InnerMails.{Forwarded, InnerMail, forwarded, mails_in_place, places_under}
+use Rattle.mail_data.specs.InnerMails.{Forwarded, InnerMail, forwarded, places_under}
 use Rattle.mail_data.specs.PartPlaces.{Place, places}
-use Rattle.mail_data.specs.Reading.{mail_placements, mail_reading}
-use Rattle.mail_data.proofs.lemmas.InnerMails.{forwarded_read, forwarded_with, inner_with}
+use Rattle.mail_data.specs.Reading.{mail_placements}
+use Rattle.mail_data.proofs.lemmas.InnerMails.{forwarded_with, inner_with}
+use Rattle.mail_json.proofs.lemmas.Reading.{forwarded_read}
 use Rattle.mailparse.specs.Refusal.{Refusal}
 use Rattle.mail_json.specs.Inside.{mails_among, mails_inside}
 use Rattle.mail_json.proofs.lemmas.Inside.{among_whole, read_is}
+use Rattle.mail_json.specs.Reading.{mail_reading, mails_in_place}
 use Rattle.mail_program.specs.Outcome.{worse}
 use Rattle.mail_program.specs.Refusal.{refusal_text}
 use Rattle.mail_program.specs.declared.fault.Fault.{Fault}

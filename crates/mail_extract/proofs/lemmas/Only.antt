@@ -11,9 +11,9 @@ use Rattle.std.proofs.lemmas.List.Concat.{flat_map-cons}
 use Rattle.mail_codec.specs.Charset.{Charsets}
 use Rattle.mailparse.specs.Mail.{Tree}
 use Rattle.mailparse.specs.Refusal.{Reads, Refusal}
-use Rattle.mail_data.specs.InnerMails.{InnerMail, inner_mails_within}
+use Rattle.mail_data.specs.InnerMails.{InnerMail}
 use Rattle.mail_data.specs.PartPlaces.{places}
-use Rattle.mail_data.specs.Reading.{mail_placements, mail_reading}
+use Rattle.mail_data.specs.Reading.{mail_placements}
 use Rattle.mail_data.specs.Mailbox.{Entry, front_length}
 use Rattle.mail_data.specs.MailboxFormats.{entries_in, mail_in}
 use Rattle.mail_data.specs.declared.mailbox.formats.Format.{Format}
@@ -21,6 +21,7 @@ use Rattle.mail_json.specs.FileLine.{FileLine}
 use Rattle.mail_json.specs.JsonLines.{format_of, is_mailbox}
 use Rattle.mail_program.specs.Refusal.{refusal_text}
 use Rattle.mail_json.specs.Part.{saturating_add}
+use Rattle.mail_json.specs.Reading.{inner_mails_within, mail_reading}
 use Rattle.mail_json.specs.declared.options.InputKind.{InputKind}
 use Rattle.mail_program.specs.Outcome.{worse}
 use Rattle.mail_program.specs.declared.outcome.Outcome as program

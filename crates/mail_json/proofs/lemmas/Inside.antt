@@ -9,20 +9,22 @@ use Rattle.json.specs.Json.{Json}
 use Rattle.mailparse.specs.Mail.{Tree, tree, no_parts, part_and}
 use Rattle.mailparse.specs.Refusal.{Reads, Refusal}
 use Rattle.mail_codec.specs.Charset.{Charsets}
-use Rattle.mail_data.specs.InnerMails.{Forwarded, InnerMail, forwarded, inner_mails_within, mails_in_place, path_within, places_under}
+use Rattle.mail_data.specs.InnerMails.{Forwarded, InnerMail, forwarded, path_within, places_under}
 use Rattle.mail_data.specs.Files.{path_under, with_paths}
 use Rattle.mail_data.specs.PartPlaces.{Place, placed, places}
-use Rattle.mail_data.specs.Reading.{mail_placements, mail_reading}
-use Rattle.mail_data.proofs.lemmas.InnerMails.{forwarded_read, forwarded_with, inner_with, not_forwarded}
+use Rattle.mail_data.specs.Reading.{mail_placements}
+use Rattle.mail_data.proofs.lemmas.InnerMails.{forwarded_with, inner_with}
 use Rattle.mail_json.specs.Inside.{Listed, mails_among, mails_inside, parts_of_read, without_bytes}
 use Rattle.mail_json.specs.Part.{place_in}
 use Rattle.mail_json.specs.Printed.{after_commas, listed, text_of}
+use Rattle.mail_json.specs.Reading.{inner_mails_within, mail_reading, mails_in_place}
 use Rattle.mail_json.specs.Values.{AreInsideValues, ArePartValues, AreReadValues, AreValues, IsPartValue}
 use Rattle.mail_json.specs.Written.{WroteOne}
 use Rattle.mail_json.specs.Options.{Options}
 use Rattle.mail_json.proofs.lemmas.JsonText.{listed-comma}
 use Rattle.mail_json.proofs.lemmas.Mail.{parts_first}
 use Rattle.mail_json.proofs.lemmas.Part.{Completes}
+use Rattle.mail_json.proofs.lemmas.Reading.{forwarded_read, not_forwarded}
 use Rattle.mail_json.proofs.lemmas.Written.{appends_as}
 
 -- a mail that is read, and one that is refused

@@ -23,7 +23,7 @@ use Rattle.mail_data.specs.Mailbox.{front_length}
 use Rattle.mail_data.specs.MailboxFormats.{entries_in, mail_in}
 use Rattle.mail_data.specs.MailboxParts.{Placed, in_range, part_start, placed_from}
 use Rattle.mail_data.specs.PartPlaces.{Place, places}
-use Rattle.mail_data.specs.Reading.{mail_placements, mail_reading}
+use Rattle.mail_data.specs.Reading.{mail_placements}
 use Rattle.mail_data.specs.declared.mailbox.formats.Format.{Format}
 use Rattle.mail_data.specs.lenient.Date.{Dated, Zoned, zoned_date_of}
 use Rattle.mail_data.specs.lenient.Content.{Content}
@@ -36,6 +36,7 @@ use Rattle.mail_check.specs.Findings.{Finding}
 use Rattle.mail_json.specs.FileLine.{FileLine, file_line_value}
 use Rattle.mail_json.specs.FindingsLine.{findings_value}
 use Rattle.mail_data.specs.InnerMails.{InnerMail}
+use Rattle.mail_json.specs.Reading.{mail_reading}
 use Rattle.mail_json.specs.Selection.{AreChosenOf, OnlyIf}
 use Rattle.mail_json.specs.JsonLines.{AreLines, AreMailboxLines, IsFront, IsLineOf, format_of, is_mailbox, origin_at}
 use Rattle.mail_json.specs.Options.{Options}

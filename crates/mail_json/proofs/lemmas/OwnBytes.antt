@@ -11,8 +11,10 @@ use Rattle.mailparse.specs.Ranges.{slice}
 use Rattle.mailparse.specs.Refusal.{◌>>=◌, Reads, recursion_limit}
 use Rattle.mailparse.proofs.lemmas.Limit.{limited-read}
 use Rattle.mailparse.proofs.lemmas.Refusal.{read_map}
-use Rattle.mail_data.specs.Reading.{mail_reading}
+use Rattle.mail_data.specs.Reading as plain
 use Rattle.mail_data.specs.lenient.Manner.{lenient}
+use Rattle.mail_json.specs.Reading.{mail_reading}
+use Rattle.mail_json.proofs.lemmas.Reading.{all-read}
 
 same-bytes : (bytes : List ℕ) (t u : Tree) → ◌≡◌ {A = Reads Tree} (Ok t) (Ok u) → (root t).bytes ≡ bytes → (root u).bytes ≡ bytes
 same-bytes bytes t u e is =
@@ -47,8 +49,12 @@ module _ (manner : Manner) where
       (block-bytes (read_levels manner levels) in_digest bytes (read_block manner.lenient_headers bytes) t)
 
 -- those of a mail that was read with a limit
-pub mail_bytes : (known : Charsets) (limit : ℕ) (bytes : List ℕ) (t : Tree) → mail_reading known limit bytes ≡ Ok t → (root t).bytes ≡ bytes
-unfolding mail_reading read_mail_within
-mail_bytes known limit bytes t e =
+data_bytes : (known : Charsets) (limit : ℕ) (bytes : List ℕ) (t : Tree) → plain.mail_reading known limit bytes ≡ Ok t → (root t).bytes ≡ bytes
+unfolding plain.mail_reading read_mail_within
+data_bytes known limit bytes t e =
     levels-bytes (lenient known) 101 false bytes t
     (limited-read (Some limit) (items_met (lenient known) 101 false bytes) (read_mail_as (lenient known) 100 bytes) t e)
+
+-- also if no file in a text may be left out
+pub mail_bytes : (known : Charsets) (limit : ℕ) (bytes : List ℕ) (t : Tree) → mail_reading known limit bytes ≡ Ok t → (root t).bytes ≡ bytes
+mail_bytes known limit bytes t e = data_bytes known limit bytes t (all-read known limit bytes t e)

@@ -25,7 +25,7 @@ use Rattle.mail_data.proofs.lemmas.MailboxParts.{parts-joined}
 use Rattle.mail_data.proofs.lemmas.MailboxRange.{range-found}
 use Rattle.mail_program.specs.declared.fault.Fault.{Fault}
 use Rattle.mail_json.specs.Selection.{AreChosen, AreChosenOf, Fits, OnlyIf}
-use Rattle.mail_json.specs.JsonLines.{AreAfterFront, AreLines, IsMailLine, Lines, WritesLines, format_of, is_mailbox}
+use Rattle.mail_json.specs.JsonLines.{AreAfterFront, AreLines, IsWholeLine, Lines, WritesLines, format_of, is_mailbox}
 use Rattle.mail_json.specs.Part.{saturating_add}
 use Rattle.mail_json.specs.Range.{ArePartLines, AreRangeLines, AreRangeLinesAt, AreUnnumberedLines, AreUnnumberedOf, ShowsMailbox, WritesPart, has_parts, placed_in}
 use Rattle.mail_json.specs.Stream.{HasLeft, WritesChosen}
@@ -272,8 +272,8 @@ joined-of options format false file bytes (suc count) are_clean texts parts some
     let rest = nothing-joined count (λ k. are_clean (suc k)) (λ k. texts (suc k)) (λ k low. h (suc k) (omega arith)) in
     let clean : (are_clean 0 && list_all (λ (w : Bool). w) (values_below count (λ k. are_clean (suc k)))) ≡ are_clean 0 = ap (λ (w : Bool). are_clean 0 && w) rest.0 ∙ and-true (are_clean 0) in
     let text : texts 0 ++ flat_map (λ (t : List ℕ). t) (values_below count (λ k. texts (suc k))) ≡ texts 0 = ap (λ (t : List ℕ). texts 0 ++ t) rest.1 ∙ append-nil (texts 0) in
-    subst (λ (w : Bool). IsMailLine options file bytes w (texts 0 ++ flat_map (λ (t : List ℕ). t) (values_below count (λ k. texts (suc k))))) (sym clean)
-    (subst (λ (t : List ℕ). IsMailLine options file bytes (are_clean 0) t) (sym text) (h 0 (omega arith)))
+    subst (λ (w : Bool). IsWholeLine options file bytes w (texts 0 ++ flat_map (λ (t : List ℕ). t) (values_below count (λ k. texts (suc k))))) (sym clean)
+    (subst (λ (t : List ℕ). IsWholeLine options file bytes (are_clean 0) t) (sym text) (h 0 (omega arith)))
 
 part-of : (options : Options) (kind : InputKind) (file : Option (List ℕ)) (bytes : List ℕ) (count k : ℕ) (is_clean : Bool) (text : List ℕ)
     → ArePartLines options kind file bytes count k is_clean text → PartsOf options (format_of kind) (is_mailbox kind bytes) file bytes count k is_clean text

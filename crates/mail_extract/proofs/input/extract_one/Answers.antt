@@ -1,10 +1,10 @@
 use Rattle.std.proofs.Common.{option_map, string_bytes, sym, ap, ◌∙◌}
 use Rattle.mailparse.specs.Map.{text_found}
 use Rattle.mailparse.specs.Views.{tree_of}
-use Rattle.mail_data.specs.Reading.{mail_reading}
 use Rattle.mail_extract.specs.ChoiceViews.{options_view}
 use Rattle.mail_extract.proofs.lemmas.Input.{read_ends, refused_ends, refused_read}
 use Rattle.mail_extract.proofs.input.extract_one.Goals as goal
+use Rattle.mail_json.specs.Reading.{mail_reading}
 
 pub returns-in-Ok : goal.returns-in-Ok
 returns-in-Ok g c =

@@ -1,17 +1,18 @@
 use Rattle.std.proofs.Common.{◌≡◌, ◌≢◌, ◌+◌, ◌-◌, ℕ, List, [], false, option_map, drop, map, string_bytes, sym, ap, subst, ◌∙◌, arith}
 use Rattle.std.proofs.lemmas.List.{drop_all}
 use Rattle.std.specs.Prelude.{flat_map}
-use Rattle.mail_data.specs.Reading.{mail_reading}
 use Rattle.mailparse.specs.Map.{text_found}
 use Rattle.mailparse.specs.Outcome.{IsRefusalOrMemory}
 use Rattle.mailparse.specs.Placement.{Placement}
 use Rattle.mailparse.specs.Views.{placements_of, tree_of}
-use Rattle.mail_data.specs.InnerMails.{mails_in_place, places_under}
+use Rattle.mail_data.specs.InnerMails.{places_under}
 use Rattle.mail_data.specs.PlaceViews.{place_view}
-use Rattle.mail_data.proofs.lemmas.InnerMails.{drop_next, forwarded-is, not_forwarded}
+use Rattle.mail_data.proofs.lemmas.InnerMails.{drop_next, forwarded-is}
+use Rattle.mail_json.proofs.lemmas.Reading.{not_forwarded}
 use Rattle.mail_json.specs.DecodedViews.{IsDecoded, decoded_place}
 use Rattle.mail_json.proofs.lemmas.Decoded.{all_at, not_held}
 use Rattle.mail_json.proofs.lemmas.Inside.{among_none, among_some}
+use Rattle.mail_json.specs.Reading.{mail_reading, mails_in_place}
 use Rattle.mail_extract.specs.ChoiceViews.{options_view}
 use Rattle.mail_extract.specs.Input.{AreInside}
 use Rattle.mail_extract.proofs.lemmas.Input.{refused_read}

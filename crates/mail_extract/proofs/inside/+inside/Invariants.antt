@@ -1,9 +1,9 @@
 -- How deep mails are searched falls, and what was saved is completed by the mails in the parts that are left.
 use Rattle.std.proofs.Common.{◌+◌, ◌-◌, ◌*◌, false, drop, map, option_map}
 use Rattle.std.specs.Prelude.{flat_map}
-use Rattle.mail_data.specs.InnerMails.{mails_in_place}
 use Rattle.std.specs.List.{AllByRecursion}
 use Rattle.mail_json.specs.DecodedViews.{IsDecoded, decoded_place}
+use Rattle.mail_json.specs.Reading.{mails_in_place}
 use Rattle.mail_extract.specs.ChoiceViews.{options_view}
 use Rattle.mail_extract.specs.Input.{AreInside, Saved}
 use Rattle.mail_extract.specs.private.Blocks.{Before}

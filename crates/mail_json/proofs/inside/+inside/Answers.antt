@@ -7,7 +7,7 @@ use Rattle.mailparse.specs.Placement.{Placement}
 use Rattle.mailparse.specs.Views.{placements_of, tree_of}
 use Rattle.mailparse.specs.declared.mail.message.ParsedMail.{ParsedMail}
 use Rattle.mail_data.proofs.lemmas.InnerMails.{forwarded-is}
-use Rattle.mail_data.specs.InnerMails.{InnerMail, mail_bytes, mails_in_place, places_under}
+use Rattle.mail_data.specs.InnerMails.{InnerMail, mail_bytes, places_under}
 use Rattle.mail_data.specs.PartPlaces.{Place}
 use Rattle.mail_data.specs.PlaceViews.{place_view}
 use Rattle.std.specs.List.{AllByRecursion}
@@ -16,6 +16,7 @@ use Rattle.mail_json.specs.InsideViews.{inside_view}
 use Rattle.mail_json.specs.Options.{options_of}
 use Rattle.mail_json.specs.DecodedViews.{IsDecoded, decoded_place}
 use Rattle.mail_json.specs.Printed.{after_commas, text_of}
+use Rattle.mail_json.specs.Reading.{mails_in_place}
 use Rattle.mail_json.specs.Values.{AreInsideValues}
 use Rattle.mail_json.proofs.lemmas.Decoded.{all_at, not_held}
 use Rattle.mail_json.proofs.lemmas.Inside.{among_some, insides_end, insides_more, listed_along, listed_more, none_inside, none_listed, read_listed, read_written, refused_inside, refused_listed, under_listed, under_written, written_along}

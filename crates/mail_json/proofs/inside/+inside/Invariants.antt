@@ -3,7 +3,6 @@
 use Rattle.std.proofs.Common.{◌≡◌, ◌++◌, ◌+◌, ◌-◌, ◌*◌, List, ℕ, drop, map}
 use Rattle.std.specs.Prelude.{flat_map}
 use Rattle.std.specs.Io.KnownBytes.{Appends}
-use Rattle.mail_data.specs.InnerMails.{mails_in_place}
 use Rattle.mail_json.specs.DecodedViews.{IsDecoded, decoded_place}
 use Rattle.std.specs.List.{AllByRecursion}
 use Rattle.mail_program.specs.Fault.{IsEnd}
@@ -11,6 +10,7 @@ use Rattle.mail_json.specs.Inside.{without_bytes}
 use Rattle.mail_json.specs.InsideViews.{inside_view}
 use Rattle.mail_json.specs.Options.{options_of}
 use Rattle.mail_json.specs.Printed.{after_commas, text_of}
+use Rattle.mail_json.specs.Reading.{mails_in_place}
 use Rattle.mail_json.specs.Values.{AreInsideValues}
 use Rattle.mail_json.proofs.lemmas.Part.{Completes}
 use Rattle.mail_json.proofs.inside.«+inside».Given as goal

@@ -4,7 +4,7 @@ use Rattle.std.specs.Io.KnownBytes.{Consumes}
 use Rattle.mail_json.specs.Options.{options_of}
 use Rattle.mail_data.specs.Mailbox.{has_front}
 use Rattle.mail_json.specs.Selection.{AreInputChosen, AreMailboxChosen}
-use Rattle.mail_json.specs.JsonLines.{IsMailLine, format_of, is_mailbox}
+use Rattle.mail_json.specs.JsonLines.{IsWholeLine, format_of, is_mailbox}
 use Rattle.mail_json.specs.Stream.{Ends, first_wanted, is_there}
 use Rattle.mail_json.specs.declared.stream.Wanted.{Wanted}
 use Rattle.mail_json.proofs.lemmas.Stream.{all_read, ends_here, form_front, input_after, input_lines, input_whole}
@@ -65,7 +65,7 @@ returns g c =
     let is_form : is_mailbox kind read ≡ false = ap (is_mailbox kind) (sym c.as_slice-2.ensures.value) ∙ sym c.is_mailbox.ensures ∙ c.if-is_mailbox.false in
     let whole : read ≡ taken.0 = taken.2 ∙ ap (λ (bs : List ℕ). bs ++ taken.0) c.new-read.ensures.items in
     let first = subst (λ (bs : List ℕ). Consumes (g.R.Read.remaining c.args.reader.now) (g.R.Read.remaining c.read_until.new.reader) bs) (sym whole) taken.1 in
-    input_whole (Ends wanted) _ _ _ _ c.write_single.result (read ++ last.0) (IsMailLine options file bytes) (AreInputChosen options kind file wanted)
+    input_whole (Ends wanted) _ _ _ _ c.write_single.result (read ++ last.0) (IsWholeLine options file bytes) (AreInputChosen options kind file wanted)
     (Consumes-trans _ _ _ read last.0 first last.1) (ends_here wanted _ (all_read _ c.in_ok-read_until.field-0 last.3 last.4))
     (λ is_clean text h. input_lines options (format_of kind) file kind wanted read last.0 bytes false is_clean text (c.as_slice-3.ensures.value ∙ last.2) there is_form h)
     c.write_single.ensures
