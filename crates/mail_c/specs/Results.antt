@@ -65,6 +65,7 @@ module _ (known : Charsets) where
   plain_options = record {
     known = known;
     limit = no_limit;
+    most_bytes = None;
     decodes_bodies = true;
     hashes = false;
     joins_flowed = false;

@@ -40,6 +40,7 @@ pub(crate) fn json<K: KnownCharsets>(
         end: raw.len(),
     };
     let options = LineOptions {
+        most_bytes: None,
         limit: NO_LIMIT,
         decodes_bodies: true,
         hashes: false,

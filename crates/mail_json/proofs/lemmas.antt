@@ -14,6 +14,7 @@ pub mod TextFiles
 pub mod Bounced
 pub mod Part
 pub mod Inside
+pub mod DecodedSize
 pub mod Mail
 pub mod JsonLines
 pub mod Stream

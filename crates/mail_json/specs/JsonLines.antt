@@ -11,15 +11,15 @@ use Rattle.mail_program.specs.declared.fault.Fault.{Fault}
 use Rattle.mail_data.specs.Mailbox.{Entry, front_length}
 use Rattle.mail_data.specs.MailboxFormats.{entries_in, mail_in}
 use Rattle.mail_data.specs.MailboxParts.{Placed, placed_from}
+use Rattle.mail_data.specs.Reading as plain
 use Rattle.mail_data.specs.Separator.{is_separator}
 use Rattle.mail_data.specs.declared.mailbox.formats.Format.{Format}
 use Rattle.mail_data.specs.declared.mailbox.formats.Format.TheVariants.{Plain}
 use Rattle.mail_program.specs.Refusal.{refusal_text}
+use Rattle.mail_json.specs.DecodedSize.{bounded_reading}
 use Rattle.mail_json.specs.Origin.{Origin}
 use Rattle.mail_json.specs.Part.{saturating_add}
 use Rattle.mail_json.specs.Printed.{line_of}
-use Rattle.mail_data.specs.Reading as plain
-use Rattle.mail_json.specs.Reading.{mail_reading}
 use Rattle.mail_json.specs.Values.{IsMailValue, error_value}
 use Rattle.mail_program.specs.Fault.{IsEnd, IsFault}
 use Rattle.mail_json.specs.Written.{is_clean}
@@ -84,7 +84,7 @@ module _ (options : Options) where
 
   -- the line of the bytes of a mail with this origin
   abbrev pub IsLine : Origin → List ℕ → Lines
-  IsLine origin bytes = IsLineOf origin (mail_reading options.known options.limit bytes)
+  IsLine origin bytes = IsLineOf origin (bounded_reading options.known options.limit options.most_bytes bytes)
 
   -- the line of a file that is one mail
   abbrev pub IsWholeLine : Option (List ℕ) → List ℕ → Lines

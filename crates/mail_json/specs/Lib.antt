@@ -4,6 +4,7 @@ pub mod Written
 pub mod LineViews
 pub mod Members
 pub mod Options
+pub mod DecodedSize
 pub mod Fields
 pub mod FileLine
 pub mod FileLineViews

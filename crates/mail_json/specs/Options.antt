@@ -4,12 +4,14 @@ use Rattle.mail_codec.specs.Charset.{Charsets}
 use Rattle.mail_html.specs.declared.references.References.{References}
 use Rattle.mail_json.specs.declared.options.LineOptions as code
 
--- the charsets that are known, the limit on the messages, parts and headers of each mail, whether bodies are decoded,
--- whether files have their hashes, whether each flowed paragraph of a text is one line, the references under which HTML
--- has its text, or none, and whether a mail has its findings
+-- the charsets that are known, the limit on the messages, parts and headers of each mail, the chosen limit on the bytes
+-- that are decoded for the mails inside a mail, whether bodies are decoded, whether files have their hashes, whether each
+-- flowed paragraph of a text is one line, the references under which HTML has its text, or none, and whether a mail has
+-- its findings
 pub record Options : Type 0 where
   pub known : Charsets
   pub limit : ℕ
+  pub most_bytes : Option ℕ
   pub decodes_bodies : Bool
   pub hashes : Bool
   pub joins_flowed : Bool
@@ -22,6 +24,7 @@ options_of known options =
     record {
       known = known;
       limit = options.limit;
+      most_bytes = options.most_bytes;
       decodes_bodies = options.decodes_bodies;
       hashes = options.hashes;
       joins_flowed = options.joins_flowed;

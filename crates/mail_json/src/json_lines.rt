@@ -9,11 +9,11 @@ ghost use Rattle.mail_json.specs.Options.{options_of};
 ghost use Rattle.mail_json.specs.Origin.{origin_of};
 ghost use Rattle.mail_json.specs.Selection.{AreChosen, AreMailboxChosen, IsEntryLine, number_of};
 
+use crate::decoded_size::read_bounded;
 use crate::json_text::write_word;
 use crate::mail::write_mail;
 use crate::options::{LineOptions, Source};
 use crate::origin::{Origin, write_error};
-use crate::reading::read_mail;
 use crate::selection::{NextMail, Selection};
 use crate::written::Written;
 use mail_data::mailbox::quoted::unquoted;
@@ -199,7 +199,7 @@ fn write_line<W: Write, K: KnownCharsets>(
     ensures { WritesLines (W.contents out.old) (W.contents out.new) result
         (IsLine (options_of (K.known known.now) options.entry) (origin_of origin.now) raw.now) }
 {
-    match read_mail(alloc, raw, options.limit, known) {
+    match read_bounded(alloc, raw, options.limit, options.most_bytes, known) {
         Ok(mail) => {
             write_mail(alloc, out, &mail, origin, options, known)?;
             write_word(out, "\n")?;

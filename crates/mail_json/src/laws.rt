@@ -15,14 +15,16 @@ ghost use Rattle.mail_json.specs.FindingsLine.{findings_value};
 ghost use Rattle.mail_json.specs.JsonText.{character_text, json_text};
 ghost use Rattle.mail_data.specs.MailboxOffsets.{IsThere};
 ghost use Rattle.mail_data.specs.MailboxParts.{Placed};
+ghost use Rattle.mail_data.specs.Reading as plain;
 ghost use Rattle.mail_data.specs.TextFiles.{text_files};
+ghost use Rattle.mail_json.specs.DecodedSize.{bounded_reading};
 ghost use Rattle.mail_json.specs.JsonLines.{AreMailboxLines, IsLineOf, format_of, origin_at};
 ghost use Rattle.mail_json.specs.Options.{Options, decoding};
 ghost use Rattle.mail_json.specs.Origin.{HasMailAt, Origin};
 ghost use Rattle.mail_json.specs.Printed.{line_of};
 ghost use Rattle.mail_json.specs.Range.{ArePartLines, AreRangeLines, AreRangeLinesAt};
 ghost use Rattle.mail_json.specs.Range.{AreUnnumberedLines, has_parts, reading_start};
-ghost use Rattle.mail_json.specs.Reading.{has_many_blocks, mail_reading};
+ghost use Rattle.mail_json.specs.Reading.{has_many_blocks};
 ghost use Rattle.mail_json.specs.declared.options.InputKind.{InputKind};
 ghost use Rattle.mail_json.specs.Values.{AreJsonLines, IsJsonLine, IsLineValue, findings_if};
 ghost use Rattle.mail_json.specs.Values.{unread_value};
@@ -75,10 +77,14 @@ pub fn text_is_left_out()
 {}
 
 /// The bytes of a mail that was read are those of the input, so the findings in its line are those
-/// of the input, which `rocktray check` lists.
+/// of the input, which `rocktray check` lists; also if the mail was read without the limits on its
+/// uuencoded files and on the mails inside it.
 pub fn findings_are_those_of_the_input()
-    ensures { (options : Options) (bytes : List ℕ) (mail : Tree) →
-        mail_reading options.known options.limit bytes ≡ Ok mail →
+    ensures line { (options : Options) (bytes : List ℕ) (mail : Tree) →
+        bounded_reading options.known options.limit options.most_bytes bytes ≡ Ok mail →
+        findings_if options (root mail).bytes ≡ findings_if options bytes }
+    ensures without_limits { (options : Options) (bytes : List ℕ) (mail : Tree) →
+        plain.mail_reading options.known options.limit bytes ≡ Ok mail →
         findings_if options (root mail).bytes ≡ findings_if options bytes }
 {}
 

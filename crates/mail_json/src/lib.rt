@@ -5,6 +5,7 @@ mod addresses;
 mod body;
 mod bounced;
 mod decoded;
+mod decoded_size;
 mod escapes;
 mod fields;
 mod file_line;
@@ -29,6 +30,7 @@ mod text_files;
 mod written;
 
 pub use decoded::{Decoded, decoded_parts, mail_in};
+pub use decoded_size::read_bounded;
 pub use file_line::{FileLine, write_file_line};
 pub use findings_line::write_findings;
 pub use json_lines::write_single;

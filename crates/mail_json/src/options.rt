@@ -44,8 +44,11 @@ impl InputKind {
 #[derive_where(Clone, Copy, Debug)]
 pub struct LineOptions<'r> {
     /// The greatest number of messages, parts and headers in a mail that is not refused, and of
-    /// uuencoded blocks that are read in a text. Each mail inside a mail has this limit for itself.
+    /// uuencoded blocks in a text of it. Each mail inside a mail has this limit for itself.
     pub limit: usize,
+    /// The greatest number of bytes that are decoded for the mails inside a mail that is not refused
+    /// for it, or `None` for eight times its size and 64 MiB, as `read_bounded` has them.
+    pub most_bytes: Option<usize>,
     /// Whether bodies are decoded. If they are not, what needs that is `null` or absent: the texts,
     /// the decoded sizes, the hashes, the reports and the recipients.
     pub decodes_bodies: bool,
@@ -74,6 +77,7 @@ impl<'r> LineOptions<'r> {
     /// ```
     pub fn new() -> LineOptions<'r>
         ensures limit { result.limit ≡ 1000000 }
+        ensures most_bytes { result.most_bytes ≡ None }
         ensures decodes_bodies { result.decodes_bodies ≡ true }
         ensures hashes { result.hashes ≡ false }
         ensures joins_flowed { result.joins_flowed ≡ false }
@@ -82,6 +86,7 @@ impl<'r> LineOptions<'r> {
     {
         LineOptions {
             limit: DEFAULT_LIMIT,
+            most_bytes: None,
             decodes_bodies: true,
             hashes: false,
             joins_flowed: false,

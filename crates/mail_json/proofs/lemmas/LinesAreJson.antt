@@ -36,7 +36,7 @@ use Rattle.mail_check.specs.Findings.{Finding}
 use Rattle.mail_json.specs.FileLine.{FileLine, file_line_value}
 use Rattle.mail_json.specs.FindingsLine.{findings_value}
 use Rattle.mail_data.specs.InnerMails.{InnerMail}
-use Rattle.mail_json.specs.Reading.{mail_reading}
+use Rattle.mail_json.specs.DecodedSize.{bounded_reading}
 use Rattle.mail_json.specs.Selection.{AreChosenOf, OnlyIf}
 use Rattle.mail_json.specs.JsonLines.{AreLines, AreMailboxLines, IsFront, IsLineOf, format_of, is_mailbox, origin_at}
 use Rattle.mail_json.specs.Options.{Options}
@@ -347,7 +347,7 @@ module _ (options : Options) (format : Format) (file : Option (List ℕ)) where
   mails_are_lines (mail ∷ mails) number is_clean text is =
       lines_as text (is.2 ++ is.3) is.7
       (lines_then is.2 is.3
-      (mail_is_line options (origin_at file number mail.start mail.entry) (mail_reading options.known options.limit (mail_in format mail.entry.mail)) is.0 is.2 is.4)
+      (mail_is_line options (origin_at file number mail.start mail.entry) (bounded_reading options.known options.limit options.most_bytes (mail_in format mail.entry.mail)) is.0 is.2 is.4)
       (mails_are_lines mails _ is.1 is.3 is.5))
 
   front_is_line : (front : List ℕ) (is_all_whitespace : Bool) (text : List ℕ) → IsFront file front is_all_whitespace text → AreJsonLines text
@@ -370,7 +370,7 @@ first_is_lines options format true file to bytes is_clean text is =
     (lines_then is.2 is.3 (front_is_line options format file (take (front_length bytes) bytes) is.0 is.2 is.4) (mails_are_lines options format file (in_range 0 to (placed_in format bytes)) None is.1 is.3 is.5))
 first_is_lines options format false file to bytes is_clean text is =
     let origin : Origin = record { file = file; number = None; start = 0; end = length bytes } in
-    mail_is_line options origin (mail_reading options.known options.limit bytes) is_clean text is
+    mail_is_line options origin (bounded_reading options.known options.limit options.most_bytes bytes) is_clean text is
 
 -- mails that have lines, or none
 wanted_is_lines : (options : Options) (format : Format) (wanted : Bool) (file : Option (List ℕ)) (mails : List Placed) (is_clean : Bool) (text : List ℕ)

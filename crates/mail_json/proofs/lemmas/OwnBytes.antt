@@ -1,5 +1,5 @@
 -- The bytes of a mail that was read are those that were read.
-use Rattle.std.proofs.Common.{◌≡◌, ℕ, zero, suc, Bool, true, false, List, map, Some, Ok, Err, refl, sym, ap}
+use Rattle.std.proofs.Common.{◌≡◌, ℕ, zero, suc, Bool, true, false, List, map, Option, Some, Ok, Err, refl, sym, ap}
 use Rattle.std.specs.Prelude.{if◌then◌else◌}
 use Rattle.mail_codec.specs.Charset.{Charsets}
 use Rattle.mailparse.specs.Block.{HeaderList, read_block}
@@ -13,7 +13,8 @@ use Rattle.mailparse.proofs.lemmas.Limit.{limited-read}
 use Rattle.mailparse.proofs.lemmas.Refusal.{read_map}
 use Rattle.mail_data.specs.Reading as plain
 use Rattle.mail_data.specs.lenient.Manner.{lenient}
-use Rattle.mail_json.specs.Reading.{mail_reading}
+use Rattle.mail_json.specs.DecodedSize.{bounded_reading}
+use Rattle.mail_json.proofs.lemmas.DecodedSize.{bounded-read}
 use Rattle.mail_json.proofs.lemmas.Reading.{all-read}
 
 same-bytes : (bytes : List ℕ) (t u : Tree) → ◌≡◌ {A = Reads Tree} (Ok t) (Ok u) → (root t).bytes ≡ bytes → (root u).bytes ≡ bytes
@@ -49,12 +50,13 @@ module _ (manner : Manner) where
       (block-bytes (read_levels manner levels) in_digest bytes (read_block manner.lenient_headers bytes) t)
 
 -- those of a mail that was read with a limit
-data_bytes : (known : Charsets) (limit : ℕ) (bytes : List ℕ) (t : Tree) → plain.mail_reading known limit bytes ≡ Ok t → (root t).bytes ≡ bytes
+pub data_bytes : (known : Charsets) (limit : ℕ) (bytes : List ℕ) (t : Tree) → plain.mail_reading known limit bytes ≡ Ok t → (root t).bytes ≡ bytes
 unfolding plain.mail_reading read_mail_within
 data_bytes known limit bytes t e =
     levels-bytes (lenient known) 101 false bytes t
     (limited-read (Some limit) (items_met (lenient known) 101 false bytes) (read_mail_as (lenient known) 100 bytes) t e)
 
--- also if no file in a text may be left out
-pub mail_bytes : (known : Charsets) (limit : ℕ) (bytes : List ℕ) (t : Tree) → mail_reading known limit bytes ≡ Ok t → (root t).bytes ≡ bytes
-mail_bytes known limit bytes t e = data_bytes known limit bytes t (all-read known limit bytes t e)
+-- also if no file in a text may be left out, and the mails inside may not take too many bytes
+pub bounded_bytes : (known : Charsets) (limit : ℕ) (chosen : Option ℕ) (bytes : List ℕ) (t : Tree) → bounded_reading known limit chosen bytes ≡ Ok t
+    → (root t).bytes ≡ bytes
+bounded_bytes known limit chosen bytes t e = data_bytes known limit bytes t (all-read known limit bytes t (bounded-read known limit chosen bytes t e))
