@@ -15,4 +15,4 @@ choice_view choice = record {
 
 -- the options, seen as the definitions name them
 abbrev pub options_view : SaveOptions → Options
-options_view options = record { limit = options.limit; hashing = options.hashing; naming = options.naming; choice = choice_view options.choice }
+options_view options = record { limit = options.limit; most_bytes = options.most_bytes; hashing = options.hashing; naming = options.naming; choice = choice_view options.choice }

@@ -14,12 +14,13 @@ use Rattle.mail_data.specs.MailboxFormats.{entries_in, mail_in}
 use Rattle.mail_data.specs.PartPlaces.{places}
 use Rattle.mail_data.specs.Reading.{mail_placements}
 use Rattle.mail_data.specs.declared.mailbox.formats.Format.{Format}
+use Rattle.mail_json.specs.DecodedSize.{bounded_reading}
 use Rattle.mail_json.specs.FileLine.{FileLine}
 use Rattle.mail_json.specs.JsonLines.{format_of, is_mailbox}
 use Rattle.mail_program.specs.Refusal.{refusal_text}
 use Rattle.mail_json.specs.Part.{saturating_add}
 use Rattle.mail_program.specs.Fault.{IsEnd, IsFault}
-use Rattle.mail_json.specs.Reading.{inner_mails_within, mail_reading}
+use Rattle.mail_json.specs.Reading.{inner_mails_within}
 use Rattle.mail_json.specs.declared.options.InputKind.{InputKind}
 use Rattle.mail_program.specs.declared.fault.Fault.{Fault}
 use Rattle.mail_program.specs.declared.outcome.Outcome as program
@@ -110,7 +111,7 @@ module _ (file : Option (List ℕ)) where
 
       -- the same of the bytes of a mail
       abbrev pub IsMail : Option ℕ → List ℕ → Saves
-      IsMail number bytes = IsMailOf number (mail_reading known options.limit bytes)
+      IsMail number bytes = IsMailOf number (bounded_reading known options.limit options.most_bytes bytes)
 
       -- mails of a mailbox in a format, one after another; the first has this number
       abbrev pub AreMails : Format → ℕ → List Entry → Saves

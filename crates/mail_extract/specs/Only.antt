@@ -7,10 +7,10 @@ use Rattle.mailparse.specs.Refusal.{Reads}
 use Rattle.mail_data.specs.MailboxFormats.{entries_in, mail_in}
 use Rattle.mail_data.specs.Reading.{mail_placements}
 use Rattle.mail_data.specs.declared.mailbox.formats.Format.{Format}
+use Rattle.mail_json.specs.DecodedSize.{bounded_reading}
 use Rattle.mail_json.specs.FileLine.{FileLine}
 use Rattle.mail_json.specs.JsonLines.{format_of, is_mailbox}
 use Rattle.mail_program.specs.Fault.{IsFault}
-use Rattle.mail_json.specs.Reading.{mail_reading}
 use Rattle.mail_json.specs.declared.options.InputKind.{InputKind}
 use Rattle.mail_program.specs.declared.fault.Fault.{Fault}
 use Rattle.mail_program.specs.declared.outcome.Outcome.TheVariants.{Failed, Refused}
@@ -32,7 +32,7 @@ fails_if_full (file ∷ files) = true
 
 -- the same options, with names by senders and without hashes
 abbrev pub only_options : Options → Options
-only_options options = record { limit = options.limit; hashing = Off; naming = BySender; choice = options.choice }
+only_options options = record { limit = options.limit; most_bytes = options.most_bytes; hashing = Off; naming = BySender; choice = options.choice }
 
 -- Under the known charsets, a limit on the messages, parts and headers of each mail, and a choice.
 module _ (known : Charsets) (limit : ℕ) (choice : Choice) where
@@ -41,17 +41,19 @@ module _ (known : Charsets) (limit : ℕ) (choice : Choice) where
   read_files (Ok t) = chosen choice (wanted_files known limit t (mail_placements t))
   read_files (Err refusal) = []
 
-  abbrev pub mail_files : List ℕ → List Wanted
-  mail_files bytes = read_files (mail_reading known limit bytes)
+  -- and a limit on the bytes that are decoded for the mails inside each
+  module _ (most_bytes : Option ℕ) where
+    abbrev pub mail_files : List ℕ → List Wanted
+    mail_files bytes = read_files (bounded_reading known limit most_bytes bytes)
 
-  -- those of an input that is a mailbox in a format, or one mail
-  abbrev pub input_files_of : Format → Bool → List ℕ → List Wanted
-  input_files_of format true bytes = flat_map (λ entry. mail_files (mail_in format entry.mail)) (entries_in format bytes)
-  input_files_of format false bytes = mail_files bytes
+    -- those of an input that is a mailbox in a format, or one mail
+    abbrev pub input_files_of : Format → Bool → List ℕ → List Wanted
+    input_files_of format true bytes = flat_map (λ entry. mail_files (mail_in format entry.mail)) (entries_in format bytes)
+    input_files_of format false bytes = mail_files bytes
 
-  -- those of an input of this kind
-  abbrev pub input_files : InputKind → List ℕ → List Wanted
-  input_files kind bytes = input_files_of (format_of kind) (is_mailbox kind bytes) bytes
+    -- those of an input of this kind
+    abbrev pub input_files : InputKind → List ℕ → List Wanted
+    input_files kind bytes = input_files_of (format_of kind) (is_mailbox kind bytes) bytes
 
 -- what is returned of a written file is the worst outcome that lines report
 abbrev pub IsWorst : OnlyFile → List FileLine → Type 0

@@ -19,7 +19,7 @@ use crate::options::{Source, Target};
 use crate::report::{flush, report_refused};
 use mail_data::mailbox::quoted::unquoted;
 use mail_data::mailbox::{Format, Mailbox, MailboxEntry, read_mailbox, settled_entry};
-use mail_json::{Wanted, first_wanted, is_mailbox, read_mail, read_until};
+use mail_json::{Wanted, first_wanted, is_mailbox, read_bounded, read_until};
 use mail_program::{Fault, Outcome, is_all_whitespace, refusal_of};
 use mailparse::KnownCharsets;
 use std::alloc::Global;
@@ -51,6 +51,7 @@ use std::io::{self, ErrorKind, Read, Write};
 /// let mut target = Target { directory: Disk { rt: &rt, path: "." }, number: 2 };
 /// let options = SaveOptions {
 ///     limit: 1,
+///     most_bytes: None,
 ///     hashing: Hashing::Off,
 ///     naming: Naming::BySender,
 ///     choice: Choice { path: None, mimetype: None, name: None },
@@ -326,7 +327,8 @@ fn extract_one<W: Write, D: Directory, K: KnownCharsets, N: Notes>(
         (IsMail (option_map (λ name. name.now) source.entry.file) D.can_fail
         (options_view source.entry.options) (K.known source.entry.known.now) number raw.now) }
 {
-    match read_mail(alloc, raw, source.options.limit, source.known) {
+    let options = source.options;
+    match read_bounded(alloc, raw, options.limit, options.most_bytes, source.known) {
         Ok(mail) => extract_mail(alloc, out, target, &mail, number, source),
         Err(error) => {
             let Some(text) = refusal_of(alloc, &error)? else {

@@ -29,6 +29,7 @@ use std::io::Write;
 /// the others are decoded when they are saved.
 const MAILS: LineOptions<'static> = LineOptions {
     limit: DEFAULT_LIMIT,
+    most_bytes: None,
     decodes_bodies: false,
     hashes: false,
     joins_flowed: false,

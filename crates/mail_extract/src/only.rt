@@ -90,6 +90,7 @@ impl Directory for OneFile {
 /// let (mut out, mut lines) = (Vec::new(alloc), Vec::new(alloc));
 /// let options = SaveOptions {
 ///     limit: DEFAULT_LIMIT,
+///     most_bytes: None,
 ///     hashing: Hashing::Off,
 ///     naming: Naming::BySender,
 ///     choice: Choice { path: Some("1"), mimetype: None, name: None },
@@ -109,13 +110,15 @@ pub fn write_only_file<R: Read, W: Write, L: Write, K: KnownCharsets, N: Notes>(
     ensures { WritesOnly (W.contents out.old) (W.contents out.new) (L.contents lines.old)
         (L.contents lines.new) (R.remaining reader.old) (R.remaining reader.new) result
         (input_files (K.known source.entry.known.now) source.entry.options.limit
-        (choice_view source.entry.options.choice) source.entry.kind)
+        (choice_view source.entry.options.choice) source.entry.options.most_bytes
+        source.entry.kind)
         (IsInput (option_map (λ name. name.now) source.entry.file) fails_if_full
         (only_options (options_view source.entry.options)) (K.known source.entry.known.now)
         source.entry.kind) }
 {
     let options = SaveOptions {
         limit: source.options.limit,
+        most_bytes: source.options.most_bytes,
         hashing: Hashing::Off,
         naming: Naming::BySender,
         choice: source.options.choice,

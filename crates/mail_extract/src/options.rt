@@ -25,8 +25,12 @@ pub enum Naming {
 #[derive(Clone, Copy, Debug)]
 pub struct SaveOptions<'c> {
     /// The greatest number of messages, parts and headers in a mail that is not refused, and of
-    /// uuencoded blocks that are read in a text. Each mail inside a mail has this limit for itself.
+    /// uuencoded blocks in a text of it. Each mail inside a mail has this limit for itself.
     pub limit: usize,
+    /// The greatest number of bytes that are decoded for the mails inside a mail that is not refused
+    /// for it, or `None` for eight times its size and 64 MiB, as `mail_json::read_bounded` has
+    /// them.
+    pub most_bytes: Option<usize>,
     /// Whether saved files are hashed.
     pub hashing: Hashing,
     /// What names them.

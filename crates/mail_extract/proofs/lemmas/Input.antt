@@ -25,9 +25,9 @@ use Rattle.mail_data.proofs.lemmas.MailboxFormats.{front_in-stays}
 use Rattle.mail_data.proofs.lemmas.MailboxFound.{front-stays}
 use Rattle.mail_data.proofs.lemmas.MailboxParts.{front_length-≤}
 use Rattle.mail_json.proofs.lemmas.Stream.{form_stays}
+use Rattle.mail_json.specs.DecodedSize.{bounded_reading}
 use Rattle.mail_json.specs.JsonLines.{format_of, is_mailbox}
 use Rattle.mail_json.specs.Part.{saturating_add}
-use Rattle.mail_json.specs.Reading.{mail_reading}
 use Rattle.mail_json.specs.Stream.{first_wanted, is_there}
 use Rattle.mail_json.specs.declared.options.InputKind.{InputKind}
 use Rattle.mail_program.specs.Fault.{IsEnd, IsFault}
@@ -201,7 +201,7 @@ refused_read (Memory m) given text e h = absurd (none-some text e)
 
 -- a mail that is read so
 pub read_ends : (file : Option (List ℕ)) (can_fail : List File → Bool) (options : Options) (known : Charsets) (number : Option ℕ) (raw : List ℕ) (held_old held_new : Option (List File)) (old new : Option (List ℕ)) (from next : ℕ)
-    (r : Result Outcome Fault) (t : Tree) → ◌≡◌ {A = Reads Tree} (mail_reading known options.limit raw) (Ok t) → Ends held_old held_new old new from next r (IsMailOf file can_fail options known number (Ok t))
+    (r : Result Outcome Fault) (t : Tree) → ◌≡◌ {A = Reads Tree} (bounded_reading known options.limit options.most_bytes raw) (Ok t) → Ends held_old held_new old new from next r (IsMailOf file can_fail options known number (Ok t))
     → Ends held_old held_new old new from next r (IsMail file can_fail options known number raw)
 read_ends file can_fail options known number raw held_old held_new old new from next (Ok outcome) t e h =
     saved_as held_old held_new old new from next outcome (IsMailOf file can_fail options known number (Ok t)) (IsMail file can_fail options known number raw)
@@ -210,7 +210,7 @@ read_ends file can_fail options known number raw held_old held_new old new from 
 
 -- the line of a refused mail
 pub refused_ends : (file : Option (List ℕ)) (can_fail : List File → Bool) (options : Options) (known : Charsets) (number : Option ℕ) (raw : List ℕ) (held : Option (List File)) (old new : Option (List ℕ)) (from : ℕ)
-    (r : Result Outcome Fault) (refusal : Refusal) (text : List ℕ) → ◌≡◌ {A = Reads Tree} (mail_reading known options.limit raw) (Err refusal) → text ≡ refusal_text refusal
+    (r : Result Outcome Fault) (refusal : Refusal) (text : List ℕ) → ◌≡◌ {A = Reads Tree} (bounded_reading known options.limit options.most_bytes raw) (Err refusal) → text ≡ refusal_text refusal
     → WritesAll old new r (refused_line file number None text ∷ []) → Ends held held old new from from r (IsMail file can_fail options known number raw)
 refused_ends file can_fail options known number raw held old new from (Ok outcome) refusal text read is_text h =
     let line = refused_line file number None text in

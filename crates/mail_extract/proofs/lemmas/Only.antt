@@ -17,11 +17,12 @@ use Rattle.mail_data.specs.Reading.{mail_placements}
 use Rattle.mail_data.specs.Mailbox.{Entry, front_length}
 use Rattle.mail_data.specs.MailboxFormats.{entries_in, mail_in}
 use Rattle.mail_data.specs.declared.mailbox.formats.Format.{Format}
+use Rattle.mail_json.specs.DecodedSize.{bounded_reading}
 use Rattle.mail_json.specs.FileLine.{FileLine}
 use Rattle.mail_json.specs.JsonLines.{format_of, is_mailbox}
 use Rattle.mail_program.specs.Refusal.{refusal_text}
 use Rattle.mail_json.specs.Part.{saturating_add}
-use Rattle.mail_json.specs.Reading.{inner_mails_within, mail_reading}
+use Rattle.mail_json.specs.Reading.{inner_mails_within}
 use Rattle.mail_json.specs.declared.options.InputKind.{InputKind}
 use Rattle.mail_program.specs.Outcome.{worse}
 use Rattle.mail_program.specs.declared.outcome.Outcome as program
@@ -319,14 +320,14 @@ module _ (file : Option (List ℕ)) (options : Options) (by_sender : options.nam
 
   keeps_mails : (format : Format) (number : ℕ) (entries : List Entry) (files now : List File) (from next : ℕ) (lines : List FileLine)
       → AreMails file fails_if_full options known format number entries files from lines next now
-      → Keeps files (flat_map (λ entry. mail_files known options.limit options.choice (mail_in format entry.mail)) entries) lines now
+      → Keeps files (flat_map (λ entry. mail_files known options.limit options.choice options.most_bytes (mail_in format entry.mail)) entries) lines now
   keeps_mails format number [] files now from next lines h = subst (λ (fs : List File). Keeps files [] lines fs) (sym h.2) (keeps_only files lines (ap failures h.0))
   keeps_mails format number (entry ∷ entries) files now from next lines h =
-      let files_of = λ (e : Entry). mail_files known options.limit options.choice (mail_in format e.mail) in
+      let files_of = λ (e : Entry). mail_files known options.limit options.choice options.most_bytes (mail_in format e.mail) in
       subst (λ (ls : List FileLine). Keeps files (flat_map files_of (entry ∷ entries)) ls now) (sym h.6)
       (subst (λ (ws : List Wanted). Keeps files ws (h.2 ++ h.3) now) (sym (flat_map-cons files_of entry entries))
       (keeps_then files h.0 now (files_of entry) (flat_map files_of entries) h.2 h.3
-      (keeps_mail (Some number) (mail_reading known options.limit (mail_in format entry.mail)) files h.0 from h.1 h.2 h.4)
+      (keeps_mail (Some number) (bounded_reading known options.limit options.most_bytes (mail_in format entry.mail)) files h.0 from h.1 h.2 h.4)
       (keeps_mails format (saturating_add number 1) entries h.0 now h.1 next h.3 h.5)))
 
   front_fine : (front : List ℕ) (is : Bool) → failures (cond is [] (refused_line file None None front ∷ [])) ≡ 0
@@ -334,17 +335,17 @@ module _ (file : Option (List ℕ)) (options : Options) (by_sender : options.nam
   front_fine front false = refl
 
   keeps_input_of : (format : Format) (is : Bool) (bytes : List ℕ) (files now : List File) (from next : ℕ) (lines : List FileLine)
-      → IsInputOf file fails_if_full options known format is bytes files from lines next now → Keeps files (input_files_of known options.limit options.choice format is bytes) lines now
+      → IsInputOf file fails_if_full options known format is bytes files from lines next now → Keeps files (input_files_of known options.limit options.choice options.most_bytes format is bytes) lines now
   keeps_input_of format true bytes files now from next lines h =
-      subst (λ (ls : List FileLine). Keeps files (input_files_of known options.limit options.choice format true bytes) ls now) (sym h.6)
-      (keeps_then files h.0 now [] (input_files_of known options.limit options.choice format true bytes) h.2 h.3
+      subst (λ (ls : List FileLine). Keeps files (input_files_of known options.limit options.choice options.most_bytes format true bytes) ls now) (sym h.6)
+      (keeps_then files h.0 now [] (input_files_of known options.limit options.choice options.most_bytes format true bytes) h.2 h.3
       (subst (λ (fs : List File). Keeps files [] h.2 fs) (sym h.4.2)
       (keeps_only files h.2 (ap failures h.4.0 ∙ front_fine _ (list_all is_ascii_whitespace (take (front_length bytes) bytes)))))
       (keeps_mails format 1 (entries_in format bytes) h.0 now h.1 next h.3 h.5))
-  keeps_input_of format false bytes files now from next lines h = keeps_mail None (mail_reading known options.limit bytes) files now from next lines h
+  keeps_input_of format false bytes files now from next lines h = keeps_mail None (bounded_reading known options.limit options.most_bytes bytes) files now from next lines h
 
   pub keeps_input : (kind : InputKind) (bytes : List ℕ) (files now : List File) (from next : ℕ) (lines : List FileLine)
-      → IsInput file fails_if_full options known kind bytes files from lines next now → Keeps files (input_files known options.limit options.choice kind bytes) lines now
+      → IsInput file fails_if_full options known kind bytes files from lines next now → Keeps files (input_files known options.limit options.choice options.most_bytes kind bytes) lines now
   keeps_input kind bytes files now from next lines h = keeps_input_of (format_of kind) (is_mailbox kind bytes) bytes files now from next lines h
 
 -- ---- at the end, given the only file of the directory
@@ -394,7 +395,7 @@ module _ (file : Option (List ℕ)) (options : Options) (known : Charsets) (kind
     (h : EndsInput (Some []) (Some (files_held directory)) old_lines new_lines 2 next left_before left (Ok outcome) (IsInput file fails_if_full options known kind)) where
   -- the files of an input, and how they are saved
   abbrev pub Files : List ℕ → List Wanted
-  Files = input_files known options.limit options.choice kind
+  Files = input_files known options.limit options.choice options.most_bytes kind
 
   abbrev pub Are : List ℕ → Saves
   Are = IsInput file fails_if_full options known kind

@@ -8,7 +8,7 @@ use Rattle.mail_extract.proofs.only.write_only_file.Goals as goal
 
 pub returns-in_default : goal.returns-in_default
 returns-in_default g c =
-    let options : Options = record { limit = c.args.source.options.limit; hashing = Off; naming = BySender; choice = choice_view c.args.source.options.choice } in
+    let options : Options = record { limit = c.args.source.options.limit; most_bytes = c.args.source.options.most_bytes; hashing = Off; naming = BySender; choice = choice_view c.args.source.options.choice } in
     missing_only (option_map (λ name. name.now) c.args.source.file) options (g.K.KnownCharsets.known c.args.source.known.now) c.args.source.kind refl
     c.extract_input.new.target.directory (g.L.Write.contents c.args.lines.now) (g.L.Write.contents c.extract_input.new.out) (g.R.Read.remaining c.args.reader.now)
     (g.R.Read.remaining c.extract_input.new.reader) c.extract_input.new.target.number c.in_ok-outcome.outcome c.in_ok-outcome.ensures
@@ -16,7 +16,7 @@ returns-in_default g c =
 
 pub returns-in-Failed : goal.returns-in-Failed
 returns-in-Failed g c =
-    let options : Options = record { limit = c.args.source.options.limit; hashing = Off; naming = BySender; choice = choice_view c.args.source.options.choice } in
+    let options : Options = record { limit = c.args.source.options.limit; most_bytes = c.args.source.options.most_bytes; hashing = Off; naming = BySender; choice = choice_view c.args.source.options.choice } in
     several_only (option_map (λ name. name.now) c.args.source.file) options (g.K.KnownCharsets.known c.args.source.known.now) c.args.source.kind refl
     c.extract_input.new.target.directory (g.L.Write.contents c.args.lines.now) (g.L.Write.contents c.extract_input.new.out) (g.R.Read.remaining c.args.reader.now)
     (g.R.Read.remaining c.extract_input.new.reader) c.extract_input.new.target.number c.in_ok-outcome.outcome c.in_ok-outcome.ensures
@@ -24,7 +24,7 @@ returns-in-Failed g c =
 
 pub returns : goal.returns
 returns g c =
-    let options : Options = record { limit = c.args.source.options.limit; hashing = Off; naming = BySender; choice = choice_view c.args.source.options.choice } in
+    let options : Options = record { limit = c.args.source.options.limit; most_bytes = c.args.source.options.most_bytes; hashing = Off; naming = BySender; choice = choice_view c.args.source.options.choice } in
     written_only (option_map (λ name. name.now) c.args.source.file) options (g.K.KnownCharsets.known c.args.source.known.now) c.args.source.kind refl
     c.extract_input.new.target.directory (g.L.Write.contents c.args.lines.now) (g.L.Write.contents c.extract_input.new.out) (g.R.Read.remaining c.args.reader.now)
     (g.R.Read.remaining c.extract_input.new.reader) c.extract_input.new.target.number c.in_ok-outcome.outcome c.in_ok-outcome.ensures
