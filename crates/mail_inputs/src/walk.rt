@@ -29,8 +29,8 @@ pub trait Consumer {
     ///
     /// # Errors
     ///
-    /// `Fault::Input` if a read fails, which ends this input alone, and any other fault, which ends
-    /// the run.
+    /// `Fault::Input` if a read fails, and `Fault::Mail` if memory runs out, which end this input
+    /// alone, and any other fault, which ends the run.
     ///
     /// # Examples
     ///
@@ -160,7 +160,8 @@ struct Walk<'w, 'n, 'a, R, C> {
 }
 
 /// Gives the consumer the bytes of each input in turn, and returns the outcome. An input that
-/// cannot be read is reported on standard error and to the consumer, and the others are read.
+/// cannot be read, or for which memory runs out, is reported on standard error and to the consumer,
+/// and the others are read.
 ///
 /// The files of a directory are read in the order of their names, without those whose names begin
 /// with a dot, and then its subdirectories, if they are wanted. In a directory only regular files
@@ -172,8 +173,8 @@ struct Walk<'w, 'n, 'a, R, C> {
 ///
 /// # Errors
 ///
-/// Any fault of the consumer but `Fault::Input`, and `Fault::Mail` with `MailParseError::Memory` if
-/// it runs out of memory.
+/// Any fault of the consumer but `Fault::Input` and `Fault::Mail`, and `Fault::Mail` with
+/// `MailParseError::Memory` if memory runs out between two inputs.
 ///
 /// # Examples
 ///
@@ -293,10 +294,44 @@ pub fn fail<R: Eprint + AllocGlobal, C: Consumer>(
     error: &io::Error,
 ) -> Result<Outcome, Fault> {
     let why = format!(in rt.alloc(); "{error}")?;
+    fail_for(rt, consumer, name, why.as_str())
+}
+
+/// Reports an input that could not be read, or not to its end, as `fail` does, for this reason.
+fn fail_for<R: Eprint + AllocGlobal, C: Consumer>(
+    rt: &R,
+    consumer: &mut C,
+    name: Option<&str>,
+    why: &str,
+) -> Result<Outcome, Fault> {
+    say_unread(rt, name, why)?;
+    consumer.report(rt.alloc(), name, why)?;
+    Ok(Outcome::Failed)
+}
+
+/// Says on standard error why an input could not be read, or not to its end.
+///
+/// Allocates the text of the name.
+///
+/// # Errors
+///
+/// `AllocError` if it runs out of memory.
+///
+/// # Examples
+///
+/// ```rust
+/// use mail_inputs::say_unread;
+///
+/// say_unread(&rt, Some("a.eml"), "out of memory")?;
+/// ```
+pub fn say_unread<R: Eprint + AllocGlobal>(
+    rt: &R,
+    name: Option<&str>,
+    why: &str,
+) -> Result<(), AllocError> {
     let shown = shown(rt.alloc(), name.unwrap_or("standard input"))?;
     let _ = eprintln!(rt; "{PROGRAM}: {shown}: {why}");
-    consumer.report(rt.alloc(), name, why.as_str())?;
-    Ok(Outcome::Failed)
+    Ok(())
 }
 
 impl<'w, 'n, 'a, R: Files + Input + Eprint + AllocGlobal, C: Consumer> Walk<'w, 'n, 'a, R, C> {
@@ -339,6 +374,10 @@ impl<'w, 'n, 'a, R: Files + Input + Eprint + AllocGlobal, C: Consumer> Walk<'w, 
     ) -> Result<Outcome, Fault> {
         match consume(self.rt, self.consumer, reader, name, content) {
             Err(Fault::Input(error)) => fail(self.rt, self.consumer, name, &error),
+            Err(Fault::Mail(error)) => {
+                let why = format!(in self.rt.alloc(); "{error}")?;
+                fail_for(self.rt, self.consumer, name, why.as_str())
+            }
             ended => ended,
         }
     }
