@@ -1,6 +1,7 @@
 //! The subcommand that reports where programs may read a mail differently.
 
 use crate::inputs::{inputs_of, kind_of, known_kind, limit_of};
+use crate::lines::{WholeLines, why_ended};
 use crate::options::ids;
 use crate::show::{Titles, titles_of};
 use clap::ArgMatches;
@@ -8,7 +9,7 @@ use mail_charsets::AllCharsets;
 use mail_check::{Class, Finding, read_findings};
 use mail_data::mailbox::quoted::unquoted;
 use mail_data::mailbox::{Format, MailboxEntry, read_mailbox};
-use mail_inputs::{Consumer, Content, Name, read_inputs};
+use mail_inputs::{Consumer, Content, Name, PROGRAM, read_inputs, shown};
 use mail_json::{InputKind, Origin, is_mailbox, write_error, write_findings, write_unread};
 use mail_program::{Fault, Outcome, is_all_whitespace, read_input, refusal_of};
 use mail_view::{write_refusal, write_report, write_title};
@@ -54,7 +55,7 @@ impl Classes {
 /// Reports what is found in the mails of inputs.
 #[derive(Drop)]
 struct Check<W> {
-    out: W,
+    out: WholeLines<W>,
     kind: InputKind,
     /// The greatest number of messages, parts and headers in a mail that is not refused.
     limit: usize,
@@ -82,7 +83,7 @@ impl<W: Write> Consumer for Check<W> {
         let input = read_input(alloc, reader)?;
         let kind = known_kind(self.kind, content);
         if is_mailbox(kind, input.as_slice()) {
-            return self.check_mailbox(alloc, input.as_slice(), name, kind.format());
+            return self.check_mailbox(rt, input.as_slice(), name, kind.format());
         }
         let origin = Origin {
             file: name,
@@ -91,7 +92,8 @@ impl<W: Write> Consumer for Check<W> {
             end: input.len(),
         };
         let raw = input.as_slice();
-        self.check_mail(alloc, &Mail { raw, origin })
+        let ended = self.check_mail(alloc, &Mail { raw, origin });
+        self.end(rt, &origin, ended)
     }
 
     /// Standard error has the report too.
@@ -105,13 +107,14 @@ impl<W: Write> Consumer for Check<W> {
 
 impl<W: Write> Check<W> {
     /// Reports what is found in the mails of a mailbox.
-    fn check_mailbox(
+    fn check_mailbox<R: Eprint + AllocGlobal>(
         &mut self,
-        alloc: Global,
+        rt: &R,
         input: &[u8],
         name: Option<&str>,
         format: Format,
     ) -> Result<Outcome, Fault> {
+        let alloc = rt.alloc();
         let mails = read_mailbox(input, format);
         let front = mails.front();
         let mut outcome = self.check_front(alloc, front, name)?;
@@ -127,10 +130,31 @@ impl<W: Write> Check<W> {
                 start,
                 end,
             };
-            outcome = outcome.and(self.check_entry(alloc, &entry, origin, format)?);
+            let ended = self.check_entry(alloc, &entry, origin, format);
+            outcome = outcome.and(self.end(rt, &origin, ended)?);
             start = end.saturating_add(entry.ending().len());
         }
         Ok(outcome)
+    }
+
+    /// Returns the outcome of a mail, and reports it if memory ran out. Any other fault is returned.
+    fn end<R: Eprint + AllocGlobal>(
+        &mut self,
+        rt: &R,
+        origin: &Origin<'_>,
+        ended: Result<Outcome, Fault>,
+    ) -> Result<Outcome, Fault> {
+        let fault = match ended {
+            Ok(outcome) => return Ok(outcome),
+            Err(fault) => fault,
+        };
+        let why = why_ended(rt.alloc(), fault, 0)?;
+        say_why(rt, origin, why.as_str())?;
+        self.out.give_up_line()?;
+        if self.form == Form::Json {
+            write_error(&mut self.out, origin, why.as_str())?;
+        }
+        Ok(Outcome::Failed)
     }
 
     /// Reports text before the first mail of a mailbox, unless it is whitespace.
@@ -245,6 +269,20 @@ impl<W: Write> Check<W> {
     }
 }
 
+/// Says on standard error why a mail is not read.
+fn say_why<R: Eprint + AllocGlobal>(
+    rt: &R,
+    origin: &Origin<'_>,
+    why: &str,
+) -> Result<(), AllocError> {
+    let name = shown(rt.alloc(), origin.file.unwrap_or("standard input"))?;
+    let _ = match origin.number {
+        Some(number) => eprintln!(rt; "{PROGRAM}: {name}: mail {number}: {why}"),
+        None => eprintln!(rt; "{PROGRAM}: {name}: {why}"),
+    };
+    Ok(())
+}
+
 /// Returns the findings of these classes.
 fn chosen(
     alloc: Global,
@@ -271,7 +309,7 @@ pub fn run<'a, R: Files + Input + Print + Eprint + AllocGlobal>(
     names: &[Name<'a>],
 ) -> Result<ExitCode, Fault> {
     let mut check = Check {
-        out: BufWriter::new(rt.alloc(), io::writer(rt))?,
+        out: WholeLines::new(rt.alloc(), BufWriter::new(rt.alloc(), io::writer(rt))?),
         kind: kind_of(matches),
         limit: limit_of(matches),
         form: form_of(matches),

@@ -1,7 +1,8 @@
 //! The subcommand that saves the files in mails.
 ghost use Rattle.std.specs.Prelude.{true, None};
 
-use crate::inputs::{inputs_of, kind_of, known_kind, limit_of};
+use crate::inputs::{inputs_of, kind_of, known_kind, limit_of, most_bytes_of};
+use crate::lines::{WholeLines, why_ended};
 use crate::notes::StandardError;
 use crate::only;
 use crate::options::ids;
@@ -11,7 +12,9 @@ use mail_extract::{
     Choice, Created, Directory, Disk, Hashing, Naming, SaveOptions, Source, Target, extract_input,
     write_line,
 };
-use mail_inputs::{Consumer, Content, Name, PROGRAM, argument_text, read_inputs, shown};
+use mail_inputs::{
+    Consumer, Content, Name, PROGRAM, argument_text, read_inputs, say_unread, shown,
+};
 use mail_json::{FileLine, InputKind};
 use mail_program::{Fault, Outcome};
 use std::alloc::{AllocError, Global};
@@ -29,7 +32,7 @@ pub const NOTHING_KEPT: &str = "the choice keeps no file";
 /// Saves the files of inputs, and writes their lines.
 #[derive(Drop)]
 struct Saver<'r, P: Print> {
-    out: BufWriter<Printer<'r, P>>,
+    out: WholeLines<BufWriter<Printer<'r, P>>>,
     kind: InputKind,
     /// The path of the directory in which files are saved.
     directory: &'r str,
@@ -93,10 +96,20 @@ impl<'r, P: Print> Consumer for Saver<'r, P> {
             },
             number: self.number,
         };
+        let before = self.out.count();
         let ended = extract_input(rt.alloc(), &mut self.out, &mut target, reader, source);
         self.number = target.number;
         self.keeps = target.directory.keeps;
-        ended
+        match ended {
+            Ok(outcome) => Ok(outcome),
+            Err(fault) => {
+                let count = self.out.count().saturating_sub(before);
+                let why = why_ended(rt.alloc(), fault, count)?;
+                say_unread(rt, name, why.as_str())?;
+                write_unread(&mut self.out, name, why.as_str())?;
+                Ok(Outcome::Failed)
+            }
+        }
     }
 
     fn report(&mut self, _alloc: Global, name: Option<&str>, why: &str) -> Result<(), Fault> {
@@ -124,7 +137,7 @@ pub fn run<'a, R: Files + Input + Print + Eprint + AllocGlobal>(
         return Ok(ExitCode::FAILURE);
     }
     let mut saver = Saver {
-        out: BufWriter::new(rt.alloc(), io::writer(rt))?,
+        out: WholeLines::new(rt.alloc(), BufWriter::new(rt.alloc(), io::writer(rt))?),
         kind: kind_of(matches),
         directory,
         number: FIRST_NUMBER,
@@ -160,7 +173,7 @@ pub fn source_of<'s, K, N>(
 
 /// Writes the line of an input that could not be read.
 fn write_unread<'l, W: Write>(
-    out: &mut W,
+    out: &mut WholeLines<W>,
     file: Option<&'l str>,
     why: &'l str,
 ) -> Result<(), Fault> {
@@ -173,6 +186,7 @@ fn write_unread<'l, W: Write>(
         sha256: None,
         error: Some(why),
     };
+    out.give_up_line()?;
     write_line(out, &line)?;
     Ok(())
 }
@@ -201,6 +215,7 @@ fn check_directory(rt: &impl Files, path: &str) -> io::Result<()> {
 fn options_of<'a>(matches: &ArgMatches<'a>) -> SaveOptions<'a> {
     SaveOptions {
         limit: limit_of(matches),
+        most_bytes: most_bytes_of(matches),
         hashing: if matches.get_flag(ids::HASH) {
             Hashing::On
         } else {

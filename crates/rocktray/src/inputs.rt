@@ -55,6 +55,12 @@ pub fn limit_of(matches: &ArgMatches<'_>) -> usize {
     matches.get_one(ids::MAX_ITEMS).unwrap_or(DEFAULT_LIMIT)
 }
 
+/// Returns the greatest number of bytes that are decoded for the mails inside a mail that is not
+/// refused, if it is chosen.
+pub fn most_bytes_of(matches: &ArgMatches<'_>) -> Option<usize> {
+    matches.get_one(ids::MAX_BYTES)
+}
+
 /// Returns what an input is, given what the options say and what is known of it.
 pub fn known_kind(kind: InputKind, content: Content) -> InputKind {
     match content {

@@ -1,6 +1,7 @@
 //! The subcommand that writes mails as lines of JSON.
 
-use crate::inputs::{inputs_of, kind_of, known_kind, limit_of, progress_of};
+use crate::inputs::{inputs_of, kind_of, known_kind, limit_of, most_bytes_of, progress_of};
+use crate::lines::{WholeLines, why_ended};
 use crate::options::ids;
 use crate::{Terminals, wrong};
 use clap::ArgMatches;
@@ -9,7 +10,7 @@ use mail_data::mailbox::Format;
 use mail_html::References;
 use mail_inputs::{
     Consumer, Content, Meter, NOT_UTF8, Name, Progress, argument_text, fail, open_regular,
-    read_inputs, shown,
+    read_inputs, say_unread, shown,
 };
 use mail_json::range::{FilePart, reading_start, shows_mailbox, write_first_part, write_range};
 use mail_json::{
@@ -27,6 +28,8 @@ use std::rt::Files;
 struct Shown {
     /// The greatest number of messages, parts and headers in a mail that is not refused.
     limit: usize,
+    /// The greatest number of bytes that are decoded for the mails inside a mail, if it is chosen.
+    most_bytes: Option<usize>,
     /// Whether bodies are decoded.
     decodes_bodies: bool,
     /// Whether files have their hashes.
@@ -53,7 +56,7 @@ struct How {
 /// Writes the lines of inputs.
 #[derive(Drop)]
 struct Lines<W> {
-    out: W,
+    out: WholeLines<W>,
     how: How,
 }
 
@@ -84,11 +87,38 @@ impl<W: Write> Consumer for Lines<W> {
         let references = &References::standard();
         let mut source = self.how.source(name, references, known);
         source.kind = known_kind(source.kind, content);
-        let written = write_input(rt.alloc(), &mut self.out, reader, source, &mut meter)?;
-        Ok(outcome_of(written))
+        let before = self.out.count();
+        match write_input(rt.alloc(), &mut self.out, reader, source, &mut meter) {
+            Ok(written) => Ok(outcome_of(written)),
+            Err(fault) => self.end(rt, name, fault, before),
+        }
     }
 
     fn report(&mut self, _alloc: Global, name: Option<&str>, why: &str) -> Result<(), Fault> {
+        self.write_unread(name, why)
+    }
+}
+
+impl<W: Write> Lines<W> {
+    /// Reports an input of which no more lines are written since memory ran out, given the number
+    /// of lines before it. Any other fault is returned.
+    fn end<R: Eprint + AllocGlobal>(
+        &mut self,
+        rt: &R,
+        name: Option<&str>,
+        fault: Fault,
+        before: usize,
+    ) -> Result<Outcome, Fault> {
+        let count = self.out.count().saturating_sub(before);
+        let why = why_ended(rt.alloc(), fault, count)?;
+        say_unread(rt, name, why.as_str())?;
+        self.write_unread(name, why.as_str())?;
+        Ok(Outcome::Failed)
+    }
+
+    /// Writes the line of an input that is not read, or not to its end.
+    fn write_unread(&mut self, name: Option<&str>, why: &str) -> Result<(), Fault> {
+        self.out.give_up_line()?;
         write_unread(&mut self.out, name, why)
     }
 }
@@ -120,6 +150,7 @@ impl Shown {
         };
         LineOptions {
             limit: self.limit,
+            most_bytes: self.most_bytes,
             decodes_bodies: self.decodes_bodies,
             hashes: self.hashes,
             joins_flowed: self.joins_flowed,
@@ -149,7 +180,7 @@ pub fn run<'a, R: Files + Input + Print + Eprint + AllocGlobal>(
     terminals: Terminals,
 ) -> Result<ExitCode, Fault> {
     let mut lines = Lines {
-        out: BufWriter::new(rt.alloc(), io::writer(rt))?,
+        out: WholeLines::new(rt.alloc(), BufWriter::new(rt.alloc(), io::writer(rt))?),
         how: how_of(matches, terminals),
     };
     let outcome = match matches.get_str(ids::PART) {
@@ -172,6 +203,7 @@ pub fn run<'a, R: Files + Input + Print + Eprint + AllocGlobal>(
 fn how_of(matches: &ArgMatches<'_>, terminals: Terminals) -> How {
     let shown = Shown {
         limit: limit_of(matches),
+        most_bytes: most_bytes_of(matches),
         decodes_bodies: !matches.get_flag(ids::NO_TEXT),
         hashes: matches.get_flag(ids::HASH),
         joins_flowed: matches.get_flag(ids::FLOWED),
@@ -268,6 +300,7 @@ fn read_part<R: Files + Eprint + AllocGlobal, W: Write>(
     path: &str,
     part: FilePart,
 ) -> Result<Outcome, Fault> {
+    let before = lines.out.count();
     let written = match open_regular(rt, path) {
         Ok(mut file) => match file.metadata() {
             Ok(found) => write_part(rt, lines, &mut file, found.len(), path, part),
@@ -278,7 +311,7 @@ fn read_part<R: Files + Eprint + AllocGlobal, W: Write>(
     match written {
         Ok(written) => Ok(outcome_of(written)),
         Err(Fault::Input(error)) => fail(rt, lines, Some(path), &error),
-        Err(fault) => Err(fault),
+        Err(fault) => lines.end(rt, Some(path), fault, before),
     }
 }
 

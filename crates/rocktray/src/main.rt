@@ -5,6 +5,7 @@ mod check;
 mod extract;
 mod inputs;
 mod json;
+mod lines;
 mod notes;
 mod only;
 mod options;

@@ -1,7 +1,7 @@
 //! The subcommand that saves files, where it writes the only one to standard output.
 
 use crate::extract::{NOTHING_KEPT, choice_of, source_of};
-use crate::inputs::{inputs_of, kind_of, limit_of};
+use crate::inputs::{inputs_of, kind_of, limit_of, most_bytes_of};
 use crate::wrong;
 use clap::ArgMatches;
 use mail_charsets::AllCharsets;
@@ -62,6 +62,7 @@ pub fn run<'a, R: Files + Input + Print + Eprint + AllocGlobal>(
         kind: kind_of(matches),
         options: SaveOptions {
             limit: limit_of(matches),
+            most_bytes: most_bytes_of(matches),
             hashing: Hashing::Off,
             naming: Naming::BySender,
             choice: choice_of(matches),

@@ -42,6 +42,8 @@ pub mod ids {
 
     pub const MAIL: &str = "mail";
 
+    pub const MAX_BYTES: &str = "max-bytes";
+
     pub const MAX_ITEMS: &str = "max-items";
 
     pub const MBOX: &str = "mbox";
@@ -202,6 +204,7 @@ fn json<'a>(alloc: Global) -> Result<Command<'a>, AllocError> {
         .about("Writes mails as JSON, one object to a line")
         .after_help(AFTER_JSON);
     reading(alloc, command)?
+        .arg(most_bytes(alloc))?
         .arg(part(alloc)?)?
         .arg(flag(
             alloc,
@@ -247,6 +250,7 @@ fn extract<'a>(alloc: Global) -> Result<Command<'a>, AllocError> {
         .about("Saves the files in mails, and writes a line of JSON for each")
         .after_help(AFTER_EXTRACT);
     let command = reading(alloc, command)?
+        .arg(most_bytes(alloc))?
         .arg(directory(alloc))?
         .arg(flag(
             alloc,
@@ -384,6 +388,17 @@ fn limit<'a>(alloc: Global) -> Arg<'a> {
         "Refuse a mail with more than N parts and headers; 1000000 by default",
     )
     .value_parser(ValueParser::Unsigned(1, u64::MAX))
+}
+
+/// Returns the option that limits the bytes that are decoded for the mails inside a mail.
+fn most_bytes<'a>(alloc: Global) -> Arg<'a> {
+    value(
+        alloc,
+        ids::MAX_BYTES,
+        "N",
+        "Refuse a mail whose inner mails have more than N decoded bytes",
+    )
+    .value_parser(ValueParser::Unsigned(0, u64::MAX))
 }
 
 /// Returns the option that says that each input is a mailbox.
