@@ -2,8 +2,9 @@
 
 Each allocation of a run is refused in turn, alone or with all that follow. The run then gives what it gives with ample
 memory, or ends with exit status 1 and reports only that memory ran out. What rocktray has written by then is the front
-of what it writes with ample memory, and each saved file is complete and has its line; mail_show has written nothing. A
-run that met a refusal ends in the second way.
+of what it writes with ample memory, and after it an object that says so if there is memory for one; each saved file is
+complete and has its line; mail_show has written nothing. A run that met a refusal ends in the second way, unless the
+memory was wanted for keeping a line until it is whole.
 """
 
 import base64
@@ -52,6 +53,9 @@ RUNS += [(name, ["--mbox", "-"], "json") for name in ("json", "show")]
 RUNS += [("extract", [option, "--into", "into"], "files") for option in ("--hash", "--by-hash")]
 
 
+OUT_OF_MEMORY = re.compile(rb'"error":"(after \d+ lines: )?out of memory"\}\n$')
+
+
 class Refused:
     """Runs of a program on a mail with allocations refused, in a directory with the subdirectory `into`."""
 
@@ -82,6 +86,14 @@ class Refused:
         compared = filecmp.dircmp(self.directory / "into", self.directory / "saved")
         return not compared.right_only and not compared.diff_files, not compared.left_only + compared.diff_files
 
+    def is_front(self, output):
+        """Whether an output is the front of the right one, followed by at most one object that says that memory ran out."""
+        if self.name in ("json", "extract"):
+            *whole, last = output.splitlines(keepends=True) or [b""]
+            if OUT_OF_MEMORY.search(last):
+                output = b"".join(whole)
+        return self.wanted[1].startswith(output)
+
     def has_lines(self, output):
         """Whether the files that are there are those of the lines."""
         names = {json.loads(line)["saved"] for line in output.split(b"\n")[:-1]} - {None}
@@ -95,7 +107,7 @@ class Refused:
         """Whether a run reports that memory ran out, after the front of what it reports otherwise."""
         status, output, error = found
         may_begin = self.name != "mail_show"
-        front = self.wanted[1].startswith(output) if may_begin else output == b""
+        front = self.is_front(output) if may_begin else output == b""
         notes = error[: error[:-1].rfind(b"\n") + 1]
         is_reported = self.wanted[2].startswith(notes) and error.endswith(b"out of memory\n")
         is_saved = self.saved_files()[1] and (self.name != "extract" or self.has_lines(output))
@@ -109,7 +121,8 @@ def test_refused_allocations(refuse, tmp_path, name, arguments, mail, which):
     runs = Refused(refuse, name, arguments, mail, tmp_path)
     for number in range(1, 100_000):
         found, (_calls, refused) = runs.run({which: str(number)})
-        assert runs.is_short(found) if refused else runs.is_right(found), f"allocation {number}: {found}"
+        is_kept = name in ("json", "extract") and runs.is_right(found)
+        assert is_kept or runs.is_short(found) if refused else runs.is_right(found), f"allocation {number}: {found}"
         if not refused:
             break
     assert number > 5
@@ -226,8 +239,8 @@ def test_limits(name, tmp_path):
             right += 1
         else:
             assert ended.returncode == 1 and re.fullmatch(rb"\w+: .*out of memory\n", ended.stderr), f"{limit} KB"
-            may_begin = name in ("json", "show")
-            assert wanted.startswith(ended.stdout) if may_begin else not ended.stdout, f"{limit} KB"
+            reported = name in ("json", "extract") and OUT_OF_MEMORY.search(ended.stdout) and ended.stdout.count(b"\n") == 1
+            assert reported or (wanted.startswith(ended.stdout) if name == "show" else not ended.stdout), f"{limit} KB"
             short += 1
     assert right > 0 and short > 0
 
@@ -277,6 +290,85 @@ def test_mails_inside_one_another(tmp_path):
     for arguments, count in ((["json"], 1), (["extract", "--into", "."], 2)):
         ended = run_limited([*command(arguments[0]), *arguments[1:], tmp_path / "mail"], b"", tmp_path, 40_000)
         assert (ended.returncode, ended.stderr, ended.stdout.count(b"\n")) == (0, b"", count), arguments
+
+
+def inside_one_another(size, levels):
+    """A mail of this many bytes in as many levels, each encoded."""
+    mail = b"Subject: last\n\n" + b"y" * size + b"\n"
+    for _level in range(levels):
+        mail = b"Content-Type: message/rfc822\nContent-Transfer-Encoding: quoted-printable\n\n" + mail
+    return mail
+
+
+TOO_MANY_BYTES = "Too many decoded bytes"
+
+
+@pytest.mark.parametrize("arguments", [["json"], ["json", "--no-text"], ["extract", "--into", "into"]])
+def test_decoded_bytes(arguments, tmp_path):
+    """A mail of 2 MB in 98 levels of quoted-printable is refused in 100 MB; those beside it are read."""
+    (tmp_path / "into").mkdir()
+    (tmp_path / "deep").write_bytes(inside_one_another(2_000_000, 98))
+    (tmp_path / "flat").write_bytes(multipart(b"b", b"Content-Type: message/rfc822\n\n" + inside_one_another(2_000_000, 3)))
+    command_of = [*command(arguments[0]), *arguments[1:]]
+    ended = run_limited([*command_of, "flat", "deep", "flat"], b"", tmp_path, 100_000)
+    objects = [json.loads(line) for line in ended.stdout.splitlines()]
+    assert (ended.returncode, ended.stderr.count(b"\n")) == (3, 0 if arguments[0] == "json" else 1), ended.stderr
+    assert [one["error"] for one in objects if one.get("error")] == [TOO_MANY_BYTES]
+    assert [one["file"] for one in objects if one.get("error")] == ["deep"]
+    assert {one["file"] for one in objects} == {"flat", "deep"} and objects[0]["file"] == objects[-1]["file"] == "flat"
+
+
+def test_max_bytes(tmp_path):
+    """The mails that are encoded count, and not those that are not; the mail in the mailbox is named, and the run continues."""
+    inner = b"Subject: last\n\nHello\n"
+    plain = b"Content-Type: message/rfc822\n\n" + inner
+    encoded = b"Content-Type: message/rfc822\nContent-Transfer-Encoding: base64\n\n" + base64.encodebytes(inner)
+    twice = b"Content-Type: message/rfc822\nContent-Transfer-Encoding: base64\n\n" + base64.encodebytes(encoded)
+    both = multipart(b"b", encoded, encoded)
+    for raw, count in (
+        (inner, 0), (plain, 0), (encoded, len(inner)), (twice, len(inner) + len(encoded)), (both, 2 * len(inner)),
+        (b"Content-Type: message/rfc822\n\n" + encoded, len(inner)),
+    ):
+        for words in (["json"], ["extract", "--into", "."], ["extract", "--stdout", "--name", "none"]):
+            ended = subprocess.run([*command(words[0]), *words[1:], "--max-bytes", str(count)], input=raw, capture_output=True, cwd=tmp_path)
+            assert TOO_MANY_BYTES.encode() not in ended.stdout + ended.stderr, (words, count)
+            if count:
+                ended = subprocess.run([*command(words[0]), *words[1:], "--max-bytes", str(count - 1)], input=raw, capture_output=True, cwd=tmp_path)
+                assert TOO_MANY_BYTES.encode() in ended.stdout + ended.stderr, (words, count)
+    box = b"\n".join(FROM + mail for mail in (plain, twice, encoded))
+    ended = subprocess.run([*command("json"), "--mbox", "--max-bytes", str(len(inner))], input=box, capture_output=True)
+    objects = [json.loads(line) for line in ended.stdout.splitlines()]
+    assert (ended.returncode, [one.get("error") for one in objects]) == (3, [None, TOO_MANY_BYTES, None])
+
+
+@pytest.mark.parametrize("name", ["json", "extract", "show", "check"])
+def test_run_goes_on(name, tmp_path):
+    """An input that needs too much memory is named, and the others are read."""
+    (tmp_path / "into").mkdir()
+    (tmp_path / "small").write_bytes(b"Content-Type: text/csv; name=a.csv\n\n1,2\n")
+    (tmp_path / "large").write_bytes(b"Content-Type: text/csv; name=a.csv\n\n" + b"1,2\n" * 12_000_000)
+    arguments = {"extract": ["--into", "into"], "check": ["--json"]}.get(name, [])
+    ended = run_limited([*command(name), *arguments, "small", "large", "small"], b"", tmp_path, 40_000)
+    assert (ended.returncode, ended.stderr) == (1, b"rocktray: large: out of memory\n")
+    if name != "show":
+        objects = [json.loads(line) for line in ended.stdout.splitlines()]
+        assert [one["file"] for one in objects] == ["small", "large", "small"]
+        assert [one.get("error") for one in objects] == [None, "out of memory", None]
+
+
+def test_cut_line(tmp_path):
+    """A mail of a mailbox for whose text there is no memory: the mails before it have their lines, and nothing is cut off."""
+    head = multipart(b"b", b"Content-Type: text/plain; charset=utf-16\n\n" + b"y" * 6_000_000)
+    path = mailbox_file(tmp_path / "mailbox", [b"Subject: %d\n\n" % number for number in range(3)] + [head])
+    shown = set()
+    for limit in range(60_000, 12_000, -2_000):
+        ended = run_limited([*command("json"), "--mbox", path], b"", tmp_path, limit)
+        objects = [json.loads(line) for line in ended.stdout.splitlines()]
+        assert all(one["file"] == str(path) for one in objects)
+        if ended.returncode:
+            assert ended.returncode == 1 and re.fullmatch(rb"rocktray: .*mailbox: (after 3 lines: )?out of memory\n", ended.stderr), limit
+            shown.add(len(objects))
+    assert shown and shown <= {1, 4}
 
 
 # the bytes of memory for the mail, each part and each header, beside 5 times the mail: docs/RULES.md has them
