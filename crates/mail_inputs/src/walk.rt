@@ -174,7 +174,7 @@ struct Walk<'w, 'n, 'a, R, C> {
 /// # Errors
 ///
 /// Any fault of the consumer but `Fault::Input` and `Fault::Mail`, and `Fault::Mail` with
-/// `MailParseError::Memory` if memory runs out between two inputs.
+/// `MailParseError::Memory` if memory runs out between two inputs, or for the report of one.
 ///
 /// # Examples
 ///
@@ -297,7 +297,7 @@ pub fn fail<R: Eprint + AllocGlobal, C: Consumer>(
     fail_for(rt, consumer, name, why.as_str())
 }
 
-/// Reports an input that could not be read, or not to its end, as `fail` does, for this reason.
+/// Reports an input that could not be read, or not to its end, as `fail` does, for a reason.
 fn fail_for<R: Eprint + AllocGlobal, C: Consumer>(
     rt: &R,
     consumer: &mut C,
@@ -315,7 +315,7 @@ fn fail_for<R: Eprint + AllocGlobal, C: Consumer>(
 ///
 /// # Errors
 ///
-/// `AllocError` if it runs out of memory.
+/// If it runs out of memory; then nothing is said.
 ///
 /// # Examples
 ///
