@@ -9,7 +9,7 @@ use mail_charsets::AllCharsets;
 use mail_check::{Class, Finding, read_findings};
 use mail_data::mailbox::quoted::unquoted;
 use mail_data::mailbox::{Format, MailboxEntry, read_mailbox};
-use mail_inputs::{Consumer, Content, Name, PROGRAM, read_inputs, shown};
+use mail_inputs::{Consumer, Content, Name, read_inputs, say_unread};
 use mail_json::{InputKind, Origin, is_mailbox, write_error, write_findings, write_unread};
 use mail_program::{Fault, Outcome, is_all_whitespace, read_input, refusal_of};
 use mail_view::{write_refusal, write_report, write_title};
@@ -93,11 +93,12 @@ impl<W: Write> Consumer for Check<W> {
         };
         let raw = input.as_slice();
         let ended = self.check_mail(alloc, &Mail { raw, origin });
-        self.end(rt, &origin, ended)
+        self.outcome_of(rt, &origin, ended)
     }
 
     /// Standard error has the report too.
     fn report(&mut self, _alloc: Global, name: Option<&str>, why: &str) -> Result<(), Fault> {
+        self.out.give_up_line()?;
         match self.form {
             Form::Json => write_unread(&mut self.out, name, why),
             Form::Text | Form::Silent => Ok(()),
@@ -114,10 +115,9 @@ impl<W: Write> Check<W> {
         name: Option<&str>,
         format: Format,
     ) -> Result<Outcome, Fault> {
-        let alloc = rt.alloc();
         let mails = read_mailbox(input, format);
         let front = mails.front();
-        let mut outcome = self.check_front(alloc, front, name)?;
+        let mut outcome = self.check_front(rt.alloc(), front, name)?;
         let mut start = front.len();
         let mut number: usize = 0;
         for entry in mails {
@@ -130,15 +130,15 @@ impl<W: Write> Check<W> {
                 start,
                 end,
             };
-            let ended = self.check_entry(alloc, &entry, origin, format);
-            outcome = outcome.and(self.end(rt, &origin, ended)?);
+            outcome = outcome.and(self.check_entry(rt, &entry, origin, format)?);
             start = end.saturating_add(entry.ending().len());
         }
         Ok(outcome)
     }
 
-    /// Returns the outcome of a mail, and reports it if memory ran out. Any other fault is returned.
-    fn end<R: Eprint + AllocGlobal>(
+    /// Returns the outcome of a mail. If memory ran out for it, that is reported, so that the next
+    /// mail can be checked; any other fault is returned.
+    fn outcome_of<R: Eprint + AllocGlobal>(
         &mut self,
         rt: &R,
         origin: &Origin<'_>,
@@ -149,7 +149,7 @@ impl<W: Write> Check<W> {
             Err(fault) => fault,
         };
         let why = why_ended(rt.alloc(), fault, 0)?;
-        say_why(rt, origin, why.as_str())?;
+        say_unchecked(rt, origin, why.as_str())?;
         self.out.give_up_line()?;
         if self.form == Form::Json {
             write_error(&mut self.out, origin, why.as_str())?;
@@ -181,8 +181,20 @@ impl<W: Write> Check<W> {
         Ok(Outcome::Refused)
     }
 
-    /// Reports what is found in a mail of a mailbox in a format.
-    fn check_entry(
+    /// Reports what is found in a mail of a mailbox in a format, or that memory ran out for it.
+    fn check_entry<R: Eprint + AllocGlobal>(
+        &mut self,
+        rt: &R,
+        entry: &MailboxEntry<'_>,
+        origin: Origin<'_>,
+        format: Format,
+    ) -> Result<Outcome, Fault> {
+        let ended = self.check_unquoted(rt.alloc(), entry, origin, format);
+        self.outcome_of(rt, &origin, ended)
+    }
+
+    /// Reports what is found in a mail of a mailbox without the quotes of the format.
+    fn check_unquoted(
         &mut self,
         alloc: Global,
         entry: &MailboxEntry<'_>,
@@ -269,18 +281,17 @@ impl<W: Write> Check<W> {
     }
 }
 
-/// Says on standard error why a mail is not read.
-fn say_why<R: Eprint + AllocGlobal>(
+/// Says on standard error why a mail is not checked.
+fn say_unchecked<R: Eprint + AllocGlobal>(
     rt: &R,
     origin: &Origin<'_>,
     why: &str,
 ) -> Result<(), AllocError> {
-    let name = shown(rt.alloc(), origin.file.unwrap_or("standard input"))?;
-    let _ = match origin.number {
-        Some(number) => eprintln!(rt; "{PROGRAM}: {name}: mail {number}: {why}"),
-        None => eprintln!(rt; "{PROGRAM}: {name}: {why}"),
+    let Some(number) = origin.number else {
+        return say_unread(rt, origin.file, why);
     };
-    Ok(())
+    let why = format!(in rt.alloc(); "mail {number}: {why}")?;
+    say_unread(rt, origin.file, why.as_str())
 }
 
 /// Returns the findings of these classes.

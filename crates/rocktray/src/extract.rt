@@ -102,18 +102,30 @@ impl<'r, P: Print> Consumer for Saver<'r, P> {
         self.keeps = target.directory.keeps;
         match ended {
             Ok(outcome) => Ok(outcome),
-            Err(fault) => {
-                let count = self.out.count().saturating_sub(before);
-                let why = why_ended(rt.alloc(), fault, count)?;
-                say_unread(rt, name, why.as_str())?;
-                write_unread(&mut self.out, name, why.as_str())?;
-                Ok(Outcome::Failed)
-            }
+            Err(fault) => self.give_up(rt, name, fault, before),
         }
     }
 
     fn report(&mut self, _alloc: Global, name: Option<&str>, why: &str) -> Result<(), Fault> {
         write_unread(&mut self.out, name, why)
+    }
+}
+
+impl<'r, P: Print> Saver<'r, P> {
+    /// Reports an input for whose rest memory ran out, given the number of lines before it. Any
+    /// other fault is returned.
+    fn give_up<R: Eprint + AllocGlobal>(
+        &mut self,
+        rt: &R,
+        name: Option<&str>,
+        fault: Fault,
+        before: usize,
+    ) -> Result<Outcome, Fault> {
+        let count = self.out.count().saturating_sub(before);
+        let why = why_ended(rt.alloc(), fault, count)?;
+        say_unread(rt, name, why.as_str())?;
+        write_unread(&mut self.out, name, why.as_str())?;
+        Ok(Outcome::Failed)
     }
 }
 
@@ -171,7 +183,7 @@ pub fn source_of<'s, K, N>(
     }
 }
 
-/// Writes the line of an input that could not be read.
+/// Writes the line of an input that could not be read, or not to its end.
 fn write_unread<'l, W: Write>(
     out: &mut WholeLines<W>,
     file: Option<&'l str>,

@@ -90,7 +90,7 @@ impl<W: Write> Consumer for Lines<W> {
         let before = self.out.count();
         match write_input(rt.alloc(), &mut self.out, reader, source, &mut meter) {
             Ok(written) => Ok(outcome_of(written)),
-            Err(fault) => self.end(rt, name, fault, before),
+            Err(fault) => self.give_up(rt, name, fault, before),
         }
     }
 
@@ -100,9 +100,9 @@ impl<W: Write> Consumer for Lines<W> {
 }
 
 impl<W: Write> Lines<W> {
-    /// Reports an input of which no more lines are written since memory ran out, given the number
-    /// of lines before it. Any other fault is returned.
-    fn end<R: Eprint + AllocGlobal>(
+    /// Reports an input for whose rest memory ran out, given the number of lines before it. Any
+    /// other fault is returned.
+    fn give_up<R: Eprint + AllocGlobal>(
         &mut self,
         rt: &R,
         name: Option<&str>,
@@ -116,7 +116,7 @@ impl<W: Write> Lines<W> {
         Ok(Outcome::Failed)
     }
 
-    /// Writes the line of an input that is not read, or not to its end.
+    /// Writes the line of an input that could not be read, or not to its end.
     fn write_unread(&mut self, name: Option<&str>, why: &str) -> Result<(), Fault> {
         self.out.give_up_line()?;
         write_unread(&mut self.out, name, why)
@@ -311,7 +311,7 @@ fn read_part<R: Files + Eprint + AllocGlobal, W: Write>(
     match written {
         Ok(written) => Ok(outcome_of(written)),
         Err(Fault::Input(error)) => fail(rt, lines, Some(path), &error),
-        Err(fault) => lines.end(rt, Some(path), fault, before),
+        Err(fault) => lines.give_up(rt, Some(path), fault, before),
     }
 }
 

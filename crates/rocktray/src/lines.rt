@@ -1,15 +1,16 @@
 //! Lines that are written once they are whole.
 
 use mail_program::Fault;
-use std::alloc::{AllocError, Global};
+use std::alloc::Global;
 use std::io::{self, Write};
 
 /// The greatest number of bytes of a line that are kept until it is whole.
 const MOST_KEPT: usize = 4 * 1024 * 1024;
 
-/// A writer of lines, which end in LF. A line is written once it is whole, so that nothing is
-/// written of one for which memory runs out, unless it is longer than `MOST_KEPT`.
-#[derive(Drop)]
+/// A writer of lines, which end in LF. A line is kept until it is whole, so that it can be given up
+/// if memory runs out for the rest of it. If it is longer than `MOST_KEPT`, or there is no memory
+/// to keep it, it is written piece by piece.
+#[derive(Debug, Drop)]
 pub struct WholeLines<W> {
     out: W,
     /// The bytes of the next line, if none of it is written.
@@ -44,7 +45,7 @@ impl<W: Write> WholeLines<W> {
         self.count
     }
 
-    /// Takes back the next line, or ends it if a part of it is written.
+    /// Takes back the next line. If a part of it is written, it ends there and does not count.
     ///
     /// # Errors
     ///
@@ -58,19 +59,18 @@ impl<W: Write> WholeLines<W> {
         Ok(())
     }
 
+    /// Keeps more of the next line. Returns `false` and keeps no more if the line is too long or
+    /// memory runs out.
+    fn keep(&mut self, text: &[u8]) -> bool {
+        text.len() <= MOST_KEPT.saturating_sub(self.kept.len())
+            && self.kept.extend_from_slice(text).is_ok()
+    }
+
     /// Writes what is kept of the next line.
     fn write_kept(&mut self) -> io::Result<()> {
         self.out.write_all(self.kept.as_slice())?;
         self.kept.clear();
         Ok(())
-    }
-
-    /// Keeps more of the next line, unless it is too long or memory runs out.
-    fn keep(&mut self, text: &[u8]) -> Result<(), AllocError> {
-        if text.len() > MOST_KEPT.saturating_sub(self.kept.len()) {
-            return Err(AllocError);
-        }
-        self.kept.extend_from_slice(text)
     }
 }
 
@@ -84,12 +84,17 @@ impl<W: Write> Write for WholeLines<W> {
         Ok(buf.len())
     }
 
+    /// A part of a line is written too, and is then not taken back.
     fn flush(&mut self) -> io::Result<()> {
+        if !self.kept.is_empty() {
+            self.write_kept()?;
+            self.next = Next::Written;
+        }
         self.out.flush()
     }
 
     fn write_all(&mut self, buf: &[u8]) -> io::Result<()> {
-        if self.next == Next::Written || self.keep(buf).is_err() {
+        if self.next == Next::Written || !self.keep(buf) {
             self.write_kept()?;
             self.next = Next::Written;
             self.out.write_all(buf)?;
@@ -103,22 +108,21 @@ impl<W: Write> Write for WholeLines<W> {
     }
 }
 
-/// Returns why an input is not read further, given the fault that ended it and the number of lines
-/// that were written of it. Any other fault than that memory ran out is returned as it is.
+/// Returns why an input is not read further, given the fault that ended it and the number of its
+/// lines before. Any other fault than that memory ran out is returned as it is.
 ///
 /// # Errors
 ///
-/// If it runs out of memory.
+/// That fault, or that memory runs out.
 pub fn why_ended(alloc: Global, fault: Fault, count: usize) -> Result<String, Fault> {
-    match fault {
-        Fault::Mail(error) => {
-            let text = if count == 0 {
-                format!(in alloc; "{error}")?
-            } else {
-                format!(in alloc; "after {count} lines: {error}")?
-            };
-            Ok(text)
-        }
-        fault => Err(fault),
-    }
+    let error = match fault {
+        Fault::Mail(error) => error,
+        fault => return Err(fault),
+    };
+    let text = match count {
+        0 => format!(in alloc; "{error}")?,
+        1 => format!(in alloc; "after 1 line: {error}")?,
+        _ => format!(in alloc; "after {count} lines: {error}")?,
+    };
+    Ok(text)
 }
