@@ -110,6 +110,9 @@ A mail that is refused, and an input that cannot be read, has a line with the me
 --check each other line has the member `findings`, what rocktray check finds, and the exit status
 does not change.
 
+Without --max-bytes, N is 8 times the size of the mail plus 64 MiB. If memory runs out, the line of
+the input has an `error`, and the next input is read.
+
 "
 );
 
@@ -147,6 +150,9 @@ letters is ignored. A file is saved if it agrees with each of --only, --type and
 A file with damaged Base64 is saved up to the damage, and its line has an `error`. So has the line
 of a mail that is refused, and of an input that cannot be read. Standard error names what was not
 saved, too. If --only is given and no file is kept, it says so, and the exit status is 1.
+
+Without --max-bytes, N is 8 times the size of the mail plus 64 MiB. If memory runs out, the line of
+the input has an `error`, and the next input is read.
 
 With --stdout the only file that is kept of one INPUT is written to standard output, and nothing
 else. If no file is kept, or several, the exit status is 1 and nothing is written there. Standard
@@ -396,7 +402,7 @@ fn most_bytes<'a>(alloc: Global) -> Arg<'a> {
         alloc,
         ids::MAX_BYTES,
         "N",
-        "Refuse a mail whose inner mails have more than N decoded bytes",
+        "Refuse a mail whose inner mails are decoded to more than N bytes",
     )
     .value_parser(ValueParser::Unsigned(0, u64::MAX))
 }
