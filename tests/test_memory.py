@@ -2,14 +2,15 @@
 
 Each allocation of a run is refused in turn, alone or with all that follow. The run then gives what it gives with ample
 memory, or ends with exit status 1 and reports only that memory ran out. What rocktray has written by then is the front
-of what it writes with ample memory, and after it an object that says so if there is memory for one; each saved file is
-complete and has its line; mail_show has written nothing. A run that met a refusal ends in the second way, unless the
-memory was wanted for keeping a line until it is whole.
+of what it writes with ample memory, and after it at most an object that says so; each saved file is complete and has
+its line; mail_show has written nothing. A run that met a refusal ends in the second way, unless the memory was wanted
+for a longer buffer, in which a line is kept until it is whole.
 """
 
 import base64
 import filecmp
 import hashlib
+import itertools
 import json
 import os
 import re
@@ -19,7 +20,7 @@ import sys
 
 import pytest
 
-from support import FROM, SAMPLES, TOP, command, multipart, program, text_of
+from support import FROM, SAMPLES, TOP, command, multipart, program, run, text_of
 
 from suite import rows_in
 
@@ -53,7 +54,47 @@ RUNS += [(name, ["--mbox", "-"], "json") for name in ("json", "show")]
 RUNS += [("extract", [option, "--into", "into"], "files") for option in ("--hash", "--by-hash")]
 
 
-OUT_OF_MEMORY = re.compile(rb'"error":"(after \d+ lines: )?out of memory"\}\n$')
+# the object of standard input if memory ran out for the rest of it
+GIVEN_UP = {
+    "json": re.compile(rb'\{"schema":6,"file":null,"number":null,"start":null,"end":null,"error":"([^"]*)"\}\n'),
+    "extract": re.compile(rb'\{"file":null,"number":null,"path":null,"saved":null,"size":null,"sha256":null,"error":"([^"]*)"\}\n'),
+}
+GIVEN_UP["check"] = GIVEN_UP["json"]
+
+
+def split_last(lines):
+    """The lines before the last one, and that."""
+    start = lines[:-1].rfind(b"\n") + 1
+    return lines[:start], lines[start:]
+
+
+def given_up(name, output):
+    """What an output has before the object that says that memory ran out, and what that says: None without such an object."""
+    front, last = split_last(output)
+    found = GIVEN_UP[name].fullmatch(last) if name in GIVEN_UP else None
+    return (front, found[1].decode()) if found and found[1].endswith(b"out of memory") else (output, None)
+
+
+def is_front(name, output, wanted):
+    """Whether an output is the front of the wanted one, and then at most an object that says after how many lines memory
+    ran out. A line that is cut off before the object ends in LF."""
+    front, why = given_up(name, output)
+    if why is None:
+        return wanted.startswith(front)
+    if not wanted.startswith(front):
+        front = front[:-1]
+    count = front.count(b"\n")
+    after = ["", "after 1 line: "][count] if count < 2 else f"after {count} lines: "
+    return wanted.startswith(front) and why == f"{after}out of memory"
+
+
+def is_said(name, output, last):
+    """Whether the last line on standard error says that memory ran out: for the input, if the output has an object of it."""
+    why = given_up(name, output)[1]
+    if why is not None:
+        return last == f"rocktray: standard input: {why}\n".encode()
+    input_ = rb"(standard input: )?" if name == "show" else b""
+    return re.fullmatch(rb"\w+: " + input_ + rb"(output failed: )?out of memory\n", last) is not None
 
 
 class Refused:
@@ -86,14 +127,6 @@ class Refused:
         compared = filecmp.dircmp(self.directory / "into", self.directory / "saved")
         return not compared.right_only and not compared.diff_files, not compared.left_only + compared.diff_files
 
-    def is_front(self, output):
-        """Whether an output is the front of the right one, followed by at most one object that says that memory ran out."""
-        if self.name in ("json", "extract"):
-            *whole, last = output.splitlines(keepends=True) or [b""]
-            if OUT_OF_MEMORY.search(last):
-                output = b"".join(whole)
-        return self.wanted[1].startswith(output)
-
     def has_lines(self, output):
         """Whether the files that are there are those of the lines."""
         names = {json.loads(line)["saved"] for line in output.split(b"\n")[:-1]} - {None}
@@ -106,12 +139,15 @@ class Refused:
     def is_short(self, found):
         """Whether a run reports that memory ran out, after the front of what it reports otherwise."""
         status, output, error = found
-        may_begin = self.name != "mail_show"
-        front = self.is_front(output) if may_begin else output == b""
-        notes = error[: error[:-1].rfind(b"\n") + 1]
-        is_reported = self.wanted[2].startswith(notes) and error.endswith(b"out of memory\n")
+        front = output == b"" if self.name == "mail_show" else is_front(self.name, output, self.wanted[1])
+        notes, last = split_last(error)
+        is_reported = self.wanted[2].startswith(notes) and is_said(self.name, output, last)
         is_saved = self.saved_files()[1] and (self.name != "extract" or self.has_lines(output))
         return status == 1 and is_reported and front and is_saved
+
+    def most_kept(self):
+        """How often the buffer may grow in which a line is kept: it doubles each time."""
+        return max(map(len, self.wanted[1].splitlines())).bit_length() if self.name in GIVEN_UP else 0
 
 
 @pytest.mark.parametrize("which", ["REFUSE_AT", "REFUSE_FROM"])
@@ -119,13 +155,42 @@ class Refused:
 def test_refused_allocations(refuse, tmp_path, name, arguments, mail, which):
     """Each allocation in turn, until a run meets no refusal."""
     runs = Refused(refuse, name, arguments, mail, tmp_path)
+    kept = 0
     for number in range(1, 100_000):
         found, (_calls, refused) = runs.run({which: str(number)})
-        is_kept = name in ("json", "extract") and runs.is_right(found)
-        assert is_kept or runs.is_short(found) if refused else runs.is_right(found), f"allocation {number}: {found}"
+        if refused and kept < runs.most_kept() and runs.is_right(found):
+            kept += 1
+            continue
+        assert runs.is_short(found) if refused else runs.is_right(found), f"allocation {number}: {found}"
         if not refused:
             break
     assert number > 5
+
+
+def test_check_goes_on(refuse, tmp_path):
+    """An allocation that is refused for a mail of a mailbox costs `rocktray check` the findings of that mail alone."""
+    runs = Refused(refuse, "check", ["--json", "--mbox", "-"], "files", tmp_path)
+    wanted = [json.loads(line) for line in runs.wanted[1].splitlines()]
+    lost = set()
+    for number in range(1, 100_000):
+        found, (_calls, refused) = runs.run({"REFUSE_AT": str(number)})
+        if not refused:
+            break
+        objects = [json.loads(line) for line in found[1].splitlines()]
+        changed = [index for index, (one, other) in enumerate(zip(objects, wanted)) if one != other]
+        if len(objects) < len(wanted):
+            front = found[0] == 1 and is_front("check", found[1], b"")
+            assert front and is_said("check", found[1], found[2]), f"allocation {number}: {found}"
+        elif changed:
+            (index,) = changed
+            origin = {member: wanted[index][member] for member in ("schema", "file", "number", "start", "end")}
+            assert objects[index] == {**origin, "error": "out of memory"} and len(objects) == len(wanted)
+            said = f"rocktray: standard input: mail {index + 1}: out of memory\n".encode()
+            assert (found[0], found[2]) == (1, said), f"allocation {number}: {found}"
+            lost.add(index)
+        else:
+            assert found == runs.wanted, f"allocation {number}: {found}"
+    assert found == runs.wanted and lost == set(range(len(wanted))) and len(wanted) == len(FILES_OF_MAILS)
 
 
 def replay(refuse, report, arguments, **environment):
@@ -238,9 +303,10 @@ def test_limits(name, tmp_path):
             assert (ended.stdout, ended.stderr) == (wanted, b""), f"{limit} KB"
             right += 1
         else:
-            assert ended.returncode == 1 and re.fullmatch(rb"\w+: .*out of memory\n", ended.stderr), f"{limit} KB"
-            reported = name in ("json", "extract") and OUT_OF_MEMORY.search(ended.stdout) and ended.stdout.count(b"\n") == 1
-            assert reported or (wanted.startswith(ended.stdout) if name == "show" else not ended.stdout), f"{limit} KB"
+            assert ended.returncode == 1 and is_said(name, ended.stdout, ended.stderr), f"{limit} KB"
+            may_begin = name in ("json", "show")
+            front = is_front(name, ended.stdout, wanted if may_begin else b"")
+            assert front, f"{limit} KB"
             short += 1
     assert right > 0 and short > 0
 
@@ -292,12 +358,13 @@ def test_mails_inside_one_another(tmp_path):
         assert (ended.returncode, ended.stderr, ended.stdout.count(b"\n")) == (0, b"", count), arguments
 
 
+ENCODED = b"Content-Type: message/rfc822\nContent-Transfer-Encoding: %b\n\n"
+FORWARDED = b"Content-Type: message/rfc822\n\n"
+
+
 def inside_one_another(size, levels):
     """A mail of this many bytes in as many levels, each encoded."""
-    mail = b"Subject: last\n\n" + b"y" * size + b"\n"
-    for _level in range(levels):
-        mail = b"Content-Type: message/rfc822\nContent-Transfer-Encoding: quoted-printable\n\n" + mail
-    return mail
+    return ENCODED % b"quoted-printable" * levels + b"Subject: last\n\n" + b"y" * size + b"\n"
 
 
 TOO_MANY_BYTES = "Too many decoded bytes"
@@ -305,40 +372,35 @@ TOO_MANY_BYTES = "Too many decoded bytes"
 
 @pytest.mark.parametrize("arguments", [["json"], ["json", "--no-text"], ["extract", "--into", "into"]])
 def test_decoded_bytes(arguments, tmp_path):
-    """A mail of 2 MB in 98 levels of quoted-printable is refused in 100 MB; those beside it are read."""
+    """A mail of 2 MB in 98 levels of quoted-printable, which are 196 MB, is refused in 120 MB; those beside it are read."""
     (tmp_path / "into").mkdir()
     (tmp_path / "deep").write_bytes(inside_one_another(2_000_000, 98))
-    (tmp_path / "flat").write_bytes(multipart(b"b", b"Content-Type: message/rfc822\n\n" + inside_one_another(2_000_000, 3)))
-    command_of = [*command(arguments[0]), *arguments[1:]]
-    ended = run_limited([*command_of, "flat", "deep", "flat"], b"", tmp_path, 100_000)
+    (tmp_path / "flat").write_bytes(multipart(b"b", FORWARDED + inside_one_another(2_000_000, 3)))
+    inputs = ["flat", "deep", "flat"]
+    ended = run_limited([*command(arguments[0]), *arguments[1:], *inputs], b"", tmp_path, 120_000)
     objects = [json.loads(line) for line in ended.stdout.splitlines()]
     assert (ended.returncode, ended.stderr.count(b"\n")) == (3, 0 if arguments[0] == "json" else 1), ended.stderr
-    assert [one["error"] for one in objects if one.get("error")] == [TOO_MANY_BYTES]
-    assert [one["file"] for one in objects if one.get("error")] == ["deep"]
-    assert {one["file"] for one in objects} == {"flat", "deep"} and objects[0]["file"] == objects[-1]["file"] == "flat"
+    assert [(one["file"], one["error"]) for one in objects if one.get("error")] == [("deep", TOO_MANY_BYTES)]
+    assert [file for file, _ones in itertools.groupby(objects, lambda one: one["file"])] == inputs
 
 
 def test_max_bytes(tmp_path):
-    """The mails that are encoded count, and not those that are not; the mail in the mailbox is named, and the run continues."""
+    """The mails inside that are encoded count, at each level, and those that are not do not."""
     inner = b"Subject: last\n\nHello\n"
-    plain = b"Content-Type: message/rfc822\n\n" + inner
-    encoded = b"Content-Type: message/rfc822\nContent-Transfer-Encoding: base64\n\n" + base64.encodebytes(inner)
-    twice = b"Content-Type: message/rfc822\nContent-Transfer-Encoding: base64\n\n" + base64.encodebytes(encoded)
-    both = multipart(b"b", encoded, encoded)
+    encoded = ENCODED % b"base64" + base64.encodebytes(inner)
+    twice = ENCODED % b"base64" + base64.encodebytes(encoded)
     for raw, count in (
-        (inner, 0), (plain, 0), (encoded, len(inner)), (twice, len(inner) + len(encoded)), (both, 2 * len(inner)),
-        (b"Content-Type: message/rfc822\n\n" + encoded, len(inner)),
+        (inner, 0), (FORWARDED + inner, 0), (encoded, len(inner)), (FORWARDED + encoded, len(inner)),
+        (twice, len(encoded) + len(inner)), (multipart(b"b", encoded, encoded), 2 * len(inner)),
     ):
         for words in (["json"], ["extract", "--into", "."], ["extract", "--stdout", "--name", "none"]):
-            ended = subprocess.run([*command(words[0]), *words[1:], "--max-bytes", str(count)], input=raw, capture_output=True, cwd=tmp_path)
-            assert TOO_MANY_BYTES.encode() not in ended.stdout + ended.stderr, (words, count)
-            if count:
-                ended = subprocess.run([*command(words[0]), *words[1:], "--max-bytes", str(count - 1)], input=raw, capture_output=True, cwd=tmp_path)
-                assert TOO_MANY_BYTES.encode() in ended.stdout + ended.stderr, (words, count)
-    box = b"\n".join(FROM + mail for mail in (plain, twice, encoded))
-    ended = subprocess.run([*command("json"), "--mbox", "--max-bytes", str(len(inner))], input=box, capture_output=True)
-    objects = [json.loads(line) for line in ended.stdout.splitlines()]
-    assert (ended.returncode, [one.get("error") for one in objects]) == (3, [None, TOO_MANY_BYTES, None])
+            for most in {count, max(count - 1, 0)}:
+                ended = run([*command(words[0]), *words[1:], "--max-bytes", str(most)], raw, cwd=tmp_path)
+                assert (TOO_MANY_BYTES.encode() in ended.stdout + ended.stderr) == (most < count), (words, most)
+    box = b"\n".join(FROM + mail for mail in (FORWARDED + inner, twice, encoded))
+    ended = run([*command("json"), "--mbox", "--max-bytes", str(len(inner))], box)
+    found = [(one["number"], one.get("error")) for one in map(json.loads, ended.stdout.splitlines())]
+    assert (ended.returncode, found) == (3, [(1, None), (2, TOO_MANY_BYTES), (3, None)])
 
 
 @pytest.mark.parametrize("name", ["json", "extract", "show", "check"])
@@ -350,25 +412,61 @@ def test_run_goes_on(name, tmp_path):
     arguments = {"extract": ["--into", "into"], "check": ["--json"]}.get(name, [])
     ended = run_limited([*command(name), *arguments, "small", "large", "small"], b"", tmp_path, 40_000)
     assert (ended.returncode, ended.stderr) == (1, b"rocktray: large: out of memory\n")
-    if name != "show":
+    if name == "show":
+        assert ended.stdout.count(b"-- small --\n") == 2
+    else:
         objects = [json.loads(line) for line in ended.stdout.splitlines()]
-        assert [one["file"] for one in objects] == ["small", "large", "small"]
-        assert [one.get("error") for one in objects] == [None, "out of memory", None]
+        assert [(one["file"], one.get("error")) for one in objects] == [("small", None), ("large", "out of memory"), ("small", None)]
 
 
-def test_cut_line(tmp_path):
-    """A mail of a mailbox for whose text there is no memory: the mails before it have their lines, and nothing is cut off."""
-    head = multipart(b"b", b"Content-Type: text/plain; charset=utf-16\n\n" + b"y" * 6_000_000)
-    path = mailbox_file(tmp_path / "mailbox", [b"Subject: %d\n\n" % number for number in range(3)] + [head])
-    shown = set()
-    for limit in range(60_000, 12_000, -2_000):
-        ended = run_limited([*command("json"), "--mbox", path], b"", tmp_path, limit)
-        objects = [json.loads(line) for line in ended.stdout.splitlines()]
-        assert all(one["file"] == str(path) for one in objects)
-        if ended.returncode:
-            assert ended.returncode == 1 and re.fullmatch(rb"rocktray: .*mailbox: (after 3 lines: )?out of memory\n", ended.stderr), limit
-            shown.add(len(objects))
-    assert shown and shown <= {1, 4}
+def test_only_file_without_memory(tmp_path):
+    """With `--stdout` nothing is written of an input that needs too much memory; standard error names it."""
+    (tmp_path / "large").write_bytes(b"Content-Type: text/csv\n\n" + b"1,2\n" * 12_000_000)
+    ended = run_limited([*command("extract"), "--stdout", "large"], b"", tmp_path, 40_000)
+    assert (ended.returncode, ended.stdout, ended.stderr) == (1, b"", b"rocktray: large: out of memory\n")
+
+
+def front_of_mailbox(path, limit, *options):
+    """The lines of a mailbox in limited memory, without the object that says that memory ran out; None if it did not."""
+    ended = run_limited([*command("json"), *options, path], b"", path.parent, limit)
+    *lines, last = ended.stdout.splitlines(keepends=True)
+    if ended.returncode == 0:
+        assert ended.stderr == b""
+        return None
+    assert (ended.returncode, ended.stderr) == (1, f"rocktray: {path}: after 3 lines: out of memory\n".encode()), limit
+    assert json.loads(last) == {
+        "schema": 6, "file": str(path), "number": None, "start": None, "end": None, "error": "after 3 lines: out of memory"
+    }
+    return lines
+
+
+SUBJECTS = [b"Subject: %d\n\n" % number for number in range(3)]
+
+
+@pytest.mark.parametrize("options", [["--mbox"], ["--part", "1/1"]])
+def test_line_that_is_given_up(options, tmp_path):
+    """A mail for whose text there is no memory: nothing is written of it, and the mails before it have their lines."""
+    long = multipart(b"b", b"Content-Type: text/plain; charset=utf-16\n\n" + b"y" * 6_000_000)
+    path = mailbox_file(tmp_path / "mailbox", [*SUBJECTS, long])
+    fronts = [front_of_mailbox(path, limit, *options) for limit in range(60_000, 22_000, -2_000)]
+    short = [front for front in fronts if front is not None]
+    assert short and all([json.loads(line)["subject"] for line in front] == ["0", "1", "2"] for front in short)
+
+
+def test_line_that_is_cut_off(tmp_path):
+    """A mail whose first text is written before there is no memory for its second one: its line is cut off, and ends in LF."""
+    texts = [b"Content-Type: text/plain\n\n" + b"x" * 5_000_000, b"Content-Type: text/plain; charset=utf-16\n\n" + b"y" * 10_000_000]
+    path = mailbox_file(tmp_path / "mailbox", [*SUBJECTS, multipart(b"b", *texts)])
+    whole = run([*command("json"), "--mbox", path]).stdout
+    cut = 0
+    for limit in range(100_000, 40_000, -2_000):
+        front = front_of_mailbox(path, limit, "--mbox")
+        if front and len(front) == 4:
+            assert len(front[3]) > 4 * 1024 * 1024 and whole.startswith(b"".join(front)[:-1]), limit
+            cut += 1
+        else:
+            assert front is None or whole.startswith(b"".join(front)) and len(front) == 3, limit
+    assert cut > 0
 
 
 # the bytes of memory for the mail, each part and each header, beside 5 times the mail: docs/RULES.md has them
