@@ -1,4 +1,5 @@
-"""The pages beside the repository: links, paths, names, quoted sources, API.md, and the commands of docs/SCRIPTS.md.
+"""The pages beside the repository: links, paths, names, quoted sources, API.md as it is made, and the commands of
+docs/SCRIPTS.md.
 
 On every page each link leads to a file, or to a heading, that exists; and each path in backquotes that begins with a
 directory of the top exists. On the pages that claim something of the sources each name in backquotes that has a `_` or a
@@ -15,7 +16,7 @@ import pytest
 from support import TOP, program, run, text_of
 
 from fences import fences_of
-from make_api import PAGE, base, crates, found, libraries, page, sources
+from make_api import PAGE, base, crate_modules, crates, found, libraries, page, sources
 
 PAGES = (
     "*.md", "docs/*.md", "python/*.md", "crates/*/data/README.md", "tests/*.md", "tools/*.md", "bench/**/*.md",
@@ -35,9 +36,9 @@ def matching(patterns):
     return sorted(path for pattern in patterns for path in glob.glob(pattern, root_dir=TOP, recursive=True))
 
 
-def anchors(path):
+def anchors(text):
     """The anchors of the headings of a page."""
-    headings = re.findall(r"^#+ (.*)$", text_of(path), re.MULTILINE)
+    headings = re.findall(r"^#+ (.*)$", text, re.MULTILINE)
     return {re.sub(r"[^\w\- ]", "", heading.lower()).replace(" ", "-") for heading in headings}
 
 
@@ -45,8 +46,9 @@ def links(page, text):
     """For each link of a page to this repository what it is, and whether it leads somewhere."""
     for path, anchor in re.findall(r"\]\((?!\w+:)([^)#\s]*)#?([^)\s]*)\)", text):
         other = os.path.normpath(os.path.join(os.path.dirname(page), path)) if path else page
-        is_there = os.path.exists(os.path.join(TOP, other))
-        yield f"the link {path}#{anchor}", is_there and (not anchor or anchor in anchors(other))
+        is_there = other == page or (other != PAGE and os.path.exists(os.path.join(TOP, other)))
+        headings = text if other == page else text_of(other) if is_there and anchor else ""
+        yield f"the link {path}#{anchor}", is_there and (not anchor or anchor in anchors(headings))
 
 
 def paths(text):
@@ -81,7 +83,7 @@ def declared():
 
 
 @pytest.mark.quick
-@pytest.mark.parametrize("path", matching(PAGES))
+@pytest.mark.parametrize("path", [path for path in matching(PAGES) if path != PAGE])
 def test_page(path, declared):
     """A page."""
     text = text_of(path)
@@ -113,12 +115,25 @@ def are_complete(text):
                 yield f"{PAGE}: {trait} for {implementer} is missing", f"`{implementer}`" in " ".join(sections[trait].split())
 
 
+def are_described():
+    """For each public module and item of the libraries, and for each member: whether its doc comment says something."""
+    for module, doc, items in (module for crate in libraries() for module in crate_modules(crate)):
+        yield f"{module} has no comment", bool(doc.strip())
+        for item in items:
+            yield from ((f"{module}: {item.name}: {it.name} has no comment", bool(it.sentence())) for it in (item, *item.members))
+
+
 @pytest.mark.quick
-def test_api():
-    """API.md is what the sources give, and is complete: tools/make_api.py makes it."""
-    made = page()
-    assert text_of(PAGE) == made
-    assert [what for what, is_well in are_complete(made) if not is_well] == []
+def test_api(tmp_path):
+    """API.md, which tools/make_api.py makes, is what the sources give, and is complete. git ignores it."""
+    ended = run([TOP / "tools" / "make_api.py", tmp_path / "API.md"])
+    assert (ended.returncode, ended.stdout, ended.stderr) == (0, b"", b"")
+    made = (tmp_path / "API.md").read_text(encoding="utf-8")
+    assert made == page()
+    assert set(libraries()) <= set(re.findall(r"^## `(\w+)`$", made, re.MULTILINE))
+    judged = [*links(PAGE, made), *paths(made), *are_complete(made), *are_described()]
+    assert [what for what, is_well in judged if not is_well] == []
+    assert run(["git", "check-ignore", "-q", PAGE], cwd=TOP).returncode == 0
 
 
 def commands(page):

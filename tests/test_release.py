@@ -33,7 +33,7 @@ def words_of_header():
 @pytest.mark.quick
 def test_one_version():
     """The version is written in crates/mail_version alone, its number follows from it, and CHANGELOG.md has it last."""
-    tracked = run(["git", "ls-files", "-z", "--", ".", ":!CHANGELOG.md", ":!docs/API.md"], cwd=TOP).stdout.decode().split("\0")
+    tracked = run(["git", "ls-files", "-z", "--", ".", ":!CHANGELOG.md"], cwd=TOP).stdout.decode().split("\0")
     paths = [path for path in tracked if path and (TOP / path).is_file()]
     having = [path for path in paths if re.search(rf"(?<![\w.]){re.escape(VERSION)}(?![\w.])", (TOP / path).read_text(errors="replace"))]
     assert having == ["crates/mail_version/src/lib.rt"]
@@ -219,7 +219,8 @@ def test_build(release):
     assert files == said["contents"]
     wanted = {"bin/rocktray", "bin/mail_show", "lib/librocktray.so.0", "lib/librocktray.a", "lib/pkgconfig/rocktray.pc",
               "include/rocktray.h", "share/man/man1/rocktray.1", "share/man/man1/mail_show.1", "share/man/man3/librocktray.3",
-              "share/rocktray/mail_json.schema.json", "share/doc/rocktray/LICENSE", "share/doc/rocktray/README.md"}
+              "share/rocktray/mail_json.schema.json", "share/doc/rocktray/LICENSE", "share/doc/rocktray/README.md",
+              "share/doc/rocktray/API.md"}
     assert wanted | {f"share/man/man1/rocktray-{name}.1" for name in SUBCOMMANDS} <= set(files)
 
 

@@ -1,9 +1,9 @@
 #!/usr/bin/env python3
-"""Makes docs/API.md, the page of all public types and calls with their contracts, from the sources.
+"""Makes docs/API.md, or another file, the page of all public types and calls with their contracts, from the sources.
 
 A library is a crate of crates.txt that has src/lib.rt; static ones are left out. Of each public item the page has
 the signature, the first sentence of its doc comment and the clauses of its contract; of a law, its name and what it
-says. tests/test_pages.py compares the page with the sources.
+says. The page is not kept in git; a release has it. tests/test_pages.py checks what is made.
 """
 import argparse
 import functools
@@ -280,8 +280,12 @@ def page():
 
 def main():
     """Writes the page."""
-    argparse.ArgumentParser(description=__doc__, formatter_class=argparse.RawDescriptionHelpFormatter).parse_args()
-    with open(os.path.join(TOP, PAGE), "w", encoding="utf-8") as file:
+    parser = argparse.ArgumentParser(description=__doc__, formatter_class=argparse.RawDescriptionHelpFormatter)
+    parser.add_argument("file", metavar="FILE", nargs="?", default=os.path.join(TOP, PAGE), help=f"where the page goes (default: {PAGE})")
+    path = parser.parse_args().file
+    if not os.path.isdir(os.path.dirname(os.path.abspath(path))):
+        parser.error(f"there is no directory for {path}")
+    with open(path, "w", encoding="utf-8") as file:
         file.write(page())
 
 

@@ -186,6 +186,7 @@ def stage(source, prefix, tree, release):
     documents = tree / "share" / "doc" / "rocktray"
     for name in DOCUMENTS:
         copy(source / name, documents)
+    run(source / "tools" / "make_api.py", documents / "API.md")
     copy(source / "samples", documents)
     copy(source / "docs" / "mail_json.schema.json", tree / "share" / "rocktray")
     (documents / "copyright").write_text(copyright_text(source, release["inside"]), encoding="utf-8")
