@@ -3,7 +3,8 @@ docs/SCRIPTS.md.
 
 On every page each link leads to a file, or to a heading, that exists; and each path in backquotes that begins with a
 directory of the top exists. On the pages that claim something of the sources each name in backquotes that has a `_` or a
-`::` inside is declared in a source, a definition or crates.txt. A fence of the README that names its source, as in
+`::` inside is declared in a source, a definition or crates.txt, and each module and each definition that the table of
+readings names has its file. A fence of the README that names its source, as in
 ```rust crates/mailparse/src/mail.rt, has lines that occur there word for word and one after another.
 """
 
@@ -73,6 +74,23 @@ def quotes(text):
             yield f"the fence at line {fence.number}", "\n".join(line.strip() for line in fence.lines) in source
 
 
+def readings(text):
+    """For each module and definition that the table of readings of docs/ARCHITECTURE.md names: whether its file is there.
+
+    It is of the crate that its cell names before it, or else of that of its column; a definition has a capital letter.
+    """
+    table = re.search(r"^## Who reads how$.*?^(\|.*?)^$", text, re.M | re.S)[1]
+    heads, _, *rows = [line.strip("| ").split(" | ") for line in table.splitlines()]
+    for row in rows:
+        yield f"the row {row[0]} has a cell for each column", len(row) == len(heads)
+        for head, cell in list(zip(heads, row))[1:]:
+            crate = re.search(r"`(\w+)`", head)[1]
+            for name in re.findall(r"`([^`]+)`", cell):
+                crate = name if name in crates() else crate
+                path = f"specs/{name}.antt" if re.match(r"(?:\w+/)?[A-Z]", name) else f"src/{name.replace('::', '/')}.rt"
+                yield f"{path} of {crate}", name == crate or os.path.isfile(os.path.join(TOP, "crates", crate, path))
+
+
 @pytest.fixture(scope="module")
 def declared():
     """The names that the sources, the definitions and crates.txt declare."""
@@ -91,6 +109,14 @@ def test_page(path, declared):
     found += names(text, declared) if path in CLAIMS else []
     found += quotes(text) if path == "README.md" else []
     assert [what for what, is_well in found if not is_well] == []
+
+
+@pytest.mark.quick
+def test_readings():
+    """Each module and each definition that the table of readings names exists."""
+    judged = list(readings(text_of("docs/ARCHITECTURE.md")))
+    assert len(judged) > 150
+    assert [what for what, is_well in judged if not is_well] == []
 
 
 def imported():
