@@ -37,7 +37,7 @@ COUNTED = 200
 # the most pages of a search, and the number of mails above which those with a word are not counted
 PAGES = 400
 MANY = 40_000
-# a number that SQLite can have, in a route; any greater one is none of a mail
+# a number that SQLite can have, in a route; no mail has a greater one
 NUMBER = f"int(max={2**63 - 1})"
 # the most seconds in which a file is read
 SECONDS = 60

@@ -272,7 +272,7 @@ class Mail(_engine.Mail):
         return [Mail(Part(self, node).content, limit=self._limit) for node in self._own_nodes if node.flags & IS_MAIL]
 
     def bounces(self) -> List[Recipient]:
-        """The recipients of a delivery report (RFC 3464). The list is empty if the mail is none.
+        """The recipients of a delivery report (RFC 3464). The list is empty if the mail is not one.
 
         >>> raw = b"Content-Type: multipart/report; boundary=b\\n\\n--b\\nContent-Type: message/delivery-status\\n\\n"
         >>> raw += b"Reporting-MTA: dns; mx\\n\\nFinal-Recipient: rfc822; a@b\\nAction: failed\\nStatus: 5.1.1\\n\\n--b--\\n"

@@ -138,7 +138,7 @@ def test_counts_of_mails():
 
 
 def test_offsets_of_mails():
-    """Offsets that no data has are a ValueError, and a mail that would begin at the end is none."""
+    """Offsets that no data has are a ValueError, and a mail that would begin at the end does not exist."""
     assert _engine.mails(BOX, len(BOX), len(BOX), False, 3) == []
     with pytest.raises(ValueError, match="begins after the data"):
         _engine.mails(BOX, len(BOX) + 1, len(BOX), False, 3)
