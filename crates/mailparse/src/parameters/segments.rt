@@ -111,7 +111,7 @@ fn run_len(bytes: &[u8]) -> usize
 /// assert_eq!(rt; first, "a");
 /// let (second, rest) = cut_segment(rest.ok_or("no rest")?);
 /// assert_eq!(rt; second, " b=\";\"");
-/// assert!(rest.is_some());
+/// assert!(rt; rest.is_some());
 /// ```
 #[tactic(auto, using(crate::proofs::lemmas::Segments::segment_cuts))]
 pub fn cut_segment(text: &str) -> (&str, Option<&str>)
