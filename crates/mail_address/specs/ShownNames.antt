@@ -3,7 +3,7 @@
 use Rattle.std.specs.Prelude.{ℕ, ◌-◌, Bool, ◌&&◌, ◌||◌, ◌==◌, nat_lt, List, length, slice_index, slice_range, if◌then◌else◌}
 use Rattle.mail_codec.specs.Ascii.{apostrophe, quote}
 use Rattle.mail_codec.specs.Charset.{Charsets}
-use Rattle.mail_data.specs.lenient.Names.{name_text}
+use Rattle.mail_read.specs.lenient.Names.{name_text}
 use Rattle.mail_address.specs.Text.{phrase_text}
 
 -- a text begins and ends with this byte

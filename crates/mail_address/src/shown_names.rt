@@ -5,7 +5,7 @@ ghost use Rattle.mail_address.specs.ShownNames.{is_in_quotes, shown_display_name
 
 use crate::text::phrase_text;
 use mail_codec::charset::KnownCharsets;
-use mail_data::lenient::lenient_name_text;
+use mail_read::lenient::lenient_name_text;
 use mailparse::MailParseError;
 use std::alloc::Global;
 

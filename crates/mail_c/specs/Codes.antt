@@ -6,8 +6,8 @@ use Rattle.mailparse.specs.RefusalKinds.{error_kind, kind_of}
 use Rattle.mailparse.specs.declared.error.MailParseError.{MailParseError}
 use Rattle.mailparse.specs.declared.error.RefusalKind.{RefusalKind}
 use Rattle.mailparse.specs.declared.error.RefusalKind.TheVariants.{LeadingSpace, LoneCarriageReturn, TooDeep, TooMany, NotBase64, NotText, Other}
-use Rattle.mail_data.specs.declared.lenient.date.error.DateError.{DateError}
-use Rattle.mail_data.specs.declared.lenient.date.error.DateError.TheVariants.{Day, Month, Year, Time, Zone, TrailingText}
+use Rattle.mail_read.specs.declared.lenient.date.error.DateError.{DateError}
+use Rattle.mail_read.specs.declared.lenient.date.error.DateError.TheVariants.{Day, Month, Year, Time, Zone, TrailingText}
 
 -- the call succeeded
 abbrev pub done : ℕ

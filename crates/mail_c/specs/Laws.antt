@@ -1,7 +1,7 @@
 -- What the laws compare: messages with their ranges; the crate's own form.
 use Rattle.mailparse.specs.Mail.{Tree}
 use Rattle.mailparse.specs.Placement.{Placement}
-use Rattle.mail_data.specs.PartPlaces.{Place}
+use Rattle.mail_read.specs.PartPlaces.{Place}
 use Rattle.mail_c.specs.Records.{Item}
 
 -- a message that has a record, with its ranges

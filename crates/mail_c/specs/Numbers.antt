@@ -5,7 +5,7 @@ use Rattle.mailparse.specs.Refusal.{Reads}
 use Rattle.mail_data.specs.Mailbox.{Entry}
 use Rattle.mail_data.specs.declared.mailbox.formats.Format.{Format}
 use Rattle.mail_data.specs.declared.mailbox.formats.Format.TheVariants.{Plain, Counted}
-use Rattle.mail_data.specs.lenient.Date.{Dated, date_and_offset_of}
+use Rattle.mail_read.specs.lenient.Date.{Dated, date_and_offset_of}
 use Rattle.mail_c.specs.Codes.{absent, date_code, done, no_mailbox, not_utf8}
 use Rattle.mail_c.specs.Results.{text_in}
 

@@ -5,15 +5,15 @@ use Rattle.mailparse.specs.Body.{in_base64, in_quoted_printable, in_7bit}
 use Rattle.mailparse.specs.ContentType.{ContentType}
 use Rattle.mailparse.specs.Refusal.{◌>>=◌}
 use Rattle.mail_data.specs.Bounce.{original_message_id}
-use Rattle.mail_data.specs.FileNames as names
-use Rattle.mail_data.specs.lenient.FileNames.{lenient_name_in}
+use Rattle.mail_read.specs.FileNames as names
+use Rattle.mail_read.specs.lenient.FileNames.{lenient_name_in}
 use Rattle.mail_data.specs.QuotedLines as quoted
-use Rattle.mail_data.specs.Reading.{mail_reading}
-use Rattle.mail_data.specs.lenient.Content.{lenient_content}
-use Rattle.mail_data.specs.lenient.Encoding.{LenientKind, in_uuencode, standard}
-use Rattle.mail_data.specs.lenient.Manner.{lenient_type_from}
-use Rattle.mail_data.specs.lenient.Texts.{text_read}
-use Rattle.mail_data.specs.lenient.Values.{header_text}
+use Rattle.mail_read.specs.Reading.{mail_reading}
+use Rattle.mail_read.specs.lenient.Content.{lenient_content}
+use Rattle.mail_read.specs.lenient.Encoding.{LenientKind, in_uuencode, standard}
+use Rattle.mail_read.specs.lenient.Manner.{lenient_type_from}
+use Rattle.mail_read.specs.lenient.Texts.{text_read}
+use Rattle.mail_read.specs.lenient.Values.{header_text}
 use Rattle.mail_c.specs.Buffer.{Found, IsFilled, IsKept, Output, fits, written_code}
 use Rattle.mail_c.specs.Codes.{no_memory}
 use Rattle.mail_c.specs.Results.{no_limit, text_in}

@@ -4,7 +4,7 @@ use Rattle.mail_codec.specs.Charset.{Charsets}
 use Rattle.mailparse.specs.Mail.{Tree}
 use Rattle.mail_data.specs.Bounce as report
 use Rattle.mail_data.specs.Bounce.{Delivery}
-use Rattle.mail_data.specs.Reading.{mail_reading}
+use Rattle.mail_read.specs.Reading.{mail_reading}
 use Rattle.mail_c.specs.Codes.{coded}
 use Rattle.mail_c.specs.Records.{none}
 use Rattle.mail_c.specs.Results.{no_limit}

@@ -9,12 +9,12 @@ use Rattle.mailparse.specs.Disposition.{Kind, inline, attachment, form_data, ext
 use Rattle.mailparse.specs.Header.{header_length, header_of, value_end, value_start}
 use Rattle.mailparse.specs.Mail.{Forest, Tree, no_parts, part_and, root, tree, trees_within}
 use Rattle.mailparse.specs.Placement.{Placement}
-use Rattle.mail_data.specs.Files.{is_leaf, is_shown}
-use Rattle.mail_data.specs.InnerMails.{forwards}
-use Rattle.mail_data.specs.Reading.{mail_placements, mail_reading}
-use Rattle.mail_data.specs.lenient.Dispositions.{lenient_disposition}
-use Rattle.mail_data.specs.lenient.Encoding.{LenientKind, in_uuencode, lenient_body_kind, standard}
-use Rattle.mail_data.specs.lenient.FileNames.{lenient_file_name}
+use Rattle.mail_read.specs.Files.{is_leaf, is_shown}
+use Rattle.mail_read.specs.InnerMails.{forwards}
+use Rattle.mail_read.specs.Reading.{mail_placements, mail_reading}
+use Rattle.mail_read.specs.lenient.Dispositions.{lenient_disposition}
+use Rattle.mail_read.specs.lenient.Encoding.{LenientKind, in_uuencode, lenient_body_kind, standard}
+use Rattle.mail_read.specs.lenient.FileNames.{lenient_file_name}
 use Rattle.mail_json.specs.Part.{is_attachment, is_read}
 use Rattle.mail_c.specs.Codes.{coded, too_many}
 use Rattle.mail_c.specs.declared.records.Part.{Part}

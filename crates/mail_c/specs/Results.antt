@@ -7,11 +7,11 @@ use Rattle.mailparse.specs.Header.{Header}
 use Rattle.mailparse.specs.Mail.{root}
 use Rattle.mailparse.specs.Map.{all_with_key}
 use Rattle.mailparse.specs.Refusal.{◌>>=◌, Reads, encoding}
-use Rattle.mail_data.specs.Reading.{mail_reading}
-use Rattle.mail_data.specs.lenient.Content.{message_content, whole}
-use Rattle.mail_data.specs.lenient.Ids.{found_ids}
-use Rattle.mail_data.specs.lenient.Texts.{body_text}
-use Rattle.mail_data.specs.lenient.Values.{header_text}
+use Rattle.mail_read.specs.Reading.{mail_reading}
+use Rattle.mail_read.specs.lenient.Content.{message_content, whole}
+use Rattle.mail_read.specs.lenient.Ids.{found_ids}
+use Rattle.mail_read.specs.lenient.Texts.{body_text}
+use Rattle.mail_read.specs.lenient.Values.{header_text}
 use Rattle.mail_data.specs.Readable.{readable_text}
 use Rattle.mail_html.specs.Text.{html_text}
 use Rattle.mail_html.specs.declared.links.Links.{Links}

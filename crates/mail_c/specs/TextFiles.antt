@@ -1,7 +1,7 @@
 -- The records of the files in a text, and their strings; the crate's own form.
 use Rattle.std.specs.Prelude.{◌≡◌, ℕ, ◌+◌, Bool, true, false, List, ◌++◌, length, flat_map, is_some, Result, Ok, Err}
 use Rattle.mail_codec.specs.Uuencode.{Span}
-use Rattle.mail_data.specs.Files.{text_of_octets}
+use Rattle.mail_read.specs.Files.{text_of_octets}
 use Rattle.mail_data.specs.TextFiles.{TextFile, file_bytes, text_files}
 use Rattle.mail_c.specs.Codes.{no_memory}
 use Rattle.mail_c.specs.Rows.{rows_from}

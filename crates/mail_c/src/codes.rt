@@ -2,7 +2,7 @@
 ghost use Rattle.std.specs.Prelude.{◌≡◌};
 ghost use Rattle.mail_c.specs.Codes.{date_code, error_code, kind_code, reason};
 
-use mail_data::lenient::DateError;
+use mail_read::lenient::DateError;
 use mailparse::{MailParseError, RefusalKind};
 
 /// The call succeeded.

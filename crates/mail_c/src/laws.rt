@@ -1,13 +1,13 @@
 //! Laws: the records of a mail, with what is read of them, and its line of JSON say the same.
 ghost use Rattle.std.specs.Prelude.{◌≡◌, Bool, List, Ok, Some, codes, map};
 ghost use Rattle.mail_codec.specs.Charset.{Charsets};
-ghost use Rattle.mail_data.specs.lenient.FileNames.{lenient_file_name};
-ghost use Rattle.mail_data.specs.PartPlaces.{places};
-ghost use Rattle.mail_data.specs.lenient.Manner.{lenient_type_of};
+ghost use Rattle.mail_read.specs.lenient.FileNames.{lenient_file_name};
+ghost use Rattle.mail_read.specs.PartPlaces.{places};
+ghost use Rattle.mail_read.specs.lenient.Manner.{lenient_type_of};
 ghost use Rattle.mailparse.specs.Header.{Header};
 ghost use Rattle.mailparse.specs.Mail.{Node, Tree, trees_within};
 ghost use Rattle.mailparse.specs.Map.{first_with_key};
-ghost use Rattle.mail_data.specs.Reading.{mail_placements};
+ghost use Rattle.mail_read.specs.Reading.{mail_placements};
 ghost use Rattle.mail_c.specs.Laws.{of_item, of_place};
 ghost use Rattle.mail_c.specs.Ranges as read;
 ghost use Rattle.mail_c.specs.Records.{families, items_of, none};

@@ -3,7 +3,7 @@ ghost use Rattle.std.specs.Prelude.{◌≡◌, Ok, Some, IfOk};
 ghost use Rattle.mailparse.specs.BodyViews.{name_of};
 ghost use Rattle.mailparse.specs.Outcome.{AnswersOrMemory};
 ghost use Rattle.mailparse.specs.Views.{content_type};
-ghost use Rattle.mail_data.specs.lenient.Encoding.{lenient_kind_named};
+ghost use Rattle.mail_read.specs.lenient.Encoding.{lenient_kind_named};
 ghost use Rattle.mail_c.specs.Buffer.{bytes_found, output};
 ghost use Rattle.mail_c.specs.Ranges.{WritesDecodedOr, body, body_charset, body_text, bounced_id};
 ghost use Rattle.mail_c.specs.Ranges.{decoded_view};
@@ -15,13 +15,13 @@ use crate::codes::NO_MEMORY;
 use crate::nameless::is_nameless;
 use crate::results::{NO_LIMIT, text_in};
 use mail_data::bounce::original_message_id;
-use mail_data::files::safe_file_name;
-use mail_data::lenient::{
+use mail_read::files::safe_file_name;
+use mail_read::lenient::{
     LenientBody, charset_used, lenient_content, lenient_header_text, lenient_named_file,
     lenient_text, lenient_type,
 };
 use mail_data::mailbox::quoted;
-use mail_data::reading::read_mail;
+use mail_read::reading::read_mail;
 use mailparse::{KnownCharsets, MailParseError, ParsedContentType};
 use std::alloc::{AllocError, Global};
 
@@ -166,7 +166,7 @@ pub(crate) fn body_charset<K: KnownCharsets>(
 }
 
 /// Returns the name of the transfer encoding with a number, if bodies are encoded in it.
-#[tactic(auto, unfolding(mailparse::specs::Body::kind_named, mail_data::specs::lenient::Encoding::lenient_kind_named))]
+#[tactic(auto, unfolding(mailparse::specs::Body::kind_named, mail_read::specs::lenient::Encoding::lenient_kind_named))]
 fn encoding_named(alloc: Global, number: u64) -> Result<Option<String>, AllocError>
     ensures { IfOk result (λ name.
         lenient_kind_named (name_of name) ≡ kind_numbered number) }

@@ -16,7 +16,7 @@ use crate::records::NONE;
 use crate::results::NO_LIMIT;
 use mail_data::bounce;
 use mail_data::bounce::Recipient;
-use mail_data::reading::read_mail;
+use mail_read::reading::read_mail;
 use mailparse::{KnownCharsets, MailParseError, ParsedMail};
 use std::alloc::{AllocError, Global};
 

@@ -9,10 +9,10 @@ ghost use Rattle.mailparse.specs.Views as views;
 ghost use Rattle.mailparse.specs.Views.{placement_of, placements_of, tree_of};
 ghost use Rattle.mail_c.specs.Codes.{IsCoded};
 ghost use Rattle.mail_c.specs.OwnHeaders.{AllOwn, AreFirstHeaders, HasOwnHeaders};
-ghost use Rattle.mail_data.specs.lenient.Dispositions.{lenient_disposition};
-ghost use Rattle.mail_data.specs.lenient.Encoding.{LenientKind, lenient_body_kind, lenient_kind};
-ghost use Rattle.mail_data.specs.lenient.EncodingViews.{IsLenientBody};
-ghost use Rattle.mail_data.specs.lenient.FileNames.{lenient_file_name};
+ghost use Rattle.mail_read.specs.lenient.Dispositions.{lenient_disposition};
+ghost use Rattle.mail_read.specs.lenient.Encoding.{LenientKind, lenient_body_kind, lenient_kind};
+ghost use Rattle.mail_read.specs.lenient.EncodingViews.{IsLenientBody};
+ghost use Rattle.mail_read.specs.lenient.FileNames.{lenient_file_name};
 ghost use Rattle.mail_c.specs.Records.{bit, disposition_number, encoding_number, families, flags};
 ghost use Rattle.mail_c.specs.Records.{header_block, header_records, item_headers, items_of};
 ghost use Rattle.mail_c.specs.Records.{kind_number, limited, none, part_record, records, records_in};
@@ -23,10 +23,10 @@ use crate::codes::{NO_MEMORY, TOO_MANY, code_of};
 use crate::lookup::first_header;
 use crate::nameless::is_nameless_part;
 use crate::places::{bare_key_end, places_of};
-use mail_data::files::{is_attachment_disposition, is_leaf, is_shown};
-use mail_data::inner_mails::forwards;
-use mail_data::lenient::{LenientBody, lenient_body, lenient_disposition, lenient_file_name};
-use mail_data::reading::read_mail;
+use mail_read::files::{is_attachment_disposition, is_leaf, is_shown};
+use mail_read::inner_mails::forwards;
+use mail_read::lenient::{LenientBody, lenient_body, lenient_disposition, lenient_file_name};
+use mail_read::reading::read_mail;
 use mail_json::is_read;
 use mailparse::body::Body;
 use mailparse::{
@@ -400,7 +400,7 @@ fn push_headers(
 
 /// Returns the number of the transfer encoding of a part. Nearly every header is a name and nothing
 /// else, so its bytes are compared first.
-#[tactic(auto, unfolding(mail_data::specs::lenient::Encoding::lenient_kind, mail_data::specs::lenient::Encoding::lenient_kind_named, mailparse::specs::Body::kind_named))]
+#[tactic(auto, unfolding(mail_read::specs::lenient::Encoding::lenient_kind, mail_read::specs::lenient::Encoding::lenient_kind_named, mailparse::specs::Body::kind_named))]
 fn encoding_of(alloc: Global, part: &ParsedMail<'_>) -> Result<u64, MailParseError>
     ensures { IfOk result (λ number.
         number ≡ encoding_number (lenient_body_kind (root (tree_of part.now)))) }

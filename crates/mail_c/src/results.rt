@@ -4,17 +4,17 @@ ghost use Rattle.std.specs.Cow.{cow_slice_items};
 ghost use Rattle.mailparse.specs.Mail.{root};
 ghost use Rattle.mailparse.specs.Outcome.{Answers, AnswersOrMemory, IsMemory};
 ghost use Rattle.mailparse.specs.Views.{tree_of};
-ghost use Rattle.mail_data.specs.lenient.Content.{message_content, whole};
-ghost use Rattle.mail_data.specs.lenient.IdViews as ids_seen;
+ghost use Rattle.mail_read.specs.lenient.Content.{message_content, whole};
+ghost use Rattle.mail_read.specs.lenient.IdViews as ids_seen;
 ghost use Rattle.mail_c.specs.Buffer.{Gives, bytes_found};
 ghost use Rattle.mail_c.specs.Results.{IsJson, bracketed, content, ids, raw_value};
 ghost use Rattle.mail_c.specs.Results.{links_if, readable, text, text_in, text_of_html, value};
 
-use mail_data::lenient::{
+use mail_read::lenient::{
     IdRule, body_text, find_ids, lenient_body, lenient_content, lenient_header_text,
 };
 use mail_data::readable::readable_text;
-use mail_data::reading::read_mail;
+use mail_read::reading::read_mail;
 use mail_html::{Links, References, html_text};
 use mail_json::{LineOptions, Origin, write_mail};
 use mailparse::{KnownCharsets, MailHeaderMap, MailParseError, ParsedMail, parse_lenient_headers};

@@ -8,8 +8,8 @@ use Rattle.mailparse.specs.ContentType.{ContentType}
 use Rattle.mailparse.specs.Disposition.{Disposition}
 use Rattle.mailparse.specs.Mail.{Node}
 use Rattle.mailparse.specs.Map.{first_with_key}
-use Rattle.mail_data.specs.FileNames.{is_unsafe}
-use Rattle.mail_data.specs.Files.{filled, name_in}
+use Rattle.mail_read.specs.FileNames.{is_unsafe}
+use Rattle.mail_read.specs.Files.{filled, name_in}
 
 -- two names differ, and the second is not empty
 abbrev pub are_two : List ℕ → List ℕ → Bool

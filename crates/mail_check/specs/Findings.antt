@@ -10,9 +10,9 @@ use Rattle.mailparse.specs.Disposition.{Disposition}
 use Rattle.mailparse.specs.Mail.{Node, Tree, body_kind, root, shown_as}
 use Rattle.mailparse.specs.Placement.{Placement}
 use Rattle.mailparse.specs.Ranges.{Range}
-use Rattle.mail_data.specs.Files.{is_leaf}
-use Rattle.mail_data.specs.InnerMails.{dot_count}
-use Rattle.mail_data.specs.PartPlaces.{Place, places}
+use Rattle.mail_read.specs.Files.{is_leaf}
+use Rattle.mail_read.specs.InnerMails.{dot_count}
+use Rattle.mail_read.specs.PartPlaces.{Place, places}
 use Rattle.mail_check.specs.Bodies.{is_base64_lines}
 use Rattle.mail_check.specs.HiddenBits.{hidden_bits}
 use Rattle.mail_check.specs.Bytes.{earlier, first_byte, first_offset, is_bad_escape, is_control, is_end_blank, is_escaped_end, is_high}

@@ -7,9 +7,9 @@ use Rattle.mailparse.specs.Mail.{Tree, root, strict}
 use Rattle.mailparse.specs.Placement.{Placement, placements}
 use Rattle.mailparse.specs.Ranges.{Range}
 use Rattle.mailparse.specs.Refusal.{Reads}
-use Rattle.mail_data.specs.InnerMails.{holds_mail, is_plain, places_under}
-use Rattle.mail_data.specs.PartPlaces.{Place, places}
-use Rattle.mail_data.specs.lenient.Encoding.{LenientKind, lenient_body_kind}
+use Rattle.mail_read.specs.InnerMails.{holds_mail, is_plain, places_under}
+use Rattle.mail_read.specs.PartPlaces.{Place, places}
+use Rattle.mail_read.specs.lenient.Encoding.{LenientKind, lenient_body_kind}
 use Rattle.mail_check.specs.Findings.{Finding, finding_at, findings, findings_from, plus, spot_of_body}
 use Rattle.mail_check.specs.declared.names.Name.TheVariants as name
 

@@ -9,7 +9,7 @@ use Rattle.mail_codec.specs.Ascii.{carriage_return, equals_sign, is_blank, less_
 use Rattle.mail_codec.specs.Base64.{base64}
 use Rattle.mail_codec.specs.Places.{begins, byte_place, first_place, is_empty, text_place}
 use Rattle.mail_codec.specs.QuotedPrintable.{quoted_printable}
-use Rattle.mail_data.specs.lenient.Values.{spaced}
+use Rattle.mail_read.specs.lenient.Values.{spaced}
 use Rattle.mail_check.specs.Bodies.{is_letter}
 use Rattle.mail_check.specs.Bytes.{is_escape_digit}
 use Rattle.mail_check.specs.Lines.{HeaderLine, is_named, is_visible}

@@ -8,7 +8,7 @@ ghost use Rattle.mail_check.specs.FileNames.{are_two, has_filler, has_risky, has
 ghost use Rattle.mail_check.specs.FileNames.{has_unsafe_name, has_untyped_name};
 ghost use Rattle.mail_check.specs.FileNames.{is_filler, is_risky, lacks_type};
 
-use mail_data::files::{filled_parameter, is_unsafe, named_file};
+use mail_read::files::{filled_parameter, is_unsafe, named_file};
 use mailparse::{MailHeaderMap, ParsedContentDisposition, ParsedContentType, ParsedMail};
 use std::alloc::{AllocError, Global};
 

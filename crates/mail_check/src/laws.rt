@@ -5,7 +5,7 @@ ghost use Rattle.std.specs.Prelude.{◌≡◌, ◌↔◌, [], ℕ, List, All};
 ghost use Rattle.mail_codec.specs.Charset.{Charsets};
 ghost use Rattle.mailparse.specs.Mail.{Tree, root};
 ghost use Rattle.mailparse.specs.Placement.{placements};
-ghost use Rattle.mail_data.specs.PartPlaces.{Place};
+ghost use Rattle.mail_read.specs.PartPlaces.{Place};
 ghost use Rattle.mail_check.specs.Clean.{HasPlainBytes};
 ghost use Rattle.mail_check.specs.Findings.{Spot, byte_findings, findings, message_findings};
 

@@ -6,8 +6,8 @@ ghost use Rattle.mailparse.specs.BodyViews.{Content, IsBody, content_of};
 ghost use Rattle.mailparse.specs.Mail.{body_kind, root, shown_as};
 ghost use Rattle.mailparse.specs.Outcome.{AnswersOrMemory, IsMemory};
 ghost use Rattle.mailparse.specs.Views.{disposition, placements_of, tree_of};
-ghost use Rattle.mail_data.specs.InnerMails.{dot_count};
-ghost use Rattle.mail_data.specs.PlaceViews.{place_view};
+ghost use Rattle.mail_read.specs.InnerMails.{dot_count};
+ghost use Rattle.mail_read.specs.PlaceViews.{place_view};
 ghost use Rattle.mail_check.specs.FindingViews.{finding_view, spot_view};
 ghost use Rattle.mail_check.specs.Findings.{base64_findings, block_findings, body_findings, byte_findings};
 ghost use Rattle.mail_check.specs.Findings.{delimiter_findings, file_line, first_findings};
@@ -62,8 +62,8 @@ use crate::word_bytes::has_bad_word;
 use crate::words::{has_bad_piece, has_join, is_bad_name, is_worded, pieces};
 use mail_codec::bytescan::{find_byte, find_either};
 use mail_codec::charset::KnownCharsets;
-use mail_data::files::is_leaf;
-use mail_data::places::{Place, places};
+use mail_read::files::is_leaf;
+use mail_read::places::{Place, places};
 use mailparse::body::Body;
 use mailparse::{MAX_LEVELS, MailParseError, ParsedContentDisposition, ParsedMail};
 use std::alloc::{AllocError, Global};
@@ -106,7 +106,7 @@ struct Spot<'p> {
 ///
 /// The findings of the mails that messages forward follow, each with those of the mails inside it. A
 /// mail inside is read as a whole mail is, if it is not encoded; it is refused if it has more than
-/// `mail_data::reading::DEFAULT_LIMIT` messages, parts and headers. The time is linear in the bytes,
+/// `mail_read::reading::DEFAULT_LIMIT` messages, parts and headers. The time is linear in the bytes,
 /// times the levels. Allocates the findings, their paths, the mails inside, and for each message a
 /// list of its headers, its boundary and its text.
 ///
@@ -255,7 +255,7 @@ fn is_far(number: usize, place: &Place<'_, '_>) -> bool
 }
 
 /// Returns the number of dots in a path.
-#[tactic(auto, unfolding(mail_data::specs::InnerMails::dot_count))]
+#[tactic(auto, unfolding(mail_read::specs::InnerMails::dot_count))]
 fn dot_count(path: &str) -> usize
     ensures { result ≡ dot_count path.now }
 {

@@ -4,14 +4,14 @@ ghost use Rattle.std.specs.Cow.{cow_slice_items};
 ghost use Rattle.mailparse.specs.Mail.{root};
 ghost use Rattle.mailparse.specs.Outcome.{IsMemory};
 ghost use Rattle.mailparse.specs.Views.{content_type, tree_of};
-ghost use Rattle.mail_data.specs.lenient.Content.{message_content};
+ghost use Rattle.mail_read.specs.lenient.Content.{message_content};
 ghost use Rattle.mail_check.specs.Texts.{has_bad_text, is_bad_text, is_binary};
 
 use crate::charsets::is_lacking;
 use crate::multipart::begins_type;
 use mail_codec::bytescan::find_byte;
 use mail_codec::charset::{Charset, KnownCharsets};
-use mail_data::lenient::{Content, lenient_body, lenient_content};
+use mail_read::lenient::{Content, lenient_body, lenient_content};
 use mailparse::{MailParseError, ParsedContentType, ParsedMail};
 use std::alloc::{AllocError, Global};
 

@@ -2,7 +2,7 @@
 ghost use Rattle.std.specs.Prelude.{◌≡◌, ◌≤◌, ◌++◌, [], IfOk, codes, length, map, take};
 ghost use Rattle.std.specs.List.{list_any};
 ghost use Rattle.mail_codec.specs.QuotedPrintable.{quoted_printable};
-ghost use Rattle.mail_data.specs.lenient.Values.{spaced};
+ghost use Rattle.mail_read.specs.lenient.Values.{spaced};
 ghost use Rattle.mail_check.specs.Bytes.{first_byte};
 ghost use Rattle.mail_check.specs.LineViews.{line_view};
 ghost use Rattle.mail_check.specs.Words.{after_charset, after_label, after_word_byte};

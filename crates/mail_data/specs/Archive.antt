@@ -6,8 +6,8 @@ use Rattle.std.specs.Str.{bytes_eq}
 use Rattle.mailparse.specs.Mail.{Node}
 use Rattle.mailparse.specs.Map.{first_value_in}
 use Rattle.mailparse.specs.Header.{Header}
-use Rattle.mail_data.specs.Files.{no_charsets}
-use Rattle.mail_data.specs.lenient.Ids.{found_ids}
+use Rattle.mail_read.specs.Files.{no_charsets}
+use Rattle.mail_read.specs.lenient.Ids.{found_ids}
 
 -- the first of some ids
 abbrev pub first_id : List (List ℕ) → Option (List ℕ)

@@ -13,8 +13,8 @@ use Rattle.mailparse.specs.Mail.{Node, Tree, Forest, tree, no_parts, part_and, r
 use Rattle.mailparse.specs.Map.{all_values_in, first_value_in}
 use Rattle.mail_data.specs.AddressEscapes.{typed_address}
 use Rattle.mail_data.specs.Archive.{id_among}
-use Rattle.mail_data.specs.lenient.Comments.{without_comments}
-use Rattle.mail_data.specs.lenient.Content.{message_content}
+use Rattle.mail_read.specs.lenient.Comments.{without_comments}
+use Rattle.mail_read.specs.lenient.Content.{message_content}
 use Rattle.mail_data.specs.Reports.{blocks, fields, has_status, has_type}
 
 -- a part is the mail that was returned, or its headers (RFC 3464, section 2; RFC 6533, section 3)

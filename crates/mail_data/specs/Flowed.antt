@@ -10,7 +10,7 @@ use Rattle.mail_codec.specs.Places.{is_empty}
 use Rattle.mailparse.specs.ContentType.{ContentType}
 use Rattle.mailparse.specs.Mail.{Node}
 use Rattle.mail_data.specs.Texts.{text_type}
-use Rattle.mail_data.specs.lenient.Texts.{BodyText, body_text}
+use Rattle.mail_read.specs.lenient.Texts.{BodyText, body_text}
 
 -- ---- lines
 

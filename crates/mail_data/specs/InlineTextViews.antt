@@ -5,7 +5,7 @@ use Rattle.mailparse.specs.Views.{tree_of}
 use Rattle.mail_data.specs.InlineTexts as words
 use Rattle.mail_data.specs.declared.inline_texts.InlineText.{InlineText}
 use Rattle.mail_data.specs.declared.inline_texts.TextPart.{TextPart}
-use Rattle.mail_data.specs.lenient.TextViews.{text_view}
+use Rattle.mail_read.specs.lenient.TextViews.{text_view}
 
 -- a text by its path and what is read
 abbrev pub inline_view : InlineText → words.InlineText

@@ -4,11 +4,11 @@ use Rattle.mail_codec.specs.Charset.{Charsets}
 use Rattle.mailparse.specs.Mail.{Tree, Forest, tree, no_parts, part_and, root}
 use Rattle.mail_html.specs.declared.links.Links.{Links}
 use Rattle.mail_html.specs.declared.references.References.{References}
-use Rattle.mail_data.specs.Attachments.{is_attachment}
-use Rattle.mail_data.specs.Files.{is_leaf, path_under, whole_path}
+use Rattle.mail_read.specs.Attachments.{is_attachment}
+use Rattle.mail_read.specs.Files.{is_leaf, path_under, whole_path}
 use Rattle.mail_data.specs.Readable.{if_text, readable_text}
 use Rattle.mail_data.specs.Reports.{has_type}
-use Rattle.mail_data.specs.lenient.Texts.{BodyText}
+use Rattle.mail_read.specs.lenient.Texts.{BodyText}
 
 -- a text to be read, and the path of the part that it is the text of
 pub record InlineText : Type 0 where

@@ -1,11 +1,3 @@
-pub mod FileNames
-pub mod WindowsNames
-pub mod Files
-pub mod HeaderNames
-pub mod RawPaths
-pub mod FileViews
-pub mod PartPlaces
-pub mod PlaceViews
 pub mod LineEnds
 pub mod Separator
 pub mod QuotedLines
@@ -15,8 +7,6 @@ pub mod MailboxOffsets
 pub mod CountedMails
 pub mod MailboxFormats
 pub mod MailboxViews
-pub mod lenient
-pub mod Attachments
 pub mod TextFiles
 pub mod TextFileViews
 pub mod Texts
@@ -27,9 +17,6 @@ pub mod InlineTexts
 pub mod InlineTextViews
 pub mod Flowed
 pub mod FlowedViews
-pub mod Reading
-pub mod InnerMails
-pub mod InnerMailViews
 pub mod Reports
 pub mod ReportViews
 pub mod AddressEscapes

@@ -10,7 +10,7 @@ use Rattle.mail_html.specs.Text.{html_text}
 use Rattle.mail_html.specs.declared.links.Links.{Links}
 use Rattle.mail_html.specs.declared.references.References.{References}
 use Rattle.mail_data.specs.Texts.{is_text_of_type, text_part}
-use Rattle.mail_data.specs.lenient.Texts.{BodyText, body_text}
+use Rattle.mail_read.specs.lenient.Texts.{BodyText, body_text}
 
 -- the text of a body of this type as it is read: that of HTML, or itself
 unfoldable pub readable_of : Links → References → ContentType → List ℕ → List ℕ

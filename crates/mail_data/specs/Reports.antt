@@ -10,7 +10,7 @@ use Rattle.mailparse.specs.Header.{Header, key_text}
 use Rattle.mailparse.specs.Mail.{Node}
 use Rattle.mailparse.specs.Refusal.{Refusal}
 use Rattle.mailparse.specs.Value.{lenient_value_in}
-use Rattle.mail_data.specs.lenient.Content.{message_content}
+use Rattle.mail_read.specs.lenient.Content.{message_content}
 use Rattle.mail_data.specs.LineEnds.{is_empty_line, after_empty_line, line_place}
 
 -- a message has this type

@@ -5,8 +5,8 @@ use Rattle.std.specs.Option.{option_map_or}
 use Rattle.std.specs.Str.{bytes_eq}
 use Rattle.mail_codec.specs.Uuencode.{File, Span, data_bytes, first_file}
 use Rattle.mailparse.specs.Mail.{Tree, root}
-use Rattle.mail_data.specs.Files.{is_leaf, is_shown}
-use Rattle.mail_data.specs.lenient.Content.{Content, all_of, has_short_lines, text_file_fault}
+use Rattle.mail_read.specs.Files.{is_leaf, is_shown}
+use Rattle.mail_read.specs.lenient.Content.{Content, all_of, has_short_lines, text_file_fault}
 
 -- a block of a text: its name, its lines of data, its range in the text, and whether a line `end`
 -- follows the data

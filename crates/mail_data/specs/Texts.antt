@@ -4,10 +4,10 @@ use Rattle.std.specs.Str.{bytes_eq}
 use Rattle.mail_codec.specs.Charset.{Charsets}
 use Rattle.mail_codec.specs.Places.{is_empty}
 use Rattle.mailparse.specs.Mail.{Tree, root, trees_within}
-use Rattle.mail_data.specs.Attachments.{is_attachment_disposition, is_attachment}
+use Rattle.mail_read.specs.Attachments.{is_attachment_disposition, is_attachment}
 use Rattle.mail_data.specs.Reports.{has_type}
-use Rattle.mail_data.specs.lenient.Dispositions.{lenient_disposition}
-use Rattle.mail_data.specs.lenient.Shown.{is_undivided}
+use Rattle.mail_read.specs.lenient.Dispositions.{lenient_disposition}
+use Rattle.mail_read.specs.lenient.Shown.{is_undivided}
 
 -- the first of two trees that exists
 abbrev pub first_tree : Option Tree → Option Tree → Option Tree

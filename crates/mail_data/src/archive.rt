@@ -7,10 +7,10 @@ ghost use Rattle.mailparse.specs.Map.{text_found};
 ghost use Rattle.mailparse.specs.Outcome.{AnswersOrMemory, GivesTexts, IsMemory};
 ghost use Rattle.mailparse.specs.Views.{tree_of};
 ghost use Rattle.mail_data.specs.Archive.{id_among, ids_of, message_id, parents, without_repeats};
-ghost use Rattle.mail_data.specs.lenient.IdViews.{needs_at};
+ghost use Rattle.mail_read.specs.lenient.IdViews.{needs_at};
 
-use crate::files::NoCharsets;
-use crate::lenient::{IdRule, find_ids};
+use mail_read::files::NoCharsets;
+use mail_read::lenient::{IdRule, find_ids};
 use mailparse::{MailHeader, MailHeaderMap, MailParseError, ParsedMail};
 use std::alloc::{AllocError, Global};
 use std::collections::BTreeSet;
@@ -101,7 +101,7 @@ pub fn parents(alloc: Global, mail: &ParsedMail<'_>) -> Result<Vec<String>, Mail
 ///
 /// ```rust
 /// use mail_data::archive::ids_of;
-/// use mail_data::lenient::IdRule;
+/// use mail_read::lenient::IdRule;
 /// use mailparse::parse_mail;
 ///
 /// let mail = parse_mail(alloc, b"Content-ID: <=?utf-8?Q?a=40b?=>\n\n")?;

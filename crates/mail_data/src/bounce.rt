@@ -16,10 +16,10 @@ ghost use Rattle.mail_data.specs.TextViews.{tree_found};
 mod address_escapes;
 
 use crate::archive::id_among;
-use crate::lenient::{part_content, without_comments};
 use crate::reports::{blocks, fields, has_status, has_type, trimmed};
 use address_escapes::typed_address;
 use mail_codec::charset::KnownCharsets;
+use mail_read::lenient::{part_content, without_comments};
 use mailparse::{MailHeader, MailHeaderMap, MailParseError, ParsedMail};
 use std::alloc::{AllocError, Global};
 

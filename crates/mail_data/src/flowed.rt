@@ -10,11 +10,11 @@ ghost use Rattle.mail_data.specs.Flowed.{has_flowed_text, is_flowed, is_paramete
 ghost use Rattle.mail_data.specs.Flowed.{line_of, line_with, pieces, quote_depth, shown, unflowed};
 ghost use Rattle.mail_data.specs.Flowed.{unflowed_of, unstuffed, without_space};
 ghost use Rattle.mail_data.specs.FlowedViews.{deletes, line_view};
-ghost use Rattle.mail_data.specs.lenient.TextViews.{text_view};
+ghost use Rattle.mail_read.specs.lenient.TextViews.{text_view};
 
-use crate::lenient::{BodyText, body_text};
 use crate::texts::text_type;
 use mail_codec::charset::KnownCharsets;
+use mail_read::lenient::{BodyText, body_text};
 use mailparse::{MailParseError, ParsedContentType, ParsedMail};
 use std::alloc::{AllocError, Global};
 

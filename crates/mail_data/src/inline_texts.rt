@@ -2,18 +2,18 @@
 ghost use Rattle.std.specs.Prelude.{◌≡◌, ◌++◌, map, IfErr, IfOk, Ok, OnOk};
 ghost use Rattle.mailparse.specs.Outcome.{AnswersOrMemory};
 ghost use Rattle.mailparse.specs.Views.{tree_of};
-ghost use Rattle.mail_data.specs.Files.{whole_path};
+ghost use Rattle.mail_read.specs.Files.{whole_path};
 ghost use Rattle.mail_data.specs.InlineTextViews.{inline_view, text_part_view};
 ghost use Rattle.mail_data.specs.InlineTexts.{has_one_text, inline_text, inline_texts};
 ghost use Rattle.mail_data.specs.InlineTexts.{text_parts, texts_among};
 ghost use Rattle.mail_data.specs.ReadableViews.{text_found};
 
-use crate::files::{is_attachment, is_leaf, path_under, whole_path};
-use crate::lenient::BodyText;
 use crate::readable::{has_text, readable_text};
 use crate::reports::has_type;
 use mail_codec::charset::KnownCharsets;
 use mail_html::{Links, References};
+use mail_read::files::{is_attachment, is_leaf, path_under, whole_path};
+use mail_read::lenient::BodyText;
 use mailparse::{MailParseError, ParsedMail};
 use std::alloc::{AllocError, Global};
 

@@ -8,12 +8,12 @@ ghost use Rattle.mailparse.specs.Views.{content_type, tree_of};
 ghost use Rattle.mail_data.specs.Readable.{first_html_text, html_part_text};
 ghost use Rattle.mail_data.specs.Readable.{part_text, readable_of, readable_text, text_or_html};
 ghost use Rattle.mail_data.specs.ReadableViews.{text_found};
-ghost use Rattle.mail_data.specs.lenient.TextViews.{text_view};
+ghost use Rattle.mail_read.specs.lenient.TextViews.{text_view};
 
-use crate::lenient::{BodyText, body_text};
 use crate::texts::{is_text_of_type, text_part};
 use mail_codec::charset::KnownCharsets;
 use mail_html::{Links, References, html_text};
+use mail_read::lenient::{BodyText, body_text};
 use mailparse::{MailParseError, ParsedContentType, ParsedMail};
 use std::alloc::{AllocError, Global};
 

@@ -10,9 +10,9 @@ ghost use Rattle.mail_data.specs.Reports.{field_pair, fields, has_report, has_st
 ghost use Rattle.mail_data.specs.Reports.{report_blocks};
 ghost use Rattle.mail_data.specs.ReportViews.{block_view, field_view};
 
-use crate::lenient::part_content;
 use crate::line_ends::{empty_line, is_empty_line, line_place};
 use mail_codec::charset::KnownCharsets;
+use mail_read::lenient::part_content;
 use mailparse::{MailHeader, MailParseError, ParsedMail, parse_lenient_headers};
 use std::alloc::{AllocError, Global};
 

@@ -3,15 +3,15 @@ ghost use Rattle.std.specs.Prelude.{◌≡◌, ◌++◌, ◌≤◌, [], ◌∷�
 ghost use Rattle.std.specs.Prelude.{IfOk, OnOk};
 ghost use Rattle.mail_codec.specs.UuencodeViews.{file_view};
 ghost use Rattle.mailparse.specs.Views.{tree_of};
-ghost use Rattle.mail_data.specs.Files.{text_of_octets};
+ghost use Rattle.mail_read.specs.Files.{text_of_octets};
 ghost use Rattle.mail_data.specs.TextFiles.{file_bytes, is_file, is_plain_text};
 ghost use Rattle.mail_data.specs.TextFiles.{text_file, text_file_path, text_files};
 ghost use Rattle.mail_data.specs.TextFileViews.{text_file_view};
-ghost use Rattle.mail_data.specs.lenient.ContentViews.{content_view};
+ghost use Rattle.mail_read.specs.lenient.ContentViews.{content_view};
 
-use crate::files::{is_leaf, is_shown, text_of_octets};
-use crate::lenient::{Content, ContentFault};
 use mail_codec::transfer::{Uuencoded, decode_uuencode, find_uuencode, uudecoded_exceeds};
+use mail_read::files::{is_leaf, is_shown, text_of_octets};
+use mail_read::lenient::{Content, ContentFault};
 use mailparse::ParsedMail;
 use std::alloc::{AllocError, Global};
 use std::borrow::CowSlice;
@@ -65,7 +65,7 @@ impl<'t> TextFile<'t> {
     /// # Examples
     ///
     /// ```rust
-    /// use mail_data::lenient::ContentFault;
+    /// use mail_read::lenient::ContentFault;
     /// use mail_data::text_files::text_files;
     ///
     /// let files = text_files(alloc, b"begin 644 cat.txt\n#0V%T\n", 1000)?;

@@ -7,10 +7,10 @@ ghost use Rattle.mail_data.specs.Texts.{is_text_of_type, own_text, shown_text, t
 ghost use Rattle.mail_data.specs.Texts.{text_type, text_type_of};
 ghost use Rattle.mail_data.specs.TextViews.{tree_found};
 
-use crate::files::{is_attachment, is_attachment_disposition};
-use crate::lenient::{is_undivided, lenient_disposition};
 use crate::reports::has_type;
 use mail_codec::charset::KnownCharsets;
+use mail_read::files::{is_attachment, is_attachment_disposition};
+use mail_read::lenient::{is_undivided, lenient_disposition};
 use mailparse::{MailParseError, ParsedMail};
 use std::alloc::Global;
 

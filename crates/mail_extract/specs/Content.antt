@@ -2,7 +2,7 @@
 use Rattle.std.specs.Prelude.{ℕ, Bool, ◌&&◌, ◌==◌, List, length, drop, codes, Some, if◌then◌else◌}
 use Rattle.mailparse.specs.Mail.{Node}
 use Rattle.mailparse.specs.Refusal.{Refusal, generic}
-use Rattle.mail_data.specs.lenient.Content.{Content, all_of, message_content}
+use Rattle.mail_read.specs.lenient.Content.{Content, all_of, message_content}
 use Rattle.mail_extract.specs.Stray.{has_stray_line}
 
 -- the bytes of a part that follow its headers

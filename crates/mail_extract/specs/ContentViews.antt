@@ -2,8 +2,8 @@
 use Rattle.std.specs.Prelude.{option_map}
 use Rattle.std.specs.Cow.{cow_slice_items}
 use Rattle.mailparse.specs.Refusal.{Refusal}
-use Rattle.mail_data.specs.lenient.Content.{Content}
-use Rattle.mail_data.specs.lenient.ContentViews.{fault_view}
+use Rattle.mail_read.specs.lenient.Content.{Content}
+use Rattle.mail_read.specs.lenient.ContentViews.{fault_view}
 use Rattle.mail_extract.specs.Content.{in_headers_fault}
 use Rattle.mail_extract.specs.declared.content.Damage.{Damage}
 use Rattle.mail_extract.specs.declared.content.Damage.TheVariants.{Body, InHeaders}

@@ -7,12 +7,12 @@ use Rattle.std.specs.Option.{option_map_or}
 use Rattle.mail_codec.specs.Charset.{Charsets}
 use Rattle.mailparse.specs.Mail.{Tree}
 use Rattle.mailparse.specs.Refusal.{Reads}
-use Rattle.mail_data.specs.FileNames.{IsSafeName}
-use Rattle.mail_data.specs.InnerMails.{InnerMail}
+use Rattle.mail_read.specs.FileNames.{IsSafeName}
+use Rattle.mail_read.specs.InnerMails.{InnerMail}
 use Rattle.mail_data.specs.Mailbox.{Entry, front_length}
 use Rattle.mail_data.specs.MailboxFormats.{entries_in, mail_in}
-use Rattle.mail_data.specs.PartPlaces.{places}
-use Rattle.mail_data.specs.Reading.{mail_placements}
+use Rattle.mail_read.specs.PartPlaces.{places}
+use Rattle.mail_read.specs.Reading.{mail_placements}
 use Rattle.mail_data.specs.declared.mailbox.formats.Format.{Format}
 use Rattle.mail_json.specs.DecodedSize.{bounded_reading}
 use Rattle.mail_json.specs.FileLine.{FileLine}

@@ -3,8 +3,8 @@ use Rattle.std.specs.Prelude.{◌≡◌, ℕ, ◌<◌, ◌≤◌, Bool, ◌||◌
 use Rattle.std.specs.Option.{unwrap_or}
 use Rattle.std.specs.Str.{IsCharBoundary, NoCharPasses}
 use Rattle.mail_codec.specs.Places.{begins}
-use Rattle.mail_data.specs.FileNames.{safe_name}
-use Rattle.mail_data.specs.WindowsNames.{windows_name}
+use Rattle.mail_read.specs.FileNames.{safe_name}
+use Rattle.mail_read.specs.WindowsNames.{windows_name}
 use Rattle.mail_extract.specs.declared.options.Naming.{Naming}
 use Rattle.mail_extract.specs.declared.options.Naming.TheVariants.{BySender, ForWindows, ByHash}
 

@@ -1,7 +1,7 @@
 -- The options of saving, and the name under which a file is saved if that is free; the program's own rule.
 use Rattle.std.specs.Prelude.{ℕ, List, Option}
-use Rattle.mail_data.specs.FileNames.{safe_name}
-use Rattle.mail_data.specs.WindowsNames.{windows_name}
+use Rattle.mail_read.specs.FileNames.{safe_name}
+use Rattle.mail_read.specs.WindowsNames.{windows_name}
 use Rattle.mail_extract.specs.Choice.{Choice}
 use Rattle.mail_extract.specs.declared.hash.Hashing.{Hashing}
 use Rattle.mail_extract.specs.declared.options.Naming.{Naming}

@@ -5,14 +5,14 @@ use Rattle.std.specs.Result.{result_ok}
 use Rattle.mail_codec.specs.Charset.{Charsets}
 use Rattle.mailparse.specs.Mail.{Node, Tree, root}
 use Rattle.mailparse.specs.Placement.{Placement}
-use Rattle.mail_data.specs.Attachments.{is_extracted}
-use Rattle.mail_data.specs.Files.{text_of_octets}
-use Rattle.mail_data.specs.InnerMails.{InnerMail, forwards, places_under}
-use Rattle.mail_data.specs.PartPlaces.{Place, places}
-use Rattle.mail_data.specs.RawPaths.{file_name_or_path}
-use Rattle.mail_data.specs.Reading.{mail_placements}
+use Rattle.mail_read.specs.Attachments.{is_extracted}
+use Rattle.mail_read.specs.Files.{text_of_octets}
+use Rattle.mail_read.specs.InnerMails.{InnerMail, forwards, places_under}
+use Rattle.mail_read.specs.PartPlaces.{Place, places}
+use Rattle.mail_read.specs.RawPaths.{file_name_or_path}
+use Rattle.mail_read.specs.Reading.{mail_placements}
 use Rattle.mail_data.specs.TextFiles.{TextFile, file_bytes, is_plain_text, text_file_path, text_files}
-use Rattle.mail_data.specs.lenient.Content.{Content, message_content}
+use Rattle.mail_read.specs.lenient.Content.{Content, message_content}
 use Rattle.mail_json.specs.Reading.{inner_mails_within, mail_reading}
 use Rattle.mail_extract.specs.Choice.{Choice, keeps}
 use Rattle.mail_extract.specs.Content.{content}

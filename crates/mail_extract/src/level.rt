@@ -4,7 +4,7 @@ ghost use Rattle.mailparse.specs.Mail.{root};
 ghost use Rattle.mailparse.specs.Views.{tree_of};
 ghost use Rattle.mail_extract.specs.Save.{is_contained};
 
-use mail_data::inner_mails::forwards;
+use mail_read::inner_mails::forwards;
 use mailparse::ParsedMail;
 
 /// The mail that has a part.

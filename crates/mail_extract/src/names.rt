@@ -2,12 +2,12 @@
 ghost use Rattle.std.specs.Prelude.{◌≡◌, IfOk, string_bytes};
 ghost use Rattle.mail_codec.specs.Places.{begins};
 ghost use Rattle.mailparse.specs.Map.{text_found};
-ghost use Rattle.mail_data.specs.FileNames.{IsSafeName};
+ghost use Rattle.mail_read.specs.FileNames.{IsSafeName};
 ghost use Rattle.mail_extract.specs.Names.{IsNumbered, IsNumberedBefore, is_refused_first};
 ghost use Rattle.mail_extract.specs.Names.{made_name, visible_name, wanted_name};
 
 use crate::options::Naming;
-use mail_data::files::{safe_file_name, windows_file_name};
+use mail_read::files::{safe_file_name, windows_file_name};
 use std::alloc::{AllocError, Global};
 
 /// The greatest number of bytes of a name before a number.

@@ -81,7 +81,7 @@ impl Directory for OneFile {
 /// # Examples
 ///
 /// ```rust
-/// use mail_data::reading::DEFAULT_LIMIT;
+/// use mail_read::reading::DEFAULT_LIMIT;
 /// use mail_extract::{Choice, Hashing, Naming, OnlyFile, SaveOptions, Source, write_only_file};
 /// use mail_json::InputKind;
 /// use mail_program::Outcome;

@@ -1,11 +1,11 @@
 //! How files are saved, and where.
 ghost use Rattle.std.specs.Prelude.{◌≡◌, IfOk, string_bytes};
-ghost use Rattle.mail_data.specs.FileNames.{IsSafeName};
+ghost use Rattle.mail_read.specs.FileNames.{IsSafeName};
 ghost use Rattle.mail_extract.specs.Naming.{target};
 
 use crate::choice::Choice;
 use crate::hash::Hashing;
-use mail_data::files::{safe_file_name, windows_file_name};
+use mail_read::files::{safe_file_name, windows_file_name};
 use mail_json::InputKind;
 use mail_program::sha256_text;
 use std::alloc::{AllocError, Global};

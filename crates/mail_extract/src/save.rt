@@ -2,7 +2,7 @@
 ghost use Rattle.std.specs.Prelude.{◌≡◌, List, Some, false, is_some, string_bytes};
 ghost use Rattle.std.specs.Prelude.{IfErr, IfOk, IfSome};
 ghost use Rattle.mailparse.specs.Outcome.{IsMemory};
-ghost use Rattle.mail_data.specs.FileNames.{IsSafeName};
+ghost use Rattle.mail_read.specs.FileNames.{IsSafeName};
 ghost use Rattle.mail_json.specs.DecodedViews.{IsDecoded, decoded_place};
 ghost use Rattle.mail_extract.specs.ChoiceViews.{options_view};
 ghost use Rattle.mail_extract.specs.ContentViews.{file_view};

@@ -3,7 +3,7 @@
 #![tactic(auto)]
 
 use mail_charsets::AllCharsets;
-use mail_data::reading::DEFAULT_LIMIT;
+use mail_read::reading::DEFAULT_LIMIT;
 use mail_html::References;
 use mail_program::{Fault, read_input, status_of};
 use mail_view::write_single;

@@ -1,6 +1,6 @@
 -- What a contract sees of a file that is stored.
 use Rattle.std.specs.Prelude.{string_bytes}
-use Rattle.mail_data.specs.lenient.ContentViews.{content_view}
+use Rattle.mail_read.specs.lenient.ContentViews.{content_view}
 use Rattle.mail_jobs.specs.Attachments.{Stored}
 use Rattle.mail_jobs.specs.declared.attachments.StoredFile.{StoredFile}
 

@@ -3,10 +3,10 @@ use Rattle.std.specs.Prelude.{ℕ, List, codes, map}
 use Rattle.std.specs.Option.{unwrap_or}
 use Rattle.mail_codec.specs.Charset.{Charsets}
 use Rattle.mailparse.specs.Mail.{Node, Tree, root}
-use Rattle.mail_data.specs.FileNames.{safe_name}
-use Rattle.mail_data.specs.Attachments.{attachments}
-use Rattle.mail_data.specs.lenient.FileNames.{lenient_file_name}
-use Rattle.mail_data.specs.lenient.Content.{Content, message_content}
+use Rattle.mail_read.specs.FileNames.{safe_name}
+use Rattle.mail_read.specs.Attachments.{attachments}
+use Rattle.mail_read.specs.lenient.FileNames.{lenient_file_name}
+use Rattle.mail_read.specs.lenient.Content.{Content, message_content}
 
 -- a file that is stored: the path of its part, its name, and the bytes that can be read
 pub record Stored : Type 0 where

@@ -6,9 +6,9 @@ use Rattle.mailparse.specs.Value.{value_text}
 use Rattle.mail_address.specs.Addresses.{Single}
 use Rattle.mail_address.specs.Lenient.{lenient_sender_of}
 use Rattle.mail_address.specs.Text.{address_bytes}
-use Rattle.mail_data.specs.lenient.Date.{Dated, date_of}
-use Rattle.mail_data.specs.lenient.Texts.{BodyText, body_text}
-use Rattle.mail_data.specs.lenient.Values.{first_header_text}
+use Rattle.mail_read.specs.lenient.Date.{Dated, date_of}
+use Rattle.mail_read.specs.lenient.Texts.{BodyText, body_text}
+use Rattle.mail_read.specs.lenient.Values.{first_header_text}
 use Rattle.mail_data.specs.Texts.{text_part}
 
 -- the address of a mailbox, in canonical form

@@ -4,8 +4,8 @@ use Rattle.mail_codec.specs.Charset.{Charsets}
 use Rattle.mailparse.specs.Mail.{Tree, root}
 use Rattle.mailparse.specs.Map.{text_found}
 use Rattle.mail_data.specs.Archive.{message_id}
-use Rattle.mail_data.specs.lenient.TextViews.{text_view}
-use Rattle.mail_data.specs.lenient.Values.{first_header_text}
+use Rattle.mail_read.specs.lenient.TextViews.{text_view}
+use Rattle.mail_read.specs.lenient.Values.{first_header_text}
 use Rattle.mail_jobs.specs.Indexer as mail
 use Rattle.mail_jobs.specs.declared.indexer.IndexEntry.{IndexEntry}
 

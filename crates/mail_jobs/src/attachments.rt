@@ -3,15 +3,15 @@ ghost use Rattle.std.specs.Prelude.{◌≡◌, map, string_bytes, All, IfErr, If
 ghost use Rattle.mailparse.specs.Mail.{root};
 ghost use Rattle.mailparse.specs.Outcome.{AnswersOrMemory, GivesText, IsMemory};
 ghost use Rattle.mailparse.specs.Views.{tree_of};
-ghost use Rattle.mail_data.specs.FileNames.{IsSafeName};
-ghost use Rattle.mail_data.specs.FileViews.{attachment_view};
-ghost use Rattle.mail_data.specs.lenient.Content.{message_content};
-ghost use Rattle.mail_data.specs.lenient.ContentViews.{content_view};
+ghost use Rattle.mail_read.specs.FileNames.{IsSafeName};
+ghost use Rattle.mail_read.specs.FileViews.{attachment_view};
+ghost use Rattle.mail_read.specs.lenient.Content.{message_content};
+ghost use Rattle.mail_read.specs.lenient.ContentViews.{content_view};
 ghost use Rattle.mail_jobs.specs.Attachments.{stored, stored_files, stored_name};
 ghost use Rattle.mail_jobs.specs.AttachmentViews.{stored_view};
 
-use mail_data::files::{Attachment, attachments, safe_file_name};
-use mail_data::lenient::{Content, lenient_body, lenient_content, lenient_file_name};
+use mail_read::files::{Attachment, attachments, safe_file_name};
+use mail_read::lenient::{Content, lenient_body, lenient_content, lenient_file_name};
 use mailparse::{KnownCharsets, MailParseError, ParsedMail};
 use std::alloc::Global;
 

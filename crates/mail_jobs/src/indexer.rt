@@ -4,14 +4,14 @@ ghost use Rattle.mailparse.specs.Mail.{root};
 ghost use Rattle.mailparse.specs.Map.{text_found};
 ghost use Rattle.mailparse.specs.Outcome.{AnswersOrMemory, IsMemory};
 ghost use Rattle.mailparse.specs.Views.{tree_of};
-ghost use Rattle.mail_data.specs.lenient.TextViews.{text_view};
-ghost use Rattle.mail_data.specs.lenient.Values.{first_header_text};
+ghost use Rattle.mail_read.specs.lenient.TextViews.{text_view};
+ghost use Rattle.mail_read.specs.lenient.Values.{first_header_text};
 ghost use Rattle.mail_jobs.specs.Indexer.{date, sender, text};
 ghost use Rattle.mail_jobs.specs.IndexerViews.{IsEntry};
 
 use mail_address::lenient_sender_of;
 use mail_data::archive::message_id;
-use mail_data::lenient::{self, BodyText, DateError, body_text, first_header_text};
+use mail_read::lenient::{self, BodyText, DateError, body_text, first_header_text};
 use mail_data::texts::text_part;
 use mailparse::{KnownCharsets, MailParseError, ParsedMail};
 use std::alloc::Global;

@@ -7,7 +7,7 @@ use crate::indexer::{IndexEntry, index_entry};
 use crate::threads::{ThreadPlace, thread_place};
 use mail_charsets::AllCharsets;
 use mail_data::bounce::Recipient;
-use mail_data::lenient::ContentFault;
+use mail_read::lenient::ContentFault;
 use mailparse::{KnownCharsets, MailParseError, ParsedMail, parse_mail_in};
 use std::alloc::{AllocError, Global};
 

@@ -1,7 +1,7 @@
 -- The encoding of a body; the program's own form.
 use Rattle.std.specs.Prelude.{ℕ, List, codes}
 use Rattle.mailparse.specs.Body.{in_base64, in_quoted_printable, in_7bit, in_8bit, in_binary}
-use Rattle.mail_data.specs.lenient.Encoding.{LenientKind, in_uuencode, standard}
+use Rattle.mail_read.specs.lenient.Encoding.{LenientKind, in_uuencode, standard}
 
 -- the name of a transfer encoding
 abbrev pub encoding_text : LenientKind → List ℕ

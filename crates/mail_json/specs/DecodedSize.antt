@@ -5,9 +5,9 @@ use Rattle.std.specs.Result.{result_ok}
 use Rattle.mail_codec.specs.Charset.{Charsets}
 use Rattle.mailparse.specs.Mail.{Node, Tree, root, trees_within}
 use Rattle.mailparse.specs.Refusal.{Reads, Refusal, generic}
-use Rattle.mail_data.specs.InnerMails.{forwards, is_plain}
-use Rattle.mail_data.specs.lenient.Content.{message_content}
-use Rattle.mail_data.specs.lenient.Encoding.{lenient_body_kind}
+use Rattle.mail_read.specs.InnerMails.{forwards, is_plain}
+use Rattle.mail_read.specs.lenient.Content.{message_content}
+use Rattle.mail_read.specs.lenient.Encoding.{lenient_body_kind}
 use Rattle.mail_json.specs.Reading.{mail_reading}
 
 -- the number of bytes that are decoded for the mail in a part: none if it is not encoded

@@ -3,13 +3,13 @@ use Rattle.std.specs.Prelude.{◌≡◌, Bool, true, false, Option, Some, None, 
 use Rattle.mailparse.specs.BodyViews.{content_of}
 use Rattle.mailparse.specs.Mail.{Tree, root}
 use Rattle.mailparse.specs.Views.{tree_of}
-use Rattle.mail_data.specs.InnerMails.{holds_mail}
-use Rattle.mail_data.specs.PartPlaces.{Place}
-use Rattle.mail_data.specs.PlaceViews.{place_view}
-use Rattle.mail_data.specs.lenient.Content.{Content, message_content}
-use Rattle.mail_data.specs.lenient.ContentViews.{content_view}
-use Rattle.mail_data.specs.lenient.Encoding.{lenient_body_kind}
-use Rattle.mail_data.specs.lenient.EncodingViews.{IsLenientBody}
+use Rattle.mail_read.specs.InnerMails.{holds_mail}
+use Rattle.mail_read.specs.PartPlaces.{Place}
+use Rattle.mail_read.specs.PlaceViews.{place_view}
+use Rattle.mail_read.specs.lenient.Content.{Content, message_content}
+use Rattle.mail_read.specs.lenient.ContentViews.{content_view}
+use Rattle.mail_read.specs.lenient.Encoding.{lenient_body_kind}
+use Rattle.mail_read.specs.lenient.EncodingViews.{IsLenientBody}
 use Rattle.mail_json.specs.Part.{content_if}
 use Rattle.mail_json.specs.declared.decoded.Decoded.{Decoded}
 

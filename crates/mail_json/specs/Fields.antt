@@ -3,10 +3,10 @@ use Rattle.std.specs.Prelude.{ℕ, false, List, Option, codes}
 use Rattle.mail_codec.specs.Charset.{Charsets}
 use Rattle.mailparse.specs.Disposition.{Kind, inline, attachment, form_data, extension}
 use Rattle.mailparse.specs.Mail.{Node}
-use Rattle.mail_data.specs.declared.lenient.date.error.DateError.{DateError}
-use Rattle.mail_data.specs.declared.lenient.date.error.DateError.TheVariants.{Day, Month, Year, Time, Zone, TrailingText}
+use Rattle.mail_read.specs.declared.lenient.date.error.DateError.{DateError}
+use Rattle.mail_read.specs.declared.lenient.date.error.DateError.TheVariants.{Day, Month, Year, Time, Zone, TrailingText}
 use Rattle.mail_data.specs.Archive.{first_id, ids_of}
-use Rattle.mail_data.specs.lenient.Values.{first_header_text}
+use Rattle.mail_read.specs.lenient.Values.{first_header_text}
 
 -- the name of a disposition
 abbrev pub kind_text : Kind → List ℕ

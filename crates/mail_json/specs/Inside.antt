@@ -5,9 +5,9 @@ use Rattle.std.specs.Result.{result_ok}
 use Rattle.mail_codec.specs.Charset.{Charsets}
 use Rattle.mailparse.specs.Mail.{Tree}
 use Rattle.mailparse.specs.Refusal.{Reads, Refusal}
-use Rattle.mail_data.specs.InnerMails.{InnerMail, places_under}
-use Rattle.mail_data.specs.PartPlaces.{Place}
-use Rattle.mail_data.specs.Reading.{mail_placements}
+use Rattle.mail_read.specs.InnerMails.{InnerMail, places_under}
+use Rattle.mail_read.specs.PartPlaces.{Place}
+use Rattle.mail_read.specs.Reading.{mail_placements}
 use Rattle.mail_json.specs.Reading.{inner_mails_within, mail_reading, mails_in_place}
 
 -- the parts of a mail inside, with their paths in the whole mail; of one that is refused none

@@ -4,9 +4,9 @@ use Rattle.mail_codec.specs.Charset.{Charsets}
 use Rattle.mailparse.specs.Outcome.{refusal_of}
 use Rattle.mailparse.specs.Refusal.{Refusal}
 use Rattle.mailparse.specs.Views.{placements_of, tree_of}
-use Rattle.mail_data.specs.InnerMails.{mail_bytes}
-use Rattle.mail_data.specs.PartPlaces.{Place}
-use Rattle.mail_data.specs.Reading.{mail_placements}
+use Rattle.mail_read.specs.InnerMails.{mail_bytes}
+use Rattle.mail_read.specs.PartPlaces.{Place}
+use Rattle.mail_read.specs.Reading.{mail_placements}
 use Rattle.mail_json.specs.Inside.{Listed}
 use Rattle.mail_json.specs.Reading.{mail_reading}
 use Rattle.mail_json.specs.declared.inside.Inner.{Inner}

@@ -11,7 +11,7 @@ use Rattle.mail_program.specs.declared.fault.Fault.{Fault}
 use Rattle.mail_data.specs.Mailbox.{Entry, front_length}
 use Rattle.mail_data.specs.MailboxFormats.{entries_in, mail_in}
 use Rattle.mail_data.specs.MailboxParts.{Placed, placed_from}
-use Rattle.mail_data.specs.Reading as plain
+use Rattle.mail_read.specs.Reading as plain
 use Rattle.mail_data.specs.Separator.{is_separator}
 use Rattle.mail_data.specs.declared.mailbox.formats.Format.{Format}
 use Rattle.mail_data.specs.declared.mailbox.formats.Format.TheVariants.{Plain}

@@ -11,13 +11,13 @@ use Rattle.mailparse.specs.ContentType.{ContentType}
 use Rattle.mailparse.specs.Disposition.{Kind}
 use Rattle.mailparse.specs.Mail.{Node, Tree}
 use Rattle.mailparse.specs.Pairs.{Texts}
-use Rattle.mail_data.specs.Attachments.{describes_attachment, is_attachment_disposition}
-use Rattle.mail_data.specs.Files.{is_leaf}
+use Rattle.mail_read.specs.Attachments.{describes_attachment, is_attachment_disposition}
+use Rattle.mail_read.specs.Files.{is_leaf}
 use Rattle.mail_data.specs.Bounce.{Delivery, recipients}
 use Rattle.mail_data.specs.Flowed.{unflowed_of}
 use Rattle.mail_data.specs.Reports.{report_blocks}
 use Rattle.mail_data.specs.Texts.{text_type_of}
-use Rattle.mail_data.specs.lenient.Content.{Content, message_content}
+use Rattle.mail_read.specs.lenient.Content.{Content, message_content}
 use Rattle.mail_html.specs.Text.{html_text}
 use Rattle.mail_html.specs.declared.links.Links.TheVariants.{Omitted}
 use Rattle.mail_html.specs.declared.references.References.{References}

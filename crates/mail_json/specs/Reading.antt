@@ -5,12 +5,12 @@ use Rattle.mail_codec.specs.Charset.{Charsets}
 use Rattle.mailparse.specs.Mail.{Tree, root, trees_within}
 use Rattle.mailparse.specs.Placement.{Placement}
 use Rattle.mailparse.specs.Refusal.{◌>>=◌, Reads, too_many_items}
-use Rattle.mail_data.specs.InnerMails.{InnerMail, inner_mails_by, mails_below_by, mails_in_place_by}
-use Rattle.mail_data.specs.PartPlaces.{Place}
-use Rattle.mail_data.specs.Reading.{mail_placements}
-use Rattle.mail_data.specs.Reading as plain
+use Rattle.mail_read.specs.InnerMails.{InnerMail, inner_mails_by, mails_below_by, mails_in_place_by}
+use Rattle.mail_read.specs.PartPlaces.{Place}
+use Rattle.mail_read.specs.Reading.{mail_placements}
+use Rattle.mail_read.specs.Reading as plain
 use Rattle.mail_data.specs.TextFiles.{blocks_from, is_plain_text}
-use Rattle.mail_data.specs.lenient.Content.{message_content}
+use Rattle.mail_read.specs.lenient.Content.{message_content}
 
 -- a text has more blocks than this limit: files in those after them would be left out
 abbrev pub has_many_blocks : ℕ → List ℕ → Bool

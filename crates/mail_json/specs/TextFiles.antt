@@ -2,10 +2,10 @@
 use Rattle.std.specs.Prelude.{ℕ, ◌+◌, Bool, not, ◌&&◌, List, [], ◌∷◌, Option, Some, option_map, if◌then◌else◌}
 use Rattle.mail_codec.specs.Uuencode.{Span}
 use Rattle.mailparse.specs.Mail.{Tree}
-use Rattle.mail_data.specs.Files.{text_of_octets}
-use Rattle.mail_data.specs.PartPlaces.{Place}
+use Rattle.mail_read.specs.Files.{text_of_octets}
+use Rattle.mail_read.specs.PartPlaces.{Place}
 use Rattle.mail_data.specs.TextFiles.{TextFile, file_bytes, is_plain_text, text_file_path, text_files}
-use Rattle.mail_data.specs.lenient.Content.{Content}
+use Rattle.mail_read.specs.lenient.Content.{Content}
 use Rattle.mail_json.specs.Part.{hash_of}
 
 -- a file: its path, its name, the range of its block in the text, its content, and the hash of that, if it is asked for

@@ -14,16 +14,16 @@ use Rattle.mailparse.specs.Map.{first_with_key}
 use Rattle.mailparse.specs.Refusal.{Reads, Refusal}
 use Rattle.mail_data.specs.Archive.{ids_of}
 use Rattle.mail_data.specs.Bounce.{Delivery, original_message_id}
-use Rattle.mail_data.specs.Attachments.{is_extracted}
-use Rattle.mail_data.specs.lenient.Dispositions.{lenient_disposition}
-use Rattle.mail_data.specs.lenient.FileNames.{lenient_file_name}
-use Rattle.mail_data.specs.PartPlaces.{Place, places}
-use Rattle.mail_data.specs.lenient.Date.{Dated, Zoned, zoned_date_of}
-use Rattle.mail_data.specs.lenient.Content.{Content}
-use Rattle.mail_data.specs.lenient.Encoding.{lenient_body_kind}
-use Rattle.mail_data.specs.lenient.Refused.{kept_for}
-use Rattle.mail_data.specs.lenient.Texts.{text_read}
-use Rattle.mail_data.specs.lenient.Values.{header_text}
+use Rattle.mail_read.specs.Attachments.{is_extracted}
+use Rattle.mail_read.specs.lenient.Dispositions.{lenient_disposition}
+use Rattle.mail_read.specs.lenient.FileNames.{lenient_file_name}
+use Rattle.mail_read.specs.PartPlaces.{Place, places}
+use Rattle.mail_read.specs.lenient.Date.{Dated, Zoned, zoned_date_of}
+use Rattle.mail_read.specs.lenient.Content.{Content}
+use Rattle.mail_read.specs.lenient.Encoding.{lenient_body_kind}
+use Rattle.mail_read.specs.lenient.Refused.{kept_for}
+use Rattle.mail_read.specs.lenient.Texts.{text_read}
+use Rattle.mail_read.specs.lenient.Values.{header_text}
 use Rattle.mail_check.specs.Findings.{Finding}
 use Rattle.mail_check.specs.Inside.{path_shown}
 use Rattle.mail_check.specs.Names.{class_text, sentence_of, text_of}
@@ -36,8 +36,8 @@ use Rattle.mail_address.specs.Tokens.{delete}
 use Rattle.mail_json.specs.Addresses.{canonical, unless_empty}
 use Rattle.mail_json.specs.Body.{encoding_text}
 use Rattle.mail_json.specs.Fields.{content_id, date_fault_text, kind_text, value_of}
-use Rattle.mail_data.specs.InnerMails.{InnerMail, places_under}
-use Rattle.mail_data.specs.Reading.{mail_placements}
+use Rattle.mail_read.specs.InnerMails.{InnerMail, places_under}
+use Rattle.mail_read.specs.Reading.{mail_placements}
 use Rattle.mail_json.specs.Inside.{Listed, mails_among, mails_inside, parts_inside, without_bytes}
 use Rattle.mail_json.specs.Origin.{Origin}
 use Rattle.mail_json.specs.Part.{Lists, content_if, hash_of, html_shown, is_attachment, is_read, place_in, recipients_if, report_if, text_shown}

@@ -1,11 +1,11 @@
 //! The encoding of a body.
 ghost use Rattle.std.specs.Prelude.{◌≡◌};
 ghost use Rattle.mailparse.specs.BodyViews.{Content};
-ghost use Rattle.mail_data.specs.lenient.Encoding.{LenientKind};
-ghost use Rattle.mail_data.specs.lenient.EncodingViews.{IsLenientBody};
+ghost use Rattle.mail_read.specs.lenient.Encoding.{LenientKind};
+ghost use Rattle.mail_read.specs.lenient.EncodingViews.{IsLenientBody};
 ghost use Rattle.mail_json.specs.Body.{encoding_text};
 
-use mail_data::lenient::LenientBody;
+use mail_read::lenient::LenientBody;
 use mailparse::body::Body;
 
 /// Returns the name of the transfer encoding of a body.

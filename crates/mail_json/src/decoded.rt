@@ -5,18 +5,18 @@ ghost use Rattle.mailparse.specs.BodyViews.{content_of};
 ghost use Rattle.mailparse.specs.Mail.{Tree, root};
 ghost use Rattle.mailparse.specs.Outcome.{IsMemory};
 ghost use Rattle.mailparse.specs.Views.{tree_of};
-ghost use Rattle.mail_data.specs.InnerMails.{holds_mail, mail_bytes};
-ghost use Rattle.mail_data.specs.PlaceViews.{place_view};
-ghost use Rattle.mail_data.specs.lenient.ContentViews.{content_view};
-ghost use Rattle.mail_data.specs.lenient.Encoding.{lenient_body_kind};
-ghost use Rattle.mail_data.specs.lenient.EncodingViews.{IsLenientBody};
+ghost use Rattle.mail_read.specs.InnerMails.{holds_mail, mail_bytes};
+ghost use Rattle.mail_read.specs.PlaceViews.{place_view};
+ghost use Rattle.mail_read.specs.lenient.ContentViews.{content_view};
+ghost use Rattle.mail_read.specs.lenient.Encoding.{lenient_body_kind};
+ghost use Rattle.mail_read.specs.lenient.EncodingViews.{IsLenientBody};
 ghost use Rattle.mail_json.specs.Part.{content_if};
 ghost use Rattle.mail_json.specs.DecodedViews.{IsDecoded, decoded_place, mail_if};
 
 use crate::options::LineOptions;
-use mail_data::inner_mails::holds_mail;
-use mail_data::lenient::{Content, LenientBody, lenient_body, lenient_content};
-use mail_data::places::Place;
+use mail_read::inner_mails::holds_mail;
+use mail_read::lenient::{Content, LenientBody, lenient_body, lenient_content};
+use mail_read::places::Place;
 use mailparse::MailParseError;
 use std::alloc::Global;
 
@@ -46,7 +46,7 @@ pub struct Decoded<'p, 'm, 'a> {
 /// # Examples
 ///
 /// ```rust
-/// use mail_data::places::places;
+/// use mail_read::places::places;
 /// use mail_json::{LineOptions, decoded_parts};
 /// use mailparse::parse_mail;
 ///
@@ -144,7 +144,7 @@ fn mail_if<'b>(
 /// # Examples
 ///
 /// ```rust
-/// use mail_data::places::places;
+/// use mail_read::places::places;
 /// use mail_json::{LineOptions, decoded_parts, mail_in};
 /// use mailparse::parse_mail;
 ///

@@ -5,17 +5,17 @@ ghost use Rattle.mailparse.specs.BodyViews as bodies;
 ghost use Rattle.mailparse.specs.Mail.{root};
 ghost use Rattle.mailparse.specs.Outcome.{AnswersOrMemory, IsMemory};
 ghost use Rattle.mailparse.specs.Views.{placements_of, tree_of};
-ghost use Rattle.mail_data.specs.Reading.{mail_placements};
-ghost use Rattle.mail_data.specs.InnerMails.{is_plain};
-ghost use Rattle.mail_data.specs.lenient.Content.{message_content};
-ghost use Rattle.mail_data.specs.lenient.Encoding.{LenientKind};
-ghost use Rattle.mail_data.specs.lenient.EncodingViews.{IsLenientBody};
+ghost use Rattle.mail_read.specs.Reading.{mail_placements};
+ghost use Rattle.mail_read.specs.InnerMails.{is_plain};
+ghost use Rattle.mail_read.specs.lenient.Content.{message_content};
+ghost use Rattle.mail_read.specs.lenient.Encoding.{LenientKind};
+ghost use Rattle.mail_read.specs.lenient.EncodingViews.{IsLenientBody};
 ghost use Rattle.mail_json.specs.DecodedSize.{bounded_reading, bytes_left, decoded_size};
 ghost use Rattle.mail_json.specs.DecodedSize.{mail_size, most_decoded, own_size};
 
 use crate::reading::read_mail;
-use mail_data::inner_mails::forwards;
-use mail_data::lenient::{Content, LenientBody, lenient_body, lenient_content};
+use mail_read::inner_mails::forwards;
+use mail_read::lenient::{Content, LenientBody, lenient_body, lenient_content};
 use mailparse::body::Body;
 use mailparse::{KnownCharsets, MAX_LEVELS, MailParseError, ParsedMail};
 use std::alloc::Global;
@@ -44,7 +44,7 @@ const FREE: usize = 64 * 1024 * 1024;
 ///
 /// ```rust
 /// use mail_json::read_bounded;
-/// use mail_data::reading::DEFAULT_LIMIT;
+/// use mail_read::reading::DEFAULT_LIMIT;
 ///
 /// let raw = b"Content-Type: message/rfc822\nContent-Transfer-Encoding: base64\n\nQTogYgoK\n";
 /// let mail = read_bounded(alloc, raw, DEFAULT_LIMIT, Some(6), &())?;

@@ -7,7 +7,7 @@ ghost use Rattle.mailparse.specs.Views.{kind, tree_of};
 ghost use Rattle.mail_json.specs.Fields.{content_id, kind_text, value_of};
 
 use mail_data::archive::ids_of;
-use mail_data::lenient::{IdRule, first_header_text};
+use mail_read::lenient::{IdRule, first_header_text};
 use mailparse::{DispositionType, KnownCharsets, MailParseError, ParsedMail};
 use std::alloc::Global;
 

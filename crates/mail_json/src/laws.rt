@@ -15,7 +15,7 @@ ghost use Rattle.mail_json.specs.FindingsLine.{findings_value};
 ghost use Rattle.mail_json.specs.JsonText.{character_text, json_text};
 ghost use Rattle.mail_data.specs.MailboxOffsets.{IsThere};
 ghost use Rattle.mail_data.specs.MailboxParts.{Placed};
-ghost use Rattle.mail_data.specs.Reading as plain;
+ghost use Rattle.mail_read.specs.Reading as plain;
 ghost use Rattle.mail_data.specs.TextFiles.{text_files};
 ghost use Rattle.mail_json.specs.DecodedSize.{bounded_reading};
 ghost use Rattle.mail_json.specs.JsonLines.{AreMailboxLines, IsLineOf, format_of, origin_at};

@@ -3,8 +3,8 @@ ghost use Rattle.std.specs.List.{AllByRecursion};
 ghost use Rattle.std.specs.Prelude.{◌≡◌, codes, map, option_map, true, IfErr, IfOk};
 ghost use Rattle.mailparse.specs.Mail.{root, trees_within};
 ghost use Rattle.mailparse.specs.Views.{placements_of, tree_of};
-ghost use Rattle.mail_data.specs.Reading.{mail_placements};
-ghost use Rattle.mail_data.specs.lenient.Date.{zoned_date_of};
+ghost use Rattle.mail_read.specs.Reading.{mail_placements};
+ghost use Rattle.mail_read.specs.lenient.Date.{zoned_date_of};
 ghost use Rattle.mail_json.specs.Fields.{date_fault_text, value_of};
 ghost use Rattle.mail_json.specs.Origin.{origin_of};
 ghost use Rattle.mail_json.specs.DecodedViews.{IsDecoded, decoded_tree};
@@ -35,8 +35,8 @@ use crate::origin::{Origin, write_origin};
 use crate::reports::write_reported;
 use mail_codec::charset::decode_latin1;
 use mail_data::archive::ids_of;
-use mail_data::lenient::{DateError, IdRule, zoned_date_of};
-use mail_data::places::places;
+use mail_read::lenient::{DateError, IdRule, zoned_date_of};
+use mail_read::places::places;
 use mail_program::Fault;
 use mailparse::{KnownCharsets, MailHeaderMap, ParsedMail};
 use std::alloc::Global;
@@ -53,7 +53,7 @@ use std::io::Write;
 /// # Examples
 ///
 /// ```rust
-/// use mail_data::reading::{DEFAULT_LIMIT, read_mail};
+/// use mail_read::reading::{DEFAULT_LIMIT, read_mail};
 /// use mail_json::{LineOptions, Origin, write_mail};
 ///
 /// let mail = read_mail(alloc, b"Subject: Hi\n\nHello\n", DEFAULT_LIMIT, &())?;

@@ -3,7 +3,7 @@ ghost use Rattle.std.specs.Prelude.{◌≡◌, None, false, true};
 ghost use Rattle.mail_json.specs.JsonLines.{format_of};
 
 use mail_data::mailbox::Format;
-use mail_data::reading::DEFAULT_LIMIT;
+use mail_read::reading::DEFAULT_LIMIT;
 use mail_html::References;
 
 /// What an input is.

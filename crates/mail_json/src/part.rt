@@ -7,10 +7,10 @@ ghost use Rattle.mailparse.specs.Map.{text_found};
 ghost use Rattle.mailparse.specs.Mail.{root};
 ghost use Rattle.mailparse.specs.Outcome.{IsMemory};
 ghost use Rattle.mailparse.specs.Views.{content_type, kind, tree_of};
-ghost use Rattle.mail_data.specs.lenient.ContentViews.{content_view};
-ghost use Rattle.mail_data.specs.lenient.Refused.{kept_for};
-ghost use Rattle.mail_data.specs.PlaceViews.{place_view};
-ghost use Rattle.mail_data.specs.Files.{is_leaf, is_shown};
+ghost use Rattle.mail_read.specs.lenient.ContentViews.{content_view};
+ghost use Rattle.mail_read.specs.lenient.Refused.{kept_for};
+ghost use Rattle.mail_read.specs.PlaceViews.{place_view};
+ghost use Rattle.mail_read.specs.Files.{is_leaf, is_shown};
 ghost use Rattle.mail_data.specs.ReportViews.{block_view};
 ghost use Rattle.mail_check.specs.Inside.{path_shown};
 ghost use Rattle.mail_json.specs.Part.{Lists, content_if, hash_of, html_shown, is_attachment};
@@ -42,13 +42,13 @@ use crate::options::LineOptions;
 use crate::reports::{write_pair, write_report};
 use crate::text_files::write_text_files;
 use mail_codec::charset::decode_latin1;
-use mail_data::files::{describes_attachment, is_attachment_disposition, is_leaf, is_shown};
+use mail_read::files::{describes_attachment, is_attachment_disposition, is_leaf, is_shown};
 use mail_data::flowed::unflowed_of;
-use mail_data::lenient::{
+use mail_read::lenient::{
     Content, charset_used, lenient_disposition, lenient_file_name, lenient_header_text_ref,
     lenient_text, refusal,
 };
-use mail_data::places::Place;
+use mail_read::places::Place;
 use mail_data::reports::{Block, has_report, read_blocks};
 use mail_data::texts::text_type_of;
 use mail_html::{Links, References, html_text};
@@ -294,7 +294,7 @@ pub(crate) fn place_in(start: Option<usize>, at: usize) -> Option<usize>
 /// # Examples
 ///
 /// ```rust
-/// use mail_data::lenient::lenient_disposition;
+/// use mail_read::lenient::lenient_disposition;
 /// use mail_json::is_read;
 /// use mailparse::parse_mail;
 ///
@@ -344,7 +344,7 @@ fn write_parameter<W: Write>(out: &mut W, name: &str, value: &str) -> Result<(),
 /// # Examples
 ///
 /// ```rust
-/// use mail_data::lenient::{lenient_disposition, lenient_file_name};
+/// use mail_read::lenient::{lenient_disposition, lenient_file_name};
 /// use mail_json::is_attachment;
 /// use mailparse::parse_mail;
 ///

@@ -4,17 +4,17 @@ ghost use Rattle.std.specs.List.{list_any};
 ghost use Rattle.mailparse.specs.Mail.{trees_within};
 ghost use Rattle.mailparse.specs.Outcome.{AnswersOrMemory, IsMemory};
 ghost use Rattle.mailparse.specs.Views.{placements_of, tree_of};
-ghost use Rattle.mail_data.specs.Reading.{mail_placements};
+ghost use Rattle.mail_read.specs.Reading.{mail_placements};
 ghost use Rattle.mail_json.specs.Reading.{has_many_blocks, has_many_files, mail_reading};
 
 use mail_codec::transfer::find_uuencode;
-use mail_data::lenient::{lenient_body, lenient_content};
-use mail_data::reading;
+use mail_read::lenient::{lenient_body, lenient_content};
+use mail_read::reading;
 use mail_data::text_files::is_plain_text;
 use mailparse::{KnownCharsets, MailParseError, ParsedMail};
 use std::alloc::Global;
 
-/// Returns a mail as `mail_data::reading::read_mail` does, but refuses it if one of its plain texts
+/// Returns a mail as `mail_read::reading::read_mail` does, but refuses it if one of its plain texts
 /// has more than `limit` blocks of uuencoded files (POSIX.1, `uuencode`), since `text_files` leaves
 /// out the files in those after them.
 ///

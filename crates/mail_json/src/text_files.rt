@@ -1,8 +1,8 @@
 //! The files in the texts of parts as JSON.
 ghost use Rattle.std.specs.Prelude.{◌≡◌, codes, map, option_map, IfOk, Some};
-ghost use Rattle.mail_data.specs.PlaceViews.{place_view};
+ghost use Rattle.mail_read.specs.PlaceViews.{place_view};
 ghost use Rattle.mail_data.specs.TextFileViews.{text_file_view};
-ghost use Rattle.mail_data.specs.lenient.ContentViews.{content_view};
+ghost use Rattle.mail_read.specs.lenient.ContentViews.{content_view};
 ghost use Rattle.mailparse.specs.Map.{text_found};
 ghost use Rattle.mailparse.specs.Views.{tree_of};
 ghost use Rattle.mail_json.specs.Members.{AddsMembers};
@@ -17,8 +17,8 @@ use crate::lists::{ListItem, write_list};
 use crate::members::{add_null, add_number, add_optional, add_text, first_key, key};
 use crate::options::LineOptions;
 use crate::part::write_size;
-use mail_data::lenient::Content;
-use mail_data::places::Place;
+use mail_read::lenient::Content;
+use mail_read::places::Place;
 use mail_data::text_files::{TextFile, is_plain_text, text_file_path, text_files};
 use mail_program::{Fault, sha256_text};
 use mailparse::{KnownCharsets, ParsedMail};

@@ -10,7 +10,7 @@ use Rattle.mailparse.specs.Header.{Header}
 use Rattle.mailparse.specs.Mail.{Node, Tree, tree, Forest, no_parts, part_and, cut_of, cut_of_as}
 use Rattle.mailparse.specs.Map.{first_with_key}
 use Rattle.mailparse.specs.Ranges.{Range}
-use Rattle.mail_data.specs.lenient.Agreement.{is_strict_value}
+use Rattle.mail_read.specs.lenient.Agreement.{is_strict_value}
 
 -- the offsets of these ranges, in order
 abbrev pub offsets : List Range → List ℕ

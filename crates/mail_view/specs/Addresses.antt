@@ -8,7 +8,7 @@ use Rattle.mail_address.specs.Lenient.{lenient_addresses_of}
 use Rattle.mail_address.specs.Mailbox.{Parts}
 use Rattle.mail_address.specs.ShownNames.{shown_display_name}
 use Rattle.mail_address.specs.Text.{address_bytes}
-use Rattle.mail_data.specs.lenient.Names.{name_text}
+use Rattle.mail_read.specs.lenient.Names.{name_text}
 use Rattle.mail_view.specs.Line.{Line, line}
 use Rattle.mail_view.specs.Names.{shown_name}
 use Rattle.mail_view.specs.declared.line.Prefix.{Prefix}

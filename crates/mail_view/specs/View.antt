@@ -4,14 +4,14 @@ use Rattle.std.specs.Str.Lines.{lines}
 use Rattle.mail_codec.specs.Charset.{Charsets}
 use Rattle.mailparse.specs.Mail.{Node, Tree, root}
 use Rattle.mailparse.specs.Map.{all_with_key}
-use Rattle.mail_data.specs.Files.{is_leaf}
-use Rattle.mail_data.specs.lenient.FileNames.{lenient_file_name}
+use Rattle.mail_read.specs.Files.{is_leaf}
+use Rattle.mail_read.specs.lenient.FileNames.{lenient_file_name}
 use Rattle.mail_data.specs.InlineTexts.{InlineText, inline_texts}
-use Rattle.mail_data.specs.PartPlaces.{Place, places}
-use Rattle.mail_data.specs.Reading.{mail_placements}
-use Rattle.mail_data.specs.lenient.Content.{message_content}
-use Rattle.mail_data.specs.lenient.Refused.{was_kept}
-use Rattle.mail_data.specs.lenient.Values.{header_text}
+use Rattle.mail_read.specs.PartPlaces.{Place, places}
+use Rattle.mail_read.specs.Reading.{mail_placements}
+use Rattle.mail_read.specs.lenient.Content.{message_content}
+use Rattle.mail_read.specs.lenient.Refused.{was_kept}
+use Rattle.mail_read.specs.lenient.Values.{header_text}
 use Rattle.mail_html.specs.declared.links.Links.TheVariants.{Footnotes}
 use Rattle.mail_html.specs.declared.references.References.{References}
 use Rattle.mail_view.specs.Addresses.{address_lines}

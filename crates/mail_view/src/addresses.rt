@@ -12,7 +12,7 @@ ghost use Rattle.mail_view.specs.Line.{line, line_text, lines_text};
 use crate::line::{Prefix, push_line};
 use crate::names::push_name;
 use mail_address::{Address, Group, Mailbox, Member, Unknown, lenient_addresses_of};
-use mail_data::lenient::lenient_name_text;
+use mail_read::lenient::lenient_name_text;
 use mailparse::{KnownCharsets, MailParseError, ParsedMail};
 use std::alloc::{AllocError, Global};
 

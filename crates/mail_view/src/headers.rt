@@ -3,13 +3,13 @@ ghost use Rattle.std.specs.Prelude.{◌≡◌, ◌++◌, map, string_bytes, IfEr
 ghost use Rattle.mailparse.specs.Mail.{root};
 ghost use Rattle.mailparse.specs.Outcome.{IsMemory};
 ghost use Rattle.mailparse.specs.Views.{tree_of};
-ghost use Rattle.mail_data.specs.lenient.Values.{header_text};
+ghost use Rattle.mail_read.specs.lenient.Values.{header_text};
 ghost use Rattle.mail_view.specs.Line.{line, lines_text};
 ghost use Rattle.mail_view.specs.View.{header_lines, value_lines};
 
 use crate::addresses::push_addresses;
 use crate::line::{Prefix, push_line};
-use mail_data::lenient::lenient_header_text_ref;
+use mail_read::lenient::lenient_header_text_ref;
 use mailparse::{KnownCharsets, MailHeader, MailHeaderMap, MailParseError, ParsedMail};
 use std::alloc::{AllocError, Global};
 

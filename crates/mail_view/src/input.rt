@@ -15,7 +15,7 @@ use crate::line::{Prefix, push_line};
 use crate::view::write_view;
 use mail_data::mailbox::quoted::unquoted;
 use mail_data::mailbox::{Format, Mailbox, MailboxEntry, read_mailbox};
-use mail_data::reading::read_mail;
+use mail_read::reading::read_mail;
 use mail_html::References;
 use mail_program::{Fault, Outcome, is_all_whitespace, refusal_of};
 use mailparse::KnownCharsets;
@@ -87,7 +87,7 @@ pub fn write_refusal<W: Write>(alloc: Global, out: &mut W, reason: &str) -> Resu
 /// # Examples
 ///
 /// ```rust
-/// use mail_data::reading::DEFAULT_LIMIT;
+/// use mail_read::reading::DEFAULT_LIMIT;
 /// use mail_html::References;
 /// use mail_program::Outcome;
 /// use mail_view::write_single;
@@ -145,7 +145,7 @@ pub fn write_single<W: Write, K: KnownCharsets>(
 ///
 /// ```rust
 /// use mail_data::mailbox::Format;
-/// use mail_data::reading::DEFAULT_LIMIT;
+/// use mail_read::reading::DEFAULT_LIMIT;
 /// use mail_html::References;
 /// use mail_program::Outcome;
 /// use mail_view::write_mailbox;

@@ -3,16 +3,16 @@ ghost use Rattle.std.specs.Prelude.{◌≡◌, ◌++◌, flat_map, string_bytes,
 ghost use Rattle.mailparse.specs.Mail.{root};
 ghost use Rattle.mailparse.specs.Outcome.{GivesText, IsMemory};
 ghost use Rattle.mailparse.specs.Views.{placements_of, tree_of};
-ghost use Rattle.mail_data.specs.PartPlaces.{places};
-ghost use Rattle.mail_data.specs.PlaceViews.{place_view};
+ghost use Rattle.mail_read.specs.PartPlaces.{places};
+ghost use Rattle.mail_read.specs.PlaceViews.{place_view};
 ghost use Rattle.mail_view.specs.Line.{empty, line_text, lines_text};
 ghost use Rattle.mail_view.specs.View.{decoded_size, part_lines, part_size, part_text};
 
 use crate::line::{Prefix, push_empty_line, push_line};
 use crate::row::{row_of, size_text};
-use mail_data::files::is_leaf;
-use mail_data::lenient::{lenient_body, lenient_content, lenient_file_name, was_kept};
-use mail_data::places::{Place, places};
+use mail_read::files::is_leaf;
+use mail_read::lenient::{lenient_body, lenient_content, lenient_file_name, was_kept};
+use mail_read::places::{Place, places};
 use mailparse::{KnownCharsets, MailParseError, ParsedMail};
 use std::alloc::Global;
 

@@ -2,7 +2,7 @@
 ghost use Rattle.std.specs.Prelude.{◌≡◌};
 ghost use Rattle.mailparse.specs.Outcome.{GivesText};
 ghost use Rattle.mailparse.specs.Views.{placements_of, tree_of};
-ghost use Rattle.mail_data.specs.Reading.{mail_placements};
+ghost use Rattle.mail_read.specs.Reading.{mail_placements};
 ghost use Rattle.mail_program.specs.Streams.{Writes};
 ghost use Rattle.mail_view.specs.View.{view_text};
 
@@ -33,7 +33,7 @@ use std::io::Write;
 /// # Examples
 ///
 /// ```rust
-/// use mail_data::reading::{DEFAULT_LIMIT, read_mail};
+/// use mail_read::reading::{DEFAULT_LIMIT, read_mail};
 /// use mail_html::References;
 /// use mail_view::view_of;
 ///
@@ -72,7 +72,7 @@ pub fn view_of<K: KnownCharsets>(
 /// # Examples
 ///
 /// ```rust
-/// use mail_data::reading::{DEFAULT_LIMIT, read_mail};
+/// use mail_read::reading::{DEFAULT_LIMIT, read_mail};
 /// use mail_html::References;
 /// use mail_view::write_view;
 ///

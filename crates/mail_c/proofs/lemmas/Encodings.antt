@@ -10,7 +10,7 @@ use Rattle.mail_codec.specs.Places.{has_prefix}
 use Rattle.mailparse.proofs.lemmas.ValuePlain.{lenient_value-plain}
 use Rattle.mailparse.specs.Body.{kind_named}
 use Rattle.mailparse.specs.Value.{IsPlain, lenient_value}
-use Rattle.mail_data.specs.lenient.Encoding.{lenient_kind, lenient_kind_named, name_at}
+use Rattle.mail_read.specs.lenient.Encoding.{lenient_kind, lenient_kind_named, name_at}
 use Rattle.mail_c.specs.Records.{encoding_number}
 
 -- a name has the number of another one that differs in case alone

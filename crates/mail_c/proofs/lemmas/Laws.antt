@@ -7,11 +7,11 @@ use Rattle.mailparse.specs.Header.{Header}
 use Rattle.mailparse.specs.Map.{first_with_key}
 use Rattle.mailparse.specs.Mail.{Forest, Node, Tree, no_parts, part_and, tree, trees_in, trees_within}
 use Rattle.mailparse.specs.Placement.{Placement}
-use Rattle.mail_data.specs.lenient.FileNames.{lenient_file_name, lenient_name_in}
-use Rattle.mail_data.specs.Files.{parts_with_paths, path_under, whole_path, with_paths}
-use Rattle.mail_data.specs.PartPlaces.{placed, places}
-use Rattle.mail_data.specs.Reading.{mail_placements}
-use Rattle.mail_data.specs.lenient.Manner.{lenient_type_of}
+use Rattle.mail_read.specs.lenient.FileNames.{lenient_file_name, lenient_name_in}
+use Rattle.mail_read.specs.Files.{parts_with_paths, path_under, whole_path, with_paths}
+use Rattle.mail_read.specs.PartPlaces.{placed, places}
+use Rattle.mail_read.specs.Reading.{mail_placements}
+use Rattle.mail_read.specs.lenient.Manner.{lenient_type_of}
 use Rattle.mail_c.specs.Laws.{of_item, of_place}
 use Rattle.mail_c.specs.Ranges as read
 use Rattle.mail_c.specs.Records.{Family, families, families_in, items_of, none}

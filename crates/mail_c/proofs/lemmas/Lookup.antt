@@ -10,8 +10,8 @@ use Rattle.mail_codec.specs.Charset.{Charsets}
 use Rattle.mailparse.specs.Header.{Header}
 use Rattle.mailparse.specs.Mail.{Node}
 use Rattle.mailparse.specs.Map.{first_with_key}
-use Rattle.mail_data.specs.lenient.Dispositions.{lenient_disposition, lenient_kind}
-use Rattle.mail_data.specs.lenient.Values.{header_text}
+use Rattle.mail_read.specs.lenient.Dispositions.{lenient_disposition, lenient_kind}
+use Rattle.mail_read.specs.lenient.Values.{header_text}
 
 -- a text is ASCII by a test of each byte
 by_test : (text : List ℕ) → list_all (λ b. nat_lt b 128) text ≡ true → IsAscii text

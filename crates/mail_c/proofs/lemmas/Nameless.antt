@@ -24,16 +24,16 @@ use Rattle.mailparse.specs.Continuations.{parameters_in}
 use Rattle.mailparse.specs.Pairs.{Texts, is_equals, last_of, no_texts, pair_of, pairs_in, pairs_of}
 use Rattle.mailparse.specs.Segments.{QuoteState, outside, after, ends, segments, segments_from, with_front, unescape}
 use Rattle.mailparse.specs.private.Continuations.{has_star}
-use Rattle.mail_data.specs.Attachments.{is_attachment_disposition}
-use Rattle.mail_data.specs.Files.{filled, first_text, is_leaf, no_charsets}
-use Rattle.mail_data.specs.HeaderNames.{cut_text, decoded_name, name_from}
-use Rattle.mail_data.proofs.lemmas.FileTexts.{octets-utf8}
-use Rattle.mail_data.proofs.lemmas.lenient.Quoting.{quotes_ascii}
-use Rattle.mail_data.proofs.lemmas.lenient.Undecoded.{undecoded_ascii}
-use Rattle.mail_data.specs.lenient.Dispositions.{lenient_disposition, lenient_kind}
-use Rattle.mail_data.specs.lenient.Values.{header_text}
-use Rattle.mail_data.specs.lenient.FileNames.{extended_text, lenient_file_name, lenient_name_in, name_among, shown_name, typed_name}
-use Rattle.mail_data.specs.lenient.Guess.{or_guessed}
+use Rattle.mail_read.specs.Attachments.{is_attachment_disposition}
+use Rattle.mail_read.specs.Files.{filled, first_text, is_leaf, no_charsets}
+use Rattle.mail_read.specs.HeaderNames.{cut_text, decoded_name, name_from}
+use Rattle.mail_read.proofs.lemmas.FileTexts.{octets-utf8}
+use Rattle.mail_read.proofs.lemmas.lenient.Quoting.{quotes_ascii}
+use Rattle.mail_read.proofs.lemmas.lenient.Undecoded.{undecoded_ascii}
+use Rattle.mail_read.specs.lenient.Dispositions.{lenient_disposition, lenient_kind}
+use Rattle.mail_read.specs.lenient.Values.{header_text}
+use Rattle.mail_read.specs.lenient.FileNames.{extended_text, lenient_file_name, lenient_name_in, name_among, shown_name, typed_name}
+use Rattle.mail_read.specs.lenient.Guess.{or_guessed}
 use Rattle.mail_json.specs.Part.{is_attachment}
 use Rattle.mailparse.specs.ContentType.{content_type_in}
 use Rattle.mailparse.specs.Disposition.{Kind, disposition_in}
@@ -46,9 +46,9 @@ use Rattle.mailparse.specs.Tokens.{TokenKind, begins_opening, is_all_whitespace,
 use Rattle.mailparse.specs.Value.{is_released, is_whitespace_token, is_word, kinds, lenient_value_in, newline, outside_token, shown_after, shown_tokens, shows, tokens_of_lines, unfolded_value, value_tokens}
 use Rattle.mail_c.specs.Ranges.{file_name}
 use Rattle.mail_c.specs.Nameless.{has_am_after, is_a, is_m, is_nameless, is_nameless_after, is_nameless_part, lacks_name, may_encode, may_follow}
-use Rattle.mail_data.specs.lenient.Repairs as repairs
-use Rattle.mail_data.specs.lenient.Undecoded.{undecoded}
-use Rattle.mail_data.specs.lenient.Repairs.{after_name, after_quoted, after_run, after_value, apostrophes, begins_parameter, extended_are_alone, for_extended, is_other_space, lacking, missing, repaired, repaired_from, semicolon_unless, underscore_before}
+use Rattle.mail_read.specs.lenient.Repairs as repairs
+use Rattle.mail_read.specs.lenient.Undecoded.{undecoded}
+use Rattle.mail_read.specs.lenient.Repairs.{after_name, after_quoted, after_run, after_value, apostrophes, begins_parameter, extended_are_alone, for_extended, is_other_space, lacking, missing, repaired, repaired_from, semicolon_unless, underscore_before}
 
 -- ---- parts of such a text
 

@@ -12,8 +12,8 @@ use Rattle.mail_codec.specs.Charset.{Charsets}
 use Rattle.std.specs.Prelude.{Some}
 use Rattle.mailparse.specs.Limit.{items_met, read_mail_within}
 use Rattle.mailparse.proofs.lemmas.Limit.{limited-read}
-use Rattle.mail_data.specs.Reading.{mail_reading}
-use Rattle.mail_data.specs.lenient.Manner.{lenient}
+use Rattle.mail_read.specs.Reading.{mail_reading}
+use Rattle.mail_read.specs.lenient.Manner.{lenient}
 use Rattle.mail_c.specs.OwnHeaders.{AllOwn, AreFirstHeaders, HasOwnHeaders}
 use Rattle.mailparse.specs.Header.{Header}
 use Rattle.mail_c.proofs.lemmas.FirstHeaders.{read_lenient-first}

@@ -3,8 +3,8 @@ use Rattle.std.proofs.Common.{◌≡◌, ℕ, Bool, List, Some, Result, Ok, Err,
 use Rattle.mail_codec.specs.Charset.{Charsets}
 use Rattle.mailparse.specs.Outcome.{AnswersOrMemory}
 use Rattle.mailparse.specs.declared.error.MailParseError.{MailParseError}
-use Rattle.mail_data.specs.lenient.Content.{Content, lenient_content}
-use Rattle.mail_data.specs.lenient.Texts.{charset_used, lenient_text}
+use Rattle.mail_read.specs.lenient.Content.{Content, lenient_content}
+use Rattle.mail_read.specs.lenient.Texts.{charset_used, lenient_text}
 use Rattle.mail_c.specs.Buffer.{Found, Output}
 use Rattle.mail_c.specs.Ranges.{Decoded, EndsDecoded, WritesDecoded, WritesDecodedOr, body, body_charset, body_text, decoded_view, kind_numbered, type_of}
 use Rattle.mail_c.specs.declared.ranges.Decoded as made

@@ -7,7 +7,7 @@ use Rattle.mailparse.specs.Mail.{Tree}
 use Rattle.mailparse.specs.Refusal.{Reads}
 use Rattle.mail_data.specs.Bounce as report
 use Rattle.mail_data.specs.Bounce.{Delivery}
-use Rattle.mail_data.specs.Reading.{mail_reading}
+use Rattle.mail_read.specs.Reading.{mail_reading}
 use Rattle.mail_c.specs.Codes.{coded}
 use Rattle.mail_c.specs.Recipients.{AreRecipients, after, bytes_of, deliveries_read, delivery_record, delivery_text, mail_recipients, range_of, record_of, recipients_read}
 use Rattle.mail_c.specs.Results.{no_limit}

@@ -4,12 +4,12 @@ use Rattle.std.proofs.lemmas.Bool.{false≢true}
 use Rattle.std.proofs.lemmas.List.{append-nil}
 use Rattle.std.specs.List.{flat_map}
 use Rattle.mailparse.specs.Mail.{Tree, no_parts, part_and, tree, trees_within}
-use Rattle.mail_data.specs.Files.{is_leaf}
+use Rattle.mail_read.specs.Files.{is_leaf}
 use Rattle.mailparse.specs.Limit.{headers_met}
 use Rattle.mailparse.specs.Placement.{Placement}
 use Rattle.mailparse.specs.Ranges.{Range}
-use Rattle.mail_data.specs.Reading.{mail_placements, mail_reading}
-use Rattle.mail_data.specs.lenient.Encoding.{lenient_body_kind}
+use Rattle.mail_read.specs.Reading.{mail_placements, mail_reading}
+use Rattle.mail_read.specs.lenient.Encoding.{lenient_body_kind}
 use Rattle.mailparse.specs.Views.{placement_of, placements_of, placements_step, tree_of}
 use Rattle.mailparse.specs.declared.mail.message.ParsedMail.{ParsedMail}
 use Rattle.mailparse.specs.declared.mail.message.ParsedMail.TheFolds.{fold_out-ParsedMail}
@@ -28,8 +28,8 @@ use Rattle.mail_codec.specs.Places.{values_below}
 use Rattle.mailparse.specs.Block.{header_place}
 use Rattle.mailparse.specs.Header.{header_length, value_end, value_start}
 use Rattle.mailparse.specs.Mail.{root}
-use Rattle.mail_data.specs.lenient.Dispositions.{lenient_disposition}
-use Rattle.mail_data.specs.lenient.FileNames.{lenient_file_name}
+use Rattle.mail_read.specs.lenient.Dispositions.{lenient_disposition}
+use Rattle.mail_read.specs.lenient.FileNames.{lenient_file_name}
 use Rattle.mail_c.specs.Records.{Family, Item, bare_key_end, block_records, disposition_number, encoding_number, families, flags, header_block, header_record, header_records, item_headers, items_of, limited, mail_records, none, part_record, part_records, records, records_in}
 use Rattle.mail_c.specs.declared.records.HeaderRecord.{HeaderRecord}
 use Rattle.mail_c.specs.declared.records.Node.{Node}

@@ -8,7 +8,7 @@ use Rattle.mail_data.specs.declared.reports.Field.{Field}
 use Rattle.mail_codec.specs.Charset.{Charsets}
 use Rattle.mailparse.specs.Mail.{Tree, root}
 use Rattle.mailparse.specs.Refusal.{Reads}
-use Rattle.mail_data.specs.Reading.{mail_reading}
+use Rattle.mail_read.specs.Reading.{mail_reading}
 use Rattle.mail_data.specs.Reports.{report_blocks}
 use Rattle.mail_c.specs.Codes.{absent, coded}
 use Rattle.mail_c.specs.Reports.{AreFields, Entry, block_entries, block_entry, blocks_read, entry_record, entry_text, part_report, report}

@@ -8,7 +8,7 @@ use Rattle.mailparse.specs.Outcome.{IsMemory, IsRefusalOrMemory}
 use Rattle.mailparse.specs.Refusal.{Reads, Refusal, generic, encoding, base64_fault}
 use Rattle.mailparse.specs.declared.error.MailParseError.{MailParseError}
 use Rattle.mailparse.specs.declared.error.MailParseError.TheVariants.{QuotedPrintableDecodeError, Base64DecodeError, EncodingError, Generic, Memory}
-use Rattle.mail_data.specs.PartPlaces.{Place}
+use Rattle.mail_read.specs.PartPlaces.{Place}
 use Rattle.mail_check.specs.Findings.{Finding, finding_at, spot_of_body}
 use Rattle.mail_check.specs.Inside.{forwarded_findings, inner_mail, inside_findings, mail_in, read_findings, tree_findings}
 use Rattle.mail_check.specs.declared.names.Name.TheVariants.{Refused}

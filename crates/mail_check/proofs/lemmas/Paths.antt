@@ -10,8 +10,8 @@ use Rattle.mailparse.specs.Body.{BodyKind, in_base64, in_quoted_printable, in_7b
 use Rattle.mailparse.specs.ContentType.{ContentType}
 use Rattle.mailparse.specs.Disposition.{Disposition}
 use Rattle.mailparse.specs.Mail.{Node, body_kind, root, shown_as}
-use Rattle.mail_data.specs.Files.{is_leaf}
-use Rattle.mail_data.specs.PartPlaces.{Place}
+use Rattle.mail_read.specs.Files.{is_leaf}
+use Rattle.mail_read.specs.PartPlaces.{Place}
 use Rattle.mail_check.specs.Bodies.{is_base64_lines}
 use Rattle.mail_check.specs.HiddenBits.{hidden_bits}
 use Rattle.mail_check.specs.Bytes.{earlier, first_byte, first_offset, is_bad_escape, is_control, is_end_blank, is_escaped_end, is_high, is_lone_return, is_nul, mixed_line_end}

@@ -7,7 +7,7 @@ use Rattle.std.proofs.lemmas.Bool.{agree_below, agree_below_at, cases_Bool, eqb-
 use Rattle.std.proofs.lemmas.List.{get_or-replicate, get_or-set_other, get_or-set_same, get_or_past, length-set, set_past}
 use Rattle.std.proofs.lemmas.List.Sums.{passes_at_first}
 use Rattle.std.proofs.lemmas.Slice.Eq.{bytes_eq-Decides}
-use Rattle.mail_data.specs.PartPlaces.{Place}
+use Rattle.mail_read.specs.PartPlaces.{Place}
 use Rattle.mail_check.specs.Findings.{repeated, repeated_findings}
 use Rattle.mail_check.specs.Lines.{HeaderLine, is_named, second_named, single_names}
 use Rattle.mail_check.specs.private.Seconds.{second_after}

@@ -4,7 +4,7 @@ use Rattle.std.specs.Prelude.{◌↔◌, ◌⊎◌}
 use Rattle.mail_codec.specs.Charset.{Charsets}
 use Rattle.mailparse.specs.Mail.{Tree, root}
 use Rattle.mailparse.specs.Placement.{placements}
-use Rattle.mail_data.specs.PartPlaces.{places}
+use Rattle.mail_read.specs.PartPlaces.{places}
 use Rattle.mail_check.specs.Bytes.{first_offset, is_bare_line_feed, is_lone_return, is_nul, is_return_feed, mixed_line_end}
 use Rattle.mail_check.specs.Findings.{findings}
 use Rattle.mail_check.specs.strict.Named.{Lacks, is_core, is_line_name, is_lone_cr_name, is_mixed_name, is_nul_name}

@@ -12,7 +12,7 @@ use Rattle.mail_codec.specs.Latin1.{latin1_text}
 use Rattle.mail_codec.specs.Places.{is_empty}
 use Rattle.mailparse.specs.Header.{Header}
 use Rattle.mailparse.specs.Map.{has_key}
-use Rattle.mail_data.specs.Files.{filled}
+use Rattle.mail_read.specs.Files.{filled}
 use Rattle.mail_check.specs.FileNames.{names_differ}
 use Rattle.mail_check.specs.Lines.{HeaderLine}
 use Rattle.mail_check.specs.Parameters.{has_other_name, is_among, is_disposition, is_type, parameter_names, strict_value}

@@ -6,8 +6,8 @@ use Rattle.mailparse.specs.Limit.{items_met, limited, read_mail_within}
 use Rattle.mailparse.specs.Mail.{Tree, read_mail_as, read_mail_in, strict}
 use Rattle.mailparse.specs.Placement.{placements}
 use Rattle.mailparse.specs.Refusal.{Reads, too_many_items}
-use Rattle.mail_data.specs.InnerMails.{path_within, places_under}
-use Rattle.mail_data.specs.PartPlaces.{Place, places}
+use Rattle.mail_read.specs.InnerMails.{path_within, places_under}
+use Rattle.mail_read.specs.PartPlaces.{Place, places}
 use Rattle.mail_check.specs.Findings.{findings, findings_from}
 use Rattle.mail_check.specs.Inside.{all_findings, forwarded_findings, inner_mail, inside_findings, mail_in, moved, places_in, read_findings}
 use Rattle.mail_check.specs.strict.Inside.{IsStrictForwarded, IsStrictInner, IsStrictInside, IsStrictReading, IsStrictWithin}

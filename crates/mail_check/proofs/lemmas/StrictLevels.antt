@@ -9,9 +9,9 @@ use Rattle.mail_codec.specs.Charset.{Charsets}
 use Rattle.mail_codec.specs.Places.{is_empty}
 use Rattle.mailparse.specs.Mail.{Forest, Tree, tree, no_parts, part_and, read_mail_in, trees_within}
 use Rattle.mailparse.specs.Placement.{Placement, placements}
-use Rattle.mail_data.specs.Files.{parts_with_paths, path_under, whole_path, with_paths}
-use Rattle.mail_data.specs.InnerMails.{dot_count}
-use Rattle.mail_data.specs.PartPlaces.{Place, placed, places}
+use Rattle.mail_read.specs.Files.{parts_with_paths, path_under, whole_path, with_paths}
+use Rattle.mail_read.specs.InnerMails.{dot_count}
+use Rattle.mail_read.specs.PartPlaces.{Place, placed, places}
 use Rattle.mail_check.specs.declared.names.Name.{Name}
 use Rattle.mail_check.specs.declared.names.Name.TheVariants as name
 use Rattle.mail_check.specs.strict.Levels.{HasLevels, HaveLevels, IsSmall}

@@ -4,7 +4,7 @@ use Rattle.std.proofs.Common.{refl}
 use Rattle.mail_codec.specs.Charset.{Charsets}
 use Rattle.mailparse.specs.Mail.{Tree, read_mail_in}
 use Rattle.mailparse.specs.Placement.{placements}
-use Rattle.mail_data.specs.PartPlaces.{Place, places}
+use Rattle.mail_read.specs.PartPlaces.{Place, places}
 use Rattle.mail_check.specs.Findings.{findings}
 use Rattle.mail_check.specs.strict.Levels.{IsSmall}
 use Rattle.mail_check.specs.strict.Mail.{AreStrictBodies, AreStrictFields, AreStrictFileNames, AreStrictParameters, AreStrictParts}

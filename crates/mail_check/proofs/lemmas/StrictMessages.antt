@@ -10,8 +10,8 @@ use Rattle.mailparse.specs.Body.{BodyKind, in_base64, in_quoted_printable, in_7b
 use Rattle.mailparse.specs.ContentType.{ContentType}
 use Rattle.mailparse.specs.Header.{Header}
 use Rattle.mailparse.specs.Mail.{Node, Tree, tree, body_kind, root, shown_as, trees_within}
-use Rattle.mail_data.specs.Files.{is_leaf}
-use Rattle.mail_data.specs.PartPlaces.{Place}
+use Rattle.mail_read.specs.Files.{is_leaf}
+use Rattle.mail_read.specs.PartPlaces.{Place}
 use Rattle.mail_check.specs.Bodies.{is_base64_lines}
 use Rattle.mail_check.specs.Bytes.{first_byte, first_offset, is_bad_escape, is_blank_fold, is_comment_fold, is_control}
 use Rattle.mail_check.specs.Bytes.{is_end_blank, is_escaped_end}

@@ -11,9 +11,9 @@ use Rattle.mailparse.specs.ContentType.{ContentType}
 use Rattle.mailparse.specs.Disposition.{Disposition}
 use Rattle.mailparse.specs.Mail.{Forest, Node, Tree, tree, body_kind, cut_of_as, root, shown_as, trees_within}
 use Rattle.mailparse.specs.Ranges.{moved}
-use Rattle.mail_data.specs.Files.{is_leaf, parts_with_paths, whole_path}
+use Rattle.mail_read.specs.Files.{is_leaf, parts_with_paths, whole_path}
 use Rattle.mailparse.specs.Placement.{placements, placements_in_as}
-use Rattle.mail_data.specs.PartPlaces.{Place, placed, places}
+use Rattle.mail_read.specs.PartPlaces.{Place, placed, places}
 use Rattle.mail_check.specs.Bytes.{earlier, first_byte, first_offset, is_bad_escape, is_control, is_end_blank, is_escaped_end, is_high, is_lone_return, is_nul, mixed_line_end}
 use Rattle.mail_check.specs.HiddenBits.{hidden_bits}
 use Rattle.mail_check.specs.Bodies.{is_base64_lines}

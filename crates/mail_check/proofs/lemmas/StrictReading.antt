@@ -11,8 +11,8 @@ use Rattle.mailparse.specs.Ranges.{Range, slice}
 use Rattle.mailparse.specs.Refusal.{◌>>=◌, Reads}
 use Rattle.mailparse.proofs.lemmas.Block.{read_headers-bounded}
 use Rattle.mailparse.proofs.lemmas.Refusal.{read_map}
-use Rattle.mail_data.specs.Files.{parts_with_paths, path_under, whole_path, with_paths}
-use Rattle.mail_data.specs.PartPlaces.{Place, placed, places}
+use Rattle.mail_read.specs.Files.{parts_with_paths, path_under, whole_path, with_paths}
+use Rattle.mail_read.specs.PartPlaces.{Place, placed, places}
 
 -- ---- lists of which each element is so
 

@@ -9,7 +9,7 @@ use Rattle.mail_codec.specs.Ascii.{less_than}
 use Rattle.mail_codec.specs.Base64.{base64}
 use Rattle.mail_codec.specs.Places.{begins, byte_place, first_place}
 use Rattle.mail_codec.specs.QuotedPrintable.{quoted_printable}
-use Rattle.mail_data.specs.lenient.Values.{spaced}
+use Rattle.mail_read.specs.lenient.Values.{spaced}
 use Rattle.mail_check.specs.Lines.{HeaderLine, is_named}
 use Rattle.mail_check.specs.Senders.{at_sign}
 use Rattle.mail_check.specs.Words.{has_early_at, hides_address, is_bad_name, is_before_bracket, is_label_byte, is_sender, is_sender_mark, is_word, octets_of, octets_or_none, pieces, word_text}

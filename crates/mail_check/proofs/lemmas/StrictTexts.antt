@@ -4,7 +4,7 @@ use Rattle.std.specs.Prelude.{◌↔◌, ◌==◌, is_some, codes}
 use Rattle.mail_codec.specs.Charset.{Charsets, mark_at_start}
 use Rattle.mail_codec.specs.Places.{byte_place}
 use Rattle.mailparse.specs.Mail.{Node}
-use Rattle.mail_data.specs.lenient.Content.{message_content}
+use Rattle.mail_read.specs.lenient.Content.{message_content}
 use Rattle.mail_check.specs.Charsets.{is_lacking}
 use Rattle.mail_check.specs.Lines.{begins_type}
 use Rattle.mail_check.specs.Texts.{has_bad_text, is_bad_text, is_binary}

@@ -6,7 +6,7 @@ use Rattle.std.proofs.lemmas.List.{append-nil}
 use Rattle.mail_codec.specs.Charset.{Charsets}
 use Rattle.mailparse.specs.ContentType.{ContentType}
 use Rattle.mailparse.specs.Mail.{root}
-use Rattle.mail_data.specs.PartPlaces.{Place}
+use Rattle.mail_read.specs.PartPlaces.{Place}
 use Rattle.mail_check.specs.Findings.{Finding, Spot, header_findings, line_findings, listed_if, parameter_findings, sender_findings, spot_in, type_findings, worded_findings}
 use Rattle.mail_check.specs.Lines.{HeaderLine, is_bad_encoding, is_named}
 use Rattle.mail_check.specs.Parameters.{is_disposition, is_type}

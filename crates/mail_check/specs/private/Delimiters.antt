@@ -1,7 +1,7 @@
 -- The first offsets at which a dash-boundary occurs.
 use Rattle.std.specs.Prelude.{◌≡◌, ℕ, Bool, ◌&&◌, ◌==◌, not, List, ◌++◌, length, Option, Some, None, is_none, if◌then◌else◌}
-use Rattle.mail_data.specs.Files.{is_leaf}
-use Rattle.mail_data.specs.PartPlaces.{Place}
+use Rattle.mail_read.specs.Files.{is_leaf}
+use Rattle.mail_read.specs.PartPlaces.{Place}
 use Rattle.mail_check.specs.Bytes.{first_offset}
 use Rattle.mail_check.specs.Findings.{Finding, listed_if, spot_in}
 use Rattle.mail_check.specs.Multiparts.{is_close, is_inside, is_open, is_tailed}

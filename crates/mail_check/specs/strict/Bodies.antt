@@ -5,7 +5,7 @@ use Rattle.std.specs.Char.{is_ascii_alphanumeric}
 use Rattle.std.specs.List.{list_all}
 use Rattle.mail_codec.specs.Ascii.{carriage_return, digit_0, digit_9, equals_sign, is_blank, line_feed, slash, upper_a, upper_f}
 use Rattle.mail_codec.specs.Places.{begins, has_prefix}
-use Rattle.mail_data.specs.Files.{is_leaf}
+use Rattle.mail_read.specs.Files.{is_leaf}
 use Rattle.mailparse.specs.Body.{BodyKind, in_base64, in_quoted_printable, in_7bit, in_8bit, in_binary}
 use Rattle.mailparse.specs.Mail.{Tree, body_kind, root}
 use Rattle.mail_check.specs.strict.LineEnds.{IsLineEnd}

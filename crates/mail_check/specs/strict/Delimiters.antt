@@ -4,7 +4,7 @@ use Rattle.std.specs.Prelude.{◌≡◌, ℕ, Bool, true, false, not, ◌==◌, 
 use Rattle.std.specs.List.{list_all}
 use Rattle.mail_codec.specs.Ascii.{colon, line_feed}
 use Rattle.mail_codec.specs.Places.{has_prefix}
-use Rattle.mail_data.specs.Files.{is_leaf}
+use Rattle.mail_read.specs.Files.{is_leaf}
 use Rattle.mailparse.specs.Mail.{Tree, root}
 use Rattle.mail_check.specs.strict.Fields.{IsBoundary}
 use Rattle.mail_check.specs.strict.LineEnds.{IsLineEnd}

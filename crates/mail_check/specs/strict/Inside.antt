@@ -5,8 +5,8 @@ use Rattle.mail_codec.specs.Charset.{Charsets}
 use Rattle.mailparse.specs.Mail.{Tree}
 use Rattle.mailparse.specs.Placement.{placements}
 use Rattle.mailparse.specs.Refusal.{Reads}
-use Rattle.mail_data.specs.InnerMails.{dot_count}
-use Rattle.mail_data.specs.PartPlaces.{Place, places}
+use Rattle.mail_read.specs.InnerMails.{dot_count}
+use Rattle.mail_read.specs.PartPlaces.{Place, places}
 use Rattle.mail_check.specs.Inside.{inner_mail, mail_in, places_in}
 use Rattle.mail_check.specs.strict.Mail.{HasStrictMessages, IsStrict}
 

@@ -8,7 +8,7 @@ use Rattle.mail_codec.specs.Ascii.{less_than, question_mark}
 use Rattle.mail_codec.specs.Base64.{base64}
 use Rattle.mail_codec.specs.Places.{byte_place}
 use Rattle.mail_codec.specs.QuotedPrintable.{quoted_printable}
-use Rattle.mail_data.specs.lenient.Values.{spaced}
+use Rattle.mail_read.specs.lenient.Values.{spaced}
 use Rattle.mail_check.specs.Senders.{at_sign}
 use Rattle.mail_check.specs.Words.{octets_or_none}
 use Rattle.mail_check.specs.strict.Words.{ArePieces, IsWord}

@@ -3,8 +3,8 @@ use Rattle.std.specs.Prelude.{◌≡◌, ℕ, true, not, ◌&&◌, ◌==◌, Lis
 use Rattle.std.specs.List.{list_all}
 use Rattle.mail_codec.specs.Charset.{Charsets}
 use Rattle.mail_codec.specs.Places.{has_prefix}
-use Rattle.mail_data.specs.Files.{is_leaf}
-use Rattle.mail_data.specs.lenient.Content.{message_content}
+use Rattle.mail_read.specs.Files.{is_leaf}
+use Rattle.mail_read.specs.lenient.Content.{message_content}
 use Rattle.mailparse.specs.Mail.{Tree, root}
 use Rattle.mail_check.specs.strict.Charsets.{HasNoMark, IsInCharset}
 

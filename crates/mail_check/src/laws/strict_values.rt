@@ -3,7 +3,7 @@ ghost use Rattle.std.specs.Prelude.{◌≡◌, ◌↔◌, ◌==◌, [], ℕ, Lis
 ghost use Rattle.std.specs.List.{list_any};
 ghost use Rattle.mail_codec.specs.Charset.{Charsets};
 ghost use Rattle.mailparse.specs.Mail.{Node};
-ghost use Rattle.mail_data.specs.lenient.Content.{message_content};
+ghost use Rattle.mail_read.specs.lenient.Content.{message_content};
 ghost use Rattle.mail_check.specs.Charsets.{is_lacking};
 ghost use Rattle.mail_check.specs.Findings.{Spot, sender_findings, worded_findings};
 ghost use Rattle.mail_check.specs.Lines.{HeaderLine, begins_type, is_named};

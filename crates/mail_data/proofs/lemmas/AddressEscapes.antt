@@ -11,7 +11,7 @@ use Rattle.std.proofs.lemmas.List.Splits.{slice_split_first, slice_split_none}
 use Rattle.std.proofs.lemmas.List.Sums.{fails_before_first}
 use Rattle.mailparse.proofs.lemmas.EncodedWord.{any_from_place}
 use Rattle.mail_data.specs.AddressEscapes.{cut_at, number_after, read_piece, read_pieces, unescaped, with_digit}
-use Rattle.mail_data.proofs.lemmas.lenient.Ids.{SplitsAt}
+use Rattle.mail_read.proofs.lemmas.lenient.Ids.{SplitsAt}
 
 -- ---- a text cut at a byte
 

@@ -15,7 +15,7 @@ use Rattle.mail_data.specs.LineEnds.{after_empty_line, empty_line, line_length}
 use Rattle.mail_data.specs.Mailbox.{after_by, mail_length}
 use Rattle.mail_data.specs.Separator.{is_separator}
 use Rattle.mail_data.proofs.lemmas.Mailbox.{Opens, after_opens, opens}
-use Rattle.mail_data.proofs.lemmas.lenient.Date.{digit_below}
+use Rattle.mail_read.proofs.lemmas.lenient.Date.{digit_below}
 
 -- ---- the field
 

@@ -13,7 +13,7 @@ use Rattle.mail_data.specs.Separator.{is_separator, mark}
 use Rattle.mail_data.specs.private.LineEnds.{last_empty_line}
 use Rattle.mail_data.proofs.lemmas.LineEnds.{EmptyTo, empty_to-feed, empty_to-next, empty_to-within, is_line, last_empty_line-found, last_empty_line-is, line_place-found}
 use Rattle.mail_data.proofs.lemmas.Mailbox.{nothing, opens}
-use Rattle.mail_data.proofs.lemmas.lenient.Values.{two_found}
+use Rattle.mail_read.proofs.lemmas.lenient.Values.{two_found}
 
 -- the bytes after the empty line at which a mail ends begin past a place
 abbrev pub EndsPast : List ℕ → ℕ → Type 0

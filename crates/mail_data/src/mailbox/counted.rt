@@ -12,8 +12,8 @@ ghost use Rattle.mail_data.specs.LineEnds.{line_length, line_place};
 
 use super::mail_length;
 use super::separator::is_separator;
-use crate::lenient::date::numbers::number_of;
 use crate::line_ends::{empty_line, is_empty_line, line_length, line_place};
+use mail_read::lenient::number_of;
 
 /// The name of the field, with its colon.
 const FIELD: &[u8] = b"Content-Length:";

@@ -5,9 +5,9 @@ use Rattle.std.proofs.Common.{inl, inr}
 use Rattle.std.specs.Prelude.{◌==◌}
 use Rattle.mailparse.specs.Mail.{root}
 use Rattle.mailparse.specs.Refusal.{Refusal}
-use Rattle.mail_data.specs.InnerMails.{holds_mail}
-use Rattle.mail_data.specs.PartPlaces.{Place}
-use Rattle.mail_data.specs.lenient.Content.{Content, message_content}
+use Rattle.mail_read.specs.InnerMails.{holds_mail}
+use Rattle.mail_read.specs.PartPlaces.{Place}
+use Rattle.mail_read.specs.lenient.Content.{Content, message_content}
 use Rattle.mail_json.specs.DecodedViews.{mail_if}
 use Rattle.mail_extract.specs.Content.{content}
 

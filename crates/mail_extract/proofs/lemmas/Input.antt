@@ -15,7 +15,7 @@ use Rattle.mailparse.specs.Outcome.{IsRefusalOrMemory, refusal_of}
 use Rattle.mailparse.specs.Refusal.{Reads, Refusal, base64_fault, encoding, generic}
 use Rattle.mailparse.specs.declared.error.MailParseError.{MailParseError}
 use Rattle.mailparse.specs.declared.error.MailParseError.TheVariants.{Base64DecodeError, EncodingError, Generic, Memory, QuotedPrintableDecodeError}
-use Rattle.mail_data.specs.FileNames.{IsSafeName}
+use Rattle.mail_read.specs.FileNames.{IsSafeName}
 use Rattle.mail_json.specs.FileLine.{FileLine}
 use Rattle.mail_program.specs.Refusal.{refusal_text}
 use Rattle.mail_data.specs.Mailbox.{Entry, front_length, has_front}

@@ -5,10 +5,10 @@ use Rattle.std.proofs.lemmas.List.Concat.{flat_map-cons}
 use Rattle.std.specs.Prelude.{flat_map}
 use Rattle.mail_codec.specs.Charset.{Charsets}
 use Rattle.mailparse.specs.Mail.{Tree}
-use Rattle.mail_data.specs.InnerMails.{Forwarded, InnerMail, forwarded, places_under}
-use Rattle.mail_data.specs.PartPlaces.{Place, places}
-use Rattle.mail_data.specs.Reading.{mail_placements}
-use Rattle.mail_data.proofs.lemmas.InnerMails.{forwarded_with, inner_with}
+use Rattle.mail_read.specs.InnerMails.{Forwarded, InnerMail, forwarded, places_under}
+use Rattle.mail_read.specs.PartPlaces.{Place, places}
+use Rattle.mail_read.specs.Reading.{mail_placements}
+use Rattle.mail_read.proofs.lemmas.InnerMails.{forwarded_with, inner_with}
 use Rattle.mail_json.proofs.lemmas.Reading.{forwarded_read}
 use Rattle.mailparse.specs.Refusal.{Refusal}
 use Rattle.mail_json.specs.Inside.{mails_among, mails_inside}

@@ -11,9 +11,9 @@ use Rattle.std.proofs.lemmas.List.Concat.{flat_map-cons}
 use Rattle.mail_codec.specs.Charset.{Charsets}
 use Rattle.mailparse.specs.Mail.{Tree}
 use Rattle.mailparse.specs.Refusal.{Reads, Refusal}
-use Rattle.mail_data.specs.InnerMails.{InnerMail}
-use Rattle.mail_data.specs.PartPlaces.{places}
-use Rattle.mail_data.specs.Reading.{mail_placements}
+use Rattle.mail_read.specs.InnerMails.{InnerMail}
+use Rattle.mail_read.specs.PartPlaces.{places}
+use Rattle.mail_read.specs.Reading.{mail_placements}
 use Rattle.mail_data.specs.Mailbox.{Entry, front_length}
 use Rattle.mail_data.specs.MailboxFormats.{entries_in, mail_in}
 use Rattle.mail_data.specs.declared.mailbox.formats.Format.{Format}

@@ -11,13 +11,13 @@ use Rattle.std.specs.Result.{result_ok}
 use Rattle.mail_codec.specs.Charset.{Charsets}
 use Rattle.mailparse.specs.Mail.{Tree}
 use Rattle.mailparse.specs.Refusal.{Reads, Refusal}
-use Rattle.mail_data.specs.InnerMails.{InnerMail, places_under}
-use Rattle.mail_data.specs.PartPlaces.{Place}
-use Rattle.mail_data.specs.Reading.{mail_placements}
+use Rattle.mail_read.specs.InnerMails.{InnerMail, places_under}
+use Rattle.mail_read.specs.PartPlaces.{Place}
+use Rattle.mail_read.specs.Reading.{mail_placements}
 use Rattle.mail_data.specs.TextFiles.{TextFile, text_file_path}
-use Rattle.mail_data.specs.lenient.Content.{Content}
+use Rattle.mail_read.specs.lenient.Content.{Content}
 use Rattle.mail_extract.specs.Choice.{Choice, keeps}
-use Rattle.mail_data.specs.Attachments.{is_extracted}
+use Rattle.mail_read.specs.Attachments.{is_extracted}
 use Rattle.mail_json.specs.Reading.{mail_reading}
 use Rattle.std.specs.Str.{bytes_eq}
 use Rattle.mail_extract.specs.Directory.{Creates, File, has_copy, has_file}

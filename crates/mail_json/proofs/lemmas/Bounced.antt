@@ -13,7 +13,7 @@ use Rattle.mailparse.specs.declared.mail.message.ParsedMail.TheFolds.{fold_out-P
 use Rattle.mail_data.specs.Archive.{id_among}
 use Rattle.mail_data.specs.Bounce.{first_part, has_original, original_message_id, report_part}
 use Rattle.mail_data.specs.Reports.{fields, has_type}
-use Rattle.mail_data.specs.lenient.Content.{Content, message_content}
+use Rattle.mail_read.specs.lenient.Content.{Content, message_content}
 use Rattle.mailparse.specs.Map.{text_found}
 use Rattle.mail_json.specs.DecodedViews.{decoded_tree}
 use Rattle.mail_json.specs.declared.decoded.Decoded.{Decoded}

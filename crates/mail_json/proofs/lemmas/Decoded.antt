@@ -7,13 +7,13 @@ use Rattle.std.specs.Prelude.{OnOk, flat_map}
 use Rattle.mail_codec.specs.Charset.{Charsets}
 use Rattle.mailparse.specs.Mail.{Node, Tree, root, trees_within}
 use Rattle.mail_data.specs.Bounce.{Delivery, deliveries, delivery_or_none, failed_recipients, recipients, reported}
-use Rattle.mail_data.specs.InnerMails.{Forwarded, forwarded, holds_mail, mail_bytes}
-use Rattle.mail_data.specs.PartPlaces.{Place}
-use Rattle.mail_data.specs.PlaceViews.{place_view}
-use Rattle.mail_data.specs.declared.places.Place as code
+use Rattle.mail_read.specs.InnerMails.{Forwarded, forwarded, holds_mail, mail_bytes}
+use Rattle.mail_read.specs.PartPlaces.{Place}
+use Rattle.mail_read.specs.PlaceViews.{place_view}
+use Rattle.mail_read.specs.declared.places.Place as code
 use Rattle.mailparse.specs.Views.{tree_of}
 use Rattle.mail_data.specs.Reports.{block_fields, blocks, has_report, has_status, report_blocks}
-use Rattle.mail_data.specs.lenient.Content.{Content, message_content}
+use Rattle.mail_read.specs.lenient.Content.{Content, message_content}
 use Rattle.mail_json.specs.Part.{content_if, report_if}
 use Rattle.mail_json.specs.DecodedViews.{decoded_place, decoded_tree, mail_if}
 use Rattle.mail_json.specs.declared.decoded.Decoded.{Decoded}

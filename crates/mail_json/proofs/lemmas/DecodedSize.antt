@@ -12,8 +12,8 @@ use Rattle.mailparse.specs.Refusal.{Reads}
 use Rattle.mailparse.specs.declared.error.MailParseError.{MailParseError}
 use Rattle.mail_json.proofs.lemmas.Fields.{refused_or_memory}
 use Rattle.mail_json.specs.DecodedSize.{bounded, bounded_reading, bytes_left, decoded_size, mail_size, most_decoded, own_size, part_size, too_many_bytes}
-use Rattle.mail_data.specs.InnerMails.{forwards}
-use Rattle.mail_data.specs.lenient.Content.{message_content}
+use Rattle.mail_read.specs.InnerMails.{forwards}
+use Rattle.mail_read.specs.lenient.Content.{message_content}
 use Rattle.mail_json.specs.Reading.{mail_reading}
 
 -- what is left if there are enough, and if there are not

@@ -9,11 +9,11 @@ use Rattle.json.specs.Json.{Json}
 use Rattle.mailparse.specs.Mail.{Tree, tree, no_parts, part_and}
 use Rattle.mailparse.specs.Refusal.{Reads, Refusal}
 use Rattle.mail_codec.specs.Charset.{Charsets}
-use Rattle.mail_data.specs.InnerMails.{Forwarded, InnerMail, forwarded, path_within, places_under}
-use Rattle.mail_data.specs.Files.{path_under, with_paths}
-use Rattle.mail_data.specs.PartPlaces.{Place, placed, places}
-use Rattle.mail_data.specs.Reading.{mail_placements}
-use Rattle.mail_data.proofs.lemmas.InnerMails.{forwarded_with, inner_with}
+use Rattle.mail_read.specs.InnerMails.{Forwarded, InnerMail, forwarded, path_within, places_under}
+use Rattle.mail_read.specs.Files.{path_under, with_paths}
+use Rattle.mail_read.specs.PartPlaces.{Place, placed, places}
+use Rattle.mail_read.specs.Reading.{mail_placements}
+use Rattle.mail_read.proofs.lemmas.InnerMails.{forwarded_with, inner_with}
 use Rattle.mail_json.specs.Inside.{Listed, mails_among, mails_inside, parts_of_read, without_bytes}
 use Rattle.mail_json.specs.Part.{place_in}
 use Rattle.mail_json.specs.Printed.{after_commas, listed, text_of}

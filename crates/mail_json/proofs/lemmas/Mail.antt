@@ -3,11 +3,11 @@ use Rattle.std.proofs.Common.{◌≡◌, ℕ, List, [], ◌++◌, Option, Some, 
 use Rattle.std.proofs.lemmas.Grind.{flat_map-append}
 use Rattle.std.specs.Prelude.{option_map, codes}
 use Rattle.json.specs.Json.{Json, string, null}
-use Rattle.mail_data.specs.lenient.Date.{Dated, Zoned, zoned_date_of}
-use Rattle.mail_data.specs.declared.lenient.date.error.DateError.{DateError}
-use Rattle.mail_data.specs.PartPlaces.{places}
+use Rattle.mail_read.specs.lenient.Date.{Dated, Zoned, zoned_date_of}
+use Rattle.mail_read.specs.declared.lenient.date.error.DateError.{DateError}
+use Rattle.mail_read.specs.PartPlaces.{places}
 use Rattle.mailparse.specs.Mail.{Tree, tree}
-use Rattle.mail_data.specs.Reading.{mail_placements}
+use Rattle.mail_read.specs.Reading.{mail_placements}
 use Rattle.mail_json.specs.Fields.{date_fault_text}
 use Rattle.mail_json.specs.Options.{Options}
 use Rattle.mail_json.specs.Printed.{after_commas, listed, one, seconds_value, text_of}

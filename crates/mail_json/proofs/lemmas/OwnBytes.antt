@@ -11,8 +11,8 @@ use Rattle.mailparse.specs.Ranges.{slice}
 use Rattle.mailparse.specs.Refusal.{◌>>=◌, Reads, recursion_limit}
 use Rattle.mailparse.proofs.lemmas.Limit.{limited-read}
 use Rattle.mailparse.proofs.lemmas.Refusal.{read_map}
-use Rattle.mail_data.specs.Reading as plain
-use Rattle.mail_data.specs.lenient.Manner.{lenient}
+use Rattle.mail_read.specs.Reading as plain
+use Rattle.mail_read.specs.lenient.Manner.{lenient}
 use Rattle.mail_json.specs.DecodedSize.{bounded_reading}
 use Rattle.mail_json.proofs.lemmas.DecodedSize.{bounded-read}
 use Rattle.mail_json.proofs.lemmas.Reading.{all-read}

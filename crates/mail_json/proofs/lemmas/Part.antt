@@ -20,13 +20,13 @@ use Rattle.mailparse.specs.declared.mail.message.ParsedMail.TheFolds.{fold_out-P
 use Rattle.mailparse.specs.declared.mail.message.ParsedMail.TheViews.{out-ParsedMail}
 use Rattle.mail_codec.specs.Charset.{Charsets}
 use Rattle.mailparse.specs.ContentType.{ContentType}
-use Rattle.mail_data.specs.Attachments as files
-use Rattle.mail_data.specs.Attachments.{is_extracted}
-use Rattle.mail_data.specs.Files.{is_leaf, is_shown}
-use Rattle.mail_data.specs.lenient.Dispositions.{lenient_disposition}
-use Rattle.mail_data.specs.lenient.FileNames.{lenient_file_name}
-use Rattle.mail_data.specs.lenient.Content.{Content, message_content}
-use Rattle.mail_data.specs.lenient.Texts.{BodyText, text_read}
+use Rattle.mail_read.specs.Attachments as files
+use Rattle.mail_read.specs.Attachments.{is_extracted}
+use Rattle.mail_read.specs.Files.{is_leaf, is_shown}
+use Rattle.mail_read.specs.lenient.Dispositions.{lenient_disposition}
+use Rattle.mail_read.specs.lenient.FileNames.{lenient_file_name}
+use Rattle.mail_read.specs.lenient.Content.{Content, message_content}
+use Rattle.mail_read.specs.lenient.Texts.{BodyText, text_read}
 use Rattle.mail_json.specs.Options.{Options}
 use Rattle.mail_html.specs.Text.{html_text}
 use Rattle.mail_html.specs.declared.links.Links.TheVariants.{Omitted}
@@ -35,7 +35,7 @@ use Rattle.mail_json.specs.Part.{Lists, content_if, html_shown, is_attachment, t
 use Rattle.mail_json.specs.Printed.{Member, listed, text_of}
 use Rattle.mail_json.specs.Values.{AreValues, IsPartValue, no_text_members, shown_members, text_members}
 use Rattle.mail_json.specs.Written.{WritesOne}
-use Rattle.mail_data.specs.PartPlaces.{Place}
+use Rattle.mail_read.specs.PartPlaces.{Place}
 use Rattle.mail_program.specs.declared.fault.Fault.{Fault}
 use Rattle.json.specs.Json.{Json}
 use Rattle.mail_json.proofs.lemmas.JsonText.{listed-comma}

@@ -10,13 +10,13 @@ use Rattle.mail_codec.specs.Charset.{Charsets}
 use Rattle.mail_codec.specs.Uuencode.{File, first_file}
 use Rattle.mailparse.specs.Mail.{Tree, root, trees_within}
 use Rattle.mailparse.specs.Refusal.{◌>>=◌, Reads, too_many_items}
-use Rattle.mail_data.specs.InnerMails.{Forwarded, forwarded}
-use Rattle.mail_data.specs.PartPlaces.{Place}
-use Rattle.mail_data.specs.Reading.{mail_placements}
-use Rattle.mail_data.specs.Reading as plain
+use Rattle.mail_read.specs.InnerMails.{Forwarded, forwarded}
+use Rattle.mail_read.specs.PartPlaces.{Place}
+use Rattle.mail_read.specs.Reading.{mail_placements}
+use Rattle.mail_read.specs.Reading as plain
 use Rattle.mail_data.specs.TextFiles.{TextFile, blocks_from, is_file, is_plain_text, text_file, text_files}
-use Rattle.mail_data.specs.lenient.Content.{message_content}
-use Rattle.mail_data.proofs.lemmas.InnerMails.{forwarded_read_by, forwarded_with, inner_with, not_forwarded_by}
+use Rattle.mail_read.specs.lenient.Content.{message_content}
+use Rattle.mail_read.proofs.lemmas.InnerMails.{forwarded_read_by, forwarded_with, inner_with, not_forwarded_by}
 use Rattle.mail_json.specs.Reading.{has_many_blocks, has_many_files, mail_reading, mails_below, mails_in_place, with_all_files}
 
 -- a mail that is read is read without this rule

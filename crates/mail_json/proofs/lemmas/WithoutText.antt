@@ -6,14 +6,14 @@ use Rattle.json.specs.Value.{items_of}
 use Rattle.mailparse.specs.Mail.{Node, Tree, root}
 use Rattle.mailparse.specs.Refusal.{Reads, Refusal}
 use Rattle.mail_data.specs.Bounce.{original_message_id}
-use Rattle.mail_data.specs.Attachments.{is_extracted}
-use Rattle.mail_data.specs.lenient.Dispositions.{lenient_disposition}
-use Rattle.mail_data.specs.InnerMails.{InnerMail}
-use Rattle.mail_data.specs.PartPlaces.{Place, places}
-use Rattle.mail_data.specs.Reading.{mail_placements}
-use Rattle.mail_data.specs.lenient.Content.{message_content}
-use Rattle.mail_data.specs.lenient.Date.{Dated, Zoned, zoned_date_of}
-use Rattle.mail_data.specs.lenient.Texts.{text_read}
+use Rattle.mail_read.specs.Attachments.{is_extracted}
+use Rattle.mail_read.specs.lenient.Dispositions.{lenient_disposition}
+use Rattle.mail_read.specs.InnerMails.{InnerMail}
+use Rattle.mail_read.specs.PartPlaces.{Place, places}
+use Rattle.mail_read.specs.Reading.{mail_placements}
+use Rattle.mail_read.specs.lenient.Content.{message_content}
+use Rattle.mail_read.specs.lenient.Date.{Dated, Zoned, zoned_date_of}
+use Rattle.mail_read.specs.lenient.Texts.{text_read}
 use Rattle.mail_check.specs.Findings.{Finding}
 use Rattle.mail_json.specs.Fields.{value_of}
 use Rattle.mail_json.specs.Inside.{mails_inside, parts_inside}

@@ -25,8 +25,8 @@ use Rattle.mailparse.specs.Ranges.{slice}
 use Rattle.mailparse.specs.Refusal.{◌>>=◌, Reads}
 use Rattle.mailparse.specs.Value.{lenient_value_in}
 use Rattle.mailparse.proofs.lemmas.Refusal.{read_map}
-use Rattle.mail_data.specs.lenient.Agreement.{is_strict_value}
-use Rattle.mail_data.specs.lenient.Manner.{lenient}
+use Rattle.mail_read.specs.lenient.Agreement.{is_strict_value}
+use Rattle.mail_read.specs.lenient.Manner.{lenient}
 use Rattle.mail_check.specs.Findings.{findings}
 use Rattle.mail_check.specs.Lines.{header_lines, lines_from}
 use Rattle.mail_check.specs.strict.Delimiters.{HasParts, HasStrictParts}

@@ -25,8 +25,8 @@ use Rattle.mailparse.specs.Segments.{QuoteState, outside, quoted, after, ends, i
 use Rattle.mailparse.specs.Segments.{unescape, with_front, without_escapes}
 use Rattle.mailparse.proofs.lemmas.Pairs.{pair_of-some, pairs_in-some, pairs_of-later, value_of-first}
 use Rattle.mailparse.proofs.lemmas.ValuePlain.{graphic_no_whitespace}
-use Rattle.mail_data.specs.lenient.Agreement.{is_complete, is_named, is_star_free, is_strict}
-use Rattle.mail_data.specs.lenient.Manner.{has_broken_boundary, is_slash, lenient_name, name_of_two}
+use Rattle.mail_read.specs.lenient.Agreement.{is_complete, is_named, is_star_free, is_strict}
+use Rattle.mail_read.specs.lenient.Manner.{has_broken_boundary, is_slash, lenient_name, name_of_two}
 use Rattle.mail_check.specs.strict.Fields.{HasBoundary, of_multipart, of_other}
 use Rattle.mail_check.specs.strict.Parameters.{is_name_character, is_token_character}
 use Rattle.mail_check.specs.strict.PlainParameters.{is_plain_byte}

@@ -11,11 +11,11 @@ use Rattle.std.proofs.lemmas.Slice.Eq.{bytes_eq-Decides}
 use Rattle.std.proofs.lemmas.Str.{chars-IsAscii, encodes-IsAscii}
 use Rattle.mail_codec.specs.Ascii.{asterisk, backslash, closing_parenthesis, equals_sign, is_blank, opening_parenthesis, quote}
 use Rattle.mail_codec.specs.Ascii.{semicolon, slash, space}
-use Rattle.mail_data.specs.lenient.Agreement.{is_complete}
-use Rattle.mail_data.specs.lenient.Comments.{depth_beside, outside_comments, quotes_next, string_after, without_comments}
-use Rattle.mail_data.specs.lenient.Repairs.{after_name, after_quoted, after_text, after_value, lacks_nothing}
-use Rattle.mail_data.specs.lenient.Repairs.{is_feed, is_other_space, repaired}
-use Rattle.mail_data.proofs.lemmas.lenient.Repairs.{whole-ascii}
+use Rattle.mail_read.specs.lenient.Agreement.{is_complete}
+use Rattle.mail_read.specs.lenient.Comments.{depth_beside, outside_comments, quotes_next, string_after, without_comments}
+use Rattle.mail_read.specs.lenient.Repairs.{after_name, after_quoted, after_text, after_value, lacks_nothing}
+use Rattle.mail_read.specs.lenient.Repairs.{is_feed, is_other_space, repaired}
+use Rattle.mail_read.proofs.lemmas.lenient.Repairs.{whole-ascii}
 use Rattle.mail_check.specs.strict.Parameters.{is_name_character, is_token_character}
 use Rattle.mail_check.specs.strict.PlainParameters.{is_plain_byte, IsPlainText, last_byte, more_bytes}
 use Rattle.mail_laws.specs.PlainValues.{IsValueOf, token_of, empty_of, quotes_of, Parameters}

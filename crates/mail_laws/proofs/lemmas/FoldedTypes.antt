@@ -23,10 +23,10 @@ use Rattle.mailparse.specs.Value.{lenient_value_in}
 use Rattle.mailparse.proofs.lemmas.Value.{lenient-utf8}
 use Rattle.mailparse.proofs.lemmas.ValueJoined.{joined_alone, joined_more, joined_text, lines_cut}
 use Rattle.mailparse.proofs.lemmas.ValuePlain.{unfolded_value-joined}
-use Rattle.mail_data.specs.Files.{no_charsets}
-use Rattle.mail_data.specs.lenient.Agreement.{has_no_word, is_strict, is_strict_value}
-use Rattle.mail_data.specs.lenient.Names.{on_one_line}
-use Rattle.mail_data.specs.lenient.Undecoded.{undecoded}
+use Rattle.mail_read.specs.Files.{no_charsets}
+use Rattle.mail_read.specs.lenient.Agreement.{has_no_word, is_strict, is_strict_value}
+use Rattle.mail_read.specs.lenient.Names.{on_one_line}
+use Rattle.mail_read.specs.lenient.Undecoded.{undecoded}
 use Rattle.mail_check.specs.strict.Fields.{HasBoundary}
 use Rattle.mail_check.specs.strict.LineEnds.{IsLineEnd}
 use Rattle.mail_check.specs.strict.Parameters.{IsGap, no_gap, gap_blank, gap_fold, is_name_character, is_token_character}

@@ -13,13 +13,13 @@ use Rattle.mailparse.specs.Manner.{Manner}
 use Rattle.mailparse.specs.Placement.{Placement, placements, placements_as}
 use Rattle.mailparse.specs.Ranges.{Range, Apart, moved, slice}
 use Rattle.mailparse.specs.Refusal.{Reads}
-use Rattle.mail_data.specs.Files.{parts_with_paths, path_under, with_paths}
-use Rattle.mail_data.specs.InnerMails.{InnerMail, holds_mail, inner_mails, inner_mails_as, inner_mails_by, inner_mails_within, is_plain, mail_bytes, mail_start, places_under}
-use Rattle.mail_data.specs.PartPlaces.{Place, placed}
-use Rattle.mail_data.specs.Reading.{mail_placements, mail_reading}
-use Rattle.mail_data.specs.lenient.Content.{lenient_content}
-use Rattle.mail_data.specs.lenient.Encoding.{LenientKind, in_uuencode, lenient_body_kind, standard}
-use Rattle.mail_data.specs.lenient.Manner.{lenient}
+use Rattle.mail_read.specs.Files.{parts_with_paths, path_under, with_paths}
+use Rattle.mail_read.specs.InnerMails.{InnerMail, holds_mail, inner_mails, inner_mails_as, inner_mails_by, inner_mails_within, is_plain, mail_bytes, mail_start, places_under}
+use Rattle.mail_read.specs.PartPlaces.{Place, placed}
+use Rattle.mail_read.specs.Reading.{mail_placements, mail_reading}
+use Rattle.mail_read.specs.lenient.Content.{lenient_content}
+use Rattle.mail_read.specs.lenient.Encoding.{LenientKind, in_uuencode, lenient_body_kind, standard}
+use Rattle.mail_read.specs.lenient.Manner.{lenient}
 use Rattle.mail_laws.specs.InnerMails.{AreAt}
 use Rattle.mail_laws.specs.RangeTree.{RangeTree, range_tree, RangeForest, no_ranges, ranges_and, range_root, tree_there, wholes, AreNested, AllNested, wholes_and_bodies, wholes_and_bodies_in, ranges_as}
 use Rattle.mail_laws.proofs.lemmas.Limits.{read_without}

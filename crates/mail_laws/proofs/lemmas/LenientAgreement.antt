@@ -15,9 +15,9 @@ use Rattle.mailparse.specs.Mail.{Node, Tree, tree, Forest, no_parts, part_and, n
 use Rattle.mailparse.specs.Map.{first_with_key}
 use Rattle.mailparse.specs.Ranges.{Range}
 use Rattle.mailparse.specs.Value.{lenient_value_in}
-use Rattle.mail_data.specs.lenient.Agreement.{is_strict_value}
-use Rattle.mail_data.specs.lenient.Manner.{lenient, lenient_type_from, lenient_type_of}
-use Rattle.mail_data.proofs.lemmas.lenient.Agreement.{values-agree}
+use Rattle.mail_read.specs.lenient.Agreement.{is_strict_value}
+use Rattle.mail_read.specs.lenient.Manner.{lenient, lenient_type_from, lenient_type_of}
+use Rattle.mail_read.proofs.lemmas.lenient.Agreement.{values-agree}
 use Rattle.mail_laws.specs.LenientAgreement.{offsets, is_same_cut, has_whole_delimiters, has_no_dash_line, has_bare_keys, has_strict_headers, has_strict_type, is_strict_message, is_strict_mail, are_strict}
 use Rattle.mail_laws.specs.Manners.{IsReadAlike, AreReadAlike, AllReadAlike}
 use Rattle.mail_laws.proofs.lemmas.Manners.{mails-agree}

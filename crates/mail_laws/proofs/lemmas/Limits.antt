@@ -9,8 +9,8 @@ use Rattle.mailparse.proofs.lemmas.Limit.{limited-enough, limited-over, limited-
 use Rattle.mailparse.proofs.lemmas.LimitItems.{items_met-within}
 use Rattle.std.specs.Prelude.{Some, nat_lt, if◌then◌else◌}
 use Rattle.mail_codec.specs.Charset.{Charsets}
-use Rattle.mail_data.specs.Reading.{mail_reading}
-use Rattle.mail_data.specs.lenient.Manner.{lenient}
+use Rattle.mail_read.specs.Reading.{mail_reading}
+use Rattle.mail_read.specs.lenient.Manner.{lenient}
 use Rattle.mail_laws.proofs.lemmas.Manners.{nothing-refused}
 
 -- In this manner.

@@ -22,8 +22,8 @@ use Rattle.mailparse.specs.Header.{Header}
 use Rattle.mailparse.specs.Mail.{Node, tree, Forest, shown_as}
 use Rattle.mailparse.specs.Map.{has_key}
 use Rattle.mailparse.specs.Value.{lenient_value_in}
-use Rattle.mail_data.specs.lenient.Content.{lenient_content, message_content}
-use Rattle.mail_data.specs.lenient.Encoding.{name_at, lenient_kind, lenient_kind_named}
+use Rattle.mail_read.specs.lenient.Content.{lenient_content, message_content}
+use Rattle.mail_read.specs.lenient.Encoding.{name_at, lenient_kind, lenient_kind_named}
 use Rattle.mail_check.specs.Parameters.{parameter_names}
 use Rattle.mail_check.specs.strict.Bodies.{HasStrictBody, IsEncoded}
 use Rattle.mail_check.specs.strict.Charsets.{is_ascii_byte, this_label, HasNoMark, in_us_ascii, in_utf_8}

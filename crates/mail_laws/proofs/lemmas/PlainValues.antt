@@ -14,7 +14,7 @@ use Rattle.mailparse.specs.Disposition.{disposition_in, disposition_named}
 use Rattle.mailparse.specs.Pairs.{Texts, no_texts, pairs_of, value_of}
 use Rattle.mailparse.specs.Sections.{is_star}
 use Rattle.mailparse.specs.Value.{lenient_value_in}
-use Rattle.mail_data.specs.lenient.Agreement.{is_star_free}
+use Rattle.mail_read.specs.lenient.Agreement.{is_star_free}
 use Rattle.mail_check.specs.strict.PlainParameters.{IsPlainValue, plain_token, empty_quotes, plain_quotes, ArePlain, no_plain}
 use Rattle.mail_check.specs.strict.PlainParameters.{plain_semicolon, plain_parameter, IsPlain, IsPlainType}
 use Rattle.mail_check.specs.strict.PlainParameters.{blank_before_plain_type, plain_type, IsPlainDisposition}

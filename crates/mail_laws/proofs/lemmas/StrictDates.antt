@@ -18,8 +18,8 @@ use Rattle.mail_codec.specs.Ascii.{space, colon, comma}
 use Rattle.mail_codec.specs.Calendar.{day_number, months}
 use Rattle.mail_codec.specs.Names.{look_up}
 use Rattle.mail_codec.specs.Places.{is_empty}
-use Rattle.mail_data.proofs.lemmas.lenient.Date.{digit_below}
-use Rattle.mail_data.specs.lenient.Date.{month_names}
+use Rattle.mail_read.proofs.lemmas.lenient.Date.{digit_below}
+use Rattle.mail_read.specs.lenient.Date.{month_names}
 use Rattle.mailparse.specs.Date.{date_seconds, date_words, day_of, from_day, from_hour, from_minute, from_month, from_second, from_year, from_zone, invalid_hour, invalid_minute, invalid_second, disallowed_year, fits_32_bits, invalid_day, invalid_year, invalid_zone, is_separator, month_of, number_below, seconds_of, signed_number, unrecognized_month, words, year_of, year_of_number, zone_named, zone_of, zone_of_number, zone_seconds, zone_size}
 use Rattle.mailparse.specs.Refusal.{◌>>=◌, Reads, Refusal}
 use Rattle.mail_laws.specs.StrictDates.{date_text, day_text, days_of, gap, has_digits, is_end, is_month, is_sign, is_small, is_week_day, is_year, is_zone, IsStrictDate, names_of_days, spaces, strict_seconds, StrictDate, time_text, value, with_week_day, zone_added, zone_text}

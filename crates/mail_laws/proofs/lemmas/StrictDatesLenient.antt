@@ -14,8 +14,8 @@ use Rattle.mail_codec.specs.Calendar.{month_lengths, year_length}
 use Rattle.mail_codec.specs.Calendar as calendar
 use Rattle.mail_codec.specs.Names.{look_up}
 use Rattle.mail_codec.specs.Places.{is_empty}
-use Rattle.mail_data.specs.declared.lenient.date.error.DateError.TheVariants.{Day, Month, Time}
-use Rattle.mail_data.specs.lenient.Date.{◌>>=◌, after_byte, after_comments, after_day_name, after_fraction, after_mark, after_one, after_quote, after_separator, after_time_mark, clock_hour, clocked, date_and_offset_of, date_of, Dated, day_at, day_first, day_in, day_number, days_of_years, directed, ends_whitespace, full_stop, has_letter, hours_then, is_month_first, is_separator, is_sign, is_universal, is_year_first, minute_at, moment_at, Moment, month_at, month_first, month_length, month_names, named_zone, offset_at, offset_of, run_at, second_at, signed_at, since_1970, small_number, time_at, whole_second, year_at, year_first, year_of, Zoned, zone_at, zoned_date_of}
+use Rattle.mail_read.specs.declared.lenient.date.error.DateError.TheVariants.{Day, Month, Time}
+use Rattle.mail_read.specs.lenient.Date.{◌>>=◌, after_byte, after_comments, after_day_name, after_fraction, after_mark, after_one, after_quote, after_separator, after_time_mark, clock_hour, clocked, date_and_offset_of, date_of, Dated, day_at, day_first, day_in, day_number, days_of_years, directed, ends_whitespace, full_stop, has_letter, hours_then, is_month_first, is_separator, is_sign, is_universal, is_year_first, minute_at, moment_at, Moment, month_at, month_first, month_length, month_names, named_zone, offset_at, offset_of, run_at, second_at, signed_at, since_1970, small_number, time_at, whole_second, year_at, year_first, year_of, Zoned, zone_at, zoned_date_of}
 use Rattle.mailparse.specs.Date.{zone_size}
 use Rattle.mail_laws.specs.StrictDates.{date_text, day_text, days_of, gap, is_end, is_month, is_small, is_week_day, is_year, is_zone, IsStrictDate, spaces, strict_seconds, StrictDate, time_seconds, time_text, value, with_week_day, zone_added, zone_text}
 use Rattle.mail_laws.proofs.lemmas.StrictDates.{day-name, month-name, of_digit, of_letter, sign-cases, small-most, small-number, some-text, year-least, year-number, zone-number}

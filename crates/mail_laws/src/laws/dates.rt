@@ -1,7 +1,7 @@
 //! Days, in seconds, and the dates of mails.
 ghost use Rattle.std.specs.Prelude.{◌*◌, ◌+◌, ◌-◌, ◌/◌, ◌<◌, ◌≡◌, ◌≤◌, ℕ, Ok, codes, pos, slice_index};
 ghost use Rattle.mail_codec.specs.Calendar.{day_number, days_of_years, month_lengths};
-ghost use Rattle.mail_data.specs.lenient.Date.{date_of};
+ghost use Rattle.mail_read.specs.lenient.Date.{date_of};
 ghost use Rattle.mailparse.specs.Date.{date_seconds};
 ghost use Rattle.mail_laws.specs.StrictDates.{IsStrictDate, StrictDate, date_text, standard_date, strict_seconds};
 

@@ -6,8 +6,8 @@ ghost use Rattle.mailparse.specs.Mail.{Tree, nodes, read_mail_as, read_mail_in};
 ghost use Rattle.mailparse.specs.Manner.{Manner};
 ghost use Rattle.mailparse.specs.Placement.{placements, placements_as};
 ghost use Rattle.mailparse.specs.Ranges.{moved, slice};
-ghost use Rattle.mail_data.specs.InnerMails.{inner_mails, inner_mails_as, inner_mails_within};
-ghost use Rattle.mail_data.specs.Reading.{mail_placements, mail_reading};
+ghost use Rattle.mail_read.specs.InnerMails.{inner_mails, inner_mails_as, inner_mails_within};
+ghost use Rattle.mail_read.specs.Reading.{mail_placements, mail_reading};
 ghost use Rattle.mail_laws.specs.InnerMails.{AreAt};
 
 /// Each mail inside a mail, and inside those, that has an offset is at this offset of the input, in

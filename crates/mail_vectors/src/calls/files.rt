@@ -4,11 +4,11 @@
 
 use crate::calls::tables::all_tables;
 use crate::notation::{Answer, Decision, FORM, Outcome, Row};
-use mail_data::files::{
+use mail_read::files::{
     attachments, describes_attachment, file_name, file_name_or_path, filled_parameter,
     is_attachment, is_extracted, is_leaf, named_file, safe_file_name, windows_file_name,
 };
-use mail_data::places::places;
+use mail_read::places::places;
 use mailparse::{
     KnownCharsets, MailParseError, ParsedContentDisposition, ParsedContentType, ParsedMail,
     parse_content_disposition, parse_content_type, parse_mail, parse_mail_in,

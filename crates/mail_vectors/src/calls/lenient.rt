@@ -8,7 +8,7 @@ use crate::calls::bodies::push_raw;
 use crate::calls::files::part_at;
 use crate::calls::tables::all_tables;
 use crate::notation::{Answer, Decision, FORM, Outcome, Row, Show};
-use mail_data::lenient::{
+use mail_read::lenient::{
     ContentFault, DateError, IdRule, Lenient, LenientBody, base64_front, body_text,
     date_and_offset_of, date_of, find_ids, lenient_body, lenient_content, lenient_disposition,
     lenient_file_name, lenient_header_text, lenient_name_text, lenient_named_file, refusal,

@@ -15,8 +15,8 @@
 
 use crate::calls::parts::{Held, count_below};
 use crate::notation::{Answer, Decision, FORM, Outcome, Row};
-use mail_data::lenient::Lenient;
-use mail_data::reading::read_mail;
+use mail_read::lenient::Lenient;
+use mail_read::reading::read_mail;
 use mailparse::{
     MAX_LEVELS, MailParseError, ParsedMail, Strict, count_headers, parse_mail, parse_mail_limited,
     parse_mail_within,

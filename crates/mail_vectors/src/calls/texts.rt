@@ -5,7 +5,7 @@ use crate::calls::tables::all_tables;
 use crate::notation::{Answer, Decision, Outcome, Row};
 use mail_data::flowed::{DelSp, flowed_text, unflowed};
 use mail_data::inline_texts::inline_texts;
-use mail_data::inner_mails::{InnerMail, forwards, inner_mails, places_under};
+use mail_read::inner_mails::{InnerMail, forwards, inner_mails, places_under};
 use mail_data::readable::readable_text;
 use mail_data::text_files::text_files;
 use mail_data::texts::{text_part, text_type};

@@ -10,7 +10,7 @@ use Rattle.mailparse.specs.Mail.{Tree}
 use Rattle.mailparse.specs.Refusal.{Reads}
 use Rattle.mail_data.specs.Mailbox.{Entry, front_length}
 use Rattle.mail_data.specs.MailboxFormats.{entries_in, mail_in}
-use Rattle.mail_data.specs.Reading.{mail_reading}
+use Rattle.mail_read.specs.Reading.{mail_reading}
 use Rattle.mail_data.specs.declared.mailbox.formats.Format.{Format}
 use Rattle.mail_html.specs.declared.references.References.{References}
 use Rattle.mail_program.specs.Outcome.{worse}

@@ -2,7 +2,7 @@
 use Rattle.std.proofs.Common.{◌≡◌, ℕ, Bool, List, Option, Some, None, Ok, is_some, length, option_map, refl, ap, ◌∙◌}
 use Rattle.mailparse.specs.Mail.{Node}
 use Rattle.mailparse.specs.Refusal.{Reads}
-use Rattle.mail_data.specs.lenient.Content.{Content, message_content}
+use Rattle.mail_read.specs.lenient.Content.{Content, message_content}
 use Rattle.mail_view.specs.Row.{size_text}
 use Rattle.mail_view.specs.View.{decoded_size}
 

@@ -1,9 +1,9 @@
 use Rattle.std.proofs.Common.{◌≡◌, Ok, rules, ap, ◌∙◌}
 use Rattle.std.specs.Cow.{cow_slice_items}
-use Rattle.mail_data.specs.lenient.Content.{lenient_content}
-use Rattle.mail_data.specs.lenient.ContentViews.{content_view, fault_view}
-use Rattle.mail_data.specs.lenient.Encoding.{LenientKind}
-use Rattle.mail_data.proofs.lemmas.lenient.Texts.{some-mapped}
+use Rattle.mail_read.specs.lenient.Content.{lenient_content}
+use Rattle.mail_read.specs.lenient.ContentViews.{content_view, fault_view}
+use Rattle.mail_read.specs.lenient.Encoding.{LenientKind}
+use Rattle.mail_read.proofs.lemmas.lenient.Texts.{some-mapped}
 use Rattle.mail_c.proofs.lemmas.Ranges.{body-is}
 use Rattle.mail_c.proofs.ranges.body.Goals as goal
 

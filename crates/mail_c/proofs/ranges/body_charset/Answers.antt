@@ -1,11 +1,11 @@
 use Rattle.std.proofs.Common.{◌≡◌, rules, sym, ap, ◌∙◌}
 use Rattle.mailparse.specs.ContentType.{ContentType}
 use Rattle.mailparse.specs.Views.{content_type}
-use Rattle.mail_data.specs.lenient.Content.{lenient_content}
-use Rattle.mail_data.specs.lenient.ContentViews.{content_view}
-use Rattle.mail_data.specs.lenient.Encoding.{LenientKind}
-use Rattle.mail_data.specs.lenient.Texts.{charset_used}
-use Rattle.mail_data.proofs.lemmas.lenient.Texts.{ok-same}
+use Rattle.mail_read.specs.lenient.Content.{lenient_content}
+use Rattle.mail_read.specs.lenient.ContentViews.{content_view}
+use Rattle.mail_read.specs.lenient.Encoding.{LenientKind}
+use Rattle.mail_read.specs.lenient.Texts.{charset_used}
+use Rattle.mail_read.proofs.lemmas.lenient.Texts.{ok-same}
 use Rattle.mail_c.proofs.lemmas.Ranges.{body_charset-is}
 use Rattle.mail_c.proofs.ranges.body_charset.Goals as goal
 

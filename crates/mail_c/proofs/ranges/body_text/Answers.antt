@@ -2,11 +2,11 @@ use Rattle.std.proofs.Common.{◌≡◌, Ok, rules, sym, ap, ◌∙◌}
 use Rattle.std.specs.String.{string_bytes}
 use Rattle.mailparse.specs.ContentType.{ContentType}
 use Rattle.mailparse.specs.Views.{content_type}
-use Rattle.mail_data.specs.lenient.Content.{lenient_content}
-use Rattle.mail_data.specs.lenient.ContentViews.{content_view, fault_view}
-use Rattle.mail_data.specs.lenient.Encoding.{LenientKind}
-use Rattle.mail_data.specs.lenient.Texts.{lenient_text}
-use Rattle.mail_data.proofs.lemmas.lenient.Texts.{ok-same, some-mapped}
+use Rattle.mail_read.specs.lenient.Content.{lenient_content}
+use Rattle.mail_read.specs.lenient.ContentViews.{content_view, fault_view}
+use Rattle.mail_read.specs.lenient.Encoding.{LenientKind}
+use Rattle.mail_read.specs.lenient.Texts.{lenient_text}
+use Rattle.mail_read.proofs.lemmas.lenient.Texts.{ok-same, some-mapped}
 use Rattle.mail_c.proofs.lemmas.Ranges.{body_text-is}
 use Rattle.mail_c.proofs.ranges.body_text.Goals as goal
 

@@ -1,6 +1,6 @@
 use Rattle.std.proofs.Common.{inl, inr, ⊎_elim}
 use Rattle.mailparse.specs.Views.{tree_of}
-use Rattle.mail_data.specs.Reading.{mail_reading}
+use Rattle.mail_read.specs.Reading.{mail_reading}
 use Rattle.mail_c.specs.Results.{no_limit}
 use Rattle.mail_c.proofs.lemmas.Records.{refused_code}
 use Rattle.mail_c.proofs.lemmas.Recipients.{recipients_are, recipients_refused}

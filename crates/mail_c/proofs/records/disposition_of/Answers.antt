@@ -2,8 +2,8 @@ use Rattle.std.proofs.Common.{◌≡◌, ℕ, Option, option_map, sym, ap, ◌�
 use Rattle.mailparse.specs.Disposition.{Kind}
 use Rattle.mailparse.specs.Mail.{root}
 use Rattle.mailparse.specs.Views.{kind, tree_of}
-use Rattle.mail_data.specs.lenient.Dispositions.{lenient_disposition}
-use Rattle.mail_data.specs.lenient.FileNames.{lenient_file_name}
+use Rattle.mail_read.specs.lenient.Dispositions.{lenient_disposition}
+use Rattle.mail_read.specs.lenient.FileNames.{lenient_file_name}
 use Rattle.mail_json.proofs.lemmas.Fields.{ok_same}
 use Rattle.mail_c.specs.Records.{disposition_number, flags}
 use Rattle.mail_c.proofs.records.disposition_of.Goals as goal

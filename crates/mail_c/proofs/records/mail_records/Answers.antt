@@ -1,6 +1,6 @@
 use Rattle.std.proofs.Common.{ℕ, List, Result, inl, inr, ⊎_elim, refl, subst}
 use Rattle.mailparse.specs.Views.{placements_of, tree_of}
-use Rattle.mail_data.specs.Reading.{mail_reading}
+use Rattle.mail_read.specs.Reading.{mail_reading}
 use Rattle.mail_c.specs.Codes.{IsCoded}
 use Rattle.mail_c.specs.RecordViews.{lists}
 use Rattle.mail_c.specs.declared.records.HeaderRecord.{HeaderRecord}

@@ -1,7 +1,7 @@
 use Rattle.std.proofs.Common.{◌≡◌, None, Some, option_map, rules, inl, inr, ⊎_elim}
 use Rattle.mailparse.specs.Mail.{root}
 use Rattle.mailparse.specs.Views.{tree_of}
-use Rattle.mail_data.specs.Reading.{mail_reading}
+use Rattle.mail_read.specs.Reading.{mail_reading}
 use Rattle.mail_data.specs.Reports.{report_blocks}
 use Rattle.mail_c.specs.Reports.{blocks_read, fields_view}
 use Rattle.mail_c.specs.Results.{no_limit}

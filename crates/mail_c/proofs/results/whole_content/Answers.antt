@@ -6,9 +6,9 @@ use Rattle.mailparse.specs.Outcome.{Answers, AnswersOrMemory, IsRefusal}
 use Rattle.mailparse.specs.Views.{tree_of}
 use Rattle.mailparse.specs.declared.error.MailParseError.{MailParseError}
 use Rattle.mailparse.proofs.lemmas.Outcome.{IsRefusalOrMemory-from}
-use Rattle.mail_data.specs.lenient.Content.{Content, message_content, whole}
-use Rattle.mail_data.specs.lenient.ContentViews.{content_view}
-use Rattle.mail_data.specs.lenient.Encoding.{lenient_body_kind}
+use Rattle.mail_read.specs.lenient.Content.{Content, message_content, whole}
+use Rattle.mail_read.specs.lenient.ContentViews.{content_view}
+use Rattle.mail_read.specs.lenient.Encoding.{lenient_body_kind}
 use Rattle.mail_c.proofs.results.whole_content.Goals as goal
 
 -- the bytes of a content that is whole are those of one that is the same

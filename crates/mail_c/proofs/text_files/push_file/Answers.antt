@@ -1,8 +1,8 @@
 use Rattle.std.proofs.Common.{is_some, ap, ◌∙◌}
 use Rattle.mail_data.specs.TextFileViews.{text_file_view}
-use Rattle.mail_data.specs.lenient.Content.{Content}
-use Rattle.mail_data.specs.lenient.ContentViews.{fault_view}
-use Rattle.mail_data.proofs.lemmas.lenient.Texts.{some-mapped}
+use Rattle.mail_read.specs.lenient.Content.{Content}
+use Rattle.mail_read.specs.lenient.ContentViews.{fault_view}
+use Rattle.mail_read.proofs.lemmas.lenient.Texts.{some-mapped}
 use Rattle.mail_c.specs.TextFiles.{number_of}
 use Rattle.mail_c.proofs.lemmas.TextFiles.{next_file}
 use Rattle.mail_c.proofs.text_files.push_file.Goals as goal

@@ -1,5 +1,5 @@
 use Rattle.std.proofs.Common.{◌∙◌}
-use Rattle.mail_data.proofs.lemmas.lenient.Texts.{utf8-decided}
+use Rattle.mail_read.proofs.lemmas.lenient.Texts.{utf8-decided}
 use Rattle.mail_check.proofs.charsets.is_utf8.Goals as goal
 
 pub returns : goal.returns

@@ -4,7 +4,7 @@ use Rattle.std.specs.Prelude.{option_map}
 use Rattle.mailparse.specs.Placement.{placements}
 use Rattle.mailparse.specs.Views.{placements_of, tree_of}
 use Rattle.mailparse.specs.declared.mail.message.ParsedMail.{ParsedMail}
-use Rattle.mail_data.specs.PlaceViews.{place_view}
+use Rattle.mail_read.specs.PlaceViews.{place_view}
 use Rattle.mail_check.specs.FindingViews.{finding_view}
 use Rattle.mail_check.proofs.lemmas.Inside.{inside_read, when_ok}
 use Rattle.mail_check.proofs.inside.«+inside».Goals as goal

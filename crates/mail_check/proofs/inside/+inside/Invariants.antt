@@ -2,7 +2,7 @@
 -- mails in all messages; how deep mails are read falls.
 use Rattle.std.proofs.Common.{◌≡◌, ◌+◌, ◌*◌, ◌++◌, drop, map}
 use Rattle.std.specs.Prelude.{flat_map}
-use Rattle.mail_data.specs.PlaceViews.{place_view}
+use Rattle.mail_read.specs.PlaceViews.{place_view}
 use Rattle.mail_check.specs.FindingViews.{finding_view}
 use Rattle.mail_check.specs.Inside.{inside_findings}
 use Rattle.mail_check.proofs.inside.«+inside».Given as goal

@@ -2,9 +2,9 @@ use Rattle.std.proofs.Common.{◌∙◌, sym}
 use Rattle.std.proofs.lemmas.Bool.{cond-true}
 use Rattle.mailparse.specs.BodyViews.{content_of}
 use Rattle.mailparse.specs.Mail.{root}
-use Rattle.mail_data.specs.InnerMails.{holds_mail}
-use Rattle.mail_data.specs.PlaceViews.{place_view}
-use Rattle.mail_data.specs.lenient.Encoding.{lenient_body_kind}
+use Rattle.mail_read.specs.InnerMails.{holds_mail}
+use Rattle.mail_read.specs.PlaceViews.{place_view}
+use Rattle.mail_read.specs.lenient.Encoding.{lenient_body_kind}
 use Rattle.mail_check.proofs.inside.mail_in.Goals as goal
 
 pub returns-clause-read : goal.returns-clause-read

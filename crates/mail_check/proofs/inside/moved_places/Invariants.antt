@@ -1,6 +1,6 @@
 -- The messages so far, and then those that are left, are all.
 use Rattle.std.proofs.Common.{◌≡◌, ◌++◌, drop, map}
-use Rattle.mail_data.specs.PlaceViews.{place_view}
+use Rattle.mail_read.specs.PlaceViews.{place_view}
 use Rattle.mail_check.specs.Inside.{moved}
 use Rattle.mail_check.proofs.inside.moved_places.Given as goal
 

@@ -2,7 +2,7 @@ use Rattle.std.proofs.Common.{ℕ, List, ◌∙◌, ◌++◌, ap, map, append_as
 use Rattle.mailparse.specs.BodyViews.{content_of}
 use Rattle.mailparse.specs.Mail.{body_kind, root}
 use Rattle.mailparse.specs.Views.{tree_of}
-use Rattle.mail_data.specs.PlaceViews.{place_view}
+use Rattle.mail_read.specs.PlaceViews.{place_view}
 use Rattle.mail_check.specs.FindingViews.{finding_view}
 use Rattle.mail_check.specs.Findings.{Finding, encoded_findings, text_findings}
 use Rattle.mail_check.proofs.listing.push_body.Goals as goal

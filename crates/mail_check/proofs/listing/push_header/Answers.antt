@@ -1,6 +1,6 @@
 use Rattle.std.proofs.Common.{◌∙◌, ap, length, map, sym}
 use Rattle.mailparse.specs.declared.headers.Headers.{Headers}
-use Rattle.mail_data.specs.PlaceViews.{place_view}
+use Rattle.mail_read.specs.PlaceViews.{place_view}
 use Rattle.mail_check.specs.FindingViews.{finding_view, spot_view}
 use Rattle.mail_check.specs.LineViews.{line_view}
 use Rattle.mail_check.proofs.lemmas.Tested.{nothing_added}

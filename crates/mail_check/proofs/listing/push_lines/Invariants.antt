@@ -1,7 +1,7 @@
 -- The findings so far, and then those of the headers that are left, are the old ones and then those of all headers.
 use Rattle.std.proofs.Common.{◌≡◌, ◌++◌, drop, map}
 use Rattle.std.specs.Prelude.{flat_map}
-use Rattle.mail_data.specs.PlaceViews.{place_view}
+use Rattle.mail_read.specs.PlaceViews.{place_view}
 use Rattle.mail_check.specs.FindingViews.{finding_view}
 use Rattle.mail_check.specs.Findings.{header_findings}
 use Rattle.mail_check.specs.LineViews.{line_view}

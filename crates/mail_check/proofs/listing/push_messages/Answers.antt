@@ -1,7 +1,7 @@
 use Rattle.std.proofs.Common.{◌≡◌, ◌∙◌, ◌++◌, ◌+◌, ℕ, suc, List, ap, drop, map, sym, append_assoc, arith}
-use Rattle.mail_data.specs.PartPlaces.{Place}
-use Rattle.mail_data.specs.PlaceViews.{place_view}
-use Rattle.mail_data.proofs.lemmas.InnerMails.{drop_next}
+use Rattle.mail_read.specs.PartPlaces.{Place}
+use Rattle.mail_read.specs.PlaceViews.{place_view}
+use Rattle.mail_read.proofs.lemmas.InnerMails.{drop_next}
 use Rattle.mail_check.specs.FindingViews.{finding_view}
 use Rattle.mail_check.specs.Findings.{Finding, findings_from, message_findings}
 use Rattle.mail_check.proofs.listing.push_messages.Goals as goal

@@ -1,6 +1,6 @@
 -- The findings so far, and then those of the messages that are left, are the old ones and then those of all messages.
 use Rattle.std.proofs.Common.{◌≡◌, ◌++◌, drop, map}
-use Rattle.mail_data.specs.PlaceViews.{place_view}
+use Rattle.mail_read.specs.PlaceViews.{place_view}
 use Rattle.mail_check.specs.FindingViews.{finding_view}
 use Rattle.mail_check.specs.Findings.{findings_from}
 use Rattle.mail_check.proofs.listing.push_messages.Given as goal

@@ -1,6 +1,6 @@
 use Rattle.std.proofs.Common.{List, ◌++◌, ◌∙◌, ap, map, sym}
 use Rattle.std.proofs.lemmas.List.{append-nil}
-use Rattle.mail_data.specs.PlaceViews.{place_view}
+use Rattle.mail_read.specs.PlaceViews.{place_view}
 use Rattle.mail_check.specs.FindingViews.{finding_view}
 use Rattle.mail_check.specs.Findings.{Finding}
 use Rattle.mail_check.specs.LineViews.{line_view}

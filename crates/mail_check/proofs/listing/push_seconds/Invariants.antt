@@ -1,6 +1,6 @@
 -- The findings so far, and then those of the names that are left, are the old ones and then those of all names.
 use Rattle.std.proofs.Common.{◌≡◌, ◌++◌, drop, map}
-use Rattle.mail_data.specs.PlaceViews.{place_view}
+use Rattle.mail_read.specs.PlaceViews.{place_view}
 use Rattle.mail_check.specs.FindingViews.{finding_view}
 use Rattle.mail_check.specs.Findings.{repeated_findings}
 use Rattle.mail_check.specs.LineViews.{line_view}

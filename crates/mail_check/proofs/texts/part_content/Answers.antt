@@ -3,8 +3,8 @@ use Rattle.std.proofs.lemmas.Result.{IfOk-weaker}
 use Rattle.mailparse.specs.BodyViews.{content_of}
 use Rattle.mailparse.specs.Mail.{root}
 use Rattle.mailparse.specs.Views.{tree_of}
-use Rattle.mail_data.specs.lenient.Content.{Content}
-use Rattle.mail_data.specs.lenient.Encoding.{lenient_body_kind}
+use Rattle.mail_read.specs.lenient.Content.{Content}
+use Rattle.mail_read.specs.lenient.Encoding.{lenient_body_kind}
 use Rattle.mail_check.proofs.texts.part_content.Goals as goal
 
 pub returns-clause-read : goal.returns-clause-read

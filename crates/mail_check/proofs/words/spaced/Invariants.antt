@@ -1,6 +1,6 @@
 -- The bytes so far and those of the rest are all.
 use Rattle.std.proofs.Common.{◌≡◌, ◌++◌, drop}
-use Rattle.mail_data.specs.lenient.Values.{spaced}
+use Rattle.mail_read.specs.lenient.Values.{spaced}
 use Rattle.mail_check.proofs.words.spaced.Given as goal
 
 abbrev pub invariant-loop-byte : goal.invariant-loop-byte

@@ -6,7 +6,7 @@ use Rattle.mailparse.specs.Mail.{root}
 use Rattle.mailparse.specs.Views.{tree_of}
 use Rattle.mail_data.specs.Archive.{ids_of}
 use Rattle.mail_data.proofs.lemmas.Archive.{parents-are, parents-distinct}
-use Rattle.mail_data.proofs.lemmas.Files.{headers-out}
+use Rattle.mail_read.proofs.lemmas.Files.{headers-out}
 use Rattle.mail_data.proofs.archive.parents.Goals as goal
 
 pub returns-clause-read : goal.returns-clause-read

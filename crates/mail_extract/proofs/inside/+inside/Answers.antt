@@ -5,9 +5,9 @@ use Rattle.mailparse.specs.Map.{text_found}
 use Rattle.mailparse.specs.Outcome.{IsRefusalOrMemory}
 use Rattle.mailparse.specs.Placement.{Placement}
 use Rattle.mailparse.specs.Views.{placements_of, tree_of}
-use Rattle.mail_data.specs.InnerMails.{places_under}
-use Rattle.mail_data.specs.PlaceViews.{place_view}
-use Rattle.mail_data.proofs.lemmas.InnerMails.{drop_next, forwarded-is}
+use Rattle.mail_read.specs.InnerMails.{places_under}
+use Rattle.mail_read.specs.PlaceViews.{place_view}
+use Rattle.mail_read.proofs.lemmas.InnerMails.{drop_next, forwarded-is}
 use Rattle.mail_json.proofs.lemmas.Reading.{not_forwarded}
 use Rattle.mail_json.specs.DecodedViews.{IsDecoded, decoded_place}
 use Rattle.mail_json.proofs.lemmas.Decoded.{all_at, not_held}

@@ -2,8 +2,8 @@ use Rattle.std.proofs.Common.{List, false, map, option_map, sym, ap, subst, â—Œâ
 use Rattle.std.specs.List.{AllByRecursion}
 use Rattle.mailparse.specs.Placement.{Placement}
 use Rattle.mailparse.specs.Views.{tree_of}
-use Rattle.mail_data.specs.PartPlaces.{places}
-use Rattle.mail_data.specs.PlaceViews.{place_view}
+use Rattle.mail_read.specs.PartPlaces.{places}
+use Rattle.mail_read.specs.PlaceViews.{place_view}
 use Rattle.mail_json.specs.DecodedViews.{IsDecoded, decoded_place}
 use Rattle.mail_extract.specs.ChoiceViews.{options_view}
 use Rattle.mail_extract.proofs.lemmas.Inside.{mail_saved}

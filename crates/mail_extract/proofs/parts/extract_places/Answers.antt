@@ -1,7 +1,7 @@
 use Rattle.std.proofs.Common.{List, ◌+◌, [], ◌∷◌, false, drop, map, option_map, sym, subst, ap, arith}
 use Rattle.std.proofs.lemmas.List.{drop_all}
-use Rattle.mail_data.proofs.lemmas.InnerMails.{drop_next}
-use Rattle.mail_data.specs.PartPlaces.{Place}
+use Rattle.mail_read.proofs.lemmas.InnerMails.{drop_next}
+use Rattle.mail_read.specs.PartPlaces.{Place}
 use Rattle.mail_json.specs.DecodedViews.{IsDecoded, decoded_place}
 use Rattle.mail_json.proofs.lemmas.Decoded.{all_at}
 use Rattle.mail_extract.specs.ChoiceViews.{options_view}

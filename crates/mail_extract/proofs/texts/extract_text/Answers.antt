@@ -1,11 +1,11 @@
 use Rattle.std.proofs.Common.{List, ℕ, [], map, option_map, sym, ap, ap₂, ◌∙◌}
 use Rattle.std.proofs.lemmas.Bool.{cond-true, cond-false}
 use Rattle.mailparse.specs.Mail.{root}
-use Rattle.mail_data.specs.PartPlaces.{Place}
-use Rattle.mail_data.specs.PlaceViews.{place_view}
+use Rattle.mail_read.specs.PartPlaces.{Place}
+use Rattle.mail_read.specs.PlaceViews.{place_view}
 use Rattle.mail_data.specs.TextFiles.{TextFile, is_plain_text, text_files}
 use Rattle.mail_data.specs.TextFileViews.{text_file_view}
-use Rattle.mail_data.specs.lenient.Content.{Content, message_content}
+use Rattle.mail_read.specs.lenient.Content.{Content, message_content}
 use Rattle.mail_extract.specs.ChoiceViews.{options_view}
 use Rattle.mail_extract.specs.Save.{Wanted, chosen, texts_wanted}
 use Rattle.mail_extract.proofs.lemmas.Parts.{files_as, files_none}

@@ -1,7 +1,7 @@
 use Rattle.mailparse.specs.BodyViews.{content_of}
 use Rattle.mailparse.specs.Mail.{root}
 use Rattle.mailparse.specs.Views.{tree_of}
-use Rattle.mail_data.specs.lenient.Encoding.{lenient_body_kind}
+use Rattle.mail_read.specs.lenient.Encoding.{lenient_body_kind}
 use Rattle.mail_extract.proofs.texts.read_text.Goals as goal
 
 pub returns-clause-read : goal.returns-clause-read

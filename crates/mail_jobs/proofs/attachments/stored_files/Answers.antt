@@ -1,6 +1,6 @@
 use Rattle.std.proofs.Common.{rules, ◌≡◌, ◌∷◌, string_bytes}
-use Rattle.mail_data.specs.FileNames.{IsSafeName}
-use Rattle.mail_data.specs.FileViews.{attachment_view}
+use Rattle.mail_read.specs.FileNames.{IsSafeName}
+use Rattle.mail_read.specs.FileViews.{attachment_view}
 use Rattle.mail_jobs.specs.Attachments.{stored}
 use Rattle.mail_jobs.specs.AttachmentViews.{stored_view}
 use Rattle.mail_jobs.proofs.lemmas.Attachments.{each_more, one_more}

@@ -1,7 +1,7 @@
 use Rattle.std.proofs.Common.{◌≡◌, ◌++◌, map, string_bytes, All}
 use Rattle.mailparse.specs.Views.{tree_of}
-use Rattle.mail_data.specs.FileNames.{IsSafeName}
-use Rattle.mail_data.specs.FileViews.{attachment_view}
+use Rattle.mail_read.specs.FileNames.{IsSafeName}
+use Rattle.mail_read.specs.FileViews.{attachment_view}
 use Rattle.mail_jobs.specs.Attachments.{stored, stored_files}
 use Rattle.mail_jobs.specs.AttachmentViews.{stored_view}
 use Rattle.mail_jobs.proofs.attachments.stored_files.Given as goal

@@ -1,7 +1,7 @@
 -- The parts so far, and then those of the places that are left, are all; each has its content.
 use Rattle.std.proofs.Common.{◌≡◌, ◌++◌, drop, map}
 use Rattle.std.specs.List.{AllByRecursion}
-use Rattle.mail_data.specs.PlaceViews.{place_view}
+use Rattle.mail_read.specs.PlaceViews.{place_view}
 use Rattle.mail_json.specs.DecodedViews.{IsDecoded, decoded_place}
 use Rattle.mail_json.proofs.decoded.decoded_parts.Given as goal
 

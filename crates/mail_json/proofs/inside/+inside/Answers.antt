@@ -2,14 +2,14 @@ use Rattle.std.proofs.Common.{◌≢◌, ◌+◌, ◌-◌, ◌++◌, List, [], d
 use Rattle.std.proofs.KnownBytes.{Appends-nil, Appends-trans}
 use Rattle.std.proofs.lemmas.List.{append-nil, drop_all}
 use Rattle.std.specs.Prelude.{flat_map}
-use Rattle.mail_data.specs.Reading.{mail_placements}
+use Rattle.mail_read.specs.Reading.{mail_placements}
 use Rattle.mailparse.specs.Placement.{Placement}
 use Rattle.mailparse.specs.Views.{placements_of, tree_of}
 use Rattle.mailparse.specs.declared.mail.message.ParsedMail.{ParsedMail}
-use Rattle.mail_data.proofs.lemmas.InnerMails.{forwarded-is}
-use Rattle.mail_data.specs.InnerMails.{InnerMail, mail_bytes, places_under}
-use Rattle.mail_data.specs.PartPlaces.{Place}
-use Rattle.mail_data.specs.PlaceViews.{place_view}
+use Rattle.mail_read.proofs.lemmas.InnerMails.{forwarded-is}
+use Rattle.mail_read.specs.InnerMails.{InnerMail, mail_bytes, places_under}
+use Rattle.mail_read.specs.PartPlaces.{Place}
+use Rattle.mail_read.specs.PlaceViews.{place_view}
 use Rattle.std.specs.List.{AllByRecursion}
 use Rattle.mail_json.specs.Inside.{without_bytes}
 use Rattle.mail_json.specs.InsideViews.{inside_view}

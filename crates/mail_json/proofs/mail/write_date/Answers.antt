@@ -1,7 +1,7 @@
 use Rattle.std.proofs.Common.{ℕ, List, SFits, rules, w64, Option, Some, option_map, sym, ap, ◌∙◌}
 use Rattle.std.proofs.lemmas.Int.{to_z-of_z}
 use Rattle.json.specs.Json.{string}
-use Rattle.mail_data.specs.lenient.Date.{zoned_date_of}
+use Rattle.mail_read.specs.lenient.Date.{zoned_date_of}
 use Rattle.mailparse.specs.Map.{text_found}
 use Rattle.mail_json.specs.Printed.{seconds_value}
 use Rattle.mail_json.specs.Values.{date_members}

@@ -3,8 +3,8 @@ use Rattle.json.specs.Json.{Json}
 use Rattle.mailparse.specs.Mail.{root}
 use Rattle.mailparse.specs.Placement.{Placement}
 use Rattle.mailparse.specs.Views.{tree_of}
-use Rattle.mail_data.specs.PartPlaces.{places}
-use Rattle.mail_data.specs.PlaceViews.{place_view}
+use Rattle.mail_read.specs.PartPlaces.{places}
+use Rattle.mail_read.specs.PlaceViews.{place_view}
 use Rattle.mail_json.specs.DecodedViews.{decoded_place, decoded_tree}
 use Rattle.mail_json.specs.Inside.{Listed, mails_inside, without_bytes}
 use Rattle.mail_json.specs.InsideViews.{inside_view}

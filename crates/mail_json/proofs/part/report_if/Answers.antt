@@ -1,7 +1,7 @@
 use Rattle.std.proofs.Common.{option_map, sym, ap, ◌∙◌}
 use Rattle.mailparse.specs.Mail.{root}
 use Rattle.mailparse.specs.Views.{tree_of}
-use Rattle.mail_data.specs.lenient.ContentViews.{content_view}
+use Rattle.mail_read.specs.lenient.ContentViews.{content_view}
 use Rattle.mail_json.proofs.lemmas.Decoded.{blocks_as, report_other, report_read}
 use Rattle.mail_json.proofs.part.report_if.Goals as goal
 

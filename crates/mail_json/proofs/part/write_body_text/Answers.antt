@@ -1,9 +1,9 @@
 use Rattle.std.proofs.Common.{Bool, List, ℕ, sym, ap, ◌∙◌, true}
 use Rattle.json.specs.Json.{string}
 use Rattle.mailparse.specs.Views.{content_type}
-use Rattle.mail_data.specs.lenient.ContentViews.{content_view, fault_view}
-use Rattle.mail_data.specs.lenient.Texts.{charset_used, lenient_text}
-use Rattle.mail_data.proofs.lemmas.lenient.Texts.{some-mapped}
+use Rattle.mail_read.specs.lenient.ContentViews.{content_view, fault_view}
+use Rattle.mail_read.specs.lenient.Texts.{charset_used, lenient_text}
+use Rattle.mail_read.proofs.lemmas.lenient.Texts.{some-mapped}
 use Rattle.mail_json.specs.Options.{options_of}
 use Rattle.mail_json.specs.Part.{html_shown, text_shown}
 use Rattle.mail_json.specs.Printed.{Member, string_or_null}

@@ -1,6 +1,6 @@
 use Rattle.std.proofs.Common.{Option, option_map, sym, ap}
-use Rattle.mail_data.specs.declared.lenient.content.Content.{Content}
-use Rattle.mail_data.specs.lenient.ContentViews.{content_view}
+use Rattle.mail_read.specs.declared.lenient.content.Content.{Content}
+use Rattle.mail_read.specs.lenient.ContentViews.{content_view}
 use Rattle.mail_json.specs.Values.{decoded_members}
 use Rattle.mail_json.specs.declared.json_text.Position.TheVariants.{Later}
 use Rattle.mail_json.proofs.lemmas.Members.{adds_as}

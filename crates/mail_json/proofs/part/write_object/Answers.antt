@@ -1,10 +1,10 @@
 use Rattle.std.proofs.Common.{◌≡◌, Bool, List, ℕ, Option, option_map, length, map, refl, sym, ap, ap₂, subst, ◌∙◌}
 use Rattle.json.specs.Json.{boolean}
 use Rattle.std.specs.Prelude.{◌&&◌, ◌||◌, not}
-use Rattle.mail_data.specs.Attachments.{is_extracted}
-use Rattle.mail_data.specs.Files.{is_leaf, is_shown}
-use Rattle.mail_data.specs.lenient.Dispositions.{lenient_disposition}
-use Rattle.mail_data.specs.lenient.FileNames.{lenient_file_name}
+use Rattle.mail_read.specs.Attachments.{is_extracted}
+use Rattle.mail_read.specs.Files.{is_leaf, is_shown}
+use Rattle.mail_read.specs.lenient.Dispositions.{lenient_disposition}
+use Rattle.mail_read.specs.lenient.FileNames.{lenient_file_name}
 use Rattle.std.proofs.lemmas.Result.{err_from_is_err_and}
 use Rattle.json.specs.Json.{string}
 use Rattle.mail_json.specs.Options.{options_of}
@@ -15,9 +15,9 @@ use Rattle.mailparse.specs.Header.{Header}
 use Rattle.mailparse.specs.Mail.{root}
 use Rattle.mailparse.specs.Map.{text_found}
 use Rattle.mailparse.specs.Views.{kind, tree_of}
-use Rattle.mail_data.specs.lenient.Content.{Content}
-use Rattle.mail_data.specs.lenient.ContentViews.{content_view}
-use Rattle.mail_data.specs.lenient.Encoding.{lenient_body_kind}
+use Rattle.mail_read.specs.lenient.Content.{Content}
+use Rattle.mail_read.specs.lenient.ContentViews.{content_view}
+use Rattle.mail_read.specs.lenient.Encoding.{lenient_body_kind}
 use Rattle.mail_check.specs.Inside.{path_shown}
 use Rattle.mail_json.specs.Part.{Lists, content_if, hash_of, is_attachment, is_read}
 use Rattle.mail_json.specs.Printed.{list_of, number_value, object_of, string_or_null, text_of}

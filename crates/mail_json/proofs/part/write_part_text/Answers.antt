@@ -2,8 +2,8 @@ use Rattle.std.proofs.Common.{option_map, sym, ap, ◌∙◌}
 use Rattle.mailparse.specs.ContentType.{ContentType}
 use Rattle.mailparse.specs.Mail.{root}
 use Rattle.mailparse.specs.Views.{tree_of}
-use Rattle.mail_data.specs.lenient.Content.{Content}
-use Rattle.mail_data.specs.lenient.ContentViews.{content_view}
+use Rattle.mail_read.specs.lenient.Content.{Content}
+use Rattle.mail_read.specs.lenient.ContentViews.{content_view}
 use Rattle.mail_json.specs.Options.{options_of}
 use Rattle.mail_json.specs.Values.{body_members, shown_members}
 use Rattle.mail_json.specs.declared.json_text.Position.TheVariants.{Later}

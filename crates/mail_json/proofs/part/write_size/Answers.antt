@@ -1,8 +1,8 @@
 use Rattle.std.proofs.Common.{Option, length, option_map, sym, ap, ◌∙◌}
 use Rattle.std.specs.Prelude.{codes}
 use Rattle.std.specs.Cow.{cow_slice_items}
-use Rattle.mail_data.specs.declared.lenient.content.ContentFault.{ContentFault}
-use Rattle.mail_data.specs.lenient.ContentViews.{fault_view}
+use Rattle.mail_read.specs.declared.lenient.content.ContentFault.{ContentFault}
+use Rattle.mail_read.specs.lenient.ContentViews.{fault_view}
 use Rattle.mail_program.specs.Refusal.{refusal_text}
 use Rattle.mail_json.specs.Printed.{number_value, one, string_or_null}
 use Rattle.mail_json.specs.Values.{size_members}

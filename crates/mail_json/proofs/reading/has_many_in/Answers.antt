@@ -2,8 +2,8 @@ use Rattle.std.proofs.Common.{sym, ap, ◌∙◌, arith}
 use Rattle.mailparse.specs.BodyViews.{content_of}
 use Rattle.mailparse.specs.Mail.{root}
 use Rattle.mailparse.specs.Views.{tree_of}
-use Rattle.mail_data.specs.lenient.Content.{Content}
-use Rattle.mail_data.specs.lenient.Encoding.{lenient_body_kind}
+use Rattle.mail_read.specs.lenient.Content.{Content}
+use Rattle.mail_read.specs.lenient.Encoding.{lenient_body_kind}
 use Rattle.mail_json.proofs.lemmas.Reading.{few_bytes, many_bytes}
 use Rattle.mail_json.proofs.reading.has_many_in.Goals as goal
 

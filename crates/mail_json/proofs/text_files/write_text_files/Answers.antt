@@ -1,10 +1,10 @@
 use Rattle.std.proofs.Common.{List, ℕ, Option, refl, sym, ap, ap₂, map, option_map, ◌∙◌}
 use Rattle.std.specs.Prelude.{codes}
-use Rattle.mail_data.specs.PlaceViews.{place_view}
+use Rattle.mail_read.specs.PlaceViews.{place_view}
 use Rattle.mail_data.specs.TextFiles.{TextFile}
 use Rattle.mail_data.specs.TextFileViews.{text_file_view}
-use Rattle.mail_data.specs.declared.lenient.content.Content.{Content}
-use Rattle.mail_data.specs.lenient.ContentViews.{content_view}
+use Rattle.mail_read.specs.declared.lenient.content.Content.{Content}
+use Rattle.mail_read.specs.lenient.ContentViews.{content_view}
 use Rattle.mail_json.specs.Printed.{list_of, one, text_of}
 use Rattle.mail_json.specs.TextFiles.{files_if, files_in, listed_files}
 use Rattle.mail_json.specs.TextFileViews.{listed_view}

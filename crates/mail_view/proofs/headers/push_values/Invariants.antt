@@ -1,7 +1,7 @@
 -- The lines of the headers so far.
 use Rattle.std.proofs.Common.{◌≡◌, ◌++◌, map, take}
 use Rattle.std.specs.String.{string_bytes}
-use Rattle.mail_data.specs.lenient.Values.{header_text}
+use Rattle.mail_read.specs.lenient.Values.{header_text}
 use Rattle.mail_view.specs.Line.{line, lines_text}
 use Rattle.mail_view.proofs.headers.push_values.Given as goal
 

@@ -2,7 +2,7 @@
 use Rattle.std.proofs.Common.{◌≡◌, ◌++◌, map, take}
 use Rattle.std.specs.List.{flat_map}
 use Rattle.std.specs.String.{string_bytes}
-use Rattle.mail_data.specs.PlaceViews.{place_view}
+use Rattle.mail_read.specs.PlaceViews.{place_view}
 use Rattle.mail_view.specs.Line.{empty, line_text, lines_text}
 use Rattle.mail_view.specs.View.{part_lines}
 use Rattle.mail_view.proofs.parts.push_parts.Given as goal

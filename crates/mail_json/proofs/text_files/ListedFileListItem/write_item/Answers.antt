@@ -1,6 +1,6 @@
 use Rattle.std.proofs.Common.{Some, length, refl, ap, ◌∙◌}
 use Rattle.json.specs.Json.{string}
-use Rattle.mail_data.specs.lenient.Content.{Content}
+use Rattle.mail_read.specs.lenient.Content.{Content}
 use Rattle.mail_json.specs.Part.{hash_of}
 use Rattle.mail_json.specs.Printed.{string_or_null}
 use Rattle.mail_json.specs.Values.{size_members}

@@ -1,7 +1,0 @@
-use Rattle.std.proofs.Common.{None, lit<}
-use Rattle.std.proofs.lemmas.Str.Pattern.{split_once_first}
-use Rattle.mail_data.proofs.lemmas.lenient.Ids.{closing-none}
-use Rattle.mail_data.proofs.lenient.ids.before_closing.Goals as goal
-
-pub returns-in_default-clause-closed : goal.returns-in_default-clause-closed
-returns-in_default-clause-closed c = closing-none c.args.text.now (split_once_first 62 c.args.text.now None c.in_default.ensures.cases (lit< tt))

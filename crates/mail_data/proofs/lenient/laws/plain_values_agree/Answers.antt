@@ -1,5 +1,0 @@
-use Rattle.mail_data.proofs.lemmas.lenient.Values.{plain-agree}
-use Rattle.mail_data.proofs.lenient.laws.plain_values_agree.Goals as goal
-
-pub returns : goal.returns
-returns c = plain-agree

@@ -1,0 +1,2 @@
+-- Words that only private functions need; no public clause uses them.
+pub mod Usual

@@ -1,0 +1,38 @@
+//! Lenient readings that recover what they can when the strict calls of `mailparse` refuse.
+mod base64;
+mod comments;
+mod content;
+mod date;
+mod dispositions;
+mod encoding;
+mod file_names;
+mod folding;
+mod guess;
+mod ids;
+pub mod laws;
+mod manner;
+mod names;
+mod quoting;
+mod refused;
+mod repairs;
+mod shown;
+mod texts;
+mod undecoded;
+mod usual;
+mod values;
+
+pub use base64::{Base64Front, base64_front};
+pub use comments::without_comments;
+pub use content::{Content, ContentFault, lenient_content, part_content};
+pub use date::{DateError, date_and_offset_of, date_of, number_of, zoned_date_of};
+pub use dispositions::lenient_disposition;
+pub use encoding::{LenientBody, lenient_body};
+pub use file_names::{lenient_file_name, lenient_named_file};
+pub use ids::{IdRule, find_ids};
+pub use manner::{Lenient, lenient_type};
+pub use names::lenient_name_text;
+pub use refused::{refusal, was_kept};
+pub use shown::{after_block, is_undivided};
+pub use texts::{BodyText, body_text, charset_used, lenient_text};
+pub(crate) use undecoded::undecoded;
+pub use values::{first_header_text, lenient_header_text, lenient_header_text_ref};
