@@ -7,8 +7,8 @@ ghost use Rattle.mail_c.specs.Numbers.{first_offsets, format_named, no_mail_code
 
 use crate::codes::{ABSENT, DONE, NO_MAILBOX, NOT_UTF8, code_of_date};
 use crate::results::text_in;
-use mail_read::lenient::date_and_offset_of;
 use mail_data::mailbox::{Format, read_mailbox};
+use mail_read::lenient::date_and_offset_of;
 
 /// Reads the value of a Date header. Returns `DONE`, or the code of its refusal.
 pub(crate) fn date(seconds: &mut i64, is_zone_known: &mut u8, text: &[u8]) -> u32

@@ -15,12 +15,12 @@ use crate::codes::NO_MEMORY;
 use crate::nameless::is_nameless;
 use crate::results::{NO_LIMIT, text_in};
 use mail_data::bounce::original_message_id;
+use mail_data::mailbox::quoted;
 use mail_read::files::safe_file_name;
 use mail_read::lenient::{
     LenientBody, charset_used, lenient_content, lenient_header_text, lenient_named_file,
     lenient_text, lenient_type,
 };
-use mail_data::mailbox::quoted;
 use mail_read::reading::read_mail;
 use mailparse::{KnownCharsets, MailParseError, ParsedContentType};
 use std::alloc::{AllocError, Global};

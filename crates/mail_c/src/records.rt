@@ -23,11 +23,11 @@ use crate::codes::{NO_MEMORY, TOO_MANY, code_of};
 use crate::lookup::first_header;
 use crate::nameless::is_nameless_part;
 use crate::places::{bare_key_end, places_of};
+use mail_json::is_read;
 use mail_read::files::{is_attachment_disposition, is_leaf, is_shown};
 use mail_read::inner_mails::forwards;
 use mail_read::lenient::{LenientBody, lenient_body, lenient_disposition, lenient_file_name};
 use mail_read::reading::read_mail;
-use mail_json::is_read;
 use mailparse::body::Body;
 use mailparse::{
     DispositionType, KnownCharsets, MailHeader, MailParseError, ParsedMail, before_dash_line,

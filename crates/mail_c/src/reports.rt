@@ -12,8 +12,8 @@ ghost use Rattle.mail_c.specs.Reports.{entries_from, fields_view, report};
 use crate::buffer::write_both;
 use crate::codes::{ABSENT, NO_MEMORY, code_of};
 use crate::results::NO_LIMIT;
-use mail_read::reading::read_mail;
 use mail_data::reports::{Block, Field, report_blocks};
+use mail_read::reading::read_mail;
 use mailparse::{KnownCharsets, MailParseError, ParsedMail};
 use std::alloc::{AllocError, Global};
 

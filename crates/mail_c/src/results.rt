@@ -10,13 +10,13 @@ ghost use Rattle.mail_c.specs.Buffer.{Gives, bytes_found};
 ghost use Rattle.mail_c.specs.Results.{IsJson, bracketed, content, ids, raw_value};
 ghost use Rattle.mail_c.specs.Results.{links_if, readable, text, text_in, text_of_html, value};
 
+use mail_data::readable::readable_text;
+use mail_html::{Links, References, html_text};
+use mail_json::{LineOptions, Origin, write_mail};
 use mail_read::lenient::{
     IdRule, body_text, find_ids, lenient_body, lenient_content, lenient_header_text,
 };
-use mail_data::readable::readable_text;
 use mail_read::reading::read_mail;
-use mail_html::{Links, References, html_text};
-use mail_json::{LineOptions, Origin, write_mail};
 use mailparse::{KnownCharsets, MailHeaderMap, MailParseError, ParsedMail, parse_lenient_headers};
 use std::alloc::{AllocError, Global};
 use std::borrow::{CowSlice, CowStr};

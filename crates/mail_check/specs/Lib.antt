@@ -19,5 +19,4 @@ pub mod Inside
 pub mod FindingViews
 pub mod Reading
 pub mod Clean
-pub mod strict
 pub mod private

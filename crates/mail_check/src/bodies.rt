@@ -9,8 +9,8 @@ use crate::letters::letters_len;
 use crate::scan::byte_at;
 
 /// What was read of a body in Base64 (RFC 2045, section 6.8).
-#[derive(Clone, Copy)]
-pub(crate) enum Base64State {
+#[derive(Clone, Copy, Debug)]
+pub enum Base64State {
     /// Nothing of a line, after lines of whole groups.
     Start,
     /// One letter of a group.

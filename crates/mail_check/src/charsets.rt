@@ -59,8 +59,8 @@ const OTHER_LABELS: [&str; 15] = [
 const PAIR_LABELS: [&str; 3] = ["gb2312", "euc-kr", "ks_c_5601-1987"];
 
 /// What was read of bytes that are ASCII and pairs from A1 to FE.
-#[derive(Clone, Copy)]
-enum PairState {
+#[derive(Clone, Copy, Debug)]
+pub enum PairState {
     /// ASCII and whole pairs.
     Whole,
     /// The first byte of a pair.

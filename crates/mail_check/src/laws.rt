@@ -9,9 +9,6 @@ ghost use Rattle.mail_read.specs.PartPlaces.{Place};
 ghost use Rattle.mail_check.specs.Clean.{HasPlainBytes};
 ghost use Rattle.mail_check.specs.Findings.{Spot, byte_findings, findings, message_findings};
 
-pub mod strict;
-pub mod strict_values;
-
 /// There is no finding of the bytes of a mail exactly if these contain no NUL and no CR without a
 /// LF after it, and not both CR LF and a LF without a CR before it.
 #[tactic(auto, using(crate::proofs::lemmas::Clean::plain_bytes_are_clean))]

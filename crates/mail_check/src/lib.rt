@@ -8,6 +8,7 @@
 //! The examples run in a function with the runtime `rt` and its allocator `alloc`.
 #![tactic(auto)]
 
+pub mod automata;
 mod bodies;
 mod charsets;
 mod disputed;

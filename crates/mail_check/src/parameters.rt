@@ -15,8 +15,8 @@ use crate::scan::{is_blank, is_control, is_same};
 use mail_codec::bytescan::{find, find_byte};
 
 /// What was read of a value with parameters, from its subtype or disposition onwards.
-#[derive(Clone, Copy)]
-pub(crate) enum ValueState {
+#[derive(Clone, Copy, Debug)]
+pub enum ValueState {
     /// Nothing.
     Start,
     /// A part of the subtype or disposition.
@@ -58,8 +58,8 @@ pub(crate) enum ValueState {
 }
 
 /// A step through a value at which programs differ.
-#[derive(Clone, Copy)]
-pub(crate) enum Step {
+#[derive(Clone, Copy, Debug)]
+pub enum Step {
     /// A byte in quotes: a semicolon, a tab, a byte of a line end, or a space at their ends.
     Special,
     /// The asterisk of a name.

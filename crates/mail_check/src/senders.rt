@@ -12,8 +12,8 @@ use crate::lines::{HeaderLine, is_named};
 use crate::scan::{is_blank, is_control};
 
 /// What was read of a sender.
-#[derive(Clone, Copy)]
-pub(crate) enum SenderState {
+#[derive(Clone, Copy, Debug)]
+pub enum SenderState {
     /// Nothing, or blanks.
     Front,
     /// A CR after them.

@@ -23,8 +23,8 @@ use mail_codec::transfer::{decode_base64, decode_quoted_printable};
 use std::alloc::{AllocError, Global};
 
 /// What was read of an encoded word (RFC 2047, section 2).
-#[derive(Clone, Copy)]
-pub(crate) enum WordState {
+#[derive(Clone, Copy, Debug)]
+pub enum WordState {
     /// Nothing.
     Front,
     /// The equals sign at the front.

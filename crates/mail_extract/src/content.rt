@@ -9,8 +9,8 @@ ghost use Rattle.mail_extract.specs.Content.{after_headers, content, is_in_heade
 ghost use Rattle.mail_extract.specs.ContentViews.{damage_view, file_view};
 
 use crate::stray::has_stray_line;
-use mail_read::lenient::{Content, ContentFault, lenient_body, lenient_content};
 use mail_json::Decoded;
+use mail_read::lenient::{Content, ContentFault, lenient_body, lenient_content};
 use mailparse::{MailParseError, ParsedMail};
 use std::alloc::Global;
 use std::borrow::CowSlice;

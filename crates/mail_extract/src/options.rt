@@ -5,9 +5,9 @@ ghost use Rattle.mail_extract.specs.Naming.{target};
 
 use crate::choice::Choice;
 use crate::hash::Hashing;
-use mail_read::files::{safe_file_name, windows_file_name};
 use mail_json::InputKind;
 use mail_program::sha256_text;
+use mail_read::files::{safe_file_name, windows_file_name};
 use std::alloc::{AllocError, Global};
 
 /// What names a saved file.

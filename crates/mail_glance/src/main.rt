@@ -3,9 +3,9 @@
 #![tactic(auto)]
 
 use mail_charsets::AllCharsets;
-use mail_read::reading::DEFAULT_LIMIT;
 use mail_html::References;
 use mail_program::{Fault, read_input, status_of};
+use mail_read::reading::DEFAULT_LIMIT;
 use mail_view::write_single;
 use std::io;
 use std::process::ExitCode;

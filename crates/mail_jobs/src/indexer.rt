@@ -11,8 +11,8 @@ ghost use Rattle.mail_jobs.specs.IndexerViews.{IsEntry};
 
 use mail_address::lenient_sender_of;
 use mail_data::archive::message_id;
-use mail_read::lenient::{self, BodyText, DateError, body_text, first_header_text};
 use mail_data::texts::text_part;
+use mail_read::lenient::{self, BodyText, DateError, body_text, first_header_text};
 use mailparse::{KnownCharsets, MailParseError, ParsedMail};
 use std::alloc::Global;
 

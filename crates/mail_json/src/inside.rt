@@ -32,9 +32,9 @@ use crate::members::{add_number_or_null, add_optional, add_text, first_key, key}
 use crate::options::LineOptions;
 use crate::part::{Form, place_in, write_found};
 use crate::reading::read_mail;
+use mail_program::{Fault, refusal_of};
 use mail_read::inner_mails::{holds_mail, mail_start, places_under};
 use mail_read::places::Place;
-use mail_program::{Fault, refusal_of};
 use mailparse::{KnownCharsets, MAX_LEVELS, MailParseError, ParsedMail};
 use std::alloc::{AllocError, Global};
 use std::io::Write;

@@ -3,8 +3,8 @@ ghost use Rattle.std.specs.Prelude.{◌≡◌, None, false, true};
 ghost use Rattle.mail_json.specs.JsonLines.{format_of};
 
 use mail_data::mailbox::Format;
-use mail_read::reading::DEFAULT_LIMIT;
 use mail_html::References;
+use mail_read::reading::DEFAULT_LIMIT;
 
 /// What an input is.
 #[derive(Clone, Copy, Debug, PartialEq, Eq)]

@@ -42,17 +42,17 @@ use crate::options::LineOptions;
 use crate::reports::{write_pair, write_report};
 use crate::text_files::write_text_files;
 use mail_codec::charset::decode_latin1;
-use mail_read::files::{describes_attachment, is_attachment_disposition, is_leaf, is_shown};
 use mail_data::flowed::unflowed_of;
+use mail_data::reports::{Block, has_report, read_blocks};
+use mail_data::texts::text_type_of;
+use mail_html::{Links, References, html_text};
+use mail_program::{Fault, refusal_of, sha256_text};
+use mail_read::files::{describes_attachment, is_attachment_disposition, is_leaf, is_shown};
 use mail_read::lenient::{
     Content, charset_used, lenient_disposition, lenient_file_name, lenient_header_text_ref,
     lenient_text, refusal,
 };
 use mail_read::places::Place;
-use mail_data::reports::{Block, has_report, read_blocks};
-use mail_data::texts::text_type_of;
-use mail_html::{Links, References, html_text};
-use mail_program::{Fault, refusal_of, sha256_text};
 use mailparse::{
     DispositionType, KnownCharsets, MailHeader, MailParseError, ParsedContentType, ParsedMail,
 };

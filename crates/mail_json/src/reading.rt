@@ -8,9 +8,9 @@ ghost use Rattle.mail_read.specs.Reading.{mail_placements};
 ghost use Rattle.mail_json.specs.Reading.{has_many_blocks, has_many_files, mail_reading};
 
 use mail_codec::transfer::find_uuencode;
+use mail_data::text_files::is_plain_text;
 use mail_read::lenient::{lenient_body, lenient_content};
 use mail_read::reading;
-use mail_data::text_files::is_plain_text;
 use mailparse::{KnownCharsets, MailParseError, ParsedMail};
 use std::alloc::Global;
 

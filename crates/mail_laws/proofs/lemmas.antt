@@ -19,7 +19,6 @@ pub mod RangeTree
 pub mod Placement
 pub mod Manners
 pub mod LenientAgreement
-pub mod BareKeys
 pub mod RenderViews
 pub mod RenderConditions
 pub mod RenderHeaders
@@ -29,19 +28,3 @@ pub mod RenderTypes
 pub mod RenderReadings
 pub mod Limits
 pub mod InnerMails
-pub mod HeaderLines
-pub mod WholeLines
-pub mod FlatTypes
-pub mod FlatPairs
-pub mod FoldedTypes
-pub mod PlainValues
-pub mod CleanMails
-pub mod PlainHeaders
-pub mod PlainTypes
-pub mod PlainTexts
-pub mod PlainParts
-pub mod PlainOutlines
-pub mod StrictPieces
-pub mod StrictHeaderLists
-pub mod WholeMails
-pub mod MeantMails

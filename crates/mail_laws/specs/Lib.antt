@@ -42,7 +42,4 @@ pub use Rattle.mail_codec.specs.Places
 pub use Rattle.mail_address.specs.Encode
 pub use Rattle.mail_address.specs.WordTokens
 pub mod Render
-pub mod PlainOutlines
 pub mod RenderViews
-pub mod StrictMails
-pub mod PlainValues

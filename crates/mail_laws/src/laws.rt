@@ -6,7 +6,6 @@ mod inside;
 mod mails;
 mod manners;
 mod parameters;
-mod strict_mails;
 mod values;
 mod writing;
 
@@ -19,24 +18,16 @@ pub use mails::{
     ranges_apart, ranges_give_tree,
 };
 pub use manners::{
-    clean_mails_are_read_alike, limits_count_items, manners_agree, manners_keep_placements,
-    manners_keep_ranges, nothing_is_refused, strict_mails_are_read_alike,
+    limits_count_items, manners_agree, manners_keep_placements, manners_keep_ranges,
+    nothing_is_refused, strict_mails_are_read_alike,
 };
 pub use parameters::{
     candidates_have_a_form, charset_source_is_the_greatest, dispositions_equal_by_kind,
     odd_backslashes_go, one_list_of_segments_fits, only_possible_names_have_sections,
-    pairs_without_stars_are_parameters, percent_free, plain_boundary_is_read,
-    plain_dispositions_are_read, plain_types_are_read, plain_values_have_one_meaning,
-    runs_are_read_once,
-};
-pub use strict_mails::{
-    clean_mails_are_of_grammar, plain_outlines_are_of_grammar, strict_blocks_have_headers,
-    strict_mails_have_one_tree, strict_texts_have_parts, strict_types_are_meant,
+    pairs_without_stars_are_parameters, percent_free, plain_boundary_is_read, runs_are_read_once,
 };
 pub use values::{
     adjacent_words_join, one_list_of_tokens_fits, plain_value_reads_as_itself, tokens_make_up_line,
     utf8_value_agrees,
 };
-pub use writing::{
-    one_list_of_words_fits, outline_reads_back, plain_outlines_are_strict, written_values_read_back,
-};
+pub use writing::{one_list_of_words_fits, outline_reads_back, written_values_read_back};

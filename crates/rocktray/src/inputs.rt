@@ -4,9 +4,9 @@ use crate::Terminals;
 use crate::options::ids;
 use clap::ArgMatches;
 use mail_data::mailbox::Format;
-use mail_read::reading::DEFAULT_LIMIT;
 use mail_inputs::{Content, Inputs, Name, Progress, Subdirectories, argument_text};
 use mail_json::InputKind;
+use mail_read::reading::DEFAULT_LIMIT;
 use std::alloc::{AllocError, Global};
 
 /// Returns the names of the inputs.

@@ -6,8 +6,8 @@ use Rattle.std.specs.Str.{str_eq_ignore_ascii_case}
 use Rattle.std.proofs.lemmas.Bool.{leb-true, lt-leb, ltb-true}
 use Rattle.mail_check.specs.Bytes.{first_byte, is_high}
 use Rattle.mail_check.specs.Disputed.{Table, table_of, big5_pairs, euc_jp_bytes, euc_jp_pairs, euc_kr_pairs, first_after, gb_2312_pairs, gb_bytes, gb_pairs, gb18030_pairs, gbk_pairs, has_disputed, has_disputed_after, has_disputed_in, is_disputed, is_first, is_in, koi8_u_bytes, shift_jis_bytes, shift_jis_pairs, windows_1255_bytes}
-use Rattle.mail_check.proofs.lemmas.StrictHeaders.{both_true, is_so, left_false, nor, right_false}
-use Rattle.mail_check.proofs.lemmas.StrictCharsets.{no_offset}
+use Rattle.mail_check.proofs.lemmas.Booleans.{both_true, is_so, left_false, nor, right_false}
+use Rattle.mail_check.proofs.lemmas.Searched.{no_offset}
 
 -- a byte of ASCII is in no range that begins from 80 on
 in_none : (b : ℕ) → nat_lt b 128 ≡ true → (ranges : List (ℕ × ℕ)) → list_all (λ range. nat_le 128 range.0) ranges ≡ true

@@ -11,8 +11,7 @@ use Rattle.mail_check.specs.declared.parameters.Step.{Step}
 use Rattle.mail_check.specs.declared.parameters.Step.TheVariants.{Special, Starred}
 use Rattle.mail_check.specs.declared.parameters.ValueState.{ValueState}
 use Rattle.mail_check.specs.declared.parameters.ValueState.TheVariants.{Token, Semicolon, Text, Quoted, Space, Escaped, Closed, Wrong}
-use Rattle.mail_check.proofs.lemmas.StrictParameters.{miss, text_keeps, token_keeps}
-use Rattle.mail_check.proofs.lemmas.StrictPlain.{attribute_low}
+use Rattle.mail_check.proofs.lemmas.Attributes.{attribute_low, miss, text_keeps, token_keeps}
 
 -- ---- what such a byte is not
 

@@ -5,13 +5,11 @@ ghost use Rattle.mailparse.specs.Bound.{IsBounded, items_within};
 ghost use Rattle.mailparse.specs.Limit.{read_mail_within};
 ghost use Rattle.mailparse.specs.Mail.{Tree, nodes, read_mail_as, read_mail_in, strict};
 ghost use Rattle.mailparse.specs.Manner.{Manner};
-ghost use Rattle.mailparse.specs.Placement.{placements, placements_as};
+ghost use Rattle.mailparse.specs.Placement.{placements_as};
 ghost use Rattle.mailparse.specs.Ranges.{Apart, slice};
 ghost use Rattle.mailparse.specs.Refusal.{Refusal, too_many_items};
 ghost use Rattle.mail_read.specs.Reading.{mail_reading};
 ghost use Rattle.mail_read.specs.lenient.Manner.{lenient};
-ghost use Rattle.mail_check.specs.Findings.{findings};
-ghost use Rattle.mail_check.specs.strict.Named.{Lacks, is_core};
 ghost use Rattle.mail_laws.specs.LenientAgreement.{is_strict_mail};
 ghost use Rattle.mail_laws.specs.Manners.{AreReadAlike};
 ghost use Rattle.mail_laws.specs.RangeTree.{AreNested, RangeTree, blocks_and_bodies, range_root, ranges_as, read_there, wholes_and_bodies};
@@ -64,16 +62,6 @@ pub fn manners_agree()
 pub fn strict_mails_are_read_alike()
     ensures { (known : Charsets) (greatest : ℕ) (mail : List ℕ) (parsed : Tree) →
         read_mail_in known greatest mail ≡ Ok parsed → is_strict_mail known parsed ≡ true →
-        read_mail_as (lenient known) greatest mail ≡ Ok parsed }
-{}
-
-/// A mail that the port reads and that has no finding but notes is read leniently as the same tree.
-///
-/// The findings are those of the mail and its parts, under the charsets that are known.
-pub fn clean_mails_are_read_alike()
-    ensures { (known : Charsets) (greatest : ℕ) (mail : List ℕ) (parsed : Tree) →
-        read_mail_in known greatest mail ≡ Ok parsed →
-        Lacks is_core (findings known parsed (placements 0 parsed)) →
         read_mail_as (lenient known) greatest mail ≡ Ok parsed }
 {}
 

@@ -1,7 +1,7 @@
 //! The parameters of a value: its segments, its pairs and their meaning.
-ghost use Rattle.std.specs.Prelude.{[], ◌++◌, ◌/◌, ◌==◌, ◌↔◌, ◌∷◌, ◌≡◌, ℕ, Contains, Decides, IsSome, List, None, codes, false, map, replicate, true};
+ghost use Rattle.std.specs.Prelude.{[], ◌++◌, ◌/◌, ◌==◌, ◌↔◌, ◌∷◌, ◌≡◌, ℕ, Contains, Decides, IsSome, List, None, codes, false, map, replicate};
 ghost use Rattle.std.specs.Cmp.Lexicographic.{slice_cmp};
-ghost use Rattle.std.specs.List.{list_all, list_any};
+ghost use Rattle.std.specs.List.{list_any};
 ghost use Rattle.std.specs.Ordering.{is_lt, nat_cmp};
 ghost use Rattle.percent_encoding.specs.Percent.{percent_decode};
 ghost use Rattle.mail_codec.specs.Ascii.{backslash};
@@ -9,23 +9,17 @@ ghost use Rattle.mail_codec.specs.Charset.{Charsets};
 ghost use Rattle.mail_codec.specs.Places.{begins};
 ghost use Rattle.mailparse.specs.ContentType.{content_type_in};
 ghost use Rattle.mailparse.specs.Continuations.{joined, parameters_in, possible_names};
-ghost use Rattle.mailparse.specs.Disposition.{disposition_in};
 ghost use Rattle.mailparse.specs.ExtendedValues.{candidates, charset_source, section_at, starred};
 ghost use Rattle.mailparse.specs.Pairs.{Texts, last_of, pairs_of};
 ghost use Rattle.mailparse.specs.Sections.{Section, octets};
 ghost use Rattle.mailparse.specs.Segments.{AreSegments, segments, without_escapes};
-ghost use Rattle.mailparse.specs.Value.{lenient_value_in};
 ghost use Rattle.mailparse.specs.Views.{kind};
 ghost use Rattle.mailparse.specs.contracts.disposition.DispositionTypePartialEq.TheImpl.{ghosts};
 ghost use Rattle.mailparse.specs.declared.disposition.DispositionType.{DispositionType};
-ghost use Rattle.mail_check.specs.strict.Charsets.{is_ascii_byte};
-ghost use Rattle.mail_check.specs.strict.PlainParameters.{IsPlainDisposition, IsPlainType};
 ghost use Rattle.mail_laws.specs.Boundaries.{IsAlphanumeric, boundary_type, one_text};
 ghost use Rattle.mail_laws.specs.CharsetSources.{IsCandidate};
 ghost use Rattle.mail_laws.specs.Escapes.{staying};
 ghost use Rattle.mail_laws.specs.Percent.{is_percent};
-ghost use Rattle.mail_laws.specs.PlainValues.{IsDispositionOf, IsTypeOf, Parameters};
-ghost use Rattle.mail_laws.specs.PlainValues.{meant_disposition, meant_type};
 ghost use Rattle.mail_laws.specs.Runs.{walked_after};
 ghost use Rattle.mail_laws.specs.StarFree.{AreStarFree};
 
@@ -105,46 +99,6 @@ pub fn plain_boundary_is_read()
           charset = codes "us-ascii";
           params = one_text (codes "boundary") boundary;
         } }
-{}
-
-/// The value of a `Content-Type` that is ASCII and of the grammar of plain values, folded or not, is
-/// read as the type that it means, whatever charsets are known: the name is in lower case, each name
-/// of a parameter has the text that the value gives it and no other name has one, and the charset is
-/// the parameter `charset`, otherwise `us-ascii`.
-pub fn plain_types_are_read()
-    ensures { (known : Charsets) (mimetype : List ℕ) (parameters : Parameters) (value : List ℕ) →
-        list_all is_ascii_byte value ≡ true → IsTypeOf mimetype parameters value →
-        content_type_in known (lenient_value_in known value) ≡ meant_type mimetype parameters }
-{}
-
-/// The value of a `Content-Disposition` that is ASCII and of this grammar is read as the disposition
-/// that it means, whatever charsets are known: its kind is that of the name in lower case, and its
-/// parameters are so, too.
-pub fn plain_dispositions_are_read()
-    ensures { (known : Charsets) (name : List ℕ) (parameters : Parameters) (value : List ℕ) →
-        list_all is_ascii_byte value ≡ true → IsDispositionOf name parameters value →
-        disposition_in known (lenient_value_in known value) ≡ meant_disposition name parameters }
-{}
-
-/// The types and dispositions that are plain in strict mails are exactly the values of the grammar of
-/// plain values, and none that is ASCII has two names or two lists of parameters by it.
-pub fn plain_values_have_one_meaning()
-    ensures types { (value : List ℕ) → IsPlainType value →
-        (mimetype : List ℕ) × (parameters : Parameters) × IsTypeOf mimetype parameters value }
-    ensures dispositions { (value : List ℕ) → IsPlainDisposition value →
-        (name : List ℕ) × (parameters : Parameters) × IsDispositionOf name parameters value }
-    ensures plain_types { (mimetype : List ℕ) (parameters : Parameters) (value : List ℕ) →
-        IsTypeOf mimetype parameters value → IsPlainType value }
-    ensures plain_dispositions { (name : List ℕ) (parameters : Parameters) (value : List ℕ) →
-        IsDispositionOf name parameters value → IsPlainDisposition value }
-    ensures one_type { (mimetype other : List ℕ) (parameters others : Parameters)
-        (value : List ℕ) →
-        list_all is_ascii_byte value ≡ true → IsTypeOf mimetype parameters value →
-        IsTypeOf other others value → (mimetype ≡ other) × (parameters ≡ others) }
-    ensures one_disposition { (name other : List ℕ) (parameters others : Parameters)
-        (value : List ℕ) →
-        list_all is_ascii_byte value ≡ true → IsDispositionOf name parameters value →
-        IsDispositionOf other others value → (name ≡ other) × (parameters ≡ others) }
 {}
 
 /// Two dispositions are equal exactly if their kinds are equal and, for extensions, their texts.

@@ -4,15 +4,10 @@ ghost use Rattle.std.specs.Str.{IsUtf8};
 ghost use Rattle.mail_codec.specs.Charset.{Charsets, four_charsets};
 ghost use Rattle.mail_codec.specs.Tables.{charsets_with};
 ghost use Rattle.mail_codec.specs.declared.charset.tables.SingleByteTable.{SingleByteTable};
-ghost use Rattle.mailparse.specs.Mail.{Node, Tree, nodes, read_mail, read_mail_in};
-ghost use Rattle.mailparse.specs.Placement.{placements};
+ghost use Rattle.mailparse.specs.Mail.{Node, nodes, read_mail, read_mail_in};
 ghost use Rattle.mailparse.specs.Refusal.{recursion_limit};
 ghost use Rattle.mailparse.specs.Value.{lenient_value, lenient_value_in};
 ghost use Rattle.mail_address.specs.Encode.{AreWords, KnowUtf8, words_of, written_value};
-ghost use Rattle.mail_check.specs.Findings.{findings};
-ghost use Rattle.mail_check.specs.strict.Mail.{IsStrict};
-ghost use Rattle.mail_check.specs.strict.Named.{Lacks, is_core};
-ghost use Rattle.mail_laws.specs.PlainOutlines.{IsPlainOutline};
 ghost use Rattle.mail_laws.specs.Render.{IsWellFormed, KnowItsWords, OutlineTree, depth, headers_within, is_well_formed_within, rendered, shown_header, stands_for};
 
 /// Exactly one list of words fits the characters of a text: the computed one. Each word is not
@@ -55,19 +50,4 @@ pub fn outline_reads_back()
     ensures tables { (tables : List SingleByteTable) → KnowUtf8 (charsets_with tables) }
     ensures only { (one two : OutlineTree) → is_well_formed_within one ≡ true →
         is_well_formed_within two ≡ true → rendered one ≡ rendered two → one ≡ two }
-{}
-
-/// An outline that is well formed and plain is written as a strict mail, whatever charsets are
-/// known. So what is read of its written form has no finding but notes.
-///
-/// In a plain outline, values are printable ASCII, each leaf is a text in ASCII or UTF-8 whose
-/// lines end in CR LF, and the dash-boundary of a branch is nowhere in its parts. `IsPlainOutline`
-/// has all conditions.
-pub fn plain_outlines_are_strict()
-    ensures strict { (known : Charsets) (outline : OutlineTree) → IsWellFormed outline →
-        IsPlainOutline outline → IsStrict known (rendered outline) (stands_for known outline) }
-    ensures read { (known : Charsets) (greatest : ℕ) (outline : OutlineTree) (t : Tree) →
-        IsWellFormed outline → IsPlainOutline outline →
-        read_mail_in known greatest (rendered outline) ≡ Ok t →
-        Lacks is_core (findings known t (placements 0 t)) }
 {}

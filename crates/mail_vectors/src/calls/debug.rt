@@ -23,13 +23,13 @@ use mail_address::{NewAddress, NewGroup, WriteError, read_addresses};
 use mail_charsets::Encoding;
 use mail_codec::charset::{Charset, SingleByteTable, Utf7};
 use mail_data::bounce::recipients;
+use mail_data::mailbox::{Format, read_mailbox};
+use mail_data::reports::report_blocks;
 use mail_read::inner_mails::inner_mails;
 use mail_read::lenient::{
     Content, base64_front, body_text, date_of, lenient_body, lenient_content,
 };
-use mail_data::mailbox::{Format, read_mailbox};
 use mail_read::places::places;
-use mail_data::reports::report_blocks;
 use mailparse::{MailParseError, ParsedMail, parse_mail};
 use std::alloc::Global;
 

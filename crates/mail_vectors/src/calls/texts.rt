@@ -5,11 +5,11 @@ use crate::calls::tables::all_tables;
 use crate::notation::{Answer, Decision, Outcome, Row};
 use mail_data::flowed::{DelSp, flowed_text, unflowed};
 use mail_data::inline_texts::inline_texts;
-use mail_read::inner_mails::{InnerMail, forwards, inner_mails, places_under};
 use mail_data::readable::readable_text;
 use mail_data::text_files::text_files;
 use mail_data::texts::{text_part, text_type};
 use mail_html::{Links, References};
+use mail_read::inner_mails::{InnerMail, forwards, inner_mails, places_under};
 use mailparse::{KnownCharsets, MailParseError, parse_mail, parse_mail_in};
 
 /// Makes the call of a row, if it is one of these.

@@ -1,0 +1,17 @@
+pub mod BareKeys
+pub mod HeaderLines
+pub mod WholeLines
+pub mod FlatTypes
+pub mod FlatPairs
+pub mod FoldedTypes
+pub mod PlainValues
+pub mod CleanMails
+pub mod PlainHeaders
+pub mod PlainTypes
+pub mod PlainTexts
+pub mod PlainParts
+pub mod PlainOutlines
+pub mod StrictPieces
+pub mod StrictHeaderLists
+pub mod WholeMails
+pub mod MeantMails

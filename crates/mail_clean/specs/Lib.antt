@@ -1,0 +1,3 @@
+pub mod PlainOutlines
+pub mod StrictMails
+pub mod PlainValues

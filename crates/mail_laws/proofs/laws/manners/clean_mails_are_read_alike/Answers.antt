@@ -1,5 +1,0 @@
-use Rattle.mail_laws.proofs.lemmas.CleanMails.{clean_mails_agree}
-use Rattle.mail_laws.proofs.laws.manners.clean_mails_are_read_alike.Goals as goal
-
-pub returns : goal.returns
-returns c = clean_mails_agree

@@ -1,5 +1,0 @@
-use Rattle.mail_laws.proofs.lemmas.PlainValues.{disposition_read}
-use Rattle.mail_laws.proofs.laws.parameters.plain_dispositions_are_read.Goals as goal
-
-pub returns : goal.returns
-returns c = disposition_read

@@ -1,5 +1,0 @@
-use Rattle.mail_laws.proofs.lemmas.PlainValues.{type_read}
-use Rattle.mail_laws.proofs.laws.parameters.plain_types_are_read.Goals as goal
-
-pub returns : goal.returns
-returns c = type_read

@@ -1,5 +1,0 @@
-use Rattle.mail_laws.proofs.lemmas.PlainOutlines.{plain_is_mail}
-use Rattle.mail_laws.proofs.laws.strict_mails.plain_outlines_are_of_grammar.Goals as goal
-
-pub returns : goal.returns
-returns c = plain_is_mail
