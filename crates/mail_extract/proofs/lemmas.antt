@@ -1,4 +1,5 @@
 pub mod Endings
+pub mod FileLine
 pub mod Fits
 pub mod Input
 pub mod Inside

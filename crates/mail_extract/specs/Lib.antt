@@ -10,6 +10,8 @@ pub mod Naming
 pub mod ChoiceViews
 pub mod Save
 pub mod SaveViews
+pub mod FileLine
+pub mod FileLineViews
 pub mod Report
 pub mod Input
 pub mod Only

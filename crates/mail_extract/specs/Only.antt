@@ -7,11 +7,11 @@ use Rattle.mailparse.specs.Refusal.{Reads}
 use Rattle.mail_data.specs.MailboxFormats.{entries_in, mail_in}
 use Rattle.mail_read.specs.Reading.{mail_placements}
 use Rattle.mail_data.specs.declared.mailbox.formats.Format.{Format}
-use Rattle.mail_json.specs.DecodedSize.{bounded_reading}
-use Rattle.mail_json.specs.FileLine.{FileLine}
-use Rattle.mail_json.specs.JsonLines.{format_of, is_mailbox}
+use Rattle.mail_parts.specs.DecodedSize.{bounded_reading}
+use Rattle.mail_extract.specs.FileLine.{FileLine}
+use Rattle.mail_walk.specs.Kind.{format_of, is_mailbox}
 use Rattle.mail_program.specs.Fault.{IsFault}
-use Rattle.mail_json.specs.declared.options.InputKind.{InputKind}
+use Rattle.mail_walk.specs.declared.kind.InputKind.{InputKind}
 use Rattle.mail_program.specs.declared.fault.Fault.{Fault}
 use Rattle.mail_program.specs.declared.outcome.Outcome.TheVariants.{Failed, Refused}
 use Rattle.mail_extract.specs.Choice.{Choice}

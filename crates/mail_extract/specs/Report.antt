@@ -1,8 +1,8 @@
 -- The lines that report what was saved; the program's own form.
 use Rattle.std.specs.Prelude.{◌≡◌, ℕ, not, ◌&&◌, List, [], ◌∷◌, flat_map, Option, is_some, Result, Ok, Err, if◌then◌else◌}
 use Rattle.std.specs.Io.KnownBytes.{Appends}
-use Rattle.mail_json.specs.FileLine.{FileLine, file_line_value}
-use Rattle.mail_json.specs.Printed.{line_of}
+use Rattle.mail_extract.specs.FileLine.{FileLine, file_line_value}
+use Rattle.mail_json_text.specs.Printed.{line_of}
 use Rattle.mail_program.specs.Fault.{IsEnd}
 use Rattle.mail_program.specs.Outcome.{worse}
 use Rattle.mail_program.specs.declared.fault.Fault.{Fault}

@@ -13,7 +13,7 @@ use Rattle.mail_read.specs.RawPaths.{file_name_or_path}
 use Rattle.mail_read.specs.Reading.{mail_placements}
 use Rattle.mail_data.specs.TextFiles.{TextFile, file_bytes, is_plain_text, text_file_path, text_files}
 use Rattle.mail_read.specs.lenient.Content.{Content, message_content}
-use Rattle.mail_json.specs.Reading.{inner_mails_within, mail_reading}
+use Rattle.mail_parts.specs.Reading.{inner_mails_within, mail_reading}
 use Rattle.mail_extract.specs.Choice.{Choice, keeps}
 use Rattle.mail_extract.specs.Content.{content}
 use Rattle.mail_extract.specs.Endings.{ending_of}

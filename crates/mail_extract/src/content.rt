@@ -4,12 +4,12 @@ ghost use Rattle.mailparse.specs.Mail.{root};
 ghost use Rattle.mailparse.specs.Outcome.{IsMemory};
 ghost use Rattle.mailparse.specs.Views.{tree_of};
 ghost use Rattle.mail_read.specs.lenient.ContentViews.{content_view, fault_view};
-ghost use Rattle.mail_json.specs.DecodedViews.{IsDecoded, decoded_tree};
+ghost use Rattle.mail_parts.specs.DecodedViews.{IsDecoded, decoded_tree};
 ghost use Rattle.mail_extract.specs.Content.{after_headers, content, is_in_headers, rest_content};
 ghost use Rattle.mail_extract.specs.ContentViews.{damage_view, file_view};
 
 use crate::stray::has_stray_line;
-use mail_json::Decoded;
+use mail_parts::Decoded;
 use mail_read::lenient::{Content, ContentFault, lenient_body, lenient_content};
 use mailparse::{MailParseError, ParsedMail};
 use std::alloc::Global;

@@ -3,8 +3,8 @@ ghost use Rattle.std.specs.Prelude.{◌≡◌, Some, option_map, true, IfErr, If
 ghost use Rattle.mail_data.specs.Mailbox.{has_front};
 ghost use Rattle.mail_data.specs.MailboxFormats.{entries_in, mail_in};
 ghost use Rattle.mail_data.specs.MailboxViews.{entries_left};
-ghost use Rattle.mail_json.specs.JsonLines.{format_of};
-ghost use Rattle.mail_json.specs.Part.{saturating_add};
+ghost use Rattle.mail_walk.specs.Kind.{format_of};
+ghost use Rattle.mail_walk.specs.Offsets.{saturating_add};
 ghost use Rattle.mail_program.specs.Fault.{IsEnd};
 ghost use Rattle.mail_extract.specs.ChoiceViews.{options_view};
 ghost use Rattle.mail_extract.specs.Input.{AreMails, Ends, EndsInput, IsInput, IsMail, IsMailbox};
@@ -19,8 +19,9 @@ use crate::options::{Source, Target};
 use crate::report::{flush, report_refused};
 use mail_data::mailbox::quoted::unquoted;
 use mail_data::mailbox::{Format, Mailbox, MailboxEntry, read_mailbox, settled_entry};
-use mail_json::{Wanted, first_wanted, is_mailbox, read_bounded, read_until};
+use mail_parts::read_bounded;
 use mail_program::{Fault, Outcome, is_all_whitespace, refusal_of};
+use mail_walk::{Wanted, first_wanted, is_mailbox, read_until};
 use mailparse::KnownCharsets;
 use std::alloc::Global;
 use std::io::{self, ErrorKind, Read, Write};
@@ -43,8 +44,8 @@ use std::io::{self, ErrorKind, Read, Write};
 ///
 /// ```rust
 /// use mail_extract::{Choice, Disk, Hashing, Naming, SaveOptions, Source, Target, extract_input};
-/// use mail_json::InputKind;
 /// use mail_program::Outcome;
+/// use mail_walk::InputKind;
 ///
 /// let mut reader = b"A: one header too many\n\n".as_slice();
 /// let mut out = Vec::new(alloc);

@@ -3,12 +3,12 @@ ghost use Rattle.std.specs.List.{AllByRecursion};
 ghost use Rattle.std.specs.Prelude.{◌≡◌, IfErr, IfOk, Ok, false, map, option_map};
 ghost use Rattle.mailparse.specs.Views.{placements_of, tree_of};
 ghost use Rattle.mail_read.specs.Reading.{mail_placements};
-ghost use Rattle.mail_json.specs.DecodedViews.{IsDecoded, decoded_place};
+ghost use Rattle.mail_parts.specs.DecodedViews.{IsDecoded, decoded_place};
 ghost use Rattle.mail_extract.specs.ChoiceViews.{options_view};
 ghost use Rattle.mail_extract.specs.Input.{AreInside, Ends, IsMailOf, Saved};
 ghost use Rattle.mail_program.specs.Fault.{IsEnd};
-ghost use Rattle.mail_json.specs.Inside.{mails_among};
-ghost use Rattle.mail_json.specs.Reading.{mails_in_place};
+ghost use Rattle.mail_parts.specs.Inside.{mails_among};
+ghost use Rattle.mail_parts.specs.Reading.{mails_in_place};
 
 use crate::directory::Directory;
 use crate::level::{Level, Saving, Within};
@@ -16,26 +16,17 @@ use crate::notes::Notes;
 use crate::options::{Source, Target};
 use crate::parts::extract_places;
 use crate::report::report_refused;
-use mail_json::{Decoded, LineOptions, decoded_parts, mail_in, read_mail};
+use mail_parts::{Decoded, decoded_parts, mail_in, read_mail};
 use mail_program::{Fault, Outcome, refusal_of};
 use mail_read::inner_mails::{holds_mail, mail_start, places_under};
 use mail_read::places::places;
-use mail_read::reading::DEFAULT_LIMIT;
 use mailparse::{KnownCharsets, MAX_LEVELS, ParsedMail};
 use std::alloc::Global;
 use std::io::Write;
 
-/// How the parts of a mail are read: of their bodies, only those that are mails are decoded, since
-/// the others are decoded when they are saved.
-const MAILS: LineOptions<'static> = LineOptions {
-    limit: DEFAULT_LIMIT,
-    most_bytes: None,
-    decodes_bodies: false,
-    hashes: false,
-    joins_flowed: false,
-    html: None,
-    lists_findings: false,
-};
+/// Whether the bodies of all parts are decoded: of these only those that are mails are, since the
+/// others are decoded when they are saved.
+const DECODES_BODIES: bool = false;
 
 /// Saves the chosen files of a mail with this number in its mailbox and of the mails inside it, and
 /// writes the line of each after it. The mail is as it was parsed.
@@ -59,7 +50,7 @@ pub(crate) fn extract_mail<W: Write, D: Directory, K: KnownCharsets, N: Notes>(
         level: Level::Own,
     };
     let found = places(alloc, mail)?;
-    let parts = decoded_parts(alloc, found.as_slice(), MAILS)?;
+    let parts = decoded_parts(alloc, found.as_slice(), DECODES_BODIES)?;
     let own = extract_places(alloc, out, target, parts.as_slice(), saving, source)?;
     let within = Within {
         number,
@@ -136,7 +127,7 @@ fn extract_forwarded<W: Write, D: Directory, K: KnownCharsets, N: Notes>(
                 level: Level::Inside,
             };
             let found = places_under(alloc, &mail, path)?;
-            let parts = decoded_parts(alloc, found.as_slice(), MAILS)?;
+            let parts = decoded_parts(alloc, found.as_slice(), DECODES_BODIES)?;
             let own = extract_places(alloc, out, target, parts.as_slice(), saving, source)?;
             let inside = Within {
                 number: within.number,

@@ -1,6 +1,6 @@
 //! Who is told what was not saved.
 
-use mail_json::FileLine;
+use crate::file_line::FileLine;
 use std::alloc::AllocError;
 
 /// Takes note of what was not saved, beside the lines.
@@ -14,8 +14,7 @@ pub trait Notes {
     /// # Examples
     ///
     /// ```rust
-    /// use mail_extract::Notes;
-    /// use mail_json::FileLine;
+    /// use mail_extract::{FileLine, Notes};
     ///
     /// let line = FileLine {
     ///     file: Some("a.eml"),

@@ -83,8 +83,8 @@ impl Directory for OneFile {
 /// ```rust
 /// use mail_read::reading::DEFAULT_LIMIT;
 /// use mail_extract::{Choice, Hashing, Naming, OnlyFile, SaveOptions, Source, write_only_file};
-/// use mail_json::InputKind;
 /// use mail_program::Outcome;
+/// use mail_walk::InputKind;
 ///
 /// let mut reader = b"Content-Type: text/csv\n\n1,2\n".as_slice();
 /// let (mut out, mut lines) = (Vec::new(alloc), Vec::new(alloc));

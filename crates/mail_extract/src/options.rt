@@ -5,9 +5,9 @@ ghost use Rattle.mail_extract.specs.Naming.{target};
 
 use crate::choice::Choice;
 use crate::hash::Hashing;
-use mail_json::InputKind;
 use mail_program::sha256_text;
 use mail_read::files::{safe_file_name, windows_file_name};
+use mail_walk::InputKind;
 use std::alloc::{AllocError, Global};
 
 /// What names a saved file.
@@ -28,7 +28,7 @@ pub struct SaveOptions<'c> {
     /// uuencoded blocks in a text of it. Each mail inside a mail has this limit for itself.
     pub limit: usize,
     /// The greatest number of bytes that are decoded for the mails inside a mail that is not refused
-    /// for it, or `None` for eight times its size and 64 MiB, as `mail_json::read_bounded` has
+    /// for it, or `None` for eight times its size and 64 MiB, as `mail_parts::read_bounded` has
     /// them.
     pub most_bytes: Option<usize>,
     /// Whether saved files are hashed.

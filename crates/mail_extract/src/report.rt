@@ -1,14 +1,14 @@
 //! The lines that report what was saved, and the outcomes that they report.
 ghost use Rattle.std.specs.Prelude.{◌≡◌, ◌∷◌, [], option_map};
-ghost use Rattle.mail_json.specs.FileLineViews.{file_line_view};
+ghost use Rattle.mail_extract.specs.FileLineViews.{file_line_view};
 ghost use Rattle.mail_extract.specs.Input.{file_line, refused_line};
 ghost use Rattle.mail_extract.specs.Report.{WritesAll, judged};
 ghost use Rattle.mail_extract.specs.SaveViews.{outcome};
 ghost use Rattle.mail_program.specs.Streams.{Writes};
 
+use crate::file_line::{FileLine, write_file_line};
 use crate::notes::Notes;
 use crate::save::Saved;
-use mail_json::{FileLine, write_file_line};
 use mail_program::{Fault, Outcome};
 use std::alloc::AllocError;
 use std::io::Write;
@@ -23,8 +23,7 @@ use std::io::Write;
 /// # Examples
 ///
 /// ```rust
-/// use mail_extract::write_line;
-/// use mail_json::FileLine;
+/// use mail_extract::{FileLine, write_line};
 /// use mail_program::Outcome;
 ///
 /// let mut out = Vec::new(alloc);

@@ -3,7 +3,7 @@ ghost use Rattle.std.specs.Prelude.{◌≡◌, List, Some, false, is_some, strin
 ghost use Rattle.std.specs.Prelude.{IfErr, IfOk, IfSome};
 ghost use Rattle.mailparse.specs.Outcome.{IsMemory};
 ghost use Rattle.mail_read.specs.FileNames.{IsSafeName};
-ghost use Rattle.mail_json.specs.DecodedViews.{IsDecoded, decoded_place};
+ghost use Rattle.mail_parts.specs.DecodedViews.{IsDecoded, decoded_place};
 ghost use Rattle.mail_extract.specs.ChoiceViews.{options_view};
 ghost use Rattle.mail_extract.specs.ContentViews.{file_view};
 ghost use Rattle.mail_extract.specs.Directory.{File};
@@ -18,7 +18,7 @@ use crate::directory::{Created, Directory};
 use crate::hash::wanted_hash;
 use crate::names::numbered;
 use crate::options::{Naming, SaveOptions, Target, target_name};
-use mail_json::Decoded;
+use mail_parts::Decoded;
 use mailparse::MailParseError;
 use std::alloc::{AllocError, Global};
 use std::io::{self, ErrorKind};

@@ -3,7 +3,7 @@ use Rattle.std.specs.Prelude.{List, ◌++◌}
 use Rattle.json.specs.Json.{Json}
 use Rattle.mail_check.specs.Findings.{Finding}
 use Rattle.mail_json.specs.Origin.{Origin}
-use Rattle.mail_json.specs.Printed.{object_of}
+use Rattle.mail_json_text.specs.Printed.{object_of}
 use Rattle.mail_json.specs.Values.{findings_member, origin_members}
 
 -- the object of a mail with this origin and these findings

@@ -7,8 +7,8 @@ use Rattle.mailparse.specs.Views.{placements_of, tree_of}
 use Rattle.mail_read.specs.InnerMails.{mail_bytes}
 use Rattle.mail_read.specs.PartPlaces.{Place}
 use Rattle.mail_read.specs.Reading.{mail_placements}
-use Rattle.mail_json.specs.Inside.{Listed}
-use Rattle.mail_json.specs.Reading.{mail_reading}
+use Rattle.mail_parts.specs.Inside.{Listed}
+use Rattle.mail_parts.specs.Reading.{mail_reading}
 use Rattle.mail_json.specs.declared.inside.Inner.{Inner}
 use Rattle.mail_json.specs.declared.inside.Inner.TheVariants.{Ended, Read, Refused}
 use Rattle.mail_json.specs.declared.inside.Inside.{Inside}

@@ -12,19 +12,17 @@ use Rattle.mail_data.specs.Mailbox.{Entry, front_length}
 use Rattle.mail_data.specs.MailboxFormats.{entries_in, mail_in}
 use Rattle.mail_data.specs.MailboxParts.{Placed, placed_from}
 use Rattle.mail_read.specs.Reading as plain
-use Rattle.mail_data.specs.Separator.{is_separator}
 use Rattle.mail_data.specs.declared.mailbox.formats.Format.{Format}
-use Rattle.mail_data.specs.declared.mailbox.formats.Format.TheVariants.{Plain}
 use Rattle.mail_program.specs.Refusal.{refusal_text}
-use Rattle.mail_json.specs.DecodedSize.{bounded_reading}
+use Rattle.mail_parts.specs.DecodedSize.{bounded_reading}
 use Rattle.mail_json.specs.Origin.{Origin}
-use Rattle.mail_json.specs.Part.{saturating_add}
-use Rattle.mail_json.specs.Printed.{line_of}
+use Rattle.mail_walk.specs.Offsets.{saturating_add}
+use Rattle.mail_json_text.specs.Printed.{line_of}
 use Rattle.mail_json.specs.Values.{IsMailValue, error_value}
 use Rattle.mail_program.specs.Fault.{IsEnd, IsFault}
 use Rattle.mail_json.specs.Written.{is_clean}
-use Rattle.mail_json.specs.declared.options.InputKind.{InputKind}
-use Rattle.mail_json.specs.declared.options.InputKind.TheVariants.{Either, Mail, Mailbox}
+use Rattle.mail_walk.specs.Kind.{format_of, is_mailbox}
+use Rattle.mail_walk.specs.declared.kind.InputKind.{InputKind}
 use Rattle.mail_json.specs.declared.written.Written.{Written}
 
 -- the text that is written of mails, and whether no error is among it
@@ -58,18 +56,6 @@ after_entry at entry =
 -- the number of the next mail, if mails are numbered
 abbrev pub next_number : Option ℕ → Option ℕ
 next_number number = option_map (λ n. saturating_add n 1) number
-
--- an input is a mailbox: as its kind says, or if that says neither, if it begins with a separator
-abbrev pub is_mailbox : InputKind → List ℕ → Bool
-is_mailbox Either bytes = is_separator bytes
-is_mailbox Mail bytes = false
-is_mailbox (Mailbox format) bytes = true
-
--- the format of such a mailbox; if the kind does not say that it is one, that of RFC 4155
-abbrev pub format_of : InputKind → Format
-format_of Either = Plain
-format_of Mail = Plain
-format_of (Mailbox format) = format
 
 -- the origin of a file that is one mail
 abbrev pub whole_origin : Option (List ℕ) → List ℕ → Origin

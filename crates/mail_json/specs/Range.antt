@@ -10,10 +10,11 @@ use Rattle.mail_data.specs.MailboxParts.{Placed, in_range, part_start, placed_fr
 use Rattle.mail_data.specs.declared.mailbox.formats.Format.{Format}
 use Rattle.mail_data.specs.declared.mailbox.formats.Format.TheVariants.{Plain, Quoted, Counted}
 use Rattle.mail_json.specs.Selection.{AreInputChosen, OnlyIf}
-use Rattle.mail_json.specs.JsonLines.{AreAfterFront, AreLines, IsWholeLine, Lines, format_of, is_mailbox}
+use Rattle.mail_json.specs.JsonLines.{AreAfterFront, AreLines, IsWholeLine, Lines}
+use Rattle.mail_walk.specs.Kind.{format_of, is_mailbox}
 use Rattle.mail_json.specs.Stream.{HasLeft, WritesUpTo}
 use Rattle.mail_json.specs.declared.selection.Selection.TheVariants.{Within}
-use Rattle.mail_json.specs.declared.options.InputKind.{InputKind}
+use Rattle.mail_walk.specs.declared.kind.InputKind.{InputKind}
 use Rattle.mail_json.specs.declared.written.Written.{Written}
 
 -- the offset at which reading starts for a range that begins at this offset

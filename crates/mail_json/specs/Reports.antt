@@ -2,7 +2,7 @@
 use Rattle.std.specs.Prelude.{◌++◌, codes}
 use Rattle.json.specs.Json.{Json}
 use Rattle.mail_data.specs.Bounce.{Delivery}
-use Rattle.mail_json.specs.Printed.{object_of, one, string_or_null}
+use Rattle.mail_json_text.specs.Printed.{object_of, one, string_or_null}
 
 -- the report on a recipient
 abbrev pub delivery_value : Delivery → Json

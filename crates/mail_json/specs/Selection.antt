@@ -6,11 +6,12 @@ use Rattle.mail_data.specs.Mailbox.{Entry, front_length}
 use Rattle.mail_data.specs.MailboxFormats.{entries_in, mail_in}
 use Rattle.mail_data.specs.MailboxParts.{Placed, in_range, placed_from}
 use Rattle.mail_data.specs.declared.mailbox.formats.Format.{Format}
-use Rattle.mail_json.specs.JsonLines.{AreAfterFront, AreLines, IsLine, IsWholeLine, Lines, format_of, is_mailbox, origin_at}
-use Rattle.mail_json.specs.Part.{saturating_add}
+use Rattle.mail_json.specs.JsonLines.{AreAfterFront, AreLines, IsLine, IsWholeLine, Lines, origin_at}
+use Rattle.mail_walk.specs.Kind.{format_of, is_mailbox}
+use Rattle.mail_walk.specs.Offsets.{saturating_add}
 use Rattle.mail_json.specs.declared.selection.Selection.{Selection}
 use Rattle.mail_json.specs.declared.selection.Selection.TheVariants.{Numbered, Within}
-use Rattle.mail_json.specs.declared.options.InputKind.{InputKind}
+use Rattle.mail_walk.specs.declared.kind.InputKind.{InputKind}
 
 -- a mail whose separator begins at this offset has a line
 abbrev pub is_wanted : Selection → ℕ → Bool

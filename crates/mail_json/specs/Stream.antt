@@ -1,11 +1,10 @@
--- How much of an input is read before lines are written, and which lines those are; the program's own form.
-use Rattle.std.specs.Prelude.{◌≡◌, ℕ, Bool, true, false, ◌&&◌, ◌||◌, List, [], ◌++◌, drop, Option, Some, None, is_some, Result, Ok, Err}
+-- How much of an input is read, and which lines are written of it; the program's own form.
+use Rattle.std.specs.Prelude.{◌≡◌, ℕ, Bool, ◌&&◌, List, [], ◌++◌, Option, Some, None, Result, Ok, Err}
 use Rattle.std.specs.Io.KnownBytes.{Appends, Consumes, IsAtEnd}
 use Rattle.mail_json.specs.Options.{Options}
-use Rattle.mail_program.specs.Streams.{IsReadFault}
 use Rattle.mail_program.specs.declared.fault.Fault.{Fault}
-use Rattle.mail_data.specs.Mailbox.{Entry, has_front, has_line}
-use Rattle.mail_data.specs.MailboxFormats.{entries_in, settled_in}
+use Rattle.mail_data.specs.Mailbox.{Entry}
+use Rattle.mail_data.specs.MailboxFormats.{entries_in}
 use Rattle.mail_data.specs.MailboxParts.{placed_from}
 use Rattle.mail_data.specs.declared.mailbox.formats.Format.{Format}
 use Rattle.mail_json.specs.Selection.{AreChosen, is_range}
@@ -14,33 +13,7 @@ use Rattle.mail_program.specs.Fault.{IsFault}
 use Rattle.mail_json.specs.Written.{is_clean}
 use Rattle.mail_json.specs.declared.selection.Selection.{Selection}
 use Rattle.mail_json.specs.declared.selection.Selection.TheVariants.{Numbered, Within}
-use Rattle.mail_json.specs.declared.options.InputKind.{InputKind}
-use Rattle.mail_json.specs.declared.options.InputKind.TheVariants.{Either, Mail, Mailbox}
-use Rattle.mail_json.specs.declared.stream.Wanted.{Wanted}
-use Rattle.mail_json.specs.declared.stream.Wanted.TheVariants.{FirstLine, Front, FrontBefore, FirstMail, End}
 use Rattle.mail_json.specs.declared.written.Written.{Written}
-
--- the bytes of an input contain what is wanted, and no further bytes change that
-abbrev pub is_there : Wanted → List ℕ → Bool
-is_there FirstLine bytes = has_line bytes
-is_there Front bytes = has_front bytes
-is_there (FrontBefore end) bytes = has_front bytes || has_line (drop end bytes)
-is_there (FirstMail format) bytes = is_some (settled_in format bytes)
-is_there End bytes = false
-
--- how much of an input of this kind is read before lines are written
-abbrev pub first_wanted : InputKind → Wanted
-first_wanted Either = FirstLine
-first_wanted Mail = End
-first_wanted (Mailbox format) = Front
-
--- bytes were taken off the reader and appended to those that were read before, until they contain what is wanted or the
--- reader is at its end
-abbrev pub ReadsUntil : Wanted → (left_before left : Option (List ℕ)) → (before after : List ℕ) → Result Bool Fault → Type 0
-ReadsUntil wanted left_before left before after (Ok has_ended) =
-    (more : List ℕ) × Consumes left_before left more × (after ≡ before ++ more) × (has_ended ≡ true → IsAtEnd left)
-    × (has_ended ≡ false → is_there wanted after ≡ true)
-ReadsUntil wanted left_before left before after (Err fault) = IsReadFault fault
 
 -- what the reader has left
 abbrev pub HasLeft : Option (List ℕ) → List ℕ → Type 0

@@ -1,9 +1,6 @@
 -- The JSON values of the lines, in the form that the kit's parser of JSON returns; the program's own form.
-use Rattle.std.specs.Prelude.{◌≡◌, ℕ, Bool, true, false, not, ◌&&◌, ◌==◌, nat_le, List, [], ◌∷◌, ◌++◌, length, map, Option, Some, None, option_map, Ok, Err, codes, if◌then◌else◌}
-use Rattle.std.specs.List.{flat_map, list_all, AllByRecursion}
-use Rattle.json.specs.Json.{Json, null, boolean, string, document}
-use Rattle.json.specs.Strict.{HasUniqueKeys}
-use Rattle.mail_codec.specs.Ascii.{space}
+use Rattle.std.specs.Prelude.{◌≡◌, ℕ, Bool, true, false, ◌&&◌, List, [], ◌∷◌, ◌++◌, length, map, Option, Some, None, option_map, Ok, Err, codes, if◌then◌else◌}
+use Rattle.json.specs.Json.{Json, null, boolean, string}
 use Rattle.mail_codec.specs.Charset.{Charsets}
 use Rattle.mail_codec.specs.Latin1.{latin1_text}
 use Rattle.mailparse.specs.ContentType.{ContentType}
@@ -32,37 +29,21 @@ use Rattle.mail_address.specs.Addresses.{Element, Single, single, group}
 use Rattle.mail_address.specs.Lenient.{lenient_addresses_of}
 use Rattle.mail_address.specs.Mailbox.{Parts}
 use Rattle.mail_address.specs.ShownNames.{shown_display_name}
-use Rattle.mail_address.specs.Tokens.{delete}
 use Rattle.mail_json.specs.Addresses.{canonical, unless_empty}
 use Rattle.mail_json.specs.Body.{encoding_text}
 use Rattle.mail_json.specs.Fields.{content_id, date_fault_text, kind_text, value_of}
 use Rattle.mail_read.specs.InnerMails.{InnerMail, places_under}
 use Rattle.mail_read.specs.Reading.{mail_placements}
-use Rattle.mail_json.specs.Inside.{Listed, mails_among, mails_inside, parts_inside, without_bytes}
+use Rattle.mail_parts.specs.Inside.{Listed, mails_among, mails_inside, parts_inside, without_bytes}
 use Rattle.mail_json.specs.Origin.{Origin}
-use Rattle.mail_json.specs.Part.{Lists, content_if, hash_of, html_shown, is_attachment, is_read, place_in, recipients_if, report_if, text_shown}
+use Rattle.mail_parts.specs.Part.{Lists, content_if, is_attachment, is_read}
+use Rattle.mail_json.specs.Part.{hash_of, html_shown, place_in, recipients_if, report_if, text_shown}
 use Rattle.mail_json.specs.TextFiles.{ListedFile, files_if}
 use Rattle.mail_json.specs.Options.{Options}
 use Rattle.mail_json.specs.Reports.{delivery_value}
 use Rattle.mail_html.specs.declared.references.References.{References}
 use Rattle.mail_program.specs.Refusal.{refusal_text}
-use Rattle.mail_json.specs.Printed.{Member, list_of, number_or_null, number_value, object_of, one, seconds_value, string_or_null, strings}
-
--- a byte that neither ends a line nor moves the cursor of a terminal: it is neither below the space nor DEL
-abbrev pub is_within_line : ℕ → Bool
-is_within_line b = nat_le space b && not (b == delete)
-
--- a text is JSON on one line: the kit's parser reads it as this value, in which no object has a key twice, and none of
--- its bytes is a control
-pub record IsJsonLine (value : Json) (text : List ℕ) : Type 0 where
-  pub read : document text ≡ Some value
-  pub unique : HasUniqueKeys value
-  pub one_line : list_all is_within_line text ≡ true
-
--- lines of JSON, each with its LF
-abbrev pub AreJsonLines : List ℕ → Type 0
-AreJsonLines text =
-    (lines : List (List ℕ)) × AllByRecursion (λ line. (value : Json) × IsJsonLine value line) lines × (text ≡ flat_map (λ line. line ++ codes "\n") lines)
+use Rattle.mail_json_text.specs.Printed.{Member, list_of, number_or_null, number_value, object_of, one, pair_value, seconds_value, string_or_null, strings}
 
 -- the members of the number of this schema and of a file's name
 abbrev pub file_members : Option (List ℕ) → List Member
@@ -165,10 +146,7 @@ date_members None = one (codes "date") null
 date_members (Some (Ok date)) = one (codes "date") (seconds_value date.0) ++ zone_members date.1
 date_members (Some (Err fault)) = one (codes "date") null ++ one (codes "date_error") (string (date_fault_text fault))
 
--- a pair of strings; the blocks of a report, each a list of its fields; and the same or `null`
-abbrev pub pair_value : List ℕ × List ℕ → Json
-pair_value pair = list_of (string pair.0 ∷ string pair.1 ∷ [])
-
+-- the blocks of a report, each a list of its fields; and the same or `null`
 abbrev pub block_value : List (List ℕ × List ℕ) → Json
 block_value fields = list_of (map pair_value fields)
 

@@ -9,10 +9,10 @@ ghost use Rattle.mail_data.specs.Archive.{id_among};
 ghost use Rattle.mail_data.specs.Bounce.{has_original, original_message_id, report_part};
 ghost use Rattle.mail_data.specs.Reports.{fields, has_type};
 ghost use Rattle.mail_read.specs.lenient.Content.{message_content};
-ghost use Rattle.mail_json.specs.DecodedViews.{IsDecoded, decoded_tree};
+ghost use Rattle.mail_parts.specs.DecodedViews.{IsDecoded, decoded_tree};
 
-use crate::decoded::Decoded;
 use mail_data::archive::ids_of;
+use mail_parts::Decoded;
 use mail_read::lenient::{IdRule, lenient_content};
 use mailparse::{MailParseError, ParsedMail, parse_lenient_headers};
 use std::alloc::Global;

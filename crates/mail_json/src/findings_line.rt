@@ -2,19 +2,18 @@
 ghost use Rattle.std.specs.Prelude.{map};
 ghost use Rattle.mail_check.specs.FindingViews.{finding_view};
 ghost use Rattle.mail_json.specs.FindingsLine.{findings_value};
-ghost use Rattle.mail_json.specs.Members.{AddsMembers};
+ghost use Rattle.mail_json_text.specs.Members.{AddsMembers};
 ghost use Rattle.mail_json.specs.Options.{options_of};
 ghost use Rattle.mail_json.specs.Origin.{origin_of};
-ghost use Rattle.mail_json.specs.Printed.{line_of};
+ghost use Rattle.mail_json_text.specs.Printed.{line_of};
 ghost use Rattle.mail_json.specs.Values.{finding_value, findings_if, findings_member, found_members};
 ghost use Rattle.mail_program.specs.Streams.{Writes};
 
-use crate::json_text::write_word;
 use crate::lists::{ListItem, write_list};
-use crate::members::{add_null, add_number, add_text, first_key, key};
 use crate::options::LineOptions;
 use crate::origin::{Origin, write_origin};
 use mail_check::{Finding, read_findings};
+use mail_json_text::{add_null, add_number, add_text, first_key, key, write_word};
 use mail_program::{Fault, refusal_of};
 use mailparse::KnownCharsets;
 use std::alloc::Global;

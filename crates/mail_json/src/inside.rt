@@ -9,29 +9,29 @@ ghost use Rattle.mail_read.specs.InnerMails.{holds_mail, places_under};
 ghost use Rattle.mail_read.specs.Reading.{mail_placements};
 ghost use Rattle.mail_read.specs.PartPlaces.{places};
 ghost use Rattle.mail_read.specs.PlaceViews.{place_view};
-ghost use Rattle.mail_json.specs.Inside.{mails_among, mails_inside, without_bytes};
+ghost use Rattle.mail_parts.specs.Inside.{mails_among, mails_inside, without_bytes};
 ghost use Rattle.mail_json.specs.InsideViews.{IsRead, inside_view};
-ghost use Rattle.mail_json.specs.Members.{AddsMember, is_key};
+ghost use Rattle.mail_json_text.specs.Members.{AddsMember, is_key};
 ghost use Rattle.mail_json.specs.Options.{options_of};
-ghost use Rattle.mail_json.specs.DecodedViews.{IsDecoded, decoded_place};
+ghost use Rattle.mail_parts.specs.DecodedViews.{IsDecoded, decoded_place};
 ghost use Rattle.mail_json.specs.Part.{place_in};
-ghost use Rattle.mail_json.specs.Printed.{after_commas, comma, list_of, listed, string_or_null};
-ghost use Rattle.mail_json.specs.Printed.{text_of};
-ghost use Rattle.mail_json.specs.Reading.{mail_reading, mails_in_place};
+ghost use Rattle.mail_json_text.specs.Printed.{after_commas, comma, list_of, listed, string_or_null};
+ghost use Rattle.mail_json_text.specs.Printed.{text_of};
+ghost use Rattle.mail_parts.specs.Reading.{mail_reading, mails_in_place};
 ghost use Rattle.mail_json.specs.Values.{AreInsideValues, ArePartValues, AreReadValues, AreValues};
 ghost use Rattle.mail_json.specs.Values.{IsPartValue, inside_value};
-ghost use Rattle.mail_json.specs.Written.{WritesOne, WroteOne};
-ghost use Rattle.mail_json.specs.declared.json_text.Position.TheVariants.{Later};
+ghost use Rattle.mail_json_text.specs.Written.{WritesOne, WroteOne};
+ghost use Rattle.mail_json_text.specs.declared.json_text.Position.TheVariants.{Later};
 ghost use Rattle.mail_program.specs.Fault.{IsEnd};
 ghost use Rattle.mail_program.specs.Refusal.{refusal_text};
 ghost use Rattle.mail_program.specs.Streams.{Writes};
 
-use crate::decoded::{Decoded, decoded_parts, mail_in};
-use crate::json_text::{Position, write_comma, write_word};
-use crate::members::{add_number_or_null, add_optional, add_text, first_key, key};
 use crate::options::LineOptions;
 use crate::part::{Form, place_in, write_found};
-use crate::reading::read_mail;
+use mail_json_text::{
+    Position, add_number_or_null, add_optional, add_text, first_key, key, write_comma, write_word,
+};
+use mail_parts::{Decoded, decoded_parts, mail_in, read_mail};
 use mail_program::{Fault, refusal_of};
 use mail_read::inner_mails::{holds_mail, mail_start, places_under};
 use mail_read::places::Place;
@@ -323,7 +323,7 @@ fn write_places<'p, 'm, 'a, W: Write, K: KnownCharsets>(
         options: shared.options,
         known: shared.known,
     };
-    let Ok(parts) = decoded_parts(alloc, places, shared.options) else {
+    let Ok(parts) = decoded_parts(alloc, places, shared.options.decodes_bodies) else {
         return Err(Ended);
     };
     match write_found(alloc, out, parts.as_slice(), Position::Later, form) {

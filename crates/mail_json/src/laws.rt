@@ -1,51 +1,37 @@
 //! Laws: each line is JSON, a line without texts is the whole line without them, and the lines of
 //! all parts of an input are those of the whole.
 ghost use Rattle.std.specs.Prelude.{◌++◌, ◌<◌, ◌^◌, ◌≡◌, ◌≤◌, Bool, List, Ok, Option, codes};
-ghost use Rattle.std.specs.Prelude.{drop, encode_utf8_all, false, length, not, true, ℕ};
+ghost use Rattle.std.specs.Prelude.{drop, false, length, true, ℕ};
 ghost use Rattle.std.specs.List.{flat_map, list_all};
 ghost use Rattle.json.specs.Json.{Json};
-ghost use Rattle.mail_codec.specs.Hidden.{IsShown, is_no_character};
 ghost use Rattle.mail_codec.specs.Places.{values_below};
 ghost use Rattle.mail_data.specs.declared.mailbox.formats.Format.{Format};
 ghost use Rattle.mailparse.specs.Mail.{Tree, root};
 ghost use Rattle.mailparse.specs.Refusal.{Reads};
 ghost use Rattle.mail_check.specs.Findings.{Finding};
-ghost use Rattle.mail_json.specs.FileLine.{FileLine, file_line_value};
 ghost use Rattle.mail_json.specs.FindingsLine.{findings_value};
-ghost use Rattle.mail_json.specs.JsonText.{character_text, json_text};
 ghost use Rattle.mail_data.specs.MailboxOffsets.{IsThere};
 ghost use Rattle.mail_data.specs.MailboxParts.{Placed};
 ghost use Rattle.mail_read.specs.Reading as plain;
-ghost use Rattle.mail_data.specs.TextFiles.{text_files};
-ghost use Rattle.mail_json.specs.DecodedSize.{bounded_reading};
-ghost use Rattle.mail_json.specs.JsonLines.{AreMailboxLines, IsLineOf, format_of, origin_at};
+ghost use Rattle.mail_parts.specs.DecodedSize.{bounded_reading};
+ghost use Rattle.mail_json.specs.JsonLines.{AreMailboxLines, IsLineOf, origin_at};
+ghost use Rattle.mail_walk.specs.Kind.{format_of};
 ghost use Rattle.mail_json.specs.Options.{Options, decoding};
 ghost use Rattle.mail_json.specs.Origin.{HasMailAt, Origin};
-ghost use Rattle.mail_json.specs.Printed.{line_of};
+ghost use Rattle.mail_json_text.specs.Printed.{line_of};
 ghost use Rattle.mail_json.specs.Range.{ArePartLines, AreRangeLines, AreRangeLinesAt};
 ghost use Rattle.mail_json.specs.Range.{AreUnnumberedLines, has_parts, reading_start};
-ghost use Rattle.mail_json.specs.Reading.{has_many_blocks};
-ghost use Rattle.mail_json.specs.declared.options.InputKind.{InputKind};
-ghost use Rattle.mail_json.specs.Values.{AreJsonLines, IsJsonLine, IsLineValue, findings_if};
+ghost use Rattle.mail_walk.specs.declared.kind.InputKind.{InputKind};
+ghost use Rattle.mail_json_text.specs.JsonLine.{AreJsonLines, IsJsonLine};
+ghost use Rattle.mail_json.specs.Values.{IsLineValue, findings_if};
 ghost use Rattle.mail_json.specs.Values.{unread_value};
 ghost use Rattle.mail_json.specs.WithoutText.{without_text};
-
-/// A string in UTF-8 is written character by character, between quotation marks, and contains no
-/// hidden character.
-pub fn strings_are_characters()
-    ensures written { (characters : List ℕ) → json_text (encode_utf8_all characters)
-        ≡ codes "\"" ++ (flat_map character_text characters ++ codes "\"") }
-    ensures shown { (characters : List ℕ) →
-        list_all (λ c. not (is_no_character c)) characters ≡ true →
-        IsShown (json_text (encode_utf8_all characters)) }
-{}
 
 /// Each line that is written of an input is JSON, and ends in its only LF: the parser of the crate
 /// `json` reads the text before the LF as a value in which no object has a key twice. No other byte
 /// of the line is a control: it is neither below the space nor DEL. For the line of a mail, or of
 /// its refusal, the value is what `IsLineValue` gives, for that of an input that could not be read
-/// it is `unread_value`, for that of a file `file_line_value`, and for that of the findings of a mail
-/// `findings_value`.
+/// it is `unread_value`, and for that of the findings of a mail `findings_value`.
 pub fn lines_are_json()
     ensures line { (options : Options) (origin : Origin) (mail : Reads Tree) (is_clean : Bool)
         (text : List ℕ) → IsLineOf options origin mail is_clean text →
@@ -60,9 +46,6 @@ pub fn lines_are_json()
     ensures unread { (file : Option (List ℕ)) (text : List ℕ) → (object : List ℕ)
         × IsJsonLine (unread_value file text) object
         × (line_of (unread_value file text) ≡ object ++ codes "\n") }
-    ensures file { (line : FileLine) → (object : List ℕ)
-        × IsJsonLine (file_line_value line) object
-        × (line_of (file_line_value line) ≡ object ++ codes "\n") }
     ensures findings { (origin : Origin) (findings : List Finding) → (object : List ℕ)
         × IsJsonLine (findings_value origin findings) object
         × (line_of (findings_value origin findings) ≡ object ++ codes "\n") }
@@ -119,13 +102,4 @@ pub fn offsets_are_those_of_the_input()
     ensures { (file : Option (List ℕ)) (number : Option ℕ) (bytes : List ℕ) (mail : Placed) →
         length bytes < 2 ^ 64 → IsThere bytes mail →
         HasMailAt bytes (origin_at file number mail.start mail.entry) mail.entry.mail }
-{}
-
-/// If a text has at most as many blocks of uuencoded files as a limit says, no file in it is left
-/// out: `text_files` returns the same with any greater limit. `read_mail` refuses a mail if a text
-/// of it has more blocks.
-#[tactic(auto, using(crate::proofs::lemmas::Reading::all_files))]
-pub fn no_file_is_left_out()
-    ensures { (limit greater : ℕ) (text : List ℕ) → has_many_blocks limit text ≡ false →
-        limit ≤ greater → text_files greater text ≡ text_files limit text }
 {}

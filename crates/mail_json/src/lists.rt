@@ -2,10 +2,10 @@
 ghost use Rattle.std.specs.Prelude.{map};
 ghost use Rattle.json.specs.Json.{Json};
 ghost use Rattle.mail_codec.specs.Charset.{Charsets};
-ghost use Rattle.mail_json.specs.Printed.{list_of, text_of};
+ghost use Rattle.mail_json_text.specs.Printed.{list_of, text_of};
 ghost use Rattle.mail_program.specs.Streams.{Writes};
 
-use crate::json_text::{Position, write_comma, write_word};
+use mail_json_text::{Position, write_comma, write_word};
 use mail_program::Fault;
 use mailparse::KnownCharsets;
 use std::alloc::Global;

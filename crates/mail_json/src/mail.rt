@@ -7,34 +7,33 @@ ghost use Rattle.mail_read.specs.Reading.{mail_placements};
 ghost use Rattle.mail_read.specs.lenient.Date.{zoned_date_of};
 ghost use Rattle.mail_json.specs.Fields.{date_fault_text, value_of};
 ghost use Rattle.mail_json.specs.Origin.{origin_of};
-ghost use Rattle.mail_json.specs.DecodedViews.{IsDecoded, decoded_tree};
+ghost use Rattle.mail_parts.specs.DecodedViews.{IsDecoded, decoded_tree};
 ghost use Rattle.mail_json.specs.Options.{options_of};
-ghost use Rattle.mail_json.specs.Members.{AddsMember, AddsMembers, BeginsMembers, is_key};
-ghost use Rattle.mail_json.specs.Printed.{begun, text_of};
+ghost use Rattle.mail_json_text.specs.Members.{AddsMember, AddsMembers, BeginsMembers, is_key};
+ghost use Rattle.mail_json_text.specs.Printed.{begun, text_of};
 ghost use Rattle.mail_json.specs.Values.{IsMailValue, date_members, head_members, ids_members};
 ghost use Rattle.mail_json.specs.Values.{raw_value, raw_values, value_or_null, values_members};
 ghost use Rattle.mail_json.specs.Values.{zone_members};
-ghost use Rattle.mail_json.specs.LineViews.{line_bytes};
+ghost use Rattle.mail_json_text.specs.LineViews.{line_bytes};
 ghost use Rattle.mail_program.specs.Fault.{IsEnd};
 ghost use Rattle.mail_program.specs.Streams.{Writes};
-ghost use Rattle.mail_json.specs.Written.{WritesOne};
+ghost use Rattle.mail_json_text.specs.Written.{WritesOne};
 
 use crate::addresses::write_addresses;
 use crate::bounced::bounced_id;
-use crate::decoded::{Decoded, decoded_parts};
 use crate::fields::value_of;
 use crate::findings_line::add_findings;
 use crate::inside::{write_mails, write_parts};
-use crate::json_text::write_word;
-use crate::line_buffer::{LineBuffer, memory_fault};
-use crate::members::{
-    add_flag, add_null, add_optional, add_seconds, add_text, add_texts, first_key, key,
-};
 use crate::options::LineOptions;
 use crate::origin::{Origin, write_origin};
 use crate::reports::write_reported;
 use mail_codec::charset::decode_latin1;
 use mail_data::archive::ids_of;
+use mail_json_text::{
+    LineBuffer, add_flag, add_null, add_optional, add_seconds, add_text, add_texts, first_key, key,
+    memory_fault, write_word,
+};
+use mail_parts::{Decoded, decoded_parts};
 use mail_program::Fault;
 use mail_read::lenient::{DateError, IdRule, zoned_date_of};
 use mail_read::places::places;
@@ -76,7 +75,7 @@ pub fn write_mail<W: Write, K: KnownCharsets>(
         (tree_of mail.now)) }
 {
     let found = places(alloc, mail)?;
-    let decoded = decoded_parts(alloc, found.as_slice(), options)?;
+    let decoded = decoded_parts(alloc, found.as_slice(), options.decodes_bodies)?;
     let parts = decoded.as_slice();
     let head = head_of(alloc, mail, parts, origin, options, known)?;
     out.write_all(head.as_slice())?;

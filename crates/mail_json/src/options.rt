@@ -1,44 +1,9 @@
-//! What an input is, and how its mails are read and shown.
+//! How the mails of an input are read and shown.
 ghost use Rattle.std.specs.Prelude.{◌≡◌, None, false, true};
-ghost use Rattle.mail_json.specs.JsonLines.{format_of};
 
-use mail_data::mailbox::Format;
 use mail_html::References;
 use mail_read::reading::DEFAULT_LIMIT;
-
-/// What an input is.
-#[derive(Clone, Copy, Debug, PartialEq, Eq)]
-pub enum InputKind {
-    /// A mailbox if it begins with a separator, otherwise a mail.
-    Either,
-    /// One mail.
-    Mail,
-    /// A mailbox in this format.
-    Mailbox(Format),
-}
-
-impl InputKind {
-    /// Returns the format in which an input of this kind is read if it is a mailbox.
-    ///
-    /// Does not allocate.
-    ///
-    /// # Examples
-    ///
-    /// ```rust
-    /// use mail_data::mailbox::Format;
-    /// use mail_json::InputKind;
-    ///
-    /// assert!(rt; matches!(InputKind::Either.format(), Format::Plain));
-    /// ```
-    pub fn format(self) -> Format
-        ensures { result ≡ format_of self }
-    {
-        match self {
-            InputKind::Either | InputKind::Mail => Format::Plain,
-            InputKind::Mailbox(format) => format,
-        }
-    }
-}
+use mail_walk::InputKind;
 
 /// How mails are read and shown.
 #[derive_where(Clone, Copy, Debug)]
@@ -47,7 +12,7 @@ pub struct LineOptions<'r> {
     /// uuencoded blocks in a text of it. Each mail inside a mail has this limit for itself.
     pub limit: usize,
     /// The greatest number of bytes that are decoded for the mails inside a mail that is not refused
-    /// for it, or `None` for eight times its size and 64 MiB, as `read_bounded` has them.
+    /// for it, or `None` for eight times its size and 64 MiB, as `read_bounded` of `mail_parts` has them.
     pub most_bytes: Option<usize>,
     /// Whether bodies are decoded. If they are not, what needs that is `null` or absent: the texts,
     /// the decoded sizes, the hashes, the reports and the recipients.

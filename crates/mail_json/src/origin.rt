@@ -1,14 +1,13 @@
 //! The origin of a line: the file, the mail and its offsets.
 ghost use Rattle.std.specs.Prelude.{option_map};
 ghost use Rattle.mail_json.specs.Origin.{origin_of};
-ghost use Rattle.mail_json.specs.Members.{BeginsMembers};
-ghost use Rattle.mail_json.specs.Printed.{line_of};
+ghost use Rattle.mail_json_text.specs.Members.{BeginsMembers};
+ghost use Rattle.mail_json_text.specs.Printed.{line_of};
 ghost use Rattle.mail_json.specs.Values.{error_value, file_members, origin_members, unread_value};
 ghost use Rattle.mail_program.specs.Streams.{Writes};
 
-use crate::json_text::write_word;
-use crate::members::{
-    add_null, add_number, add_number_or_null, add_optional, add_text, first_key, key,
+use mail_json_text::{
+    add_null, add_number, add_number_or_null, add_optional, add_text, first_key, key, write_word,
 };
 use mail_program::Fault;
 use std::io::Write;

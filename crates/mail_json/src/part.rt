@@ -1,6 +1,6 @@
 //! The objects of the parts.
 ghost use Rattle.std.specs.Prelude.{◌&&◌, ◌≡◌, codes, length, IfErr, IfOk, map, option_map};
-ghost use Rattle.std.specs.Prelude.{◌||◌, not, string_bytes, true, false, Bool};
+ghost use Rattle.std.specs.Prelude.{◌||◌, not, string_bytes, true, Bool};
 ghost use Rattle.std.specs.List.{AllByRecursion};
 ghost use Rattle.json.specs.Json.{Json, string};
 ghost use Rattle.mailparse.specs.Map.{text_found};
@@ -13,41 +13,39 @@ ghost use Rattle.mail_read.specs.PlaceViews.{place_view};
 ghost use Rattle.mail_read.specs.Files.{is_leaf, is_shown};
 ghost use Rattle.mail_data.specs.ReportViews.{block_view};
 ghost use Rattle.mail_check.specs.Inside.{path_shown};
-ghost use Rattle.mail_json.specs.Part.{Lists, content_if, hash_of, html_shown, is_attachment};
-ghost use Rattle.mail_json.specs.Part.{is_read, place_in, report_if, text_shown};
+ghost use Rattle.mail_parts.specs.Part.{Lists, content_if};
+ghost use Rattle.mail_json.specs.Part.{hash_of, html_shown, place_in, report_if, text_shown};
 ghost use Rattle.mail_json.specs.Options.{options_of};
-ghost use Rattle.mail_json.specs.DecodedViews.{IsDecoded, decoded_place};
-ghost use Rattle.mail_json.specs.LineViews.{line_bytes};
-ghost use Rattle.mail_json.specs.Members.{AddsMembers, BeginsMembers};
+ghost use Rattle.mail_parts.specs.DecodedViews.{IsDecoded, decoded_place};
+ghost use Rattle.mail_json_text.specs.LineViews.{line_bytes};
+ghost use Rattle.mail_json_text.specs.Members.{AddsMembers, BeginsMembers};
 ghost use Rattle.mail_program.specs.Fault.{IsEnd};
 ghost use Rattle.mail_program.specs.Refusal.{refusal_text};
-ghost use Rattle.mail_json.specs.Printed.{comma, listed, member_text, object_of, one, text_of};
+ghost use Rattle.mail_json_text.specs.Printed.{comma, listed, member_text, object_of, one, text_of};
 ghost use Rattle.mail_json.specs.Values.{AreValues, IsPartValue, body_members, bounds_in};
 ghost use Rattle.mail_json.specs.Values.{damaged_members, decoded_members, shown_members};
 ghost use Rattle.mail_json.specs.Values.{disposition_members, header_value, no_text_members};
 ghost use Rattle.mail_json.specs.Values.{parameter_member, refusal_members, size_members};
 ghost use Rattle.mail_program.specs.Streams.{Writes};
-ghost use Rattle.mail_json.specs.Written.{WritesOne};
+ghost use Rattle.mail_json_text.specs.Written.{WritesOne};
 
 use crate::body::encoding_name;
-use crate::decoded::Decoded;
 use crate::fields::{content_id, disposition_name};
-use crate::json_text::{Position, write_comma, write_text, write_word};
-use crate::line_buffer::{LineBuffer, memory_fault};
 use crate::lists::{ListItem, write_list};
-use crate::members::{
-    add_flag, add_null, add_number, add_number_or_null, add_optional, add_text, first_key, key,
-};
 use crate::options::LineOptions;
-use crate::reports::{write_pair, write_report};
+use crate::reports::write_report;
 use crate::text_files::write_text_files;
 use mail_codec::charset::decode_latin1;
 use mail_data::flowed::unflowed_of;
 use mail_data::reports::{Block, has_report, read_blocks};
-use mail_data::texts::text_type_of;
 use mail_html::{Links, References, html_text};
+use mail_json_text::{
+    LineBuffer, Position, add_flag, add_null, add_number, add_number_or_null, add_optional,
+    add_text, first_key, key, memory_fault, write_comma, write_pair, write_text, write_word,
+};
+use mail_parts::{Decoded, is_attachment, is_read};
 use mail_program::{Fault, refusal_of, sha256_text};
-use mail_read::files::{describes_attachment, is_attachment_disposition, is_leaf, is_shown};
+use mail_read::files::{is_leaf, is_shown};
 use mail_read::lenient::{
     Content, charset_used, lenient_disposition, lenient_file_name, lenient_header_text_ref,
     lenient_text, refusal,
@@ -285,30 +283,6 @@ pub(crate) fn place_in(start: Option<usize>, at: usize) -> Option<usize>
     Some(start?.saturating_add(at))
 }
 
-/// Returns whether the body of a part of this disposition, as `lenient_disposition` returns it, is a
-/// text that is shown: it has no parts of its own, is not marked as an attachment, and its type is
-/// that of a text, or a multipart.
-///
-/// Does not allocate.
-///
-/// # Examples
-///
-/// ```rust
-/// use mail_read::lenient::lenient_disposition;
-/// use mail_json::is_read;
-/// use mailparse::parse_mail;
-///
-/// let mail = parse_mail(alloc, b"Content-Type: text/html\n\n<p>Hello")?;
-/// assert!(rt; is_read(&mail, &lenient_disposition(alloc, &mail, &())?));
-/// ```
-pub fn is_read(part: &ParsedMail<'_>, disposition: &Option<DispositionType>) -> bool
-    ensures { result ≡ is_read (tree_of part.now) (option_map kind disposition.now) }
-{
-    !is_attachment_disposition(disposition)
-        && is_leaf(part)
-        && text_type_of(part).starts_with("text/")
-}
-
 /// Writes the object of the parameters of a type.
 fn write_params<W: Write>(out: &mut W, ctype: &ParsedContentType) -> Result<(), Fault>
     ensures { WritesOne (W.contents out.old) (W.contents out.new) result
@@ -333,36 +307,6 @@ fn write_parameter<W: Write>(out: &mut W, name: &str, value: &str) -> Result<(),
     write_text(out, name)?;
     write_word(out, ":")?;
     write_text(out, value)
-}
-
-/// Returns whether a part of this disposition and with this file name, as `lenient_disposition` and
-/// `lenient_file_name` return them, is an attachment: it has no parts of its own, and the two are
-/// those of one.
-///
-/// Does not allocate.
-///
-/// # Examples
-///
-/// ```rust
-/// use mail_read::lenient::{lenient_disposition, lenient_file_name};
-/// use mail_json::is_attachment;
-/// use mailparse::parse_mail;
-///
-/// let mail = parse_mail(alloc, b"Content-Disposition: inline; filename=a.txt\n\nHello")?;
-/// let disposition = lenient_disposition(alloc, &mail, &())?;
-/// let name = lenient_file_name(alloc, &mail, &())?;
-/// assert!(rt; is_attachment(&mail, &disposition, &name));
-/// assert!(rt; !is_attachment(&mail, &disposition, &None));
-/// ```
-pub fn is_attachment(
-    part: &ParsedMail<'_>,
-    disposition: &Option<DispositionType>,
-    name: &Option<String>,
-) -> bool
-    ensures { result ≡ is_attachment (tree_of part.now) (option_map kind disposition.now)
-        (text_found name.now) }
-{
-    is_leaf(part) && describes_attachment(disposition, name)
 }
 
 /// Writes the disposition, the name of the file, and the id of the content.

@@ -1,18 +1,19 @@
 //! The lines of a part of a file: of the mails of a mailbox that begin in it.
 ghost use Rattle.std.specs.Prelude.{◌*◌, ◌-◌, ◌/◌, ◌<◌, ◌≡◌, ◌≤◌, List, length, option_map, ℕ};
 ghost use Rattle.mail_data.specs.MailboxParts.{part_start};
-ghost use Rattle.mail_json.specs.JsonLines.{format_of};
+ghost use Rattle.mail_walk.specs.Kind.{format_of};
 ghost use Rattle.mail_json.specs.Options.{options_of};
 ghost use Rattle.mail_json.specs.Range.{AreFirstLines, AreRangeLinesAt, ShowsMailbox, WritesPart};
 ghost use Rattle.mail_json.specs.Range.{reading_start};
 
 use crate::json_lines::write_mails;
-use crate::options::{InputKind, Source};
+use crate::options::Source;
 use crate::selection::{NextMail, Selection};
-use crate::stream::{Wanted, Watch, is_mailbox, read_until, write_chosen, write_rest};
+use crate::stream::{Watch, write_chosen, write_rest};
 use crate::written::Written;
 use mail_data::mailbox::{has_front, read_mailbox};
 use mail_program::Fault;
+use mail_walk::{InputKind, Wanted, is_mailbox, read_until};
 use mailparse::KnownCharsets;
 use std::alloc::Global;
 use std::io::{Read, Write};
@@ -88,8 +89,8 @@ fn part_start(size: usize, count: usize, number: usize) -> usize
 /// # Examples
 ///
 /// ```rust
-/// use mail_json::InputKind;
 /// use mail_json::range::shows_mailbox;
+/// use mail_walk::InputKind;
 ///
 /// let mut reader = b"Subject: Hi\n\n".as_slice();
 /// assert!(rt; !shows_mailbox(alloc, &mut reader, InputKind::Either)?);
@@ -114,7 +115,8 @@ pub fn shows_mailbox<R: Read>(alloc: Global, reader: &mut R, kind: InputKind) ->
 ///
 /// ```rust
 /// use mail_json::range::write_first_part;
-/// use mail_json::{InputKind, LineOptions, Source, Unwatched};
+/// use mail_json::{LineOptions, Source, Unwatched};
+/// use mail_walk::InputKind;
 ///
 /// let mut reader = b"From a@b Fri Jul  8 12:08:34 2011\nA: 1\n\nFrom a@b Fri Jul  8 12:08:34 2011\n"
 ///     .as_slice();
@@ -158,7 +160,8 @@ pub fn write_first_part<R: Read, W: Write, M: Watch, K: KnownCharsets>(
 ///
 /// ```rust
 /// use mail_json::range::{reading_start, write_range};
-/// use mail_json::{InputKind, LineOptions, Source, Unwatched};
+/// use mail_json::{LineOptions, Source, Unwatched};
+/// use mail_walk::InputKind;
 ///
 /// let mailbox = b"From a@b Fri Jul  8 12:08:34 2011\nA: 1\n\nFrom a@b Fri Jul  8 12:08:34 2011\n";
 /// let mut reader = &mailbox[reading_start(20)..];

@@ -9,18 +9,17 @@ ghost use Rattle.mail_data.specs.BounceViews.{delivery};
 ghost use Rattle.mail_data.specs.ReportViews.{block_view, field_view};
 ghost use Rattle.mail_json.specs.Reports.{delivery_value};
 ghost use Rattle.mail_json.specs.Part.{recipients_if};
-ghost use Rattle.mail_json.specs.Printed.{text_of};
-ghost use Rattle.mail_json.specs.DecodedViews.{IsDecoded, decoded_tree};
-ghost use Rattle.mail_json.specs.Values.{block_value, pair_value, recipients_value, report_value};
+ghost use Rattle.mail_json_text.specs.Printed.{text_of};
+ghost use Rattle.mail_parts.specs.DecodedViews.{IsDecoded, decoded_tree};
+ghost use Rattle.mail_json.specs.Values.{block_value, recipients_value, report_value};
+ghost use Rattle.mail_json_text.specs.Printed.{pair_value};
 ghost use Rattle.mail_program.specs.Streams.{Writes};
 
-use crate::decoded::Decoded;
-use crate::escapes::write_escaped;
-use crate::json_text::write_word;
 use crate::lists::{ListItem, write_list};
-use crate::members::{add_optional, first_key, key};
 use mail_data::bounce::{Recipient, add_failed, add_reported};
 use mail_data::reports::{Block, Field, has_status};
+use mail_json_text::{add_optional, first_key, key, write_pair, write_word};
+use mail_parts::Decoded;
 use mail_program::Fault;
 use mailparse::{KnownCharsets, MailParseError, ParsedMail};
 use std::alloc::Global;
@@ -77,7 +76,7 @@ impl ListItem for Field {
 }
 
 /// Writes the blocks of a report, or `null` for `None`.
-#[tactic(auto, unfolding(crate::specs::Printed::text_of))]
+#[tactic(auto, unfolding(mail_json_text::specs::Printed::text_of))]
 pub(crate) fn write_report<W: Write, K: KnownCharsets>(
     alloc: Global,
     out: &mut W,
@@ -153,16 +152,4 @@ fn add_recipients<K: KnownCharsets>(
         Some(content) => add_reported(alloc, found, content.bytes.as_slice(), known),
         None => Ok(()),
     }
-}
-
-/// Writes a pair of strings.
-pub(crate) fn write_pair<W: Write>(out: &mut W, name: &str, value: &str) -> Result<(), Fault>
-    ensures { Writes (W.contents out.old) (W.contents out.new) result
-        (text_of (pair_value (name.now, value.now))) }
-{
-    write_word(out, "[\"")?;
-    write_escaped(out, name.as_bytes())?;
-    write_word(out, "\",\"")?;
-    write_escaped(out, value.as_bytes())?;
-    write_word(out, "\"]")
 }

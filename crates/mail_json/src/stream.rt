@@ -1,42 +1,27 @@
 //! The lines of an input that is read in blocks.
-ghost use Rattle.std.specs.Prelude.{◌≡◌, ◌++◌, IfErr, IfOk, [], drop, option_map, true};
-ghost use Rattle.mail_data.specs.Mailbox.{has_front, has_line};
+ghost use Rattle.std.specs.Prelude.{◌≡◌, ◌++◌, IfErr, IfOk, [], option_map, true};
+ghost use Rattle.mail_data.specs.Mailbox.{has_front};
 ghost use Rattle.mail_data.specs.MailboxFormats.{entries_in};
 ghost use Rattle.mail_data.specs.MailboxParts.{placed_from};
 ghost use Rattle.mail_json.specs.JsonLines.{AreInputLines, WritesInput, WritesLines};
-ghost use Rattle.mail_json.specs.JsonLines.{format_of, is_mailbox};
+ghost use Rattle.mail_walk.specs.Kind.{format_of};
 ghost use Rattle.mail_json.specs.Options.{options_of};
 ghost use Rattle.mail_json.specs.Selection.{AreChosen, AreInputChosen, AreMailboxChosen};
-ghost use Rattle.mail_json.specs.Stream.{ReadsUntil, WritesChosen, WritesSettled};
-ghost use Rattle.mail_json.specs.Stream.{first_wanted, is_there};
+ghost use Rattle.mail_json.specs.Stream.{WritesChosen, WritesSettled};
 ghost use Rattle.mail_program.specs.Fault.{IsEnd};
 ghost use Rattle.mail_program.specs.Streams.{Writes};
 ghost use Rattle.mail_json.specs.Written.{is_clean};
 
 use crate::json_lines::{write_entry, write_front, write_mailbox, write_mails, write_single};
-use crate::options::{InputKind, Source};
+use crate::options::Source;
 use crate::selection::{NextMail, Selection};
 use crate::written::Written;
-use mail_data::mailbox::{self, Format, has_front, has_line, read_mailbox, settled_entry};
-use mail_program::{Fault, read_more};
+use mail_data::mailbox::{read_mailbox, settled_entry};
+use mail_program::Fault;
+use mail_walk::{Wanted, first_wanted, is_mailbox, read_until};
 use mailparse::KnownCharsets;
 use std::alloc::Global;
 use std::io::{self, ErrorKind, Read, Write};
-
-/// How much of an input is read before lines are written.
-#[derive(Clone, Copy, Debug)]
-pub enum Wanted {
-    /// Its first line, which shows whether it is a mailbox.
-    FirstLine,
-    /// The text before the first separator of a mailbox.
-    Front,
-    /// The same, or the line that contains this offset, which shows that no mail begins before it.
-    FrontBefore(usize),
-    /// The first mail of a mailbox in this format.
-    FirstMail(Format),
-    /// All bytes.
-    End,
-}
 
 /// Takes note of the progress of writing the lines of an input.
 pub trait Watch {
@@ -81,7 +66,8 @@ struct Settled<'a> {
 /// # Examples
 ///
 /// ```rust
-/// use mail_json::{InputKind, LineOptions, Source, Unwatched, Written, write_input};
+/// use mail_json::{LineOptions, Source, Unwatched, Written, write_input};
+/// use mail_walk::InputKind;
 ///
 /// let mut reader = b"From a@b Fri Jul  8 12:08:34 2011\nSubject: Hi\n\nHello\n".as_slice();
 /// let mut out = Vec::new(alloc);
@@ -164,125 +150,6 @@ fn write_whole<W: Write, K: KnownCharsets>(
         let (file, options, known) = (source.file, source.options, source.known);
         write_single(alloc, out, input, file, options, known)
     }
-}
-
-/// Returns whether an input of this kind that begins with these bytes is a mailbox (RFC 4155,
-/// appendix A).
-///
-/// Does not allocate.
-///
-/// # Examples
-///
-/// ```rust
-/// use mail_json::{InputKind, is_mailbox};
-///
-/// assert!(rt; is_mailbox(InputKind::Either, b"From a Fri Jul  8 12:08:34 2011\n\none\n"));
-/// assert!(rt; !is_mailbox(InputKind::Mail, b"From a Fri Jul  8 12:08:34 2011\n\none\n"));
-/// ```
-pub fn is_mailbox(kind: InputKind, input: &[u8]) -> bool
-    ensures { result ≡ is_mailbox kind input.now }
-{
-    match kind {
-        InputKind::Either => mailbox::is_mailbox(input),
-        InputKind::Mail => false,
-        InputKind::Mailbox(_) => true,
-    }
-}
-
-/// Returns how much of an input of this kind is read before lines are written: what shows whether
-/// it is a mailbox, and then the text before the first separator.
-///
-/// Does not allocate.
-///
-/// # Examples
-///
-/// ```rust
-/// use mail_json::{InputKind, Wanted, first_wanted};
-///
-/// assert!(rt; matches!(first_wanted(InputKind::Either), Wanted::FirstLine));
-/// ```
-pub fn first_wanted(kind: InputKind) -> Wanted
-    ensures { result ≡ first_wanted kind }
-{
-    match kind {
-        InputKind::Either => Wanted::FirstLine,
-        InputKind::Mail => Wanted::End,
-        InputKind::Mailbox(_) => Wanted::Front,
-    }
-}
-
-/// Appends what the reader has left until the bytes contain what is wanted, or to its end. Returns
-/// whether it is at its end. The bytes are doubled from one look to the next, so the time is
-/// linear.
-///
-/// Allocates the bytes.
-///
-/// # Errors
-///
-/// `Fault::Input` if a read fails, and `Fault::Mail` with `MailParseError::Memory` if it runs out
-/// of memory.
-///
-/// # Examples
-///
-/// ```rust
-/// use mail_json::{Wanted, read_until};
-///
-/// let mut reader = b"Subject: Hi\n\nHello\n".as_slice();
-/// let mut bytes = Vec::new(alloc);
-/// assert!(rt; !read_until(alloc, &mut bytes, &mut reader, Wanted::FirstLine)?);
-/// assert!(rt; read_until(alloc, &mut bytes, &mut reader, Wanted::End)?);
-/// assert_eq!(rt; bytes.as_slice(), b"Subject: Hi\n\nHello\n".as_slice());
-/// ```
-pub fn read_until<R: Read>(
-    alloc: Global,
-    bytes: &mut Vec<u8>,
-    reader: &mut R,
-    wanted: Wanted,
-) -> Result<bool, Fault>
-    ensures { ReadsUntil wanted (R.remaining reader.old) (R.remaining reader.new)
-        bytes.old.items bytes.new.items result }
-{
-    for _turn in 0..u64::MAX {
-        if is_there(wanted, bytes.as_slice()) {
-            return Ok(false);
-        }
-        let most = next_length(wanted, bytes.len());
-        if read_more(alloc, bytes, reader, most)? {
-            return Ok(true);
-        }
-    }
-    Err(Fault::Input(io::Error::from(ErrorKind::Interrupted)))
-}
-
-/// Returns the length at which the bytes are searched again, given the one at which they were:
-/// twice that, but at first at most the offset after which the text before a separator is not
-/// wanted.
-fn next_length(wanted: Wanted, length: usize) -> usize {
-    let doubled = length.saturating_mul(2);
-    match wanted {
-        Wanted::FrontBefore(end) if length < end => doubled.min(end),
-        _ => doubled,
-    }
-}
-
-/// Returns whether these bytes contain what is wanted.
-fn is_there(wanted: Wanted, bytes: &[u8]) -> bool
-    ensures { result ≡ is_there wanted bytes.now }
-{
-    match wanted {
-        Wanted::FirstLine => has_line(bytes),
-        Wanted::Front => has_front(bytes),
-        Wanted::FrontBefore(end) => has_front(bytes) || has_line_at(bytes, end),
-        Wanted::FirstMail(format) => settled_entry(bytes, format).is_some(),
-        Wanted::End => false,
-    }
-}
-
-/// Returns whether the line that contains an offset was read with at least one more byte.
-fn has_line_at(bytes: &[u8], at: usize) -> bool
-    ensures { result ≡ has_line (drop at bytes.now) }
-{
-    at < bytes.len() && has_line(&bytes[at..])
 }
 
 /// Writes the lines of a mailbox of which these bytes were read, up to the first separator or

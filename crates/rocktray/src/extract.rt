@@ -9,14 +9,14 @@ use crate::options::ids;
 use clap::ArgMatches;
 use mail_charsets::AllCharsets;
 use mail_extract::{
-    Choice, Created, Directory, Disk, Hashing, Naming, SaveOptions, Source, Target, extract_input,
-    write_line,
+    Choice, Created, Directory, Disk, FileLine, Hashing, Naming, SaveOptions, Source, Target,
+    extract_input, write_line,
 };
 use mail_inputs::{
     Consumer, Content, Name, PROGRAM, argument_text, read_inputs, say_unread, shown,
 };
-use mail_json::{FileLine, InputKind};
 use mail_program::{Fault, Outcome};
+use mail_walk::InputKind;
 use std::alloc::{AllocError, Global};
 use std::fs;
 use std::io::{self, BufWriter, ErrorKind, Printer, Read, Write};

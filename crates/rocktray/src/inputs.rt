@@ -5,8 +5,8 @@ use crate::options::ids;
 use clap::ArgMatches;
 use mail_data::mailbox::Format;
 use mail_inputs::{Content, Inputs, Name, Progress, Subdirectories, argument_text};
-use mail_json::InputKind;
 use mail_read::reading::DEFAULT_LIMIT;
+use mail_walk::InputKind;
 use std::alloc::{AllocError, Global};
 
 /// Returns the names of the inputs.

@@ -13,10 +13,9 @@ use mail_inputs::{
     read_inputs, say_unread, shown,
 };
 use mail_json::range::{FilePart, reading_start, shows_mailbox, write_first_part, write_range};
-use mail_json::{
-    InputKind, LineOptions, NextMail, Source, Watch, Written, write_input, write_unread,
-};
+use mail_json::{LineOptions, NextMail, Source, Watch, Written, write_input, write_unread};
 use mail_program::{Fault, Outcome};
+use mail_walk::InputKind;
 use std::alloc::Global;
 use std::fs::{self, OpenFile};
 use std::io::{self, BufWriter, Read, Seek, SeekFrom, Write};

@@ -1,8 +1,7 @@
 //! What was not saved, on standard error.
 
-use mail_extract::Notes;
+use mail_extract::{FileLine, Notes};
 use mail_inputs::{PROGRAM, shown};
-use mail_json::FileLine;
 use std::alloc::{AllocError, Global};
 
 /// Says on standard error what was not saved, a line for each.

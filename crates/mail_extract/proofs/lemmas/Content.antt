@@ -8,7 +8,7 @@ use Rattle.mailparse.specs.Refusal.{Refusal}
 use Rattle.mail_read.specs.InnerMails.{holds_mail}
 use Rattle.mail_read.specs.PartPlaces.{Place}
 use Rattle.mail_read.specs.lenient.Content.{Content, message_content}
-use Rattle.mail_json.specs.DecodedViews.{mail_if}
+use Rattle.mail_parts.specs.DecodedViews.{mail_if}
 use Rattle.mail_extract.specs.Content.{content}
 
 some-same : {A : Type 0} (x y : A) → ◌≡◌ {A = Option A} (Some x) (Some y) → x ≡ y

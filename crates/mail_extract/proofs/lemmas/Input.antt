@@ -16,7 +16,7 @@ use Rattle.mailparse.specs.Refusal.{Reads, Refusal, base64_fault, encoding, gene
 use Rattle.mailparse.specs.declared.error.MailParseError.{MailParseError}
 use Rattle.mailparse.specs.declared.error.MailParseError.TheVariants.{Base64DecodeError, EncodingError, Generic, Memory, QuotedPrintableDecodeError}
 use Rattle.mail_read.specs.FileNames.{IsSafeName}
-use Rattle.mail_json.specs.FileLine.{FileLine}
+use Rattle.mail_extract.specs.FileLine.{FileLine}
 use Rattle.mail_program.specs.Refusal.{refusal_text}
 use Rattle.mail_data.specs.Mailbox.{Entry, front_length, has_front}
 use Rattle.mail_data.specs.MailboxFormats.{entries_in, mail_in}
@@ -24,12 +24,12 @@ use Rattle.mail_data.specs.declared.mailbox.formats.Format.{Format}
 use Rattle.mail_data.proofs.lemmas.MailboxFormats.{front_in-stays}
 use Rattle.mail_data.proofs.lemmas.MailboxFound.{front-stays}
 use Rattle.mail_data.proofs.lemmas.MailboxParts.{front_length-≤}
-use Rattle.mail_json.proofs.lemmas.Stream.{form_stays}
-use Rattle.mail_json.specs.DecodedSize.{bounded_reading}
-use Rattle.mail_json.specs.JsonLines.{format_of, is_mailbox}
-use Rattle.mail_json.specs.Part.{saturating_add}
-use Rattle.mail_json.specs.Stream.{first_wanted, is_there}
-use Rattle.mail_json.specs.declared.options.InputKind.{InputKind}
+use Rattle.mail_walk.proofs.lemmas.Wanted.{form_stays}
+use Rattle.mail_parts.specs.DecodedSize.{bounded_reading}
+use Rattle.mail_walk.specs.Kind.{format_of, is_mailbox}
+use Rattle.mail_walk.specs.Offsets.{saturating_add}
+use Rattle.mail_walk.specs.Wanted.{first_wanted, is_there}
+use Rattle.mail_walk.specs.declared.kind.InputKind.{InputKind}
 use Rattle.mail_program.specs.Fault.{IsEnd, IsFault}
 use Rattle.mail_program.specs.Outcome.{worse}
 use Rattle.mail_program.specs.declared.fault.Fault.{Fault}

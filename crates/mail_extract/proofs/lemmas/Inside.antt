@@ -9,11 +9,11 @@ use Rattle.mail_read.specs.InnerMails.{Forwarded, InnerMail, forwarded, places_u
 use Rattle.mail_read.specs.PartPlaces.{Place, places}
 use Rattle.mail_read.specs.Reading.{mail_placements}
 use Rattle.mail_read.proofs.lemmas.InnerMails.{forwarded_with, inner_with}
-use Rattle.mail_json.proofs.lemmas.Reading.{forwarded_read}
+use Rattle.mail_parts.proofs.lemmas.Reading.{forwarded_read}
 use Rattle.mailparse.specs.Refusal.{Refusal}
-use Rattle.mail_json.specs.Inside.{mails_among, mails_inside}
-use Rattle.mail_json.proofs.lemmas.Inside.{among_whole, read_is}
-use Rattle.mail_json.specs.Reading.{mail_reading, mails_in_place}
+use Rattle.mail_parts.specs.Inside.{mails_among, mails_inside}
+use Rattle.mail_parts.proofs.lemmas.Inside.{among_whole, read_is}
+use Rattle.mail_parts.specs.Reading.{mail_reading, mails_in_place}
 use Rattle.mail_program.specs.Outcome.{worse}
 use Rattle.mail_program.specs.Refusal.{refusal_text}
 use Rattle.mail_program.specs.declared.fault.Fault.{Fault}

@@ -17,13 +17,13 @@ use Rattle.mail_read.specs.Reading.{mail_placements}
 use Rattle.mail_data.specs.Mailbox.{Entry, front_length}
 use Rattle.mail_data.specs.MailboxFormats.{entries_in, mail_in}
 use Rattle.mail_data.specs.declared.mailbox.formats.Format.{Format}
-use Rattle.mail_json.specs.DecodedSize.{bounded_reading}
-use Rattle.mail_json.specs.FileLine.{FileLine}
-use Rattle.mail_json.specs.JsonLines.{format_of, is_mailbox}
+use Rattle.mail_parts.specs.DecodedSize.{bounded_reading}
+use Rattle.mail_extract.specs.FileLine.{FileLine}
+use Rattle.mail_walk.specs.Kind.{format_of, is_mailbox}
 use Rattle.mail_program.specs.Refusal.{refusal_text}
-use Rattle.mail_json.specs.Part.{saturating_add}
-use Rattle.mail_json.specs.Reading.{inner_mails_within}
-use Rattle.mail_json.specs.declared.options.InputKind.{InputKind}
+use Rattle.mail_walk.specs.Offsets.{saturating_add}
+use Rattle.mail_parts.specs.Reading.{inner_mails_within}
+use Rattle.mail_walk.specs.declared.kind.InputKind.{InputKind}
 use Rattle.mail_program.specs.Outcome.{worse}
 use Rattle.mail_program.specs.declared.outcome.Outcome as program
 use Rattle.mail_program.specs.declared.outcome.Outcome.TheVariants.{Clean, Refused, Failed}

@@ -2,7 +2,7 @@
 use Rattle.std.proofs.Common.{◌≡◌, ℕ, Bool, List, [], ◌∷◌, Option, Some, Result, Ok, Err, IfSome, refl, sym, subst}
 use Rattle.std.proofs.lemmas.List.Elements.{All-nil, All-push}
 use Rattle.mail_read.specs.FileNames.{IsSafeName}
-use Rattle.mail_json.specs.FileLine.{FileLine}
+use Rattle.mail_extract.specs.FileLine.{FileLine}
 use Rattle.mail_program.specs.declared.fault.Fault.{Fault}
 use Rattle.mail_program.specs.declared.outcome.Outcome as program
 use Rattle.mail_program.specs.declared.outcome.Outcome.TheVariants.{Clean}

@@ -18,7 +18,7 @@ use Rattle.mail_data.specs.TextFiles.{TextFile, text_file_path}
 use Rattle.mail_read.specs.lenient.Content.{Content}
 use Rattle.mail_extract.specs.Choice.{Choice, keeps}
 use Rattle.mail_read.specs.Attachments.{is_extracted}
-use Rattle.mail_json.specs.Reading.{mail_reading}
+use Rattle.mail_parts.specs.Reading.{mail_reading}
 use Rattle.std.specs.Str.{bytes_eq}
 use Rattle.mail_extract.specs.Directory.{Creates, File, has_copy, has_file}
 use Rattle.mail_extract.specs.Hash.{wanted_hash}

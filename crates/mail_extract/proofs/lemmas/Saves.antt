@@ -8,7 +8,7 @@ use Rattle.std.specs.Io.KnownBytes.{Appends}
 use Rattle.std.specs.Prelude.{IfOk}
 use Rattle.mail_program.specs.declared.fault.Fault.{Fault}
 use Rattle.mail_read.specs.FileNames.{IsSafeName}
-use Rattle.mail_json.specs.FileLine.{FileLine}
+use Rattle.mail_extract.specs.FileLine.{FileLine}
 use Rattle.mail_program.specs.Outcome.{worse}
 use Rattle.mail_program.specs.declared.outcome.Outcome.{Outcome}
 use Rattle.mail_program.specs.declared.outcome.Outcome.TheVariants.{Clean, Refused, Failed}

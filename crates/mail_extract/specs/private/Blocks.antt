@@ -4,7 +4,7 @@ use Rattle.std.specs.Io.KnownBytes.{Consumes, IsAtEnd}
 use Rattle.mail_codec.specs.Charset.{Charsets}
 use Rattle.mail_data.specs.MailboxFormats.{entries_in}
 use Rattle.mail_data.specs.declared.mailbox.formats.Format.{Format}
-use Rattle.mail_json.specs.FileLine.{FileLine}
+use Rattle.mail_extract.specs.FileLine.{FileLine}
 use Rattle.mail_program.specs.Fault.{IsFault}
 use Rattle.mail_program.specs.declared.fault.Fault.{Fault}
 use Rattle.mail_program.specs.declared.outcome.Outcome.{Outcome}

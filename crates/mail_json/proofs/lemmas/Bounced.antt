@@ -15,8 +15,8 @@ use Rattle.mail_data.specs.Bounce.{first_part, has_original, original_message_id
 use Rattle.mail_data.specs.Reports.{fields, has_type}
 use Rattle.mail_read.specs.lenient.Content.{Content, message_content}
 use Rattle.mailparse.specs.Map.{text_found}
-use Rattle.mail_json.specs.DecodedViews.{decoded_tree}
-use Rattle.mail_json.specs.declared.decoded.Decoded.{Decoded}
+use Rattle.mail_parts.specs.DecodedViews.{decoded_tree}
+use Rattle.mail_parts.specs.declared.decoded.Decoded.{Decoded}
 
 -- ---- the parts after a message and its parts
 

@@ -1,20 +1,11 @@
 -- Lemmas on values of headers, and on refusals.
-use Rattle.std.proofs.Common.{◌≡◌, ℕ, List, Option, Some, None, Result, Ok, Err, refl, option_map}
+use Rattle.std.proofs.Common.{◌≡◌, ℕ, List, Option, Some, None, Result, Ok, Err, option_map}
 use Rattle.std.specs.Cow.{cow_str_bytes}
-use Rattle.mailparse.specs.Outcome.{IsMemory, IsRefusalOrMemory, refusal_of}
+use Rattle.mailparse.specs.Outcome.{IsRefusalOrMemory, refusal_of}
 use Rattle.mailparse.specs.Refusal.{Reads, Refusal, generic, encoding, base64_fault}
 use Rattle.mail_program.specs.Refusal.{refusal_text}
 use Rattle.mailparse.specs.declared.error.MailParseError.{MailParseError}
 use Rattle.mailparse.specs.declared.error.MailParseError.TheVariants.{QuotedPrintableDecodeError, Base64DecodeError, EncodingError, Generic, Memory}
-
--- the refusal of an error that is not the end of memory
-pub refused_or_memory : {Y : Type 0} (e : MailParseError) (given : Reads Y) → (IsMemory e → ⊥) → IsRefusalOrMemory e given
-    → (r : Refusal) × (refusal_of e ≡ Some r) × (given ≡ Err r)
-refused_or_memory (QuotedPrintableDecodeError fault) given n h = absurd h
-refused_or_memory (Base64DecodeError fault) given n h = (base64_fault fault.group, refl, h)
-refused_or_memory (EncodingError text) given n h = (encoding (cow_str_bytes text), refl, h)
-refused_or_memory (Generic text) given n h = (generic text.now, refl, h)
-refused_or_memory (Memory e) given n h = absurd (n tt)
 
 some_same : (a b : List ℕ) → ◌≡◌ {A = Option (List ℕ)} (Some a) (Some b) → a ≡ b
 some_same a b e = cc

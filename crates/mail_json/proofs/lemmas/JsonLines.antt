@@ -11,7 +11,7 @@ use Rattle.mail_data.specs.MailboxParts.{Placed, begins_in, in_range, placed_fro
 use Rattle.mail_data.specs.declared.mailbox.formats.Format.{Format}
 use Rattle.mail_data.proofs.lemmas.MailboxParts.{front_length-≤}
 use Rattle.mail_json.specs.Origin.{Origin}
-use Rattle.mail_json.specs.Part.{saturating_add}
+use Rattle.mail_walk.specs.Offsets.{saturating_add}
 use Rattle.mail_program.specs.declared.fault.Fault.{Fault}
 use Rattle.mail_json.specs.Selection.{AreChosen, AreMailboxChosen, Fits, IsEntryLine, OnlyIf, is_past, is_range, next_selection}
 use Rattle.mail_json.specs.JsonLines.{AreLines, IsFront, IsLine, Lines, WritesLines, after_entry, next_number, origin_at}

@@ -33,26 +33,29 @@ use Rattle.mail_address.specs.Lenient.{lenient_addresses_of}
 use Rattle.mail_address.specs.Mailbox.{Parts}
 use Rattle.mail_json.specs.Fields.{value_of}
 use Rattle.mail_check.specs.Findings.{Finding}
-use Rattle.mail_json.specs.FileLine.{FileLine, file_line_value}
 use Rattle.mail_json.specs.FindingsLine.{findings_value}
 use Rattle.mail_read.specs.InnerMails.{InnerMail}
-use Rattle.mail_json.specs.DecodedSize.{bounded_reading}
+use Rattle.mail_parts.specs.DecodedSize.{bounded_reading}
 use Rattle.mail_json.specs.Selection.{AreChosenOf, OnlyIf}
-use Rattle.mail_json.specs.JsonLines.{AreLines, AreMailboxLines, IsFront, IsLineOf, format_of, is_mailbox, origin_at}
+use Rattle.mail_json.specs.JsonLines.{AreLines, AreMailboxLines, IsFront, IsLineOf, origin_at}
+use Rattle.mail_walk.specs.Kind.{format_of, is_mailbox}
 use Rattle.mail_json.specs.Options.{Options}
 use Rattle.mail_json.specs.Range.{ArePartLines, placed_in}
 use Rattle.mail_json.specs.declared.selection.Selection.TheVariants.{Within}
-use Rattle.mail_json.specs.declared.options.InputKind.{InputKind}
-use Rattle.mail_json.specs.Inside.{mails_inside, parts_inside}
+use Rattle.mail_walk.specs.declared.kind.InputKind.{InputKind}
+use Rattle.mail_parts.specs.Inside.{mails_inside, parts_inside}
 use Rattle.mail_program.specs.Refusal.{refusal_text}
 use Rattle.mail_json.specs.Origin.{Origin}
 use Rattle.mail_json.specs.Reports.{delivery_value}
 use Rattle.mail_html.specs.declared.references.References.{References}
-use Rattle.mail_json.specs.Part.{content_if, hash_of, html_shown, is_attachment, is_read, place_in, recipients_if, report_if, text_shown}
+use Rattle.mail_parts.specs.Part.{content_if, is_attachment, is_read}
+use Rattle.mail_json.specs.Part.{hash_of, html_shown, place_in, recipients_if, report_if, text_shown}
 use Rattle.mail_json.specs.TextFiles.{ListedFile, files_if}
-use Rattle.mail_json.specs.Printed.{line_of, list_of, members_of, number_value, object_of, one, seconds_value, string_or_null, text_of}
-use Rattle.mail_json.specs.Values.{address_list, AreInsideValues, AreJsonLines, AreValues, IsJsonLine, IsLineValue, IsMailValue, IsPartValue, block_value, body_members, date_members, decoded_members, element_value, error_value, file_value, files_value, finding_value, findings_if, found_members, front_members, header_value, id_list, ids_members, inner_value, origin_members, pair_value, parameter_member, part_members, raw_values, recipients_value, report_value, single_or_unknown_value, single_value, size_members, text_members, unread_value, values_members, zone_members}
-use Rattle.mail_json.proofs.lemmas.Values.{AreGood, IsGood, all_distinct, all_then, flag_good, json_line, list_good, mapped_good, members_then, named_good, null_good, number_good, number_or_null_good, object_good, optional_good, seconds_good, sorted_names, string_good}
+use Rattle.mail_json_text.specs.Printed.{line_of, list_of, members_of, number_value, object_of, one, seconds_value, string_or_null, text_of}
+use Rattle.mail_json.specs.Values.{address_list, AreInsideValues, AreValues, IsLineValue, IsMailValue, IsPartValue, block_value, body_members, date_members, decoded_members, element_value, error_value, file_value, files_value, finding_value, findings_if, found_members, front_members, header_value, id_list, ids_members, inner_value, origin_members, parameter_member, part_members, raw_values, recipients_value, report_value, single_or_unknown_value, single_value, size_members, text_members, unread_value, values_members, zone_members}
+use Rattle.mail_json_text.specs.JsonLine.{AreJsonLines, IsJsonLine}
+use Rattle.mail_json_text.specs.Printed.{pair_value}
+use Rattle.mail_json_text.proofs.lemmas.JsonLine.{AreGood, IsGood, all_distinct, all_then, flag_good, json_line, list_good, mapped_good, members_then, named_good, null_good, number_good, number_or_null_good, object_good, optional_good, seconds_good, sorted_names, string_good}
 
 -- ---- the object of a part
 
@@ -293,11 +296,6 @@ mail_good options origin mail value is =
 error_is_json : (origin : Origin) (text : List ℕ) → IsJsonLine (error_value origin text) (text_of (error_value origin text))
 error_is_json origin text =
     json_line 1 (error_value origin text) (omega arith) (named_good refl (number_good 0 6, (optional_good 0 origin.file, (number_or_null_good 0 origin.number, (number_good 0 origin.start, (number_good 0 origin.end, (string_good 0 text, tt)))))))
-
-pub file_is_json : (line : FileLine) → (object : List ℕ) × IsJsonLine (file_line_value line) object × (line_of (file_line_value line) ≡ object ++ codes "\n")
-file_is_json line =
-    let good : IsGood 1 (file_line_value line) = named_good refl (optional_good 0 line.file, (number_or_null_good 0 line.number, (optional_good 0 line.path, (optional_good 0 line.saved, (number_or_null_good 0 line.size, (optional_good 0 line.sha256, (optional_good 0 line.error, tt))))))) in
-    (text_of (file_line_value line), json_line 1 (file_line_value line) (omega arith) good, refl)
 
 pub findings_are_json : (origin : Origin) (findings : List Finding)
     → (object : List ℕ) × IsJsonLine (findings_value origin findings) object × (line_of (findings_value origin findings) ≡ object ++ codes "\n")

@@ -10,7 +10,7 @@ use Rattle.mailparse.specs.Mail.{Tree, tree}
 use Rattle.mail_read.specs.Reading.{mail_placements}
 use Rattle.mail_json.specs.Fields.{date_fault_text}
 use Rattle.mail_json.specs.Options.{Options}
-use Rattle.mail_json.specs.Printed.{after_commas, listed, one, seconds_value, text_of}
+use Rattle.mail_json_text.specs.Printed.{after_commas, listed, one, seconds_value, text_of}
 use Rattle.mail_json.specs.Values.{AreValues, IsPartValue, date_members, zone_members}
 
 -- a date that is refused

@@ -1,19 +1,9 @@
 -- Lemmas on the objects of parts, and on the parameters of a type.
-use Rattle.std.proofs.Common.{◌≡◌, ℕ, Bool, true, false, List, [], ◌∷◌, ◌++◌, map, Option, Some, None, Result, option_map, cond, String, refl, sym, ap, subst, ◌∙◌, append_assoc}
+use Rattle.std.proofs.Common.{◌≡◌, ℕ, Bool, true, false, List, [], ◌∷◌, ◌++◌, Option, Some, None, Result, refl, sym, ap, subst, ◌∙◌, append_assoc}
 use Rattle.std.proofs.lemmas.List.{append-nil}
-use Rattle.std.proofs.lemmas.Map.Text.{is_eq-slice_cmp}
 use Rattle.std.specs.Prelude.{◌&&◌, ◌||◌, codes, not}
-use Rattle.std.specs.BTreeMap.{BTreeMap, IsOrdered}
-use Rattle.std.specs.Cmp.Lexicographic.{slice_cmp}
-use Rattle.std.specs.Global.{Global}
-use Rattle.std.specs.List.{AllByRecursion}
-use Rattle.std.specs.List.Sorted.{IsStrictlySortedBy}
-use Rattle.std.specs.Map.{keys_of, lookup}
-use Rattle.std.specs.Ordering.{is_eq, nat_cmp}
 use Rattle.std.specs.Str.{bytes_eq}
-use Rattle.std.specs.String.{string_bytes, string_cmp}
 use Rattle.mailparse.specs.Mail.{Node, Tree, root}
-use Rattle.mailparse.specs.Pairs.{text_at}
 use Rattle.mailparse.specs.Views.{content_type, tree_of, tree_step}
 use Rattle.mailparse.specs.declared.mail.message.ParsedMail.{ParsedMail}
 use Rattle.mailparse.specs.declared.mail.message.ParsedMail.TheFolds.{fold_out-ParsedMail}
@@ -31,14 +21,15 @@ use Rattle.mail_json.specs.Options.{Options}
 use Rattle.mail_html.specs.Text.{html_text}
 use Rattle.mail_html.specs.declared.links.Links.TheVariants.{Omitted}
 use Rattle.mail_html.specs.declared.references.References.{References}
-use Rattle.mail_json.specs.Part.{Lists, content_if, html_shown, is_attachment, text_shown}
-use Rattle.mail_json.specs.Printed.{Member, listed, text_of}
+use Rattle.mail_parts.specs.Part.{content_if, is_attachment}
+use Rattle.mail_json.specs.Part.{html_shown, text_shown}
+use Rattle.mail_json_text.specs.Printed.{Member, listed, text_of}
 use Rattle.mail_json.specs.Values.{AreValues, IsPartValue, no_text_members, shown_members, text_members}
-use Rattle.mail_json.specs.Written.{WritesOne}
+use Rattle.mail_json_text.specs.Written.{WritesOne}
 use Rattle.mail_read.specs.PartPlaces.{Place}
 use Rattle.mail_program.specs.declared.fault.Fault.{Fault}
 use Rattle.json.specs.Json.{Json}
-use Rattle.mail_json.proofs.lemmas.JsonText.{listed-comma}
+use Rattle.mail_json_text.proofs.lemmas.JsonText.{listed-comma}
 
 -- ---- the objects
 
@@ -91,41 +82,6 @@ headers-out m = ap (λ (t : Tree). (root t).headers) (sym (fold_out-ParsedMail T
 pub extracted_is : (known : Charsets) (t : Tree) → ((is_leaf t && not (is_shown (root t))) || is_attachment t (lenient_disposition known (root t)) (lenient_file_name known (root t))) ≡ is_extracted known t
 unfolding files.is_attachment
 extracted_is known t = refl
-
--- ---- the parameters of a type
-
--- an entry of a map as texts
-abbrev pub pair_of : String Global × String Global → List ℕ × List ℕ
-pair_of entry = (string_bytes entry.0, string_bytes entry.1)
-
--- one entry more
-looked_up : (name : List ℕ) (k : String Global) (v : String Global) (es : List (String Global × String Global)) (a b : Bool) → a ≡ b
-    → lookup (bytes_eq name) (map pair_of es) ≡ option_map string_bytes (lookup (λ key. is_eq (slice_cmp nat_cmp name (string_bytes key))) es)
-    → cond a (Some (string_bytes v)) (lookup (bytes_eq name) (map pair_of es))
-    ≡ option_map string_bytes (cond b (Some v) (lookup (λ key. is_eq (slice_cmp nat_cmp name (string_bytes key))) es))
-looked_up name k v es true b e here = rw (sym e) refl
-looked_up name k v es false b e here = rw (sym e) here
-
-lookup-pairs : (name : List ℕ) (es : List (String Global × String Global))
-    → lookup (bytes_eq name) (map pair_of es) ≡ option_map string_bytes (lookup (λ key. is_eq (slice_cmp nat_cmp name (string_bytes key))) es)
-lookup-pairs name [] = refl
-lookup-pairs name (e ∷ es) = looked_up name e.0 e.1 es (bytes_eq name (string_bytes e.0)) (is_eq (slice_cmp nat_cmp name (string_bytes e.0)))
-    (sym (is_eq-slice_cmp name (string_bytes e.0))) (lookup-pairs name es)
-
-all-keys : (P : List ℕ → Type 0) (es : List (String Global × String Global)) → AllByRecursion (λ y. P (string_bytes y)) (keys_of es)
-    → AllByRecursion P (map (λ p. p.0) (map pair_of es))
-all-keys P [] h = tt
-all-keys P (e ∷ es) h = (h.0, all-keys P es h.1)
-
-sorted-pairs : (es : List (String Global × String Global)) → IsStrictlySortedBy string_cmp (keys_of es)
-    → IsStrictlySortedBy (slice_cmp nat_cmp) (map (λ p. p.0) (map pair_of es))
-unfolding IsStrictlySortedBy
-sorted-pairs [] h = tt
-sorted-pairs (e ∷ es) h = (all-keys _ es h.0, sorted-pairs es h.1)
-
--- the entries of a map list its texts
-pub lists-entries : (m : BTreeMap (String Global) (String Global)) → IsOrdered string_cmp m → Lists (text_at m) (map pair_of m.entries)
-lists-entries m h = record { ordered = sorted-pairs m.entries h; same = λ name. lookup-pairs name m.entries }
 
 -- ---- the text of a body
 

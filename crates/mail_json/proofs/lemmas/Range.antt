@@ -25,14 +25,15 @@ use Rattle.mail_data.proofs.lemmas.MailboxParts.{parts-joined}
 use Rattle.mail_data.proofs.lemmas.MailboxRange.{range-found}
 use Rattle.mail_program.specs.declared.fault.Fault.{Fault}
 use Rattle.mail_json.specs.Selection.{AreChosen, AreChosenOf, Fits, OnlyIf}
-use Rattle.mail_json.specs.JsonLines.{AreAfterFront, AreLines, IsWholeLine, Lines, WritesLines, format_of, is_mailbox}
-use Rattle.mail_json.specs.Part.{saturating_add}
+use Rattle.mail_json.specs.JsonLines.{AreAfterFront, AreLines, IsWholeLine, Lines, WritesLines}
+use Rattle.mail_walk.specs.Kind.{format_of, is_mailbox}
+use Rattle.mail_walk.specs.Offsets.{saturating_add}
 use Rattle.mail_json.specs.Range.{ArePartLines, AreRangeLines, AreRangeLinesAt, AreUnnumberedLines, AreUnnumberedOf, ShowsMailbox, WritesPart, has_parts, placed_in}
 use Rattle.mail_json.specs.Stream.{HasLeft, WritesChosen}
 use Rattle.mail_json.specs.declared.selection.Selection.{Selection}
 use Rattle.mail_json.specs.declared.selection.Selection.TheVariants.{Within}
-use Rattle.mail_json.specs.declared.options.InputKind.{InputKind}
-use Rattle.mail_json.specs.declared.options.InputKind.TheVariants.{Either, Mail, Mailbox}
+use Rattle.mail_walk.specs.declared.kind.InputKind.{InputKind}
+use Rattle.mail_walk.specs.declared.kind.InputKind.TheVariants.{Either, Mail, Mailbox}
 use Rattle.mail_json.specs.declared.written.Written.{Written}
 use Rattle.mail_json.specs.declared.written.Written.TheVariants.{Clean}
 use Rattle.mail_json.proofs.lemmas.JsonLines.{capped, chosen_capped, none_begins}

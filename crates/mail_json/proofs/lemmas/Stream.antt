@@ -3,57 +3,32 @@ use Rattle.std.proofs.Common.{◌≡◌, ℕ, Bool, true, false, ◌&&◌, List,
 use Rattle.std.proofs.Math.Bool.{and_assoc}
 use Rattle.std.proofs.KnownBytes.{Consumes-trans}
 use Rattle.std.specs.Io.KnownBytes.{Consumes, IsAtEnd}
-use Rattle.std.proofs.lemmas.Bool.{and_from, false≢true, ltb-true}
+use Rattle.std.proofs.lemmas.Bool.{false≢true}
 use Rattle.std.proofs.lemmas.List.{append-nil, length-take-le, take-append-le}
 use Rattle.mail_json.specs.Options.{Options}
 use Rattle.mail_program.specs.declared.fault.Fault.{Fault}
-use Rattle.mail_data.specs.LineEnds.{line_length}
-use Rattle.mail_data.specs.Mailbox.{Entry, front_length, has_front, has_line, is_before_text}
+use Rattle.mail_data.specs.Mailbox.{Entry, front_length, has_front}
 use Rattle.mail_data.specs.MailboxFormats.{entries_in}
 use Rattle.mail_data.specs.MailboxParts.{placed_from}
-use Rattle.mail_data.specs.Separator.{is_separator}
 use Rattle.mail_data.specs.declared.mailbox.formats.Format.{Format}
-use Rattle.mail_data.proofs.lemmas.Mailbox.{front_length-none}
 use Rattle.mail_data.proofs.lemmas.MailboxFormats.{front_in-stays}
-use Rattle.mail_data.proofs.lemmas.MailboxFound.{front-stays, separator-stays}
+use Rattle.mail_data.proofs.lemmas.MailboxFound.{front-stays}
 use Rattle.mail_data.proofs.lemmas.MailboxParts.{front_length-≤}
 use Rattle.mail_json.specs.Selection.{AreChosen, AreChosenOf, AreInputChosen, AreMailboxChosen, is_past, is_range}
-use Rattle.mail_json.specs.JsonLines.{AreInputLines, AreLinesOf, IsFront, Lines, WritesInput, WritesLines, format_of, is_mailbox}
-use Rattle.mail_json.specs.Stream.{Continues, Ends, HasLeft, WritesChosen, WritesUpTo, first_wanted, is_there}
+use Rattle.mail_json.specs.JsonLines.{AreInputLines, AreLinesOf, IsFront, Lines, WritesInput, WritesLines}
+use Rattle.mail_walk.specs.Kind.{format_of, is_mailbox}
+use Rattle.mail_walk.specs.Wanted.{first_wanted, is_there}
+use Rattle.mail_json.specs.Stream.{Continues, Ends, HasLeft, WritesChosen, WritesUpTo}
 use Rattle.mail_json.specs.declared.selection.Selection.{Selection}
 use Rattle.mail_json.specs.declared.selection.Selection.TheVariants.{Numbered, Within}
-use Rattle.mail_json.specs.declared.options.InputKind.{InputKind}
-use Rattle.mail_json.specs.declared.options.InputKind.TheVariants.{Either, Mail, Mailbox}
+use Rattle.mail_walk.specs.declared.kind.InputKind.{InputKind}
 use Rattle.mail_json.specs.Written.{is_clean}
 use Rattle.mail_json.specs.declared.written.Written.{Written}
 use Rattle.mail_json.proofs.lemmas.JsonLines.{chosen_past, lines_stop}
-use Rattle.mail_json.proofs.lemmas.Written.{end_is_fault}
-
--- ---- the kind of an input
-
--- once the bytes contain what is wanted first, no further bytes change that
-pub form_stays : (kind : InputKind) (read more : List ℕ) → is_there (first_wanted kind) read ≡ true → is_mailbox kind (read ++ more) ≡ is_mailbox kind read
-form_stays Either read more h = separator-stays read more (ltb-true (line_length read) (length read) h)
-form_stays Mail read more h = refl
-form_stays (Mailbox format) read more h = refl
-
--- a mailbox that begins with a separator and whose first line was read has its front
-front_there : (read : List ℕ) → is_separator read ≡ true → has_line read ≡ true → has_front read ≡ true
-unfolding has_front is_before_text
-front_there read first line =
-    ap (λ (n : ℕ). is_before_text (drop n read)) (sym (front_length-none read (sym first))) ∙ and_from (is_separator read) (has_line read) first line
-
-pub form_front : (kind : InputKind) (read : List ℕ) → is_there (first_wanted kind) read ≡ true → is_mailbox kind read ≡ true → has_front read ≡ true
-form_front Either read h first = front_there read first h
-form_front Mail read h first = absurd (false≢true first)
-form_front (Mailbox format) read h first = h
+use Rattle.mail_json_text.proofs.lemmas.Written.{end_is_fault}
+use Rattle.mail_walk.proofs.lemmas.Wanted.{form_stays}
 
 -- ---- what a reader has left
-
--- the reader is at its end if all bytes were wanted
-pub all_read : (left : Option (List ℕ)) (has_ended : Bool) → (has_ended ≡ true → IsAtEnd left) → (has_ended ≡ false → false ≡ true) → IsAtEnd left
-all_read left true ended more = ended refl
-all_read left false ended more = absurd (false≢true (more refl))
 
 -- all that the reader has left
 abbrev pub left_of : Option (List ℕ) → List ℕ

@@ -16,11 +16,12 @@ use Rattle.mail_read.specs.lenient.Date.{Dated, Zoned, zoned_date_of}
 use Rattle.mail_read.specs.lenient.Texts.{text_read}
 use Rattle.mail_check.specs.Findings.{Finding}
 use Rattle.mail_json.specs.Fields.{value_of}
-use Rattle.mail_json.specs.Inside.{mails_inside, parts_inside}
+use Rattle.mail_parts.specs.Inside.{mails_inside, parts_inside}
 use Rattle.mail_json.specs.Options.{Options, decoding}
 use Rattle.mail_json.specs.Origin.{Origin}
-use Rattle.mail_json.specs.Part.{hash_of, html_shown, is_read, place_in, recipients_if, report_if, text_shown}
-use Rattle.mail_json.specs.Printed.{Member, list_of, members_of, object_of, one, string_or_null}
+use Rattle.mail_json.specs.Part.{hash_of, html_shown, place_in, recipients_if, report_if, text_shown}
+use Rattle.mail_parts.specs.Part.{is_read}
+use Rattle.mail_json_text.specs.Printed.{Member, list_of, members_of, object_of, one, string_or_null}
 use Rattle.mail_json.specs.TextFiles.{files_if}
 use Rattle.mail_json.specs.Values.{AreInsideValues, AreValues, IsLineValue, IsMailValue, IsPartValue, date_members, files_value, findings_if, found_members, front_members, header_value, ids_members, inner_value, mail_members, no_text_members, origin_members, part_members, raw_values, recipients_value, report_value, size_members, text_members, values_members}
 use Rattle.mail_json.specs.WithoutText.{items_without_text, object_without_text, part_without_text, parts_without_text, without_text}

@@ -3,7 +3,7 @@ use Rattle.mailparse.specs.BodyViews.{content_of}
 use Rattle.mailparse.specs.Mail.{root}
 use Rattle.mail_read.specs.lenient.ContentViews.{content_view}
 use Rattle.mail_read.specs.lenient.Encoding.{lenient_body_kind}
-use Rattle.mail_json.specs.DecodedViews.{decoded_place, decoded_tree}
+use Rattle.mail_parts.specs.DecodedViews.{decoded_place, decoded_tree}
 use Rattle.mail_extract.proofs.lemmas.Content.{content_as, held_saved}
 use Rattle.mail_extract.proofs.content.saved_content.Goals as goal
 

@@ -1,6 +1,6 @@
 use Rattle.std.proofs.Common.{◌++◌, ◌-◌, drop, length, option_map, take, ◌∙◌}
 use Rattle.std.proofs.lemmas.List.{take_rest}
-use Rattle.mail_json.specs.JsonLines.{format_of}
+use Rattle.mail_walk.specs.Kind.{format_of}
 use Rattle.mail_extract.specs.ChoiceViews.{options_view}
 use Rattle.mail_data.specs.MailboxFormats.{entries_in}
 use Rattle.mail_extract.specs.Input.{AreMails, IsMailbox, Only, Then, front_lines}

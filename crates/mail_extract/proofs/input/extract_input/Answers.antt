@@ -2,10 +2,10 @@ use Rattle.std.proofs.Common.{◌≡◌, ◌++◌, List, ℕ, None, true, false,
 use Rattle.std.proofs.KnownBytes.{Consumes-trans}
 use Rattle.std.specs.Io.KnownBytes.{Consumes}
 use Rattle.mail_data.specs.Mailbox.{has_front}
-use Rattle.mail_json.proofs.lemmas.Stream.{all_read, form_front}
-use Rattle.mail_json.specs.JsonLines.{format_of, is_mailbox}
-use Rattle.mail_json.specs.Stream.{first_wanted, is_there}
-use Rattle.mail_json.specs.declared.stream.Wanted.{Wanted}
+use Rattle.mail_walk.proofs.lemmas.Wanted.{all_read, form_front}
+use Rattle.mail_walk.specs.Kind.{format_of, is_mailbox}
+use Rattle.mail_walk.specs.Wanted.{first_wanted, is_there}
+use Rattle.mail_walk.specs.declared.wanted.Wanted.{Wanted}
 use Rattle.mail_extract.specs.ChoiceViews.{options_view}
 use Rattle.mail_extract.specs.Input.{IsInput, IsMail, IsMailbox}
 use Rattle.mail_extract.proofs.lemmas.Input.{ends_after, ends_whole, input_is}

@@ -2,7 +2,7 @@ use Rattle.std.proofs.Common.{option_map, ap, ◌∙◌}
 use Rattle.mail_data.specs.MailboxFormats.{entries_in}
 use Rattle.mail_data.specs.MailboxViews.{entries_left}
 use Rattle.mail_data.specs.declared.mailbox.formats.Format.{Format}
-use Rattle.mail_json.specs.JsonLines.{format_of}
+use Rattle.mail_walk.specs.Kind.{format_of}
 use Rattle.mail_extract.specs.ChoiceViews.{options_view}
 use Rattle.mail_extract.specs.Input.{AreMails, IsMailbox, Only, Then, front_lines}
 use Rattle.mail_extract.proofs.lemmas.Input.{front_saved, mailbox_is}

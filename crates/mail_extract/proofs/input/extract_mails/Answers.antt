@@ -1,7 +1,7 @@
 use Rattle.std.proofs.Common.{[], Some, ap, option_map}
 use Rattle.mail_data.specs.MailboxFormats.{mail_in}
 use Rattle.mail_data.specs.MailboxViews.{entries_left}
-use Rattle.mail_json.specs.JsonLines.{format_of}
+use Rattle.mail_walk.specs.Kind.{format_of}
 use Rattle.mail_extract.specs.ChoiceViews.{options_view}
 use Rattle.mail_extract.specs.Input.{AreMails, IsMail}
 use Rattle.mail_extract.proofs.lemmas.Input.{mails_as, mails_next, mails_none}

@@ -1,7 +1,7 @@
 -- What was saved is completed by the mails that are left.
 use Rattle.std.proofs.Common.{option_map}
 use Rattle.mail_data.specs.MailboxViews.{entries_left}
-use Rattle.mail_json.specs.JsonLines.{format_of}
+use Rattle.mail_walk.specs.Kind.{format_of}
 use Rattle.mail_extract.specs.ChoiceViews.{options_view}
 use Rattle.mail_extract.specs.Input.{AreMails, Saved}
 use Rattle.mail_extract.specs.private.Blocks.{Before}

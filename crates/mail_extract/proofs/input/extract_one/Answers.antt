@@ -4,7 +4,7 @@ use Rattle.mailparse.specs.Views.{tree_of}
 use Rattle.mail_extract.specs.ChoiceViews.{options_view}
 use Rattle.mail_extract.proofs.lemmas.Input.{read_ends, refused_ends, refused_read}
 use Rattle.mail_extract.proofs.input.extract_one.Goals as goal
-use Rattle.mail_json.specs.DecodedSize.{bounded_reading}
+use Rattle.mail_parts.specs.DecodedSize.{bounded_reading}
 
 pub returns-in-Ok : goal.returns-in-Ok
 returns-in-Ok g c =

@@ -1,7 +1,7 @@
 -- What was saved is completed by the mails that are left, in the bytes that were read and in further ones.
 use Rattle.std.proofs.Common.{ℕ, List, option_map}
 use Rattle.std.specs.Io.KnownBytes.{Consumes}
-use Rattle.mail_json.specs.JsonLines.{format_of}
+use Rattle.mail_walk.specs.Kind.{format_of}
 use Rattle.mail_extract.specs.ChoiceViews.{options_view}
 use Rattle.mail_extract.specs.Input.{Saved}
 use Rattle.mail_extract.proofs.lemmas.Input.{Follows}

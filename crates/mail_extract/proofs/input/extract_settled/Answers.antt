@@ -2,7 +2,7 @@ use Rattle.std.proofs.Common.{◌≡◌, ◌∷◌, ◌++◌, Some, option_map, 
 use Rattle.mail_data.specs.MailboxFormats.{entries_in, mail_in}
 use Rattle.mail_data.specs.declared.mailbox.formats.Format.{Format}
 use Rattle.mail_data.proofs.lemmas.MailboxFormats.{settled_in-stays}
-use Rattle.mail_json.specs.JsonLines.{format_of}
+use Rattle.mail_walk.specs.Kind.{format_of}
 use Rattle.mail_extract.specs.ChoiceViews.{options_view}
 use Rattle.mail_extract.specs.Input.{IsMail}
 use Rattle.mail_extract.proofs.lemmas.Input.{Mails, mails_next}

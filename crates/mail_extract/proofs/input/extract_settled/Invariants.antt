@@ -1,6 +1,6 @@
 -- With any further bytes, what was saved is completed by the mails that are left.
 use Rattle.std.proofs.Common.{length, option_map}
-use Rattle.mail_json.specs.JsonLines.{format_of}
+use Rattle.mail_walk.specs.Kind.{format_of}
 use Rattle.mail_extract.specs.ChoiceViews.{options_view}
 use Rattle.mail_extract.specs.private.Blocks.{SavesFront}
 use Rattle.mail_extract.proofs.input.extract_settled.Given as goal

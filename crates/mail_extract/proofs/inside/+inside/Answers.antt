@@ -8,11 +8,11 @@ use Rattle.mailparse.specs.Views.{placements_of, tree_of}
 use Rattle.mail_read.specs.InnerMails.{places_under}
 use Rattle.mail_read.specs.PlaceViews.{place_view}
 use Rattle.mail_read.proofs.lemmas.InnerMails.{drop_next, forwarded-is}
-use Rattle.mail_json.proofs.lemmas.Reading.{not_forwarded}
-use Rattle.mail_json.specs.DecodedViews.{IsDecoded, decoded_place}
-use Rattle.mail_json.proofs.lemmas.Decoded.{all_at, not_held}
-use Rattle.mail_json.proofs.lemmas.Inside.{among_none, among_some}
-use Rattle.mail_json.specs.Reading.{mail_reading, mails_in_place}
+use Rattle.mail_parts.proofs.lemmas.Reading.{not_forwarded}
+use Rattle.mail_parts.specs.DecodedViews.{IsDecoded, decoded_place}
+use Rattle.mail_parts.proofs.lemmas.Decoded.{all_at, not_held}
+use Rattle.mail_parts.proofs.lemmas.Inside.{among_none, among_some}
+use Rattle.mail_parts.specs.Reading.{mail_reading, mails_in_place}
 use Rattle.mail_extract.specs.ChoiceViews.{options_view}
 use Rattle.mail_extract.specs.Input.{AreInside}
 use Rattle.mail_extract.proofs.lemmas.Input.{refused_read}

@@ -2,8 +2,8 @@
 use Rattle.std.proofs.Common.{◌+◌, ◌-◌, ◌*◌, false, drop, map, option_map}
 use Rattle.std.specs.Prelude.{flat_map}
 use Rattle.std.specs.List.{AllByRecursion}
-use Rattle.mail_json.specs.DecodedViews.{IsDecoded, decoded_place}
-use Rattle.mail_json.specs.Reading.{mails_in_place}
+use Rattle.mail_parts.specs.DecodedViews.{IsDecoded, decoded_place}
+use Rattle.mail_parts.specs.Reading.{mails_in_place}
 use Rattle.mail_extract.specs.ChoiceViews.{options_view}
 use Rattle.mail_extract.specs.Input.{AreInside, Saved}
 use Rattle.mail_extract.specs.private.Blocks.{Before}

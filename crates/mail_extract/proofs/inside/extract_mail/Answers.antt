@@ -4,7 +4,7 @@ use Rattle.mailparse.specs.Placement.{Placement}
 use Rattle.mailparse.specs.Views.{tree_of}
 use Rattle.mail_read.specs.PartPlaces.{places}
 use Rattle.mail_read.specs.PlaceViews.{place_view}
-use Rattle.mail_json.specs.DecodedViews.{IsDecoded, decoded_place}
+use Rattle.mail_parts.specs.DecodedViews.{IsDecoded, decoded_place}
 use Rattle.mail_extract.specs.ChoiceViews.{options_view}
 use Rattle.mail_extract.proofs.lemmas.Inside.{mail_saved}
 use Rattle.mail_extract.proofs.inside.extract_mail.Goals as goal

@@ -1,6 +1,6 @@
 use Rattle.std.proofs.Common.{◌≡◌, List, ℕ, false, true, option_map, string_bytes, sym, ap, ◌∙◌}
 use Rattle.mail_read.specs.Attachments.{is_extracted}
-use Rattle.mail_json.specs.DecodedViews.{decoded_place}
+use Rattle.mail_parts.specs.DecodedViews.{decoded_place}
 use Rattle.mail_extract.specs.ChoiceViews.{options_view}
 use Rattle.mail_extract.specs.Save.{is_chosen, wanted_as}
 use Rattle.mail_extract.specs.SaveViews.{outcome}

@@ -2,8 +2,8 @@ use Rattle.std.proofs.Common.{List, ◌+◌, [], ◌∷◌, false, drop, map, op
 use Rattle.std.proofs.lemmas.List.{drop_all}
 use Rattle.mail_read.proofs.lemmas.InnerMails.{drop_next}
 use Rattle.mail_read.specs.PartPlaces.{Place}
-use Rattle.mail_json.specs.DecodedViews.{IsDecoded, decoded_place}
-use Rattle.mail_json.proofs.lemmas.Decoded.{all_at}
+use Rattle.mail_parts.specs.DecodedViews.{IsDecoded, decoded_place}
+use Rattle.mail_parts.proofs.lemmas.Decoded.{all_at}
 use Rattle.mail_extract.specs.ChoiceViews.{options_view}
 use Rattle.mail_extract.specs.Input.{AreFiles, IsFile}
 use Rattle.mail_extract.specs.Save.{Wanted, chosen, wanted_among}

@@ -1,6 +1,6 @@
 -- What was saved is completed by the files among the parts that are left.
 use Rattle.std.proofs.Common.{drop, map, option_map}
-use Rattle.mail_json.specs.DecodedViews.{decoded_place}
+use Rattle.mail_parts.specs.DecodedViews.{decoded_place}
 use Rattle.mail_extract.specs.ChoiceViews.{options_view}
 use Rattle.mail_extract.specs.Input.{AreFiles, Saved}
 use Rattle.mail_extract.specs.Save.{chosen, wanted_among}

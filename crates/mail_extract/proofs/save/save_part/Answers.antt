@@ -1,5 +1,5 @@
 use Rattle.std.proofs.Common.{string_bytes, refl, sym, ◌∙◌}
-use Rattle.mail_json.specs.DecodedViews.{decoded_place}
+use Rattle.mail_parts.specs.DecodedViews.{decoded_place}
 use Rattle.mail_extract.specs.Save.{wanted_as}
 use Rattle.mail_extract.proofs.save.save_part.Goals as goal
 

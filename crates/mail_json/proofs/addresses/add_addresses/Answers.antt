@@ -1,13 +1,13 @@
 use Rattle.std.proofs.Common.{map, sym, ap, ◌∙◌}
 use Rattle.mail_address.specs.AddressViews.{element_view}
 use Rattle.mail_address.specs.Lenient.{lenient_addresses_of}
-use Rattle.mail_json.specs.Printed.{list_of, text_of}
+use Rattle.mail_json_text.specs.Printed.{list_of, text_of}
 use Rattle.mail_json.specs.Values.{element_value}
 use Rattle.mail_json.proofs.lemmas.Fields.{ok_same}
-use Rattle.mail_json.proofs.lemmas.JsonText.{map_twice}
-use Rattle.mail_json.proofs.lemmas.Members.{member}
+use Rattle.mail_json_text.proofs.lemmas.JsonText.{map_twice}
+use Rattle.mail_json_text.proofs.lemmas.Members.{member}
 use Rattle.mail_json.proofs.lemmas.Part.{headers-out}
-use Rattle.mail_json.proofs.lemmas.Written.{writes_as}
+use Rattle.mail_json_text.proofs.lemmas.Written.{writes_as}
 use Rattle.mail_json.proofs.addresses.add_addresses.Goals as goal
 
 pub returns : goal.returns

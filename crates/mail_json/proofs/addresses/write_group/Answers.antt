@@ -1,12 +1,12 @@
 use Rattle.std.proofs.Common.{map, refl, sym, ap, ◌∙◌}
 use Rattle.json.specs.Json.{string}
 use Rattle.mail_address.specs.AddressViews.{member_view}
-use Rattle.mail_json.specs.Printed.{list_of, text_of}
+use Rattle.mail_json_text.specs.Printed.{list_of, text_of}
 use Rattle.mail_json.specs.Values.{single_value}
 use Rattle.mail_json.proofs.lemmas.Fields.{ok_same}
-use Rattle.mail_json.proofs.lemmas.JsonText.{map_twice}
-use Rattle.mail_json.proofs.lemmas.Members.{◌⨾◌, closed, value_renamed, valued}
-use Rattle.mail_json.proofs.lemmas.Written.{appends_as}
+use Rattle.mail_json_text.proofs.lemmas.JsonText.{map_twice}
+use Rattle.mail_json_text.proofs.lemmas.Members.{◌⨾◌, closed, value_renamed, valued}
+use Rattle.mail_json_text.proofs.lemmas.Written.{appends_as}
 use Rattle.mail_json.proofs.addresses.write_group.Goals as goal
 
 pub returns : goal.returns

@@ -1,8 +1,8 @@
 use Rattle.std.proofs.Common.{refl, sym, ap, ◌∙◌}
 use Rattle.json.specs.Json.{string}
 use Rattle.mail_json.specs.Addresses.{unless_empty}
-use Rattle.mail_json.specs.Printed.{string_or_null}
-use Rattle.mail_json.proofs.lemmas.Members.{◌⨾◌, closed, value_renamed}
+use Rattle.mail_json_text.specs.Printed.{string_or_null}
+use Rattle.mail_json_text.proofs.lemmas.Members.{◌⨾◌, closed, value_renamed}
 use Rattle.mail_json.proofs.lemmas.Fields.{ok_same}
 use Rattle.mail_json.proofs.addresses.write_mailbox.Goals as goal
 

@@ -5,7 +5,7 @@ use Rattle.mailparse.specs.Mail.{forest, trees_in, trees_within}
 use Rattle.mailparse.specs.Views.{tree_of}
 use Rattle.mailparse.specs.declared.mail.message.ParsedMail.{ParsedMail}
 use Rattle.mail_json.proofs.lemmas.Bounced.{first_dropped, more_dropped, none_dropped}
-use Rattle.mail_json.proofs.lemmas.JsonText.{drop_next}
+use Rattle.mail_json_text.proofs.lemmas.JsonText.{drop_next}
 use Rattle.mail_json.proofs.bounced.«+after_part».Goals as goal
 
 pub loop-own-init : goal.loop-own-init

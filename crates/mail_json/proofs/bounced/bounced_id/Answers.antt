@@ -1,8 +1,8 @@
 use Rattle.std.proofs.Common.{Option, Bor, option_map, sym, subst, ap, ◌∙◌}
 use Rattle.std.specs.Prelude.{IfSome}
 use Rattle.mailparse.specs.Views.{tree_of}
-use Rattle.mail_json.specs.DecodedViews.{IsDecoded, decoded_tree}
-use Rattle.mail_json.specs.declared.decoded.Decoded.{Decoded}
+use Rattle.mail_parts.specs.DecodedViews.{IsDecoded, decoded_tree}
+use Rattle.mail_parts.specs.declared.decoded.Decoded.{Decoded}
 use Rattle.mail_json.proofs.lemmas.Bounced.{id_found}
 use Rattle.mail_json.proofs.bounced.bounced_id.Goals as goal
 

@@ -3,7 +3,7 @@ use Rattle.mailparse.specs.Mail.{root}
 use Rattle.mail_read.specs.lenient.Content.{message_content}
 use Rattle.mail_read.specs.lenient.ContentViews.{content_view}
 use Rattle.mail_read.specs.lenient.Encoding.{lenient_body_kind}
-use Rattle.mail_json.specs.DecodedViews.{decoded_tree}
+use Rattle.mail_parts.specs.DecodedViews.{decoded_tree}
 use Rattle.mail_json.proofs.lemmas.Bounced.{id_read}
 use Rattle.mail_json.proofs.bounced.returned_id.Goals as goal
 

@@ -6,10 +6,10 @@ use Rattle.mailparse.specs.Mail.{Tree, forest, trees_in, trees_within}
 use Rattle.mailparse.specs.Views.{tree_of}
 use Rattle.mailparse.specs.declared.mail.message.ParsedMail.{ParsedMail}
 use Rattle.mail_data.specs.Bounce.{first_part, has_original}
-use Rattle.mail_json.specs.DecodedViews.{IsDecoded}
+use Rattle.mail_parts.specs.DecodedViews.{IsDecoded}
 use Rattle.mail_json.proofs.lemmas.Bounced.{first_decoded, first_found, no_report, report_found, returned_first, returned_later, trees_after}
-use Rattle.mail_json.proofs.lemmas.Decoded.{all_drop}
-use Rattle.mail_json.proofs.lemmas.JsonText.{drop_next}
+use Rattle.mail_parts.proofs.lemmas.Decoded.{all_drop}
+use Rattle.mail_json_text.proofs.lemmas.JsonText.{drop_next}
 use Rattle.mail_json.proofs.bounced.returned_part.Goals as goal
 
 pub returns-then-not-has_type-clause-tree : goal.returns-then-not-has_type-clause-tree

@@ -4,7 +4,7 @@ use Rattle.std.specs.List.{AllByRecursion}
 use Rattle.mailparse.specs.Mail.{forest, trees_in}
 use Rattle.mailparse.specs.Views.{tree_of}
 use Rattle.mail_data.specs.Bounce.{first_part, has_original, report_part}
-use Rattle.mail_json.specs.DecodedViews.{IsDecoded, decoded_tree}
+use Rattle.mail_parts.specs.DecodedViews.{IsDecoded, decoded_tree}
 use Rattle.mail_json.proofs.bounced.returned_part.Given as goal
 
 abbrev pub invariant-loop-part : goal.invariant-loop-part

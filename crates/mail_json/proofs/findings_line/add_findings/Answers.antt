@@ -1,15 +1,15 @@
-use Rattle.std.proofs.Common.{Bool, List, ℕ, Some, None, ◌++◌, map, sym, ap, ◌∙◌}
+use Rattle.std.proofs.Common.{Bool, List, ℕ, Some, None, ◌++◌, sym, ap, ◌∙◌}
 use Rattle.std.specs.Prelude.{codes, string_bytes, if◌then◌else◌}
 use Rattle.json.specs.Json.{null, string}
 use Rattle.mailparse.specs.Map.{text_found}
 use Rattle.mailparse.specs.Refusal.{Reads}
 use Rattle.mail_check.specs.Findings.{Finding}
 use Rattle.mail_check.specs.Reading.{mail_findings}
-use Rattle.mail_json.specs.Printed.{one}
+use Rattle.mail_json_text.specs.Printed.{one}
 use Rattle.mail_json.specs.Values.{found_members}
-use Rattle.mail_json.specs.declared.json_text.Position.TheVariants.{Later}
+use Rattle.mail_json_text.specs.declared.json_text.Position.TheVariants.{Later}
 use Rattle.mail_json.proofs.lemmas.Fields.{refused_text}
-use Rattle.mail_json.proofs.lemmas.Members.{adds_as, none_added, renamed, then_added}
+use Rattle.mail_json_text.proofs.lemmas.Members.{adds_as, none_added, renamed, then_added}
 use Rattle.mail_json.proofs.findings_line.add_findings.Goals as goal
 
 pub returns-then-not-options : goal.returns-then-not-options

@@ -1,10 +1,10 @@
 use Rattle.std.proofs.Common.{refl, ap}
 use Rattle.mail_check.specs.FindingViews.{finding_view}
-use Rattle.mail_json.specs.Printed.{list_of, text_of}
+use Rattle.mail_json_text.specs.Printed.{list_of, text_of}
 use Rattle.mail_json.specs.Values.{finding_value}
-use Rattle.mail_json.proofs.lemmas.JsonText.{map_twice}
-use Rattle.mail_json.proofs.lemmas.Members.{member}
-use Rattle.mail_json.proofs.lemmas.Written.{writes_as}
+use Rattle.mail_json_text.proofs.lemmas.JsonText.{map_twice}
+use Rattle.mail_json_text.proofs.lemmas.Members.{member}
+use Rattle.mail_json_text.proofs.lemmas.Written.{writes_as}
 use Rattle.mail_json.proofs.findings_line.add_found.Goals as goal
 
 pub returns : goal.returns

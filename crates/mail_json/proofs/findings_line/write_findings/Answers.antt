@@ -1,5 +1,5 @@
 use Rattle.std.proofs.Common.{refl}
-use Rattle.mail_json.proofs.lemmas.Members.{◌⨾◌, line_closed}
+use Rattle.mail_json_text.proofs.lemmas.Members.{◌⨾◌, line_closed}
 use Rattle.mail_json.proofs.findings_line.write_findings.Goals as goal
 
 pub returns : goal.returns

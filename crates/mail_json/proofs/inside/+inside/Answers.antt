@@ -11,17 +11,18 @@ use Rattle.mail_read.specs.InnerMails.{InnerMail, mail_bytes, places_under}
 use Rattle.mail_read.specs.PartPlaces.{Place}
 use Rattle.mail_read.specs.PlaceViews.{place_view}
 use Rattle.std.specs.List.{AllByRecursion}
-use Rattle.mail_json.specs.Inside.{without_bytes}
+use Rattle.mail_parts.specs.Inside.{without_bytes}
 use Rattle.mail_json.specs.InsideViews.{inside_view}
 use Rattle.mail_json.specs.Options.{options_of}
-use Rattle.mail_json.specs.DecodedViews.{IsDecoded, decoded_place}
-use Rattle.mail_json.specs.Printed.{after_commas, text_of}
-use Rattle.mail_json.specs.Reading.{mails_in_place}
+use Rattle.mail_parts.specs.DecodedViews.{IsDecoded, decoded_place}
+use Rattle.mail_json_text.specs.Printed.{after_commas, text_of}
+use Rattle.mail_parts.specs.Reading.{mails_in_place}
 use Rattle.mail_json.specs.Values.{AreInsideValues}
-use Rattle.mail_json.proofs.lemmas.Decoded.{all_at, not_held}
-use Rattle.mail_json.proofs.lemmas.Inside.{among_some, insides_end, insides_more, listed_along, listed_more, none_inside, none_listed, read_listed, read_written, refused_inside, refused_listed, under_listed, under_written, written_along}
-use Rattle.mail_json.proofs.lemmas.JsonText.{drop_next}
-use Rattle.mail_json.proofs.lemmas.Written.{appends_as}
+use Rattle.mail_parts.proofs.lemmas.Decoded.{all_at, not_held}
+use Rattle.mail_parts.proofs.lemmas.Inside.{among_some}
+use Rattle.mail_json.proofs.lemmas.Inside.{insides_end, insides_more, listed_along, listed_more, none_inside, none_listed, read_listed, read_written, refused_inside, refused_listed, under_listed, under_written, written_along}
+use Rattle.mail_json_text.proofs.lemmas.JsonText.{drop_next}
+use Rattle.mail_json_text.proofs.lemmas.Written.{appends_as}
 use Rattle.mail_json.proofs.inside.«+inside».Goals as goal
 
 pub write_inside-loop-part-init : goal.write_inside-loop-part-init

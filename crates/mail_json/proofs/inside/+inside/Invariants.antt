@@ -3,14 +3,14 @@
 use Rattle.std.proofs.Common.{◌≡◌, ◌++◌, ◌+◌, ◌-◌, ◌*◌, List, ℕ, drop, map}
 use Rattle.std.specs.Prelude.{flat_map}
 use Rattle.std.specs.Io.KnownBytes.{Appends}
-use Rattle.mail_json.specs.DecodedViews.{IsDecoded, decoded_place}
+use Rattle.mail_parts.specs.DecodedViews.{IsDecoded, decoded_place}
 use Rattle.std.specs.List.{AllByRecursion}
 use Rattle.mail_program.specs.Fault.{IsEnd}
-use Rattle.mail_json.specs.Inside.{without_bytes}
+use Rattle.mail_parts.specs.Inside.{without_bytes}
 use Rattle.mail_json.specs.InsideViews.{inside_view}
 use Rattle.mail_json.specs.Options.{options_of}
-use Rattle.mail_json.specs.Printed.{after_commas, text_of}
-use Rattle.mail_json.specs.Reading.{mails_in_place}
+use Rattle.mail_json_text.specs.Printed.{after_commas, text_of}
+use Rattle.mail_parts.specs.Reading.{mails_in_place}
 use Rattle.mail_json.specs.Values.{AreInsideValues}
 use Rattle.mail_json.proofs.lemmas.Part.{Completes}
 use Rattle.mail_json.proofs.inside.«+inside».Given as goal

@@ -4,8 +4,8 @@ use Rattle.mailparse.specs.Refusal.{Refusal}
 use Rattle.std.specs.Prelude.{string_bytes}
 use Rattle.mail_json.specs.InsideViews.{inside_view}
 use Rattle.mail_json.specs.Options.{options_of}
-use Rattle.mail_json.specs.Reading.{mail_reading}
-use Rattle.mail_json.proofs.lemmas.Fields.{refused_or_memory}
+use Rattle.mail_parts.specs.Reading.{mail_reading}
+use Rattle.mail_parts.proofs.lemmas.Reading.{refused_or_memory}
 use Rattle.mail_json.proofs.lemmas.Inside.{listed_with}
 use Rattle.mail_json.proofs.inside.read_listed.Goals as goal
 

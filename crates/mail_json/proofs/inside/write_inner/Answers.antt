@@ -1,7 +1,7 @@
 use Rattle.std.proofs.Common.{refl}
 use Rattle.json.specs.Json.{string}
-use Rattle.mail_json.specs.Printed.{number_or_null}
-use Rattle.mail_json.proofs.lemmas.Members.{◌⨾◌, closed, value_renamed}
+use Rattle.mail_json_text.specs.Printed.{number_or_null}
+use Rattle.mail_json_text.proofs.lemmas.Members.{◌⨾◌, closed, value_renamed}
 use Rattle.mail_json.proofs.inside.write_inner.Goals as goal
 
 pub returns : goal.returns

@@ -2,9 +2,9 @@ use Rattle.std.proofs.Common.{map, ap, arith}
 use Rattle.std.proofs.lemmas.List.{drop_all}
 use Rattle.mail_json.specs.InsideViews.{inside_view}
 use Rattle.mail_json.specs.Values.{inside_value}
-use Rattle.mail_json.specs.Printed.{text_of}
-use Rattle.mail_json.proofs.lemmas.JsonText.{drop_next, wrote_all, wrote_more}
-use Rattle.mail_json.proofs.lemmas.Objects.{list_written}
+use Rattle.mail_json_text.specs.Printed.{text_of}
+use Rattle.mail_json_text.proofs.lemmas.JsonText.{drop_next, wrote_all, wrote_more}
+use Rattle.mail_json_text.proofs.lemmas.Objects.{list_written}
 use Rattle.mail_json.proofs.inside.write_mails.Goals as goal
 
 pub loop-mail-preserved : goal.loop-mail-preserved

@@ -2,8 +2,8 @@
 use Rattle.std.proofs.Common.{drop, map}
 use Rattle.mail_json.specs.InsideViews.{inside_view}
 use Rattle.mail_json.specs.Values.{inside_value}
-use Rattle.mail_json.specs.Printed.{comma, text_of}
-use Rattle.mail_json.proofs.lemmas.JsonText.{Wrote}
+use Rattle.mail_json_text.specs.Printed.{comma, text_of}
+use Rattle.mail_json_text.proofs.lemmas.JsonText.{Wrote}
 use Rattle.mail_json.proofs.inside.write_mails.Given as goal
 
 abbrev pub invariant-loop-mail : goal.invariant-loop-mail

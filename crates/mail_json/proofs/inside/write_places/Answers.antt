@@ -1,6 +1,6 @@
 use Rattle.std.proofs.Common.{ℕ, List, Option, Some, ap, map, subst, ◌∙◌}
 use Rattle.mail_read.specs.PartPlaces.{Place}
-use Rattle.mail_json.specs.DecodedViews.{decoded_place}
+use Rattle.mail_parts.specs.DecodedViews.{decoded_place}
 use Rattle.mail_json.specs.Options.{options_of}
 use Rattle.mail_json.specs.Part.{place_in}
 use Rattle.mail_json.specs.Values.{AreValues, IsPartValue}

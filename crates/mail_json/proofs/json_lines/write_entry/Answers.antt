@@ -3,7 +3,8 @@ use Rattle.std.proofs.KnownBytes.{Appends-nil}
 use Rattle.mail_json.specs.Options.{options_of}
 use Rattle.mail_data.specs.MailboxFormats.{mail_in}
 use Rattle.mail_json.specs.Selection.{is_wanted, number_of}
-use Rattle.mail_json.specs.JsonLines.{IsLine, format_of, origin_at}
+use Rattle.mail_json.specs.JsonLines.{IsLine, origin_at}
+use Rattle.mail_walk.specs.Kind.{format_of}
 use Rattle.mail_json.proofs.lemmas.JsonLines.{unwanted_lines, wanted_lines}
 use Rattle.mail_json.proofs.json_lines.write_entry.Goals as goal
 

@@ -5,7 +5,7 @@ use Rattle.mailparse.specs.Mail.{Tree}
 use Rattle.mailparse.specs.Refusal.{Reads}
 use Rattle.mail_json.specs.JsonLines.{IsLineOf}
 use Rattle.mail_json.specs.Origin.{origin_of}
-use Rattle.mail_json.specs.Printed.{line_of}
+use Rattle.mail_json_text.specs.Printed.{line_of}
 use Rattle.mail_json.proofs.json_lines.write_line.Goals as goal
 
 pub returns-in_ok-write_word-in-Ok : goal.returns-in_ok-write_word-in-Ok

@@ -1,7 +1,7 @@
 -- What was written is completed by the lines of the mails that are left.
 use Rattle.std.proofs.Common.{ℕ, List, option_map}
 use Rattle.std.specs.Io.KnownBytes.{Appends}
-use Rattle.mail_json.specs.JsonLines.{format_of}
+use Rattle.mail_walk.specs.Kind.{format_of}
 use Rattle.mail_json.specs.Options.{options_of}
 use Rattle.mail_data.specs.MailboxViews.{entries_left}
 use Rattle.mail_json.specs.Stream.{Continues}

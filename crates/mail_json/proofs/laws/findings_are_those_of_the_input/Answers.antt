@@ -1,6 +1,6 @@
 use Rattle.std.proofs.Common.{ap}
 use Rattle.mail_json.specs.Values.{findings_if}
-use Rattle.mail_json.proofs.lemmas.OwnBytes.{bounded_bytes, data_bytes}
+use Rattle.mail_parts.proofs.lemmas.OwnBytes.{bounded_bytes, data_bytes}
 use Rattle.mail_json.proofs.laws.findings_are_those_of_the_input.Goals as goal
 
 pub returns-clause-line : goal.returns-clause-line

@@ -1,4 +1,4 @@
-use Rattle.mail_json.proofs.lemmas.LinesAreJson.{file_is_json, findings_are_json, line_is_json, mailbox_is_lines, part_is_lines, unread_is_json}
+use Rattle.mail_json.proofs.lemmas.LinesAreJson.{findings_are_json, line_is_json, mailbox_is_lines, part_is_lines, unread_is_json}
 use Rattle.mail_json.proofs.laws.lines_are_json.Goals as goal
 
 pub returns-clause-line : goal.returns-clause-line
@@ -12,9 +12,6 @@ returns-clause-part c = part_is_lines
 
 pub returns-clause-unread : goal.returns-clause-unread
 returns-clause-unread c = unread_is_json
-
-pub returns-clause-file : goal.returns-clause-file
-returns-clause-file c = file_is_json
 
 pub returns-clause-findings : goal.returns-clause-findings
 returns-clause-findings c = findings_are_json

@@ -1,8 +1,8 @@
 use Rattle.std.proofs.Common.{map, ap, arith}
 use Rattle.std.proofs.lemmas.List.{drop_all}
-use Rattle.mail_json.specs.Printed.{text_of}
-use Rattle.mail_json.proofs.lemmas.JsonText.{drop_next, wrote_all, wrote_more}
-use Rattle.mail_json.proofs.lemmas.Objects.{list_written}
+use Rattle.mail_json_text.specs.Printed.{text_of}
+use Rattle.mail_json_text.proofs.lemmas.JsonText.{drop_next, wrote_all, wrote_more}
+use Rattle.mail_json_text.proofs.lemmas.Objects.{list_written}
 use Rattle.mail_json.proofs.lists.write_list.Goals as goal
 
 pub loop-item-preserved : goal.loop-item-preserved

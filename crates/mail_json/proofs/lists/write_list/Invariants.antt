@@ -1,7 +1,7 @@
 -- What was written after the bracket is completed by the items that are left.
 use Rattle.std.proofs.Common.{drop, map}
-use Rattle.mail_json.specs.Printed.{comma, text_of}
-use Rattle.mail_json.proofs.lemmas.JsonText.{Wrote}
+use Rattle.mail_json_text.specs.Printed.{comma, text_of}
+use Rattle.mail_json_text.proofs.lemmas.JsonText.{Wrote}
 use Rattle.mail_json.proofs.lists.write_list.Given as goal
 
 abbrev pub invariant-loop-item : goal.invariant-loop-item

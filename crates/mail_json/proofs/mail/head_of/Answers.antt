@@ -1,7 +1,7 @@
 use Rattle.std.proofs.Common.{◌++◌, List, ℕ, ap, ◌∙◌}
 use Rattle.mailparse.specs.Views.{tree_of}
 use Rattle.mail_json.specs.Origin.{origin_of}
-use Rattle.mail_json.specs.Printed.{begun}
+use Rattle.mail_json_text.specs.Printed.{begun}
 use Rattle.mail_json.specs.Values.{head_members}
 use Rattle.mail_json.proofs.mail.head_of.Goals as goal
 

@@ -3,12 +3,12 @@ use Rattle.std.proofs.lemmas.Int.{to_z-of_z}
 use Rattle.json.specs.Json.{string}
 use Rattle.mail_read.specs.lenient.Date.{zoned_date_of}
 use Rattle.mailparse.specs.Map.{text_found}
-use Rattle.mail_json.specs.Printed.{seconds_value}
+use Rattle.mail_json_text.specs.Printed.{seconds_value}
 use Rattle.mail_json.specs.Values.{date_members}
-use Rattle.mail_json.specs.declared.json_text.Position.TheVariants.{Later}
+use Rattle.mail_json_text.specs.declared.json_text.Position.TheVariants.{Later}
 use Rattle.mail_json.proofs.lemmas.Fields.{ok_same}
 use Rattle.mail_json.proofs.lemmas.Mail.{date_read, date_refused}
-use Rattle.mail_json.proofs.lemmas.Members.{◌⨾◌, adds_as, renamed, value_renamed}
+use Rattle.mail_json_text.proofs.lemmas.Members.{◌⨾◌, adds_as, renamed, value_renamed}
 use Rattle.mail_json.proofs.mail.write_date.Goals as goal
 
 pub returns-in_default : goal.returns-in_default

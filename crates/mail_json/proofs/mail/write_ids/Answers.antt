@@ -1,8 +1,8 @@
 use Rattle.std.proofs.Common.{ℕ, List, String, Global, map, string_bytes, true, false, ap, ◌∙◌}
 use Rattle.std.specs.Prelude.{codes}
 use Rattle.mail_data.specs.Archive.{ids_of}
-use Rattle.mail_json.specs.Printed.{strings}
-use Rattle.mail_json.proofs.lemmas.Members.{◌⨾◌, value_renamed}
+use Rattle.mail_json_text.specs.Printed.{strings}
+use Rattle.mail_json_text.proofs.lemmas.Members.{◌⨾◌, value_renamed}
 use Rattle.mail_json.proofs.lemmas.Part.{headers-out}
 use Rattle.mail_json.proofs.mail.write_ids.Goals as goal
 

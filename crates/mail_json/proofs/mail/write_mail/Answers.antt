@@ -5,20 +5,20 @@ use Rattle.mailparse.specs.Placement.{Placement}
 use Rattle.mailparse.specs.Views.{tree_of}
 use Rattle.mail_read.specs.PartPlaces.{places}
 use Rattle.mail_read.specs.PlaceViews.{place_view}
-use Rattle.mail_json.specs.DecodedViews.{decoded_place, decoded_tree}
-use Rattle.mail_json.specs.Inside.{Listed, mails_inside, without_bytes}
+use Rattle.mail_parts.specs.DecodedViews.{decoded_place, decoded_tree}
+use Rattle.mail_parts.specs.Inside.{Listed, mails_inside, without_bytes}
 use Rattle.mail_json.specs.InsideViews.{inside_view}
-use Rattle.mail_json.specs.Members.{Adds}
+use Rattle.mail_json_text.specs.Members.{Adds}
 use Rattle.mail_json.specs.Options.{options_of}
 use Rattle.mail_json.specs.Origin.{origin_of}
-use Rattle.mail_json.specs.Printed.{list_of, object_of, text_of}
+use Rattle.mail_json_text.specs.Printed.{list_of, object_of, text_of}
 use Rattle.mail_json.specs.Values.{IsMailValue, findings_if, found_members, head_members, inside_value, mail_members}
-use Rattle.mail_json.specs.declared.json_text.Position.TheVariants.{First}
+use Rattle.mail_json_text.specs.declared.json_text.Position.TheVariants.{First}
 use Rattle.mail_json.proofs.lemmas.Decoded.{whole_trees}
-use Rattle.mail_json.proofs.lemmas.JsonText.{map_twice}
-use Rattle.mail_json.proofs.lemmas.Members.{◌⨾◌, closed, renamed, valued}
-use Rattle.mail_json.proofs.lemmas.Objects.{list_appended, value_as}
-use Rattle.mail_json.proofs.lemmas.Written.{appends_as, writes_one}
+use Rattle.mail_json_text.proofs.lemmas.JsonText.{map_twice}
+use Rattle.mail_json_text.proofs.lemmas.Members.{◌⨾◌, closed, renamed, valued}
+use Rattle.mail_json_text.proofs.lemmas.Objects.{list_appended, value_as}
+use Rattle.mail_json_text.proofs.lemmas.Written.{appends_as, writes_one}
 use Rattle.mail_json.proofs.mail.write_mail.Goals as goal
 
 pub head_of-requires-clause-whole : goal.head_of-requires-clause-whole

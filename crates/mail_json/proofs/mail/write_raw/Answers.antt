@@ -1,5 +1,5 @@
 use Rattle.std.proofs.Common.{refl}
-use Rattle.mail_json.proofs.lemmas.Members.{◌⨾◌, closed}
+use Rattle.mail_json_text.proofs.lemmas.Members.{◌⨾◌, closed}
 use Rattle.mail_json.proofs.mail.write_raw.Goals as goal
 
 pub returns : goal.returns

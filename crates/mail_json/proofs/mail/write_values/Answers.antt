@@ -1,4 +1,4 @@
-use Rattle.mail_json.proofs.lemmas.Members.{◌⨾◌}
+use Rattle.mail_json_text.proofs.lemmas.Members.{◌⨾◌}
 use Rattle.mail_json.proofs.mail.write_values.Goals as goal
 
 pub returns : goal.returns

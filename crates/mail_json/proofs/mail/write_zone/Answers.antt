@@ -1,7 +1,7 @@
 use Rattle.std.proofs.Common.{sym, ap}
 use Rattle.mail_json.specs.Values.{zone_members}
-use Rattle.mail_json.specs.declared.json_text.Position.TheVariants.{Later}
-use Rattle.mail_json.proofs.lemmas.Members.{adds_as, none_added, renamed}
+use Rattle.mail_json_text.specs.declared.json_text.Position.TheVariants.{Later}
+use Rattle.mail_json_text.proofs.lemmas.Members.{adds_as, none_added, renamed}
 use Rattle.mail_json.proofs.mail.write_zone.Goals as goal
 
 pub returns-then-is_known : goal.returns-then-is_known

@@ -1,5 +1,5 @@
 use Rattle.std.proofs.Common.{refl}
-use Rattle.mail_json.proofs.lemmas.Members.{◌⨾◌, line_closed}
+use Rattle.mail_json_text.proofs.lemmas.Members.{◌⨾◌, line_closed}
 use Rattle.mail_json.proofs.origin.write_unread.Goals as goal
 
 pub returns : goal.returns

@@ -1,5 +1,5 @@
 use Rattle.std.proofs.Common.{◌++◌, List, ℕ, ap, ◌∙◌}
-use Rattle.mail_json.specs.Printed.{text_of}
+use Rattle.mail_json_text.specs.Printed.{text_of}
 use Rattle.mail_json.proofs.part.object_of.Goals as goal
 
 pub returns-in-Ok-clause-written : goal.returns-in-Ok-clause-written

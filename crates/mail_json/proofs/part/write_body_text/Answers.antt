@@ -6,11 +6,11 @@ use Rattle.mail_read.specs.lenient.Texts.{charset_used, lenient_text}
 use Rattle.mail_read.proofs.lemmas.lenient.Texts.{some-mapped}
 use Rattle.mail_json.specs.Options.{options_of}
 use Rattle.mail_json.specs.Part.{html_shown, text_shown}
-use Rattle.mail_json.specs.Printed.{Member, string_or_null}
+use Rattle.mail_json_text.specs.Printed.{Member, string_or_null}
 use Rattle.mail_json.specs.Values.{text_members}
-use Rattle.mail_json.specs.declared.json_text.Position.TheVariants.{Later}
+use Rattle.mail_json_text.specs.declared.json_text.Position.TheVariants.{Later}
 use Rattle.mail_json.proofs.lemmas.Fields.{ok_same}
-use Rattle.mail_json.proofs.lemmas.Members.{◌⨾◌, adds_as, renamed, value_renamed}
+use Rattle.mail_json_text.proofs.lemmas.Members.{◌⨾◌, adds_as, renamed, value_renamed}
 use Rattle.mail_json.proofs.lemmas.Part.{text-hidden, text-shown}
 use Rattle.mail_json.proofs.part.write_body_text.Goals as goal
 

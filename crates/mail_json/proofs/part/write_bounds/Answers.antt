@@ -1,5 +1,5 @@
-use Rattle.mail_json.specs.Printed.{number_or_null}
-use Rattle.mail_json.proofs.lemmas.Members.{◌⨾◌, value_renamed}
+use Rattle.mail_json_text.specs.Printed.{number_or_null}
+use Rattle.mail_json_text.proofs.lemmas.Members.{◌⨾◌, value_renamed}
 use Rattle.mail_json.proofs.part.write_bounds.Goals as goal
 
 pub returns : goal.returns

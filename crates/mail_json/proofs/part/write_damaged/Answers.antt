@@ -1,7 +1,7 @@
 use Rattle.std.proofs.Common.{sym, ap}
 use Rattle.mail_json.specs.Values.{damaged_members}
-use Rattle.mail_json.specs.declared.json_text.Position.TheVariants.{Later}
-use Rattle.mail_json.proofs.lemmas.Members.{adds_as, none_added, renamed}
+use Rattle.mail_json_text.specs.declared.json_text.Position.TheVariants.{Later}
+use Rattle.mail_json_text.proofs.lemmas.Members.{adds_as, none_added, renamed}
 use Rattle.mail_json.proofs.part.write_damaged.Goals as goal
 
 pub returns-then-not-is_damaged : goal.returns-then-not-is_damaged

@@ -2,8 +2,8 @@ use Rattle.std.proofs.Common.{Option, option_map, sym, ap}
 use Rattle.mail_read.specs.declared.lenient.content.Content.{Content}
 use Rattle.mail_read.specs.lenient.ContentViews.{content_view}
 use Rattle.mail_json.specs.Values.{decoded_members}
-use Rattle.mail_json.specs.declared.json_text.Position.TheVariants.{Later}
-use Rattle.mail_json.proofs.lemmas.Members.{adds_as}
+use Rattle.mail_json_text.specs.declared.json_text.Position.TheVariants.{Later}
+use Rattle.mail_json_text.proofs.lemmas.Members.{adds_as}
 use Rattle.mail_json.proofs.part.write_decoded_size.Goals as goal
 
 pub returns-in-None : goal.returns-in-None

@@ -1,7 +1,7 @@
 use Rattle.std.proofs.Common.{sym, ◌∙◌}
-use Rattle.mail_json.specs.Printed.{string_or_null}
+use Rattle.mail_json_text.specs.Printed.{string_or_null}
 use Rattle.mail_json.proofs.lemmas.Fields.{ok_same}
-use Rattle.mail_json.proofs.lemmas.Members.{◌⨾◌, value_renamed}
+use Rattle.mail_json_text.proofs.lemmas.Members.{◌⨾◌, value_renamed}
 use Rattle.mail_json.proofs.part.write_disposition.Goals as goal
 
 pub returns : goal.returns

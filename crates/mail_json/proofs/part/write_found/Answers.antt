@@ -2,13 +2,13 @@ use Rattle.std.proofs.Common.{◌+◌, ◌++◌, drop, [], map, option_map, refl
 use Rattle.std.proofs.KnownBytes.{Appends-nil, Appends-trans}
 use Rattle.std.proofs.lemmas.List.{drop_all}
 use Rattle.mail_json.specs.Options.{options_of}
-use Rattle.mail_json.specs.Printed.{comma, listed, text_of}
+use Rattle.mail_json_text.specs.Printed.{comma, listed, text_of}
 use Rattle.mail_json.specs.Values.{AreValues, IsPartValue}
-use Rattle.mail_json.specs.DecodedViews.{IsDecoded, decoded_place}
-use Rattle.mail_json.proofs.lemmas.Decoded.{all_at}
+use Rattle.mail_parts.specs.DecodedViews.{IsDecoded, decoded_place}
+use Rattle.mail_parts.proofs.lemmas.Decoded.{all_at}
 use Rattle.mail_json.proofs.lemmas.Part.{items_end, items_more}
-use Rattle.mail_json.proofs.lemmas.JsonText.{drop_next}
-use Rattle.mail_json.proofs.lemmas.Written.{appends_as}
+use Rattle.mail_json_text.proofs.lemmas.JsonText.{drop_next}
+use Rattle.mail_json_text.proofs.lemmas.Written.{appends_as}
 use Rattle.mail_json.proofs.part.write_found.Goals as goal
 
 pub write_part-requires : goal.write_part-requires

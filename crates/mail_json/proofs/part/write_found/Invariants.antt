@@ -2,9 +2,9 @@
 use Rattle.std.proofs.Common.{List, ℕ, map, drop, option_map}
 use Rattle.std.specs.Io.KnownBytes.{Appends}
 use Rattle.mail_json.specs.Options.{options_of}
-use Rattle.mail_json.specs.Printed.{comma, listed, text_of}
+use Rattle.mail_json_text.specs.Printed.{comma, listed, text_of}
 use Rattle.mail_json.specs.Values.{AreValues, IsPartValue}
-use Rattle.mail_json.specs.DecodedViews.{decoded_place}
+use Rattle.mail_parts.specs.DecodedViews.{decoded_place}
 use Rattle.mail_json.proofs.lemmas.Part.{Completes}
 use Rattle.mail_json.proofs.part.write_found.Given as goal
 

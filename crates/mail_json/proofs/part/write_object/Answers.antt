@@ -19,16 +19,17 @@ use Rattle.mail_read.specs.lenient.Content.{Content}
 use Rattle.mail_read.specs.lenient.ContentViews.{content_view}
 use Rattle.mail_read.specs.lenient.Encoding.{lenient_body_kind}
 use Rattle.mail_check.specs.Inside.{path_shown}
-use Rattle.mail_json.specs.Part.{Lists, content_if, hash_of, is_attachment, is_read}
-use Rattle.mail_json.specs.Printed.{list_of, number_value, object_of, string_or_null, text_of}
+use Rattle.mail_parts.specs.Part.{Lists, content_if, is_attachment, is_read}
+use Rattle.mail_json.specs.Part.{hash_of}
+use Rattle.mail_json_text.specs.Printed.{list_of, number_value, object_of, string_or_null, text_of}
 use Rattle.mail_json.specs.TextFiles.{files_if}
 use Rattle.mail_json.specs.Values.{IsPartValue, body_members, disposition_members, decoded_members, files_value, header_value, part_members, report_value}
-use Rattle.mail_json.specs.DecodedViews.{decoded_place}
+use Rattle.mail_parts.specs.DecodedViews.{decoded_place}
 use Rattle.mail_json.proofs.lemmas.Fields.{ok_same}
-use Rattle.mail_json.proofs.lemmas.Members.{◌⨾◌, closed, renamed, valued, value_renamed}
-use Rattle.mail_json.proofs.lemmas.Objects.{value_as}
+use Rattle.mail_json_text.proofs.lemmas.Members.{◌⨾◌, closed, renamed, valued, value_renamed}
+use Rattle.mail_json_text.proofs.lemmas.Objects.{value_as}
 use Rattle.mail_json.proofs.lemmas.Part.{ctype-out, extracted_is, headers-out}
-use Rattle.mail_json.proofs.lemmas.Written.{writes_one}
+use Rattle.mail_json_text.proofs.lemmas.Written.{writes_one}
 use Rattle.mail_json.proofs.part.write_object.Goals as goal
 
 pub returns : goal.returns

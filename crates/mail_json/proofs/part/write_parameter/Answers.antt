@@ -2,8 +2,8 @@ use Rattle.std.proofs.Common.{append_assoc}
 use Rattle.std.proofs.KnownBytes.{Appends-trans}
 use Rattle.std.specs.Prelude.{codes}
 use Rattle.json.specs.Json.{string}
-use Rattle.mail_json.specs.Printed.{text_of}
-use Rattle.mail_json.proofs.lemmas.Written.{writes_as, writes_then}
+use Rattle.mail_json_text.specs.Printed.{text_of}
+use Rattle.mail_json_text.proofs.lemmas.Written.{writes_as, writes_then}
 use Rattle.mail_json.proofs.part.write_parameter.Goals as goal
 
 pub returns : goal.returns

@@ -1,13 +1,13 @@
 use Rattle.std.proofs.Common.{◌∷◌, map, sym, ap, ◌∙◌}
 use Rattle.std.specs.String.{string_bytes}
 use Rattle.mailparse.specs.Views.{content_type}
-use Rattle.mail_json.specs.Part.{Lists}
-use Rattle.mail_json.specs.Printed.{member_text, object_of, text_of}
+use Rattle.mail_parts.specs.Part.{Lists}
+use Rattle.mail_json_text.specs.Printed.{member_text, object_of, text_of}
 use Rattle.mail_json.specs.Values.{parameter_member}
-use Rattle.mail_json.proofs.lemmas.JsonText.{wrote_all, wrote_more}
-use Rattle.mail_json.proofs.lemmas.Objects.{object_listed, object_written}
-use Rattle.mail_json.proofs.lemmas.Part.{lists-entries, pair_of}
-use Rattle.mail_json.proofs.lemmas.Written.{writes_one}
+use Rattle.mail_json_text.proofs.lemmas.JsonText.{wrote_all, wrote_more}
+use Rattle.mail_json_text.proofs.lemmas.Objects.{object_listed, object_written}
+use Rattle.mail_parts.proofs.lemmas.Part.{lists-entries, pair_of}
+use Rattle.mail_json_text.proofs.lemmas.Written.{writes_one}
 use Rattle.mail_json.proofs.part.write_params.Goals as goal
 
 pub loop-name-preserved : goal.loop-name-preserved

@@ -1,5 +1,5 @@
 use Rattle.std.proofs.Common.{◌∙◌}
-use Rattle.mail_json.proofs.lemmas.Written.{appends_as}
+use Rattle.mail_json_text.proofs.lemmas.Written.{appends_as}
 use Rattle.mail_json.proofs.part.write_part.Goals as goal
 
 pub returns : goal.returns

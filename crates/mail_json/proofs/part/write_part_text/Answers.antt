@@ -6,8 +6,8 @@ use Rattle.mail_read.specs.lenient.Content.{Content}
 use Rattle.mail_read.specs.lenient.ContentViews.{content_view}
 use Rattle.mail_json.specs.Options.{options_of}
 use Rattle.mail_json.specs.Values.{body_members, shown_members}
-use Rattle.mail_json.specs.declared.json_text.Position.TheVariants.{Later}
-use Rattle.mail_json.proofs.lemmas.Members.{adds_as}
+use Rattle.mail_json_text.specs.declared.json_text.Position.TheVariants.{Later}
+use Rattle.mail_json_text.proofs.lemmas.Members.{adds_as}
 use Rattle.mail_json.proofs.lemmas.Part.{content_some, ctype-out}
 use Rattle.mail_json.proofs.part.write_part_text.Goals as goal
 

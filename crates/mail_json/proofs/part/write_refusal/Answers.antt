@@ -1,6 +1,6 @@
 use Rattle.std.proofs.Common.{◌∙◌}
-use Rattle.mail_json.specs.Printed.{string_or_null}
-use Rattle.mail_json.proofs.lemmas.Members.{value_renamed}
+use Rattle.mail_json_text.specs.Printed.{string_or_null}
+use Rattle.mail_json_text.proofs.lemmas.Members.{value_renamed}
 use Rattle.mail_json.proofs.part.write_refusal.Goals as goal
 
 pub returns : goal.returns

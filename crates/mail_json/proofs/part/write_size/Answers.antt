@@ -4,10 +4,10 @@ use Rattle.std.specs.Cow.{cow_slice_items}
 use Rattle.mail_read.specs.declared.lenient.content.ContentFault.{ContentFault}
 use Rattle.mail_read.specs.lenient.ContentViews.{fault_view}
 use Rattle.mail_program.specs.Refusal.{refusal_text}
-use Rattle.mail_json.specs.Printed.{number_value, one, string_or_null}
+use Rattle.mail_json_text.specs.Printed.{number_value, one, string_or_null}
 use Rattle.mail_json.specs.Values.{size_members}
-use Rattle.mail_json.specs.declared.json_text.Position.TheVariants.{Later}
-use Rattle.mail_json.proofs.lemmas.Members.{◌⨾◌, adds_as, renamed, value_renamed}
+use Rattle.mail_json_text.specs.declared.json_text.Position.TheVariants.{Later}
+use Rattle.mail_json_text.proofs.lemmas.Members.{◌⨾◌, adds_as, renamed, value_renamed}
 use Rattle.mail_json.proofs.part.write_size.Goals as goal
 
 pub returns-in-None : goal.returns-in-None

@@ -1,6 +1,6 @@
 use Rattle.std.proofs.Common.{◌++◌, List, ℕ, ap, subst, sym, ◌∙◌, ◌≡◌}
 use Rattle.std.specs.Io.KnownBytes.{Consumes}
-use Rattle.mail_json.specs.JsonLines.{is_mailbox}
+use Rattle.mail_walk.specs.Kind.{is_mailbox}
 use Rattle.mail_json.proofs.lemmas.Range.{mailbox_shown}
 use Rattle.mail_json.proofs.range.shows_mailbox.Goals as goal
 

@@ -2,14 +2,14 @@ use Rattle.std.proofs.Common.{◌≡◌, ◌-◌, ◌++◌, List, ℕ, false, le
 use Rattle.std.proofs.KnownBytes.{Appends-nil}
 use Rattle.std.specs.Io.KnownBytes.{Consumes}
 use Rattle.std.proofs.lemmas.List.{length-take-le, take_rest}
-use Rattle.mail_json.specs.JsonLines.{format_of}
+use Rattle.mail_walk.specs.Kind.{format_of}
 use Rattle.mail_json.specs.Options.{options_of}
 use Rattle.mail_data.specs.MailboxViews.{entries_left}
 use Rattle.mail_data.specs.Mailbox.{front_length, has_front}
 use Rattle.mail_data.specs.MailboxFormats.{entries_in}
 use Rattle.mail_data.specs.declared.mailbox.formats.Format.{Format}
 use Rattle.mail_data.proofs.lemmas.MailboxParts.{front_length-≤}
-use Rattle.mail_json.specs.Part.{saturating_add}
+use Rattle.mail_walk.specs.Offsets.{saturating_add}
 use Rattle.mail_json.specs.Range.{reading_start}
 use Rattle.mail_json.proofs.lemmas.Range.{range_rest, range_whole, range_without}
 use Rattle.mail_json.proofs.range.write_range.Goals as goal

@@ -3,7 +3,7 @@ use Rattle.mailparse.specs.Mail.{root}
 use Rattle.mail_data.specs.Bounce.{Delivery}
 use Rattle.mail_data.specs.BounceViews.{delivery}
 use Rattle.mail_read.specs.lenient.ContentViews.{content_view}
-use Rattle.mail_json.specs.DecodedViews.{decoded_tree}
+use Rattle.mail_parts.specs.DecodedViews.{decoded_tree}
 use Rattle.mail_json.proofs.lemmas.Decoded.{added_in, deliveries_none}
 use Rattle.mail_json.proofs.reports.add_recipients.Goals as goal
 

@@ -2,8 +2,9 @@ use Rattle.std.proofs.Common.{Ok, ap, arith, drop}
 use Rattle.std.proofs.lemmas.List.{drop_all}
 use Rattle.std.specs.Prelude.{true}
 use Rattle.mailparse.specs.Views.{tree_of}
-use Rattle.mail_json.specs.DecodedViews.{IsDecoded}
-use Rattle.mail_json.proofs.lemmas.Decoded.{all_at, recipients_read}
+use Rattle.mail_parts.specs.DecodedViews.{IsDecoded}
+use Rattle.mail_parts.proofs.lemmas.Decoded.{all_at}
+use Rattle.mail_json.proofs.lemmas.Decoded.{recipients_read}
 use Rattle.mail_json.proofs.reports.recipients_in.Goals as goal
 
 pub add_recipients-requires : goal.add_recipients-requires

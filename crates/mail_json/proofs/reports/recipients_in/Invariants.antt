@@ -4,8 +4,8 @@ use Rattle.std.specs.Prelude.{flat_map}
 use Rattle.mailparse.specs.Mail.{root}
 use Rattle.mail_data.specs.Bounce.{deliveries}
 use Rattle.mail_data.specs.BounceViews.{delivery}
-use Rattle.mail_json.specs.DecodedViews.{decoded_tree}
-use Rattle.mail_json.specs.declared.decoded.Decoded.{Decoded}
+use Rattle.mail_parts.specs.DecodedViews.{decoded_tree}
+use Rattle.mail_parts.specs.declared.decoded.Decoded.{Decoded}
 use Rattle.mail_json.proofs.reports.recipients_in.Given as goal
 
 abbrev pub invariant-loop-part : goal.invariant-loop-part

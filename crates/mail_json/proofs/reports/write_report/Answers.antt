@@ -1,9 +1,9 @@
 use Rattle.std.proofs.Common.{map, option_map, sym, ap, ◌∙◌}
 use Rattle.mail_data.specs.ReportViews.{block_view}
-use Rattle.mail_json.specs.Printed.{list_of, text_of}
+use Rattle.mail_json_text.specs.Printed.{list_of, text_of}
 use Rattle.mail_json.specs.Values.{block_value, report_value}
-use Rattle.mail_json.proofs.lemmas.JsonText.{map_twice}
-use Rattle.mail_json.proofs.lemmas.Written.{writes_as}
+use Rattle.mail_json_text.proofs.lemmas.JsonText.{map_twice}
+use Rattle.mail_json_text.proofs.lemmas.Written.{writes_as}
 use Rattle.mail_json.proofs.reports.write_report.Goals as goal
 
 pub returns-in-Some : goal.returns-in-Some

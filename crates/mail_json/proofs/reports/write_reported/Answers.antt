@@ -2,14 +2,14 @@ use Rattle.std.proofs.Common.{map, sym, ap, subst, ◌∙◌}
 use Rattle.std.specs.List.{AllByRecursion}
 use Rattle.mailparse.specs.Views.{tree_of}
 use Rattle.mail_data.specs.BounceViews.{delivery}
-use Rattle.mail_json.specs.DecodedViews.{IsDecoded}
+use Rattle.mail_parts.specs.DecodedViews.{IsDecoded}
 use Rattle.mail_json.specs.Part.{recipients_if}
-use Rattle.mail_json.specs.Printed.{list_of, text_of}
+use Rattle.mail_json_text.specs.Printed.{list_of, text_of}
 use Rattle.mail_json.specs.Reports.{delivery_value}
 use Rattle.mail_json.specs.Values.{recipients_value}
 use Rattle.mail_json.proofs.lemmas.Fields.{ok_same}
-use Rattle.mail_json.proofs.lemmas.JsonText.{map_twice}
-use Rattle.mail_json.proofs.lemmas.Written.{writes_as}
+use Rattle.mail_json_text.proofs.lemmas.JsonText.{map_twice}
+use Rattle.mail_json_text.proofs.lemmas.Written.{writes_as}
 use Rattle.mail_json.proofs.reports.write_reported.Goals as goal
 
 pub recipients_in-requires-clause-decoded : goal.recipients_in-requires-clause-decoded

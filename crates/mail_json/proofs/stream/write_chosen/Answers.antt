@@ -4,10 +4,13 @@ use Rattle.std.specs.Io.KnownBytes.{Consumes}
 use Rattle.mail_json.specs.Options.{options_of}
 use Rattle.mail_data.specs.Mailbox.{has_front}
 use Rattle.mail_json.specs.Selection.{AreInputChosen, AreMailboxChosen}
-use Rattle.mail_json.specs.JsonLines.{IsWholeLine, format_of, is_mailbox}
-use Rattle.mail_json.specs.Stream.{Ends, first_wanted, is_there}
-use Rattle.mail_json.specs.declared.stream.Wanted.{Wanted}
-use Rattle.mail_json.proofs.lemmas.Stream.{all_read, ends_here, form_front, input_after, input_lines, input_whole}
+use Rattle.mail_json.specs.JsonLines.{IsWholeLine}
+use Rattle.mail_walk.specs.Kind.{format_of, is_mailbox}
+use Rattle.mail_json.specs.Stream.{Ends}
+use Rattle.mail_walk.specs.Wanted.{first_wanted, is_there}
+use Rattle.mail_walk.specs.declared.wanted.Wanted.{Wanted}
+use Rattle.mail_walk.proofs.lemmas.Wanted.{all_read, form_front}
+use Rattle.mail_json.proofs.lemmas.Stream.{ends_here, input_after, input_lines, input_whole}
 use Rattle.mail_json.proofs.stream.write_chosen.Goals as goal
 
 pub write_following-requires : goal.write_following-requires

@@ -1,7 +1,7 @@
 use Rattle.std.proofs.Common.{◌++◌, length, option_map, ◌∙◌}
 use Rattle.std.proofs.KnownBytes.{Appends-trans}
 use Rattle.std.proofs.lemmas.List.{take_rest}
-use Rattle.mail_json.specs.JsonLines.{format_of}
+use Rattle.mail_walk.specs.Kind.{format_of}
 use Rattle.mail_json.specs.Options.{options_of}
 use Rattle.mail_json.specs.Written.{is_clean}
 use Rattle.mail_json.proofs.lemmas.Stream.{front_lines}

@@ -1,14 +1,14 @@
 use Rattle.std.proofs.Common.{◌++◌, [], ap, option_map, refl, sym, ◌∙◌}
 use Rattle.std.proofs.KnownBytes.{Appends-nil, Appends-trans, Consumes-nil, Consumes-trans}
 use Rattle.std.proofs.lemmas.List.{append-nil}
-use Rattle.mail_json.specs.JsonLines.{format_of}
+use Rattle.mail_walk.specs.Kind.{format_of}
 use Rattle.mail_json.specs.Options.{options_of}
 use Rattle.mail_data.specs.MailboxViews.{entries_left}
 use Rattle.mail_data.specs.MailboxFormats.{entries_in}
 use Rattle.mail_data.specs.declared.mailbox.formats.Format.{Format}
 use Rattle.mail_json.specs.Written.{is_clean}
 use Rattle.mail_json.proofs.lemmas.Stream.{ends_here, ends_past, follows_end, follows_more, follows_past, follows_settled, follows_start, left_of}
-use Rattle.mail_json.proofs.lemmas.Written.{appends_as}
+use Rattle.mail_json_text.proofs.lemmas.Written.{appends_as}
 use Rattle.mail_json.proofs.stream.write_rest.Goals as goal
 
 pub loop-turn-init : goal.loop-turn-init

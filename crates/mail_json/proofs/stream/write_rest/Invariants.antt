@@ -2,7 +2,7 @@
 -- ones.
 use Rattle.std.proofs.Common.{◌≡◌, ℕ, List, option_map}
 use Rattle.std.specs.Io.KnownBytes.{Appends, Consumes}
-use Rattle.mail_json.specs.JsonLines.{format_of}
+use Rattle.mail_walk.specs.Kind.{format_of}
 use Rattle.mail_json.specs.Options.{options_of}
 use Rattle.mail_json.specs.Selection.{is_range}
 use Rattle.mail_json.specs.Written.{is_clean}

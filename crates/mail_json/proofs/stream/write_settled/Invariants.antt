@@ -1,6 +1,6 @@
 -- With any further bytes, what was written is completed by the lines of the mails that are left.
 use Rattle.std.proofs.Common.{length, option_map}
-use Rattle.mail_json.specs.JsonLines.{format_of}
+use Rattle.mail_walk.specs.Kind.{format_of}
 use Rattle.mail_json.specs.Options.{options_of}
 use Rattle.mail_json.specs.Stream.{WritesSettled}
 use Rattle.mail_json.specs.Written.{is_clean}

@@ -5,14 +5,14 @@ use Rattle.mail_data.specs.TextFiles.{TextFile}
 use Rattle.mail_data.specs.TextFileViews.{text_file_view}
 use Rattle.mail_read.specs.declared.lenient.content.Content.{Content}
 use Rattle.mail_read.specs.lenient.ContentViews.{content_view}
-use Rattle.mail_json.specs.Printed.{list_of, one, text_of}
+use Rattle.mail_json_text.specs.Printed.{list_of, one, text_of}
 use Rattle.mail_json.specs.TextFiles.{files_if, files_in, listed_files}
 use Rattle.mail_json.specs.TextFileViews.{listed_view}
 use Rattle.mail_json.specs.Values.{file_value, files_value}
-use Rattle.mail_json.specs.declared.json_text.Position.TheVariants.{Later}
-use Rattle.mail_json.proofs.lemmas.JsonText.{map_twice}
-use Rattle.mail_json.proofs.lemmas.Members.{adds_as, member}
-use Rattle.mail_json.proofs.lemmas.Written.{writes_as}
+use Rattle.mail_json_text.specs.declared.json_text.Position.TheVariants.{Later}
+use Rattle.mail_json_text.proofs.lemmas.JsonText.{map_twice}
+use Rattle.mail_json_text.proofs.lemmas.Members.{adds_as, member}
+use Rattle.mail_json_text.proofs.lemmas.Written.{writes_as}
 use Rattle.mail_json.proofs.text_files.write_text_files.Goals as goal
 
 pub returns-in_default : goal.returns-in_default

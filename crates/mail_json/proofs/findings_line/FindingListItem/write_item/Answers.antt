@@ -1,6 +1,6 @@
 use Rattle.std.proofs.Common.{refl}
 use Rattle.json.specs.Json.{string}
-use Rattle.mail_json.proofs.lemmas.Members.{◌⨾◌, closed, value_renamed}
+use Rattle.mail_json_text.proofs.lemmas.Members.{◌⨾◌, closed, value_renamed}
 use Rattle.mail_json.proofs.findings_line.FindingListItem.write_item.Goals as goal
 
 pub returns : goal.returns

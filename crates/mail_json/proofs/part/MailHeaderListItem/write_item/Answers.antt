@@ -1,9 +1,9 @@
 use Rattle.std.proofs.Common.{List, ℕ, ap, ap₂, ◌∙◌}
 use Rattle.mail_codec.specs.Latin1.{latin1_text}
 use Rattle.mail_read.specs.lenient.Values.{header_text}
-use Rattle.mail_json.specs.Printed.{text_of}
-use Rattle.mail_json.specs.Values.{pair_value}
-use Rattle.mail_json.proofs.lemmas.Written.{writes_as}
+use Rattle.mail_json_text.specs.Printed.{text_of}
+use Rattle.mail_json_text.specs.Printed.{pair_value}
+use Rattle.mail_json_text.proofs.lemmas.Written.{writes_as}
 use Rattle.mail_json.proofs.part.MailHeaderListItem.write_item.Goals as goal
 
 pub returns : goal.returns

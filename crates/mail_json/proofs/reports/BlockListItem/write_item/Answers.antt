@@ -1,9 +1,9 @@
 use Rattle.std.proofs.Common.{map, ap, ◌∙◌}
 use Rattle.mail_data.specs.ReportViews.{field_view}
-use Rattle.mail_json.specs.Printed.{list_of, text_of}
-use Rattle.mail_json.specs.Values.{pair_value}
-use Rattle.mail_json.proofs.lemmas.JsonText.{map_twice}
-use Rattle.mail_json.proofs.lemmas.Written.{writes_as}
+use Rattle.mail_json_text.specs.Printed.{list_of, text_of}
+use Rattle.mail_json_text.specs.Printed.{pair_value}
+use Rattle.mail_json_text.proofs.lemmas.JsonText.{map_twice}
+use Rattle.mail_json_text.proofs.lemmas.Written.{writes_as}
 use Rattle.mail_json.proofs.reports.BlockListItem.write_item.Goals as goal
 
 pub returns : goal.returns

@@ -1,7 +1,7 @@
 use Rattle.std.proofs.Common.{List, ℕ, ap₂}
-use Rattle.mail_json.specs.Printed.{text_of}
-use Rattle.mail_json.specs.Values.{pair_value}
-use Rattle.mail_json.proofs.lemmas.Written.{writes_as}
+use Rattle.mail_json_text.specs.Printed.{text_of}
+use Rattle.mail_json_text.specs.Printed.{pair_value}
+use Rattle.mail_json_text.proofs.lemmas.Written.{writes_as}
 use Rattle.mail_json.proofs.reports.FieldListItem.write_item.Goals as goal
 
 pub returns : goal.returns

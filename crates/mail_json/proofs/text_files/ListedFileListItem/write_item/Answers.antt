@@ -2,9 +2,9 @@ use Rattle.std.proofs.Common.{Some, length, refl, ap, ◌∙◌}
 use Rattle.json.specs.Json.{string}
 use Rattle.mail_read.specs.lenient.Content.{Content}
 use Rattle.mail_json.specs.Part.{hash_of}
-use Rattle.mail_json.specs.Printed.{string_or_null}
+use Rattle.mail_json_text.specs.Printed.{string_or_null}
 use Rattle.mail_json.specs.Values.{size_members}
-use Rattle.mail_json.proofs.lemmas.Members.{◌⨾◌, closed, renamed, value_renamed}
+use Rattle.mail_json_text.proofs.lemmas.Members.{◌⨾◌, closed, renamed, value_renamed}
 use Rattle.mail_json.proofs.text_files.ListedFileListItem.write_item.Goals as goal
 
 pub returns : goal.returns

@@ -1,0 +1,10 @@
+pub mod JsonText
+pub mod Written
+pub mod Escaped
+pub mod Characters
+pub mod Escapes
+pub mod Texts
+pub mod Plain
+pub mod Objects
+pub mod Members
+pub mod JsonLine

@@ -1,0 +1,5 @@
+pub mod Part
+pub mod Reading
+pub mod DecodedSize
+pub mod DecodedViews
+pub mod Inside

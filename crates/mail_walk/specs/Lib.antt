@@ -1,0 +1,3 @@
+pub mod Offsets
+pub mod Kind
+pub mod Wanted
