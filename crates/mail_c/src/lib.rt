@@ -12,54 +12,43 @@ ghost use Rattle.mail_charsets.specs.All.{all_known};
 ghost use Rattle.mail_charsets.specs.declared.all.AllCharsets as all_charsets;
 ghost use Rattle.mail_data.specs.Mailbox.{front_length};
 ghost use Rattle.mail_data.specs.MailboxFormats.{entries_in};
-ghost use Rattle.mail_c.specs.AddressRecords.{addresses_read};
-ghost use Rattle.mail_c.specs.Buffer.{Ends, EndsBoth, EndsItems, filled, output, written_code};
-ghost use Rattle.mail_c.specs.Codes.{reason};
-ghost use Rattle.mail_c.specs.Findings.{findings_read};
-ghost use Rattle.mail_c.specs.Numbers.{ReturnsDate, ReturnsOffset, ReturnsOffsets, date};
-ghost use Rattle.mail_c.specs.Numbers.{first_offsets, format_named, no_mail_code};
-ghost use Rattle.mail_c.specs.Ranges as read;
-ghost use Rattle.mail_c.specs.Ranges.{EndsDecoded};
-ghost use Rattle.mail_c.specs.Records.{header_block, records};
-ghost use Rattle.mail_c.specs.Recipients.{recipients_read};
-ghost use Rattle.mail_c.specs.Reports.{report};
-ghost use Rattle.mail_c.specs.Strings.{AreTypeStrings, EndsStrings};
-ghost use Rattle.mail_c.specs.Results.{IsJson, content, ids, raw_value, readable};
-ghost use Rattle.mail_c.specs.Results.{text, text_of_html, value};
-ghost use Rattle.mail_c.specs.TextFiles.{files_read};
+ghost use Rattle.mail_c.specs.Json.{IsJson};
+ghost use Rattle.mail_records.specs.AddressRecords.{addresses_read};
+ghost use Rattle.mail_records.specs.Buffer.{Ends, EndsBoth, EndsItems, filled, output, written_code};
+ghost use Rattle.mail_records.specs.Codes.{reason};
+ghost use Rattle.mail_records.specs.Findings.{findings_read};
+ghost use Rattle.mail_records.specs.Numbers.{ReturnsDate, ReturnsOffset, ReturnsOffsets, date};
+ghost use Rattle.mail_records.specs.Numbers.{first_offsets, format_named, no_mail_code};
+ghost use Rattle.mail_records.specs.Ranges as read;
+ghost use Rattle.mail_records.specs.Ranges.{EndsDecoded};
+ghost use Rattle.mail_records.specs.Records.{header_block, records};
+ghost use Rattle.mail_records.specs.Recipients.{recipients_read};
+ghost use Rattle.mail_records.specs.Reports.{report};
+ghost use Rattle.mail_records.specs.Strings.{AreTypeStrings, EndsStrings};
+ghost use Rattle.mail_records.specs.Results.{content, ids, raw_value, readable};
+ghost use Rattle.mail_records.specs.Results.{text, text_of_html, value};
+ghost use Rattle.mail_records.specs.TextFiles.{files_read};
 ghost use Rattle.mail_html.specs.declared.references.References.{References};
 
-mod addresses;
-mod buffer;
-mod codes;
-mod findings;
-mod laws;
-mod lookup;
-mod nameless;
-mod numbers;
-mod places;
-mod ranges;
-mod recipients;
-mod records;
-mod reports;
-mod results;
-mod strings;
-mod text_files;
+mod json;
 
-use addresses::{AddressRecord, write_addresses};
-use buffer::{write_headers, write_items, write_records, write_result};
-use codes::reason;
-use findings::{FindingRecord, write_findings};
 use mail_charsets::AllCharsets;
 use mail_html::References;
+use mail_records::addresses::{AddressRecord, write_addresses};
+use mail_records::buffer::{write_headers, write_items, write_records, write_result};
+use mail_records::codes::reason;
+use mail_records::findings::{FindingRecord, write_findings};
+use mail_records::ranges::write_decoded;
+use mail_records::recipients::{RecipientRecord, write_recipients};
+use mail_records::records::{HeaderRecord, Part};
+use mail_records::reports::{FieldRecord, write_report};
+use mail_records::strings::write_strings;
+use mail_records::text_files::{TextFileRecord, write_text_files};
+use mail_records::{
+    addresses, findings, numbers, ranges, recipients, records, reports, results, strings, text_files,
+};
 use mail_version::VERSION_NUMBER;
-use ranges::write_decoded;
-use recipients::{RecipientRecord, write_recipients};
-use records::{HeaderRecord, Part};
-use reports::{FieldRecord, write_report};
 use std::alloc::Global;
-use strings::write_strings;
-use text_files::{TextFileRecord, write_text_files};
 
 /// Returns the charsets in which mails are read: all those of the Encoding Standard.
 fn charsets() -> AllCharsets {
@@ -373,7 +362,7 @@ pub extern "C" fn rocktray_json(
         Ends buffer.old buffer.new needed.old needed.new result
         (IsJson (all_known all) mail.now) }
 {
-    write_result(buffer, needed, results::json(alloc, mail, &charsets()))
+    write_result(buffer, needed, json::json(alloc, mail, &charsets()))
 }
 
 /// Writes the decoded bytes of the body of a mail or a part.

@@ -1,6 +1,6 @@
 use Rattle.mail_charsets.specs.All.{all_known}
-use Rattle.mail_c.specs.AddressRecords.{addresses_read}
-use Rattle.mail_c.proofs.lemmas.AddressRecords.{ends_addresses}
+use Rattle.mail_records.specs.AddressRecords.{addresses_read}
+use Rattle.mail_records.proofs.lemmas.AddressRecords.{ends_addresses}
 use Rattle.mail_c.proofs.rocktray_addresses.Goals as goal
 
 pub returns : goal.returns

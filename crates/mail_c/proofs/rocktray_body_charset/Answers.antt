@@ -1,8 +1,8 @@
 use Rattle.std.proofs.Common.{◌≡◌, refl}
 use Rattle.mail_charsets.specs.All.{all_known}
-use Rattle.mail_c.specs.Ranges.{body_charset}
-use Rattle.mail_c.specs.Buffer.{Found}
-use Rattle.mail_c.proofs.lemmas.Buffer.{ends, gives}
+use Rattle.mail_records.specs.Ranges.{body_charset}
+use Rattle.mail_records.specs.Buffer.{Found}
+use Rattle.mail_records.proofs.lemmas.Buffer.{ends, gives}
 use Rattle.mail_c.proofs.rocktray_body_charset.Goals as goal
 
 pub returns : goal.returns

@@ -1,4 +1,4 @@
-use Rattle.mail_c.proofs.lemmas.Ranges.{ends_decoded}
+use Rattle.mail_records.proofs.lemmas.Ranges.{ends_decoded}
 use Rattle.mail_c.proofs.rocktray_body_text.Goals as goal
 
 pub returns : goal.returns

@@ -1,6 +1,6 @@
 use Rattle.mail_charsets.specs.All.{all_known}
-use Rattle.mail_c.specs.Findings.{findings_read, records_view}
-use Rattle.mail_c.proofs.lemmas.Records.{ends_both}
+use Rattle.mail_records.specs.Findings.{findings_read, records_view}
+use Rattle.mail_records.proofs.lemmas.Records.{ends_both}
 use Rattle.mail_c.proofs.rocktray_findings.Goals as goal
 
 pub returns : goal.returns

@@ -1,5 +1,5 @@
-use Rattle.mail_c.specs.Records.{header_block}
-use Rattle.mail_c.proofs.lemmas.Records.{ends_items}
+use Rattle.mail_records.specs.Records.{header_block}
+use Rattle.mail_records.proofs.lemmas.Records.{ends_items}
 use Rattle.mail_c.proofs.rocktray_headers.Goals as goal
 
 pub returns : goal.returns

@@ -1,7 +1,7 @@
 use Rattle.std.proofs.Common.{◌≡◌, refl}
-use Rattle.mail_c.specs.Results.{text_of_html}
-use Rattle.mail_c.specs.Buffer.{Found}
-use Rattle.mail_c.proofs.lemmas.Buffer.{ends, gives}
+use Rattle.mail_records.specs.Results.{text_of_html}
+use Rattle.mail_records.specs.Buffer.{Found}
+use Rattle.mail_records.proofs.lemmas.Buffer.{ends, gives}
 use Rattle.mail_c.proofs.rocktray_html_text.Goals as goal
 
 pub returns : goal.returns

@@ -1,6 +1,6 @@
 use Rattle.mail_charsets.specs.All.{all_known}
-use Rattle.mail_c.specs.Results.{IsJson}
-use Rattle.mail_c.proofs.lemmas.Buffer.{ends}
+use Rattle.mail_c.specs.Json.{IsJson}
+use Rattle.mail_records.proofs.lemmas.Buffer.{ends}
 use Rattle.mail_c.proofs.rocktray_json.Goals as goal
 
 pub returns : goal.returns

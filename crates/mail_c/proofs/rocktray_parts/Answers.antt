@@ -1,7 +1,7 @@
 use Rattle.mail_charsets.specs.All.{all_known}
-use Rattle.mail_c.specs.RecordViews.{lists}
-use Rattle.mail_c.specs.Records.{records}
-use Rattle.mail_c.proofs.lemmas.Records.{ends_both}
+use Rattle.mail_records.specs.RecordViews.{lists}
+use Rattle.mail_records.specs.Records.{records}
+use Rattle.mail_records.proofs.lemmas.Records.{ends_both}
 use Rattle.mail_c.proofs.rocktray_parts.Goals as goal
 
 pub returns : goal.returns

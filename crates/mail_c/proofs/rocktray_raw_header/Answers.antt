@@ -1,7 +1,7 @@
 use Rattle.std.proofs.Common.{◌≡◌, refl}
-use Rattle.mail_c.specs.Results.{raw_value}
-use Rattle.mail_c.specs.Buffer.{Found}
-use Rattle.mail_c.proofs.lemmas.Buffer.{ends, gives}
+use Rattle.mail_records.specs.Results.{raw_value}
+use Rattle.mail_records.specs.Buffer.{Found}
+use Rattle.mail_records.proofs.lemmas.Buffer.{ends, gives}
 use Rattle.mail_c.proofs.rocktray_raw_header.Goals as goal
 
 pub returns : goal.returns

@@ -1,6 +1,6 @@
 use Rattle.mail_charsets.specs.All.{all_known}
-use Rattle.mail_c.specs.Reports.{fields_view, report}
-use Rattle.mail_c.proofs.lemmas.Records.{ends_both}
+use Rattle.mail_records.specs.Reports.{fields_view, report}
+use Rattle.mail_records.proofs.lemmas.Records.{ends_both}
 use Rattle.mail_c.proofs.rocktray_report.Goals as goal
 
 pub returns : goal.returns

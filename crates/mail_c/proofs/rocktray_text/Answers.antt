@@ -1,8 +1,8 @@
 use Rattle.std.proofs.Common.{◌≡◌, refl}
 use Rattle.mail_charsets.specs.All.{all_known}
-use Rattle.mail_c.specs.Results.{text}
-use Rattle.mail_c.specs.Buffer.{Found}
-use Rattle.mail_c.proofs.lemmas.Buffer.{ends, gives}
+use Rattle.mail_records.specs.Results.{text}
+use Rattle.mail_records.specs.Buffer.{Found}
+use Rattle.mail_records.proofs.lemmas.Buffer.{ends, gives}
 use Rattle.mail_c.proofs.rocktray_text.Goals as goal
 
 pub returns : goal.returns

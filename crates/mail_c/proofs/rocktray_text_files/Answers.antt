@@ -1,5 +1,5 @@
-use Rattle.mail_c.specs.TextFiles.{files_read}
-use Rattle.mail_c.proofs.lemmas.TextFiles.{ends_files}
+use Rattle.mail_records.specs.TextFiles.{files_read}
+use Rattle.mail_records.proofs.lemmas.TextFiles.{ends_files}
 use Rattle.mail_c.proofs.rocktray_text_files.Goals as goal
 
 pub returns : goal.returns

@@ -1,7 +1,7 @@
 use Rattle.mail_charsets.specs.All.{all_known}
-use Rattle.mail_c.specs.Ranges.{type_of}
-use Rattle.mail_c.specs.Strings.{AreTypeStrings}
-use Rattle.mail_c.proofs.lemmas.Strings.{ends_strings}
+use Rattle.mail_records.specs.Ranges.{type_of}
+use Rattle.mail_records.specs.Strings.{AreTypeStrings}
+use Rattle.mail_records.proofs.lemmas.Strings.{ends_strings}
 use Rattle.mail_c.proofs.rocktray_type.Goals as goal
 
 pub returns : goal.returns

@@ -1,7 +1,7 @@
 use Rattle.std.proofs.Common.{◌≡◌, refl}
-use Rattle.mail_c.specs.Ranges.{unquoted}
-use Rattle.mail_c.specs.Buffer.{Found}
-use Rattle.mail_c.proofs.lemmas.Buffer.{ends, gives}
+use Rattle.mail_records.specs.Ranges.{unquoted}
+use Rattle.mail_records.specs.Buffer.{Found}
+use Rattle.mail_records.proofs.lemmas.Buffer.{ends, gives}
 use Rattle.mail_c.proofs.rocktray_unquoted.Goals as goal
 
 pub returns : goal.returns

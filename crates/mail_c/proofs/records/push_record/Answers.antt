@@ -1,6 +1,0 @@
-use Rattle.mailparse.specs.Views.{tree_of}
-use Rattle.mail_c.proofs.lemmas.OwnHeaders.{own-of}
-use Rattle.mail_c.proofs.records.push_record.Goals as goal
-
-pub push_read_headers-requires : goal.push_read_headers-requires
-push_read_headers-requires g c = own-of _ _ (tree_of c.args.node.now.part.now) c.bytes_of.ensures c.headers_of-read.ensures c.requires

@@ -1,5 +1,0 @@
-use Rattle.std.proofs.Common.{Ok, sym, ap}
-use Rattle.mail_c.proofs.records.tree_records.Goals as goal
-
-pub returns-in-Ok : goal.returns-in-Ok
-returns-in-Ok g c = ap Ok (sym c.in-Ok.ensures)

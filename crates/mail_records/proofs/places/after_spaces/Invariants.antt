@@ -1,0 +1,13 @@
+-- The first byte that is no space is sought from here on.
+use Rattle.std.proofs.Common.{◌≡◌, ◌≤◌, ◌-◌, not, eqb, length}
+use Rattle.mail_codec.specs.Places.{begins, place_from}
+use Rattle.mail_records.proofs.places.after_spaces.Given as goal
+
+abbrev pub invariant-loop-at : goal.invariant-loop-at
+invariant-loop-at l = record {
+  within : l.at ≤ length l.raw;
+  same : place_from (begins (λ b. not (eqb b 32))) l.raw l.at ≡ place_from (begins (λ b. not (eqb b 32))) l.raw l.from;
+}
+
+abbrev pub decreases-loop-at : goal.decreases-loop-at
+decreases-loop-at l = length l.raw - l.at

@@ -1,0 +1,17 @@
+pub mod Codes
+pub mod Buffer
+pub mod Results
+pub mod Numbers
+pub mod OwnHeaders
+pub mod Nameless
+pub mod Records
+pub mod RecordViews
+pub mod Ranges
+pub mod Strings
+pub mod Rows
+pub mod Laws
+pub mod Reports
+pub mod Recipients
+pub mod Findings
+pub mod TextFiles
+pub mod AddressRecords

@@ -1,0 +1,235 @@
+//! Records of the addresses in a header.
+ghost use Rattle.std.specs.Prelude.{◌≡◌, ◌++◌, [], ◌∷◌, List, length, map, IfOk, OnOk};
+ghost use Rattle.mail_address.specs.AddressViews.{element_view, group_view, mailbox_view};
+ghost use Rattle.mail_address.specs.AddressViews.{member_view, unknown_view};
+ghost use Rattle.mail_records.specs.AddressRecords.{AreRecords, Entry, addresses_found, addresses_read};
+ghost use Rattle.mail_records.specs.AddressRecords.{element_entries, entries_from, group_entry};
+ghost use Rattle.mail_records.specs.AddressRecords.{single_entry};
+ghost use Rattle.mail_records.specs.Buffer.{WritesBoth, output};
+
+use crate::buffer::write_both;
+use crate::codes::NO_MEMORY;
+use crate::records::NONE;
+use mail_address::{Address, Group, Mailbox, Member, Unknown, lenient_addresses};
+use mailparse::{KnownCharsets, MailParseError};
+use std::alloc::Global;
+
+/// An element of a list of addresses, as `struct rocktray_address`.
+#[repr(C)]
+#[derive(Clone, Copy)]
+pub struct AddressRecord {
+    /// What it is: 0 for a mailbox, 1 for a group and 2 for text that is neither.
+    pub kind: u64,
+    /// The index of its group, or `NONE`.
+    pub group: u64,
+    /// The start of its name in the strings.
+    pub name_start: u64,
+    /// The end of its name.
+    pub name_end: u64,
+    /// The start of its address in the strings.
+    pub address_start: u64,
+    /// The end of its address.
+    pub address_end: u64,
+}
+
+/// The records of a list of addresses, and their strings.
+#[derive(Drop)]
+pub struct AddressRecords {
+    pub records: Vec<AddressRecord>,
+    pub strings: Vec<u8>,
+}
+
+/// Returns the records of the addresses in a raw value.
+pub fn addresses<K: KnownCharsets>(
+    alloc: Global,
+    raw: &[u8],
+    known: &K,
+) -> Result<AddressRecords, MailParseError>
+    ensures { IfOk result (λ found. (found.records.items, found.strings.items)
+        ≡ addresses_read (K.known known.now) raw.now) }
+{
+    let list = lenient_addresses(alloc, raw)?;
+    let mut found = AddressRecords {
+        records: Vec::with_capacity(alloc, list.len())?,
+        strings: Vec::new(alloc),
+    };
+    push_elements(alloc, &mut found, list.as_slice(), known)?;
+    Ok(found)
+}
+
+/// Appends the records of the elements of a list to none.
+fn push_elements<K: KnownCharsets>(
+    alloc: Global,
+    found: &mut AddressRecords,
+    list: &[Address<'_>],
+    known: &K,
+) -> Result<(), MailParseError>
+    ensures { OnOk result (AreRecords [] found.old →
+        AreRecords (entries_from (K.known known.now) 0 (map element_view list.now)) found.new) }
+{
+    for element in list {
+        push_element(alloc, found, element, known)?;
+    }
+    Ok(())
+}
+
+/// Appends the records of an element.
+fn push_element<K: KnownCharsets>(
+    alloc: Global,
+    found: &mut AddressRecords,
+    element: &Address<'_>,
+    known: &K,
+) -> Result<(), MailParseError>
+    ensures { OnOk result ((entries : List Entry) → AreRecords entries found.old →
+        AreRecords (entries ++ element_entries (K.known known.now) (length entries)
+        (element_view element.now)) found.new) }
+{
+    match element {
+        Address::Mailbox(mailbox) => push_mailbox(alloc, found, mailbox, NONE, known),
+        Address::Group(group) => push_group(alloc, found, group, known),
+        Address::Unknown(unknown) => push_unknown(found, unknown, NONE),
+    }
+}
+
+/// Appends the records of a group and of its members.
+fn push_group<K: KnownCharsets>(
+    alloc: Global,
+    found: &mut AddressRecords,
+    group: &Group<'_>,
+    known: &K,
+) -> Result<(), MailParseError>
+    ensures { OnOk result ((entries : List Entry) → AreRecords entries found.old →
+        AreRecords (entries ++ group_entry (K.known known.now) group.now.display_name.now
+        ∷ map (single_entry (K.known known.now) (length entries))
+        (group_view group.now).members) found.new) }
+{
+    let index = found.records.len() as u64;
+    let name = group.get_shown_name(alloc, known)?;
+    push_entry(found, name.as_bytes(), b"", 1, NONE)?;
+    push_members(alloc, found, group.members.as_slice(), index, known)
+}
+
+/// Appends the records of members of the group with this index.
+fn push_members<K: KnownCharsets>(
+    alloc: Global,
+    found: &mut AddressRecords,
+    members: &[Member<'_>],
+    group: u64,
+    known: &K,
+) -> Result<(), MailParseError>
+    ensures { OnOk result ((entries : List Entry) → AreRecords entries found.old →
+        AreRecords (entries ++ map (single_entry (K.known known.now) group)
+        (map member_view members.now)) found.new) }
+{
+    for member in members {
+        push_member(alloc, found, member, group, known)?;
+    }
+    Ok(())
+}
+
+/// Appends the record of a member of the group with this index.
+fn push_member<K: KnownCharsets>(
+    alloc: Global,
+    found: &mut AddressRecords,
+    member: &Member<'_>,
+    group: u64,
+    known: &K,
+) -> Result<(), MailParseError>
+    ensures { OnOk result ((entries : List Entry) → AreRecords entries found.old →
+        AreRecords (entries ++ single_entry (K.known known.now) group (member_view member.now)
+        ∷ []) found.new) }
+{
+    match member {
+        Member::Mailbox(mailbox) => push_mailbox(alloc, found, mailbox, group, known),
+        Member::Unknown(unknown) => push_unknown(found, unknown, group),
+    }
+}
+
+/// Appends the record of a mailbox in the group with this index, or in none.
+fn push_mailbox<K: KnownCharsets>(
+    alloc: Global,
+    found: &mut AddressRecords,
+    mailbox: &Mailbox<'_>,
+    group: u64,
+    known: &K,
+) -> Result<(), MailParseError>
+    ensures { OnOk result ((entries : List Entry) → AreRecords entries found.old →
+        AreRecords (entries ++ single_entry (K.known known.now) group (mailbox_view mailbox.now)
+        ∷ []) found.new) }
+{
+    let name = mailbox.get_shown_name(alloc, known)?;
+    let address = mailbox.get_address(alloc)?;
+    push_entry(found, name.as_bytes(), address.as_bytes(), 0, group)
+}
+
+/// Appends the record of text that is no address, in the group with this index, or in none.
+fn push_unknown(
+    found: &mut AddressRecords,
+    unknown: &Unknown<'_>,
+    group: u64,
+) -> Result<(), MailParseError>
+    ensures { OnOk result ((entries : List Entry) → AreRecords entries found.old →
+        AreRecords (entries ++ record {
+          kind = 2;
+          group = group;
+          name = [];
+          address = unknown.now.text.now;
+        } ∷ []) found.new) }
+{
+    push_entry(found, b"", unknown.text, 2, group)
+}
+
+/// Appends a record.
+fn push_entry(
+    found: &mut AddressRecords,
+    name: &[u8],
+    address: &[u8],
+    kind: u64,
+    group: u64,
+) -> Result<(), MailParseError>
+    ensures { OnOk result ((entries : List Entry) → AreRecords entries found.old →
+        AreRecords (entries ++ record {
+          kind = kind;
+          group = group;
+          name = name.now;
+          address = address.now;
+        } ∷ []) found.new) }
+{
+    let start = found.strings.len() as u64;
+    found.strings.reserve(name.len() + address.len())?;
+    found.strings.extend_from_slice(name)?;
+    let middle = found.strings.len() as u64;
+    found.strings.extend_from_slice(address)?;
+    let end = found.strings.len() as u64;
+    found.records.push(AddressRecord {
+        kind,
+        group,
+        name_start: start,
+        name_end: middle,
+        address_start: middle,
+        address_end: end,
+    })?;
+    Ok(())
+}
+
+/// Writes records and strings to the front of two buffers if both fit, and the numbers of both.
+/// Returns the code.
+pub fn write_addresses(
+    addresses: &mut [AddressRecord],
+    addresses_needed: &mut usize,
+    buffer: &mut [u8],
+    needed: &mut usize,
+    found: Result<AddressRecords, MailParseError>,
+) -> u32
+    ensures { WritesBoth (output addresses.old addresses.new addresses_needed.old
+        addresses_needed.new) (output buffer.old buffer.new needed.old needed.new) result
+        (addresses_found found) }
+{
+    match found {
+        Ok(found) => {
+            let (firsts, seconds) = (found.records.as_slice(), found.strings.as_slice());
+            write_both(addresses, addresses_needed, buffer, needed, firsts, seconds)
+        }
+        Err(_) => NO_MEMORY,
+    }
+}
