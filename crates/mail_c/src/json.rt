@@ -2,8 +2,8 @@
 ghost use Rattle.mail_c.specs.Json.{IsJson};
 ghost use Rattle.mail_records.specs.Buffer.{Gives};
 
-use mail_read::reading::read_mail;
 use mail_json::{LineOptions, Origin, write_mail};
+use mail_read::reading::read_mail;
 use mail_records::results::NO_LIMIT;
 use mailparse::{KnownCharsets, MailParseError};
 use std::alloc::{AllocError, Global};

@@ -34,16 +34,15 @@ mod json;
 
 use mail_charsets::AllCharsets;
 use mail_html::References;
-use mail_records::addresses::{AddressRecord, write_addresses};
-use mail_records::buffer::{write_headers, write_items, write_records, write_result};
+use mail_records::addresses::AddressRecord;
+use mail_records::buffer::{write_headers, write_items, write_records, write_result, write_rows};
 use mail_records::codes::reason;
-use mail_records::findings::{FindingRecord, write_findings};
+use mail_records::findings::FindingRecord;
 use mail_records::ranges::write_decoded;
-use mail_records::recipients::{RecipientRecord, write_recipients};
+use mail_records::recipients::RecipientRecord;
 use mail_records::records::{HeaderRecord, Part};
-use mail_records::reports::{FieldRecord, write_report};
-use mail_records::strings::write_strings;
-use mail_records::text_files::{TextFileRecord, write_text_files};
+use mail_records::reports::FieldRecord;
+use mail_records::text_files::TextFileRecord;
 use mail_records::{
     addresses, findings, numbers, ranges, recipients, records, reports, results, strings, text_files,
 };
@@ -129,7 +128,7 @@ pub extern "C" fn rocktray_type(
         (AreTypeStrings (read.type_of (all_known all) raw_value.now)) }
 {
     let found = strings::type_strings(alloc, raw_value, &charsets());
-    write_strings(ends, ends_needed, buffer, needed, found)
+    write_rows(ends, ends_needed, buffer, needed, found)
 }
 
 /// Writes the file name of a part, given the raw values of its disposition and its type.
@@ -242,7 +241,7 @@ pub extern "C" fn rocktray_report(
         (report (all_known all) part.now) }
 {
     let found = reports::report(alloc, part, &charsets());
-    write_report(fields, fields_needed, buffer, needed, found)
+    write_rows(fields, fields_needed, buffer, needed, found)
 }
 
 /// Fills the records of the recipients that a mail reports, and writes their strings.
@@ -261,7 +260,7 @@ pub extern "C" fn rocktray_recipients(
         (recipients_read (all_known all) mail.now) }
 {
     let found = recipients::recipients(alloc, mail, &charsets());
-    write_recipients(recipients, recipients_needed, buffer, needed, found)
+    write_rows(recipients, recipients_needed, buffer, needed, found)
 }
 
 /// Fills the records of the findings of a mail, and writes their strings.
@@ -280,7 +279,7 @@ pub extern "C" fn rocktray_findings(
         (findings_read (all_known all) mail.now) }
 {
     let found = findings::findings(alloc, mail, &charsets());
-    write_findings(findings, findings_needed, buffer, needed, found)
+    write_rows(findings, findings_needed, buffer, needed, found)
 }
 
 /// Fills the records of the uuencoded files in a text, and writes their names and bytes.
@@ -298,8 +297,8 @@ pub extern "C" fn rocktray_text_files(
         (output buffer.old buffer.new needed.old needed.new) result
         (Ok (files_read limit text.now)) }
 {
-    let found = text_files::records_in(alloc, text, limit);
-    write_text_files(files, files_needed, buffer, needed, found)
+    let found = text_files::text_file_records(alloc, text, limit);
+    write_rows(files, files_needed, buffer, needed, found)
 }
 
 /// Fills the records of the addresses in a raw value, and writes their strings.
@@ -318,7 +317,7 @@ pub extern "C" fn rocktray_addresses(
         (Ok (addresses_read (all_known all) raw_value.now)) }
 {
     let found = addresses::addresses(alloc, raw_value, &charsets());
-    write_addresses(addresses, addresses_needed, buffer, needed, found)
+    write_rows(addresses, addresses_needed, buffer, needed, found)
 }
 
 /// Writes the id of the mail that a delivery report is about.

@@ -1,16 +1,16 @@
 -- The records of a list of addresses, and their strings; the crate's own form.
-use Rattle.std.specs.Prelude.{◌≡◌, ℕ, ◌+◌, List, [], ◌∷◌, ◌++◌, length, map, flat_map, Option, Some, None, Result, Ok, Err}
+use Rattle.std.specs.Prelude.{ℕ, ◌+◌, List, [], ◌∷◌, ◌++◌, length, map, Option, Some, None}
 use Rattle.mail_codec.specs.Charset.{Charsets}
 use Rattle.mail_address.specs.Addresses.{Element, Single, group, single}
 use Rattle.mail_address.specs.Lenient.{lenient_addresses}
 use Rattle.mail_address.specs.Mailbox.{Parts}
 use Rattle.mail_address.specs.ShownNames.{shown_display_name}
-use Rattle.mail_json.specs.Addresses.{canonical}
-use Rattle.mail_records.specs.Codes.{no_memory}
+use Rattle.mail_address.specs.Text.{address_bytes}
+use Rattle.mailparse.specs.Value.{value_text}
 use Rattle.mail_records.specs.Records.{none}
-use Rattle.mail_records.specs.Rows.{rows_from}
+use Rattle.mail_records.specs.Rows.{AppendsRows, AreRows, listed}
 use Rattle.mail_records.specs.declared.addresses.AddressRecord.{AddressRecord}
-use Rattle.mail_records.specs.declared.addresses.AddressRecords.{AddressRecords}
+use Rattle.mail_records.specs.declared.rows.Rows.{Rows}
 
 -- an element or a member of a group: what it is, the index of its group, its name and its address
 pub record Entry : Type 0 where
@@ -34,28 +34,19 @@ entry_record at entry = record {
 abbrev pub entry_text : Entry → List ℕ
 entry_text entry = entry.name ++ entry.address
 
--- the records of entries whose strings begin at this offset
-abbrev pub records_from : ℕ → List Entry → List AddressRecord
-records_from at entries = rows_from entry_record entry_text at entries
-
--- their strings
-abbrev pub strings_of : List Entry → List ℕ
-strings_of entries = flat_map entry_text entries
-
 -- records are those of these entries
-abbrev pub AreRecords : List Entry → AddressRecords → Type 0
-AreRecords entries found = (found.records.items ≡ records_from 0 entries) × (found.strings.items ≡ strings_of entries)
+abbrev pub AreRecords : List Entry → Rows AddressRecord → Type 0
+AreRecords entries found = AreRows entry_record entry_text entries found
 
--- the records and the strings that were found; without them memory ran out
-abbrev pub addresses_found : {E : Type 0} → Result AddressRecords E → Result (List AddressRecord × List ℕ) ℕ
-addresses_found (Ok found) = Ok (found.records.items, found.strings.items)
-addresses_found (Err e) = Err no_memory
+-- the records of these entries were appended
+abbrev pub AppendsRecords : List Entry → Rows AddressRecord → Rows AddressRecord → Type 0
+AppendsRecords more old new = AppendsRows entry_record entry_text more old new
 
 -- Under the charsets that are known.
 module _ (known : Charsets) where
   -- the entry of a mailbox, or of text that is not one
   abbrev pub found_entry : ℕ → Option Parts → List ℕ → Entry
-  found_entry index (Some parts) text = record { kind = 0; group = index; name = shown_display_name known parts.display_name; address = canonical parts }
+  found_entry index (Some parts) text = record { kind = 0; group = index; name = shown_display_name known parts.display_name; address = value_text (address_bytes parts.local_part parts.domain) }
   found_entry index None text = record { kind = 2; group = index; name = []; address = text }
 
   -- the entry of an element in the group with this index, or in none
@@ -79,6 +70,4 @@ module _ (known : Charsets) where
 
   -- the records and the strings of the addresses in a raw value
   abbrev pub addresses_read : List ℕ → List AddressRecord × List ℕ
-  addresses_read raw =
-      let entries = entries_from 0 (lenient_addresses raw) in
-      (records_from 0 entries, strings_of entries)
+  addresses_read raw = listed entry_record entry_text (entries_from 0 (lenient_addresses raw))

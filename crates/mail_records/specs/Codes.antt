@@ -61,6 +61,11 @@ abbrev pub IsCoded : {X Y : Type 0} → (X → Y) → Result X ℕ → Result Y 
 IsCoded view (Ok x) given = given ≡ Ok (view x)
 IsCoded view (Err code) given = (code ≡ no_memory) ⊎ (given ≡ Err code)
 
+-- the result is right, or memory ran out
+abbrev pub IsOrMemory : {X : Type 0} → (X → Type 0) → Result X ℕ → Type 0
+IsOrMemory Is (Ok x) = Is x
+IsOrMemory Is (Err code) = code ≡ no_memory
+
 -- the code of an error: that of its kind of refusal, or that memory ran out
 abbrev pub error_code : MailParseError → ℕ
 error_code e = option_map_or kind_code (error_kind e) no_memory

@@ -1,5 +1,5 @@
 -- The records of the findings of a mail, and their strings; the crate's own form.
-use Rattle.std.specs.Prelude.{◌≡◌, ℕ, ◌+◌, List, ◌++◌, length, flat_map, Result, Ok, Err}
+use Rattle.std.specs.Prelude.{ℕ, ◌+◌, List, ◌++◌, length, Result, Ok, Err}
 use Rattle.mail_codec.specs.Charset.{Charsets}
 use Rattle.mailparse.specs.Ranges.{Range}
 use Rattle.mail_check.specs.Findings.{Finding}
@@ -9,9 +9,8 @@ use Rattle.mail_check.specs.declared.names.Class.{Class}
 use Rattle.mail_check.specs.declared.names.Class.TheVariants as class
 use Rattle.mail_records.specs.Codes.{coded}
 use Rattle.mail_records.specs.Results.{no_limit}
-use Rattle.mail_records.specs.Rows.{rows_from}
+use Rattle.mail_records.specs.Rows.{listed}
 use Rattle.mail_records.specs.declared.findings.FindingRecord.{FindingRecord}
-use Rattle.mail_records.specs.declared.findings.FindingRecords.{FindingRecords}
 
 -- the number of a class
 abbrev pub class_number : Class → ℕ
@@ -47,22 +46,13 @@ finding_record at finding =
     record_of (class_number finding.class) finding.range at path sentence
     (sentence + length (sentence_of finding.name))
 
--- records are those of these findings
-abbrev pub AreFindings : List Finding → FindingRecords → Type 0
-AreFindings findings found =
-    (found.records.items ≡ rows_from finding_record finding_text 0 findings) × (found.strings.items ≡ flat_map finding_text findings)
-
--- the records and the strings that were found
-abbrev pub records_view : FindingRecords → List FindingRecord × List ℕ
-records_view found = (found.records.items, found.strings.items)
-
 -- the records of findings, and their strings
-abbrev pub listed : List Finding → List FindingRecord × List ℕ
-listed findings = (rows_from finding_record finding_text 0 findings, flat_map finding_text findings)
+abbrev pub findings_listed : List Finding → List FindingRecord × List ℕ
+findings_listed findings = listed finding_record finding_text findings
 
 -- the records of what was found, or the code of the refusal
 abbrev pub found_records : Result (List Finding) ℕ → Result (List FindingRecord × List ℕ) ℕ
-found_records (Ok findings) = Ok (listed findings)
+found_records (Ok findings) = Ok (findings_listed findings)
 found_records (Err code) = Err code
 
 -- the records of the findings of the mail with these bytes, under the charsets that are known, or the code of the refusal

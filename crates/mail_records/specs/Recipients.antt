@@ -1,5 +1,5 @@
 -- The records of the recipients of a delivery report, and their strings; the crate's own form.
-use Rattle.std.specs.Prelude.{◌≡◌, ℕ, ◌+◌, List, [], ◌++◌, length, flat_map, Option, Some, None, Result, Ok, Err}
+use Rattle.std.specs.Prelude.{ℕ, ◌+◌, List, [], ◌++◌, length, Option, Some, None, Result, Ok, Err}
 use Rattle.mail_codec.specs.Charset.{Charsets}
 use Rattle.mailparse.specs.Mail.{Tree}
 use Rattle.mail_data.specs.Bounce as report
@@ -8,9 +8,8 @@ use Rattle.mail_read.specs.Reading.{mail_reading}
 use Rattle.mail_records.specs.Codes.{coded}
 use Rattle.mail_records.specs.Records.{none}
 use Rattle.mail_records.specs.Results.{no_limit}
-use Rattle.mail_records.specs.Rows.{rows_from}
+use Rattle.mail_records.specs.Rows.{listed}
 use Rattle.mail_records.specs.declared.recipients.RecipientRecord.{RecipientRecord}
-use Rattle.mail_records.specs.declared.recipients.RecipientRecords.{RecipientRecords}
 
 -- the range of a text that begins at this offset, and of one that is missing
 abbrev pub range_of : ℕ → Option (List ℕ) → ℕ × ℕ
@@ -56,18 +55,9 @@ delivery_record at d =
     record_of (range_of at d.final_recipient) (range_of original d.original_recipient) (range_of action d.action) (range_of status d.status)
     (range_of (after status d.status) d.diagnostic_code)
 
--- records are those of these recipients
-abbrev pub AreRecipients : List Delivery → RecipientRecords → Type 0
-AreRecipients deliveries found =
-    (found.records.items ≡ rows_from delivery_record delivery_text 0 deliveries) × (found.strings.items ≡ flat_map delivery_text deliveries)
-
--- the records and the strings that were found
-abbrev pub recipients_view : RecipientRecords → List RecipientRecord × List ℕ
-recipients_view found = (found.records.items, found.strings.items)
-
 -- the records of recipients, and their strings
 abbrev pub deliveries_read : List Delivery → List RecipientRecord × List ℕ
-deliveries_read deliveries = (rows_from delivery_record delivery_text 0 deliveries, flat_map delivery_text deliveries)
+deliveries_read deliveries = listed delivery_record delivery_text deliveries
 
 -- Under the charsets that are known.
 module _ (known : Charsets) where

@@ -15,7 +15,7 @@ use Rattle.mail_read.specs.Reading.{mail_placements, mail_reading}
 use Rattle.mail_read.specs.lenient.Dispositions.{lenient_disposition}
 use Rattle.mail_read.specs.lenient.Encoding.{LenientKind, in_uuencode, lenient_body_kind, standard}
 use Rattle.mail_read.specs.lenient.FileNames.{lenient_file_name}
-use Rattle.mail_json.specs.Part.{is_attachment, is_read}
+use Rattle.mail_parts.specs.Part.{is_attachment, is_read}
 use Rattle.mail_records.specs.Codes.{coded, too_many}
 use Rattle.mail_records.specs.declared.records.Part.{Part}
 use Rattle.mail_records.specs.declared.records.HeaderRecord.{HeaderRecord}

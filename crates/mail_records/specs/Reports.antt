@@ -1,14 +1,13 @@
 -- The records of the fields of a report, and their strings; the crate's own form.
-use Rattle.std.specs.Prelude.{◌≡◌, ℕ, suc, ◌+◌, List, [], ◌∷◌, ◌++◌, length, map, flat_map, option_map, ok_or, Result, Ok, Err}
+use Rattle.std.specs.Prelude.{ℕ, suc, ◌+◌, List, [], ◌∷◌, ◌++◌, length, map, option_map, ok_or, Result, Ok, Err}
 use Rattle.mail_codec.specs.Charset.{Charsets}
 use Rattle.mailparse.specs.Mail.{Tree, root}
 use Rattle.mail_read.specs.Reading.{mail_reading}
 use Rattle.mail_data.specs.Reports.{report_blocks}
 use Rattle.mail_records.specs.Codes.{absent, coded}
 use Rattle.mail_records.specs.Results.{no_limit}
-use Rattle.mail_records.specs.Rows.{rows_from}
+use Rattle.mail_records.specs.Rows.{listed}
 use Rattle.mail_records.specs.declared.reports.FieldRecord.{FieldRecord}
-use Rattle.mail_records.specs.declared.reports.FieldRecords.{FieldRecords}
 
 -- a field: the index of its block, its name and its value
 pub record Entry : Type 0 where
@@ -42,20 +41,9 @@ abbrev pub entries_from : ℕ → List (List (List ℕ × List ℕ)) → List En
 entries_from index [] = []
 entries_from index (block ∷ blocks) = block_entries index block ++ entries_from (suc index) blocks
 
--- records are those of these entries
-abbrev pub AreFields : List Entry → FieldRecords → Type 0
-AreFields entries found =
-    (found.records.items ≡ rows_from entry_record entry_text 0 entries) × (found.strings.items ≡ flat_map entry_text entries)
-
--- the records and the strings that were found
-abbrev pub fields_view : FieldRecords → List FieldRecord × List ℕ
-fields_view found = (found.records.items, found.strings.items)
-
 -- the records of the fields of blocks, and their strings
 abbrev pub blocks_read : List (List (List ℕ × List ℕ)) → List FieldRecord × List ℕ
-blocks_read blocks =
-    let entries = entries_from 0 blocks in
-    (rows_from entry_record entry_text 0 entries, flat_map entry_text entries)
+blocks_read blocks = listed entry_record entry_text (entries_from 0 blocks)
 
 -- Under the charsets that are known.
 module _ (known : Charsets) where

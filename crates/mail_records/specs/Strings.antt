@@ -1,27 +1,22 @@
 -- Lists of strings, one after another, with the end of each; and the strings of a type.
-use Rattle.std.specs.Prelude.{◌≡◌, ◌⊎◌, ℕ, ◌+◌, List, [], ◌∷◌, length, flat_map, Result, Ok, Err}
+use Rattle.std.specs.Prelude.{◌≡◌, ◌⊎◌, ℕ, ◌+◌, List, [], ◌∷◌, length, flat_map, Ok}
 use Rattle.mailparse.specs.ContentType.{ContentType}
-use Rattle.mail_json.specs.Part.{Lists}
+use Rattle.mail_parts.specs.Part.{Lists}
 use Rattle.mail_records.specs.Buffer.{IsKept, Output, WritesBoth}
 use Rattle.mail_records.specs.Codes.{no_memory}
-use Rattle.mail_records.specs.declared.strings.Strings.{Strings}
+use Rattle.mail_records.specs.Rows.{listed}
 
--- texts one after another
-abbrev pub joined : List (List ℕ) → List ℕ
-joined texts = flat_map (λ text. text) texts
+-- the offset at which a text ends that begins at this offset
+abbrev pub end_from : ℕ → List ℕ → ℕ
+end_from at text = at + length text
 
--- the offset at which each of them ends, if the first begins at this offset
-abbrev pub ends_from : ℕ → List (List ℕ) → List ℕ
-ends_from at [] = []
-ends_from at (text ∷ texts) = (at + length text) ∷ ends_from (at + length text) texts
+-- a text as the strings have it
+abbrev pub own : List ℕ → List ℕ
+own text = text
 
--- these texts, as two lists of numbers
+-- the end of each text, and the texts one after another
 abbrev pub both_of : List (List ℕ) → List ℕ × List ℕ
-both_of texts = (ends_from 0 texts, joined texts)
-
--- strings are these texts
-abbrev pub AreStrings : List (List ℕ) → Strings → Type 0
-AreStrings texts strings = (strings.ends.items ≡ ends_from 0 texts) × (strings.bytes.items ≡ joined texts)
+both_of texts = listed end_from own texts
 
 -- a parameter: its name and its value
 abbrev pub both : List ℕ × List ℕ → List (List ℕ)
@@ -34,11 +29,6 @@ type_texts ctype pairs = ctype.mimetype ∷ ctype.charset ∷ flat_map both pair
 -- strings are those of a type: its parameters are in the order of their names
 abbrev pub AreTypeStrings : ContentType → List ℕ × List ℕ → Type 0
 AreTypeStrings ctype found = (pairs : List (List ℕ × List ℕ)) × Lists ctype.params pairs × (found ≡ both_of (type_texts ctype pairs))
-
--- the two lists of strings; without strings memory ran out
-abbrev pub strings_found : {E : Type 0} → Result Strings E → Result (List ℕ × List ℕ) ℕ
-strings_found (Ok strings) = Ok (strings.ends.items, strings.bytes.items)
-strings_found (Err e) = Err no_memory
 
 -- strings that are right were written, or memory ran out and all is unchanged
 abbrev pub EndsStrings : Output ℕ → Output ℕ → ℕ → (List ℕ × List ℕ → Type 0) → Type 0

@@ -1,15 +1,16 @@
 //! Records of the addresses in a header.
-ghost use Rattle.std.specs.Prelude.{◌≡◌, ◌++◌, [], ◌∷◌, List, length, map, IfOk, OnOk};
+ghost use Rattle.std.specs.Prelude.{◌≡◌, ◌++◌, [], ◌∷◌, List, Ok, length, map, IfOk, OnOk};
 ghost use Rattle.mail_address.specs.AddressViews.{element_view, group_view, mailbox_view};
 ghost use Rattle.mail_address.specs.AddressViews.{member_view, unknown_view};
-ghost use Rattle.mail_records.specs.AddressRecords.{AreRecords, Entry, addresses_found, addresses_read};
+ghost use Rattle.mail_records.specs.AddressRecords.{AppendsRecords, AreRecords, Entry, addresses_read};
 ghost use Rattle.mail_records.specs.AddressRecords.{element_entries, entries_from, group_entry};
 ghost use Rattle.mail_records.specs.AddressRecords.{single_entry};
-ghost use Rattle.mail_records.specs.Buffer.{WritesBoth, output};
+ghost use Rattle.mail_records.specs.Codes.{IsCoded};
+ghost use Rattle.mail_records.specs.Rows.{rows_view};
 
-use crate::buffer::write_both;
 use crate::codes::NO_MEMORY;
 use crate::records::NONE;
+use crate::rows::Rows;
 use mail_address::{Address, Group, Mailbox, Member, Unknown, lenient_addresses};
 use mailparse::{KnownCharsets, MailParseError};
 use std::alloc::Global;
@@ -32,24 +33,45 @@ pub struct AddressRecord {
     pub address_end: u64,
 }
 
-/// The records of a list of addresses, and their strings.
-#[derive(Drop)]
-pub struct AddressRecords {
-    pub records: Vec<AddressRecord>,
-    pub strings: Vec<u8>,
-}
-
-/// Returns the records of the addresses in a raw value.
+/// Returns the records of the addresses in a raw value, or `NO_MEMORY`.
+///
+/// # Errors
+///
+/// `NO_MEMORY` if it runs out of memory.
+///
+/// # Examples
+///
+/// ```rust
+/// use mail_records::addresses::addresses;
+///
+/// let found = addresses(alloc, b"Ann <ann@example.org>", &())?;
+/// assert_eq!(rt; found.strings.as_slice(), b"Annann@example.org".as_slice());
+/// assert_eq!(rt; found.records[0].name_end, 3);
+/// ```
 pub fn addresses<K: KnownCharsets>(
     alloc: Global,
     raw: &[u8],
     known: &K,
-) -> Result<AddressRecords, MailParseError>
-    ensures { IfOk result (λ found. (found.records.items, found.strings.items)
-        ≡ addresses_read (K.known known.now) raw.now) }
+) -> Result<Rows<AddressRecord>, u32>
+    ensures { IsCoded rows_view result (Ok (addresses_read (K.known known.now) raw.now)) }
+{
+    match records_in(alloc, raw, known) {
+        Ok(found) => Ok(found),
+        Err(_) => Err(NO_MEMORY),
+    }
+}
+
+/// Returns the records of the addresses in a raw value.
+fn records_in<K: KnownCharsets>(
+    alloc: Global,
+    raw: &[u8],
+    known: &K,
+) -> Result<Rows<AddressRecord>, MailParseError>
+    ensures { IfOk result (λ found.
+        rows_view found ≡ addresses_read (K.known known.now) raw.now) }
 {
     let list = lenient_addresses(alloc, raw)?;
-    let mut found = AddressRecords {
+    let mut found = Rows {
         records: Vec::with_capacity(alloc, list.len())?,
         strings: Vec::new(alloc),
     };
@@ -60,7 +82,7 @@ pub fn addresses<K: KnownCharsets>(
 /// Appends the records of the elements of a list to none.
 fn push_elements<K: KnownCharsets>(
     alloc: Global,
-    found: &mut AddressRecords,
+    found: &mut Rows<AddressRecord>,
     list: &[Address<'_>],
     known: &K,
 ) -> Result<(), MailParseError>
@@ -76,7 +98,7 @@ fn push_elements<K: KnownCharsets>(
 /// Appends the records of an element.
 fn push_element<K: KnownCharsets>(
     alloc: Global,
-    found: &mut AddressRecords,
+    found: &mut Rows<AddressRecord>,
     element: &Address<'_>,
     known: &K,
 ) -> Result<(), MailParseError>
@@ -94,7 +116,7 @@ fn push_element<K: KnownCharsets>(
 /// Appends the records of a group and of its members.
 fn push_group<K: KnownCharsets>(
     alloc: Global,
-    found: &mut AddressRecords,
+    found: &mut Rows<AddressRecord>,
     group: &Group<'_>,
     known: &K,
 ) -> Result<(), MailParseError>
@@ -112,14 +134,13 @@ fn push_group<K: KnownCharsets>(
 /// Appends the records of members of the group with this index.
 fn push_members<K: KnownCharsets>(
     alloc: Global,
-    found: &mut AddressRecords,
+    found: &mut Rows<AddressRecord>,
     members: &[Member<'_>],
     group: u64,
     known: &K,
 ) -> Result<(), MailParseError>
-    ensures { OnOk result ((entries : List Entry) → AreRecords entries found.old →
-        AreRecords (entries ++ map (single_entry (K.known known.now) group)
-        (map member_view members.now)) found.new) }
+    ensures { OnOk result (AppendsRecords (map (single_entry (K.known known.now) group)
+        (map member_view members.now)) found.old found.new) }
 {
     for member in members {
         push_member(alloc, found, member, group, known)?;
@@ -130,14 +151,13 @@ fn push_members<K: KnownCharsets>(
 /// Appends the record of a member of the group with this index.
 fn push_member<K: KnownCharsets>(
     alloc: Global,
-    found: &mut AddressRecords,
+    found: &mut Rows<AddressRecord>,
     member: &Member<'_>,
     group: u64,
     known: &K,
 ) -> Result<(), MailParseError>
-    ensures { OnOk result ((entries : List Entry) → AreRecords entries found.old →
-        AreRecords (entries ++ single_entry (K.known known.now) group (member_view member.now)
-        ∷ []) found.new) }
+    ensures { OnOk result (AppendsRecords (single_entry (K.known known.now) group
+        (member_view member.now) ∷ []) found.old found.new) }
 {
     match member {
         Member::Mailbox(mailbox) => push_mailbox(alloc, found, mailbox, group, known),
@@ -148,14 +168,13 @@ fn push_member<K: KnownCharsets>(
 /// Appends the record of a mailbox in the group with this index, or in none.
 fn push_mailbox<K: KnownCharsets>(
     alloc: Global,
-    found: &mut AddressRecords,
+    found: &mut Rows<AddressRecord>,
     mailbox: &Mailbox<'_>,
     group: u64,
     known: &K,
 ) -> Result<(), MailParseError>
-    ensures { OnOk result ((entries : List Entry) → AreRecords entries found.old →
-        AreRecords (entries ++ single_entry (K.known known.now) group (mailbox_view mailbox.now)
-        ∷ []) found.new) }
+    ensures { OnOk result (AppendsRecords (single_entry (K.known known.now) group
+        (mailbox_view mailbox.now) ∷ []) found.old found.new) }
 {
     let name = mailbox.get_shown_name(alloc, known)?;
     let address = mailbox.get_address(alloc)?;
@@ -164,36 +183,34 @@ fn push_mailbox<K: KnownCharsets>(
 
 /// Appends the record of text that is no address, in the group with this index, or in none.
 fn push_unknown(
-    found: &mut AddressRecords,
+    found: &mut Rows<AddressRecord>,
     unknown: &Unknown<'_>,
     group: u64,
 ) -> Result<(), MailParseError>
-    ensures { OnOk result ((entries : List Entry) → AreRecords entries found.old →
-        AreRecords (entries ++ record {
+    ensures { OnOk result (AppendsRecords (record {
           kind = 2;
           group = group;
           name = [];
           address = unknown.now.text.now;
-        } ∷ []) found.new) }
+        } ∷ []) found.old found.new) }
 {
     push_entry(found, b"", unknown.text, 2, group)
 }
 
 /// Appends a record.
 fn push_entry(
-    found: &mut AddressRecords,
+    found: &mut Rows<AddressRecord>,
     name: &[u8],
     address: &[u8],
     kind: u64,
     group: u64,
 ) -> Result<(), MailParseError>
-    ensures { OnOk result ((entries : List Entry) → AreRecords entries found.old →
-        AreRecords (entries ++ record {
+    ensures { OnOk result (AppendsRecords (record {
           kind = kind;
           group = group;
           name = name.now;
           address = address.now;
-        } ∷ []) found.new) }
+        } ∷ []) found.old found.new) }
 {
     let start = found.strings.len() as u64;
     found.strings.reserve(name.len() + address.len())?;
@@ -210,26 +227,4 @@ fn push_entry(
         address_end: end,
     })?;
     Ok(())
-}
-
-/// Writes records and strings to the front of two buffers if both fit, and the numbers of both.
-/// Returns the code.
-pub fn write_addresses(
-    addresses: &mut [AddressRecord],
-    addresses_needed: &mut usize,
-    buffer: &mut [u8],
-    needed: &mut usize,
-    found: Result<AddressRecords, MailParseError>,
-) -> u32
-    ensures { WritesBoth (output addresses.old addresses.new addresses_needed.old
-        addresses_needed.new) (output buffer.old buffer.new needed.old needed.new) result
-        (addresses_found found) }
-{
-    match found {
-        Ok(found) => {
-            let (firsts, seconds) = (found.records.as_slice(), found.strings.as_slice());
-            write_both(addresses, addresses_needed, buffer, needed, firsts, seconds)
-        }
-        Err(_) => NO_MEMORY,
-    }
 }

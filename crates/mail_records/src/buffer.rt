@@ -1,14 +1,29 @@
 //! Writing results to the output buffer.
 ghost use Rattle.std.specs.Prelude.{◌≡◌, length, Ok};
 ghost use Rattle.mail_records.specs.Buffer.{WritesBoth, WritesItems, WritesResult, filled, output};
-ghost use Rattle.mail_records.specs.Buffer.{written_code};
+ghost use Rattle.mail_records.specs.Buffer.{seen, written_code};
 ghost use Rattle.mail_records.specs.RecordViews.{items_found, lists_found};
+ghost use Rattle.mail_records.specs.Rows.{rows_view};
 
 use crate::codes::{ABSENT, DONE, TOO_SHORT, code_of};
 use crate::records::{HeaderRecord, Part, Records};
+use crate::rows::Rows;
 use mailparse::MailParseError;
 
 /// Writes a result to the front of the buffer and its length to `needed`. Returns the code.
+///
+/// # Examples
+///
+/// ```rust
+/// use mail_records::buffer::write_result;
+/// use mail_records::codes::DONE;
+/// use mail_records::ranges::value;
+///
+/// let mut buffer = [0; 5];
+/// let mut needed = 0;
+/// assert_eq!(rt; write_result(&mut buffer, &mut needed, value(alloc, b"Hi", &())), DONE);
+/// assert!(rt; buffer.starts_with(b"Hi") && needed == 2);
+/// ```
 pub fn write_result(
     buffer: &mut [u8],
     needed: &mut usize,
@@ -25,6 +40,18 @@ pub fn write_result(
 
 /// Writes items to the front of the buffer if they fit, and their number to `needed`. Returns the
 /// code.
+///
+/// # Examples
+///
+/// ```rust
+/// use mail_records::buffer::write_items;
+/// use mail_records::codes::TOO_SHORT;
+///
+/// let mut buffer = [0; 2];
+/// let mut needed = 0;
+/// assert_eq!(rt; write_items(&mut buffer, &mut needed, b"Hi!"), TOO_SHORT);
+/// assert!(rt; buffer == [0; 2] && needed == 3);
+/// ```
 pub fn write_items<T: Copy>(buffer: &mut [T], needed: &mut usize, items: &[T]) -> u32
     ensures code { result ≡ written_code buffer.old items.now }
     ensures written { buffer.new ≡ filled buffer.old items.now }
@@ -40,6 +67,18 @@ pub fn write_items<T: Copy>(buffer: &mut [T], needed: &mut usize, items: &[T]) -
 
 /// Writes the records of headers to the front of the buffer if they fit, and their number to
 /// `needed`. Returns the code.
+///
+/// # Examples
+///
+/// ```rust
+/// use mail_records::buffer::write_headers;
+/// use mail_records::codes::TOO_SHORT;
+/// use mail_records::records::headers;
+///
+/// let mut needed = 0;
+/// let code = write_headers(&mut [], &mut needed, headers(alloc, b"A: 1\nB: 2\n\n", 9));
+/// assert!(rt; code == TOO_SHORT && needed == 2);
+/// ```
 pub fn write_headers(
     buffer: &mut [HeaderRecord],
     needed: &mut usize,
@@ -56,6 +95,19 @@ pub fn write_headers(
 
 /// Writes the records of a mail to the front of two buffers if both fit, and their numbers to
 /// `parts_needed` and `headers_needed`. Returns the code.
+///
+/// # Examples
+///
+/// ```rust
+/// use mail_records::buffer::write_records;
+/// use mail_records::codes::TOO_SHORT;
+/// use mail_records::records::mail_records;
+///
+/// let (mut parts, mut headers) = (0, 0);
+/// let found = mail_records(alloc, b"A: 1\nB: 2\n\n", 9, &());
+/// let code = write_records(&mut [], &mut parts, &mut [], &mut headers, found);
+/// assert!(rt; code == TOO_SHORT && parts == 1 && headers == 2);
+/// ```
 pub fn write_records(
     parts: &mut [Part],
     parts_needed: &mut usize,
@@ -83,9 +135,43 @@ pub fn write_records(
     }
 }
 
+/// Writes records and strings to the front of two buffers if both fit, and the numbers of both.
+/// Returns the code.
+///
+/// # Examples
+///
+/// ```rust
+/// use mail_records::addresses::addresses;
+/// use mail_records::buffer::write_rows;
+/// use mail_records::codes::TOO_SHORT;
+///
+/// let (mut records, mut strings) = (0, 0);
+/// let found = addresses(alloc, b"ann@example.org", &());
+/// let code = write_rows(&mut [], &mut records, &mut [], &mut strings, found);
+/// assert!(rt; code == TOO_SHORT && records == 1 && strings == 15);
+/// ```
+pub fn write_rows<R: Copy>(
+    records: &mut [R],
+    records_needed: &mut usize,
+    buffer: &mut [u8],
+    needed: &mut usize,
+    found: Result<Rows<R>, u32>,
+) -> u32
+    ensures { WritesBoth (output records.old records.new records_needed.old records_needed.new)
+        (output buffer.old buffer.new needed.old needed.new) result (seen rows_view found) }
+{
+    match found {
+        Ok(found) => {
+            let (firsts, seconds) = (found.records.as_slice(), found.strings.as_slice());
+            write_both(records, records_needed, buffer, needed, firsts, seconds)
+        }
+        Err(code) => code,
+    }
+}
+
 /// Writes two lists of items to the front of two buffers if both fit, and their numbers to
 /// `first_needed` and `second_needed`. Returns the code.
-pub fn write_both<A: Copy, B: Copy>(
+fn write_both<A: Copy, B: Copy>(
     first: &mut [A],
     first_needed: &mut usize,
     second: &mut [B],

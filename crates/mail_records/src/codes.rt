@@ -1,4 +1,4 @@
-//! The codes that the exported calls return; `rocktray.h` names them.
+//! The codes that the calls of the C library return; `rocktray.h` names them.
 ghost use Rattle.std.specs.Prelude.{◌≡◌};
 ghost use Rattle.mail_records.specs.Codes.{date_code, error_code, kind_code, reason};
 
@@ -32,7 +32,7 @@ pub const NO_MAILBOX: u32 = 23;
 
 /// Returns the code of an error: that of its kind of refusal, or `NO_MEMORY` if it is not a
 /// refusal.
-pub fn code_of(error: &MailParseError) -> u32
+pub(crate) fn code_of(error: &MailParseError) -> u32
     ensures { result ≡ error_code error.now }
 {
     match error.refusal() {
@@ -57,7 +57,7 @@ fn code_of_kind(kind: RefusalKind) -> u32
 }
 
 /// Returns the code for what is missing or wrong in a date.
-pub fn code_of_date(error: DateError) -> u32
+pub(crate) fn code_of_date(error: DateError) -> u32
     ensures { result ≡ date_code error }
 {
     match error {
@@ -71,6 +71,15 @@ pub fn code_of_date(error: DateError) -> u32
 }
 
 /// Returns the text of a code.
+///
+/// # Examples
+///
+/// ```rust
+/// use mail_records::codes::TOO_SHORT;
+/// use mail_records::codes::reason;
+///
+/// assert_eq!(rt; reason(TOO_SHORT), "the buffer is too short");
+/// ```
 pub fn reason(code: u32) -> &'static str
     ensures { result.now ≡ reason code }
 {

@@ -1,15 +1,14 @@
 //! Records of the findings of a mail.
-ghost use Rattle.std.specs.Prelude.{◌≡◌, ◌++◌, [], ◌∷◌, List, map, IfOk, OnOk};
-ghost use Rattle.mail_check.specs.Findings as words;
+ghost use Rattle.std.specs.Prelude.{◌≡◌, [], ◌∷◌, map, IfOk, OnOk};
 ghost use Rattle.mail_check.specs.FindingViews.{finding_view};
-ghost use Rattle.mail_records.specs.Buffer.{WritesBoth, output, seen};
 ghost use Rattle.mail_records.specs.Codes.{IsCoded};
-ghost use Rattle.mail_records.specs.Findings.{AreFindings, class_number, findings_read, listed};
-ghost use Rattle.mail_records.specs.Findings.{records_view};
+ghost use Rattle.mail_records.specs.Findings.{class_number, finding_record, finding_text};
+ghost use Rattle.mail_records.specs.Findings.{findings_listed, findings_read};
+ghost use Rattle.mail_records.specs.Rows.{AppendsRows, ListsRows, rows_view};
 
-use crate::buffer::write_both;
 use crate::codes::{NO_MEMORY, code_of};
 use crate::results::NO_LIMIT;
+use crate::rows::Rows;
 use mail_check::{Class, Finding, read_findings};
 use mailparse::KnownCharsets;
 use std::alloc::{AllocError, Global};
@@ -38,20 +37,26 @@ pub struct FindingRecord {
     pub sentence_end: u64,
 }
 
-/// The records of findings, and their strings.
-#[derive(Drop)]
-pub struct FindingRecords {
-    pub records: Vec<FindingRecord>,
-    pub strings: Vec<u8>,
-}
-
 /// Returns the records of the findings of a mail, or the code of its refusal.
+///
+/// # Errors
+///
+/// The code of the refusal, or `NO_MEMORY`.
+///
+/// # Examples
+///
+/// ```rust
+/// use mail_records::findings::findings;
+///
+/// let found = findings(alloc, b"A: 1\r\n\r\n", &())?;
+/// assert_eq!(rt; found.records.len(), 0);
+/// ```
 pub fn findings<K: KnownCharsets>(
     alloc: Global,
     raw: &[u8],
     known: &K,
-) -> Result<FindingRecords, u32>
-    ensures { IsCoded records_view result (findings_read (K.known known.now) raw.now) }
+) -> Result<Rows<FindingRecord>, u32>
+    ensures { IsCoded rows_view result (findings_read (K.known known.now) raw.now) }
 {
     let found = match read_findings(alloc, raw, NO_LIMIT, known) {
         Ok(found) => found,
@@ -64,11 +69,11 @@ pub fn findings<K: KnownCharsets>(
 }
 
 /// Returns the records of findings.
-fn records_of(alloc: Global, findings: &[Finding]) -> Result<FindingRecords, AllocError>
+fn records_of(alloc: Global, findings: &[Finding]) -> Result<Rows<FindingRecord>, AllocError>
     ensures { IfOk result (λ found.
-        records_view found ≡ listed (map finding_view findings.now)) }
+        rows_view found ≡ findings_listed (map finding_view findings.now)) }
 {
-    let mut found = FindingRecords {
+    let mut found = Rows {
         records: Vec::with_capacity(alloc, findings.len())?,
         strings: Vec::new(alloc),
     };
@@ -76,10 +81,11 @@ fn records_of(alloc: Global, findings: &[Finding]) -> Result<FindingRecords, All
     Ok(found)
 }
 
-/// Appends the records of findings, if there are none yet.
-fn push_findings(found: &mut FindingRecords, findings: &[Finding]) -> Result<(), AllocError>
-    ensures { OnOk result (AreFindings [] found.old →
-        AreFindings (map finding_view findings.now) found.new) }
+/// Appends the records of findings.
+fn push_findings(found: &mut Rows<FindingRecord>, findings: &[Finding]) -> Result<(), AllocError>
+    ensures { OnOk result
+        (ListsRows finding_record finding_text (map finding_view findings.now)
+        found.old found.new) }
 {
     for finding in findings {
         push_finding(found, finding)?;
@@ -88,9 +94,9 @@ fn push_findings(found: &mut FindingRecords, findings: &[Finding]) -> Result<(),
 }
 
 /// Appends the record of a finding.
-fn push_finding(found: &mut FindingRecords, finding: &Finding) -> Result<(), AllocError>
-    ensures { OnOk result ((findings : List words.Finding) → AreFindings findings found.old →
-        AreFindings (findings ++ finding_view finding.now ∷ []) found.new) }
+fn push_finding(found: &mut Rows<FindingRecord>, finding: &Finding) -> Result<(), AllocError>
+    ensures { OnOk result (AppendsRows finding_record finding_text
+        (finding_view finding.now ∷ []) found.old found.new) }
 {
     let name = found.strings.len() as u64;
     found
@@ -126,27 +132,5 @@ fn class_number(class: Class) -> u64
         Class::Name => 2,
         Class::Text => 3,
         Class::Note => 4,
-    }
-}
-
-/// Writes records and strings to the front of two buffers if both fit, and the numbers of both.
-/// Returns the code.
-pub fn write_findings(
-    findings: &mut [FindingRecord],
-    findings_needed: &mut usize,
-    buffer: &mut [u8],
-    needed: &mut usize,
-    found: Result<FindingRecords, u32>,
-) -> u32
-    ensures { WritesBoth (output findings.old findings.new findings_needed.old
-        findings_needed.new) (output buffer.old buffer.new needed.old needed.new) result
-        (seen records_view found) }
-{
-    match found {
-        Ok(found) => {
-            let (firsts, seconds) = (found.records.as_slice(), found.strings.as_slice());
-            write_both(findings, findings_needed, buffer, needed, firsts, seconds)
-        }
-        Err(code) => code,
     }
 }

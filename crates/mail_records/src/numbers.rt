@@ -7,10 +7,22 @@ ghost use Rattle.mail_records.specs.Numbers.{first_offsets, format_named, no_mai
 
 use crate::codes::{ABSENT, DONE, NO_MAILBOX, NOT_UTF8, code_of_date};
 use crate::results::text_in;
-use mail_read::lenient::date_and_offset_of;
 use mail_data::mailbox::{Format, read_mailbox};
+use mail_read::lenient::date_and_offset_of;
 
 /// Reads the value of a Date header. Returns `DONE`, or the code of its refusal.
+///
+/// # Examples
+///
+/// ```rust
+/// use mail_records::codes::DONE;
+/// use mail_records::numbers::date;
+///
+/// let (mut seconds, mut is_zone_known) = (0, 0);
+/// let text = b"1 Jan 1970 00:00:05 +0000";
+/// assert_eq!(rt; date(&mut seconds, &mut is_zone_known, text), DONE);
+/// assert!(rt; seconds == 5 && is_zone_known == 1);
+/// ```
 pub fn date(seconds: &mut i64, is_zone_known: &mut u8, text: &[u8]) -> u32
     ensures { ReturnsDate (date text.now) seconds.old seconds.new is_zone_known.new result }
 {
@@ -20,6 +32,17 @@ pub fn date(seconds: &mut i64, is_zone_known: &mut u8, text: &[u8]) -> u32
 
 /// Reads the value of a Date header, with the offset of its zone, 0 if that is not known. Returns
 /// `DONE`, or the code of its refusal.
+///
+/// # Examples
+///
+/// ```rust
+/// use mail_records::numbers::date_and_offset;
+///
+/// let (mut seconds, mut offset, mut is_zone_known) = (0, 0, 0);
+/// let text = b"1 Jan 1970 01:00:05 +0100";
+/// date_and_offset(&mut seconds, &mut offset, &mut is_zone_known, text);
+/// assert!(rt; seconds == 5 && offset == 3600 && is_zone_known == 1);
+/// ```
 pub fn date_and_offset(
     seconds: &mut i64,
     offset: &mut i64,
@@ -60,6 +83,18 @@ fn dated(text: &[u8]) -> Result<(i64, Option<i64>), u32>
 /// Finds the first mail of a mailbox: the offsets at which it begins and ends, and that of the next
 /// separator. Returns `DONE`; `ABSENT` if there are no bytes, and `NO_MAILBOX` if they have no
 /// separator.
+///
+/// # Examples
+///
+/// ```rust
+/// use mail_records::codes::DONE;
+/// use mail_records::numbers::next_mail;
+///
+/// let (mut start, mut end, mut next) = (0, 0, 0);
+/// let mailbox = b"From a Fri Jul  8 12:08:34 2011\nA: 1\n\n";
+/// assert_eq!(rt; next_mail(&mut start, &mut end, &mut next, mailbox, false), DONE);
+/// assert!(rt; start == 32 && next == 38);
+/// ```
 pub fn next_mail(
     start: &mut usize,
     end: &mut usize,

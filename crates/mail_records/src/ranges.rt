@@ -15,17 +15,30 @@ use crate::codes::NO_MEMORY;
 use crate::nameless::is_nameless;
 use crate::results::{NO_LIMIT, text_in};
 use mail_data::bounce::original_message_id;
+use mail_data::mailbox::quoted;
 use mail_read::files::safe_file_name;
 use mail_read::lenient::{
     LenientBody, charset_used, lenient_content, lenient_header_text, lenient_named_file,
     lenient_text, lenient_type,
 };
-use mail_data::mailbox::quoted;
 use mail_read::reading::read_mail;
 use mailparse::{KnownCharsets, MailParseError, ParsedContentType};
 use std::alloc::{AllocError, Global};
 
 /// Returns the text of a header, given its raw value.
+///
+/// # Errors
+///
+/// `MailParseError::Memory` if it runs out of memory.
+///
+/// # Examples
+///
+/// ```rust
+/// use mail_records::ranges::value;
+///
+/// let text = value(alloc, b"=?UTF-8?Q?caf=C3=A9?=", &())?;
+/// assert_eq!(rt; text.as_deref(), Some("café".as_bytes()));
+/// ```
 #[tactic(auto, unfolding(crate::specs::Ranges::value))]
 pub fn value<K: KnownCharsets>(
     alloc: Global,
@@ -39,7 +52,7 @@ pub fn value<K: KnownCharsets>(
 }
 
 /// Returns the type in a raw value, read leniently.
-pub fn type_of<K: KnownCharsets>(
+pub(crate) fn type_of<K: KnownCharsets>(
     alloc: Global,
     raw: &[u8],
     known: &K,
@@ -51,6 +64,19 @@ pub fn type_of<K: KnownCharsets>(
 }
 
 /// Returns the file name in the raw values of a disposition and of a type.
+///
+/// # Errors
+///
+/// `MailParseError::Memory` if it runs out of memory.
+///
+/// # Examples
+///
+/// ```rust
+/// use mail_records::ranges::file_name;
+///
+/// let name = file_name(alloc, b"attachment; filename=a.txt", b"", &())?;
+/// assert_eq!(rt; name.as_deref(), Some(b"a.txt".as_slice()));
+/// ```
 #[tactic(auto, unfolding(crate::specs::Ranges::file_name))]
 pub fn file_name<K: KnownCharsets>(
     alloc: Global,
@@ -71,6 +97,20 @@ pub fn file_name<K: KnownCharsets>(
 }
 
 /// Returns a name that is safe in any directory.
+///
+/// # Errors
+///
+/// `MailParseError::EncodingError` if the bytes are not UTF-8, and `MailParseError::Memory` if it
+/// runs out of memory.
+///
+/// # Examples
+///
+/// ```rust
+/// use mail_records::ranges::safe_name;
+///
+/// let name = safe_name(alloc, b"a/b.txt")?;
+/// assert_eq!(rt; name.as_deref(), Some(b"b.txt".as_slice()));
+/// ```
 #[tactic(auto, unfolding(crate::specs::Ranges::safe_name))]
 pub fn safe_name(alloc: Global, name: &[u8]) -> Result<Option<Vec<u8>>, MailParseError>
     ensures { AnswersOrMemory bytes_found result (safe_name name.now) }
@@ -81,6 +121,19 @@ pub fn safe_name(alloc: Global, name: &[u8]) -> Result<Option<Vec<u8>>, MailPars
 }
 
 /// Returns a mail of a mailbox in the format mboxrd as it was before it was quoted.
+///
+/// # Errors
+///
+/// `MailParseError::Memory` if it runs out of memory.
+///
+/// # Examples
+///
+/// ```rust
+/// use mail_records::ranges::unquoted;
+///
+/// let mail = unquoted(alloc, b"A: 1\n\n>From here\n")?;
+/// assert_eq!(rt; mail.as_deref(), Some(b"A: 1\n\nFrom here\n".as_slice()));
+/// ```
 #[tactic(auto, unfolding(crate::specs::Ranges::unquoted))]
 pub fn unquoted(alloc: Global, mail: &[u8]) -> Result<Option<Vec<u8>>, MailParseError>
     ensures { AnswersOrMemory bytes_found result (unquoted mail.now) }
@@ -90,6 +143,18 @@ pub fn unquoted(alloc: Global, mail: &[u8]) -> Result<Option<Vec<u8>>, MailParse
 }
 
 /// Returns the id of the mail that a delivery report is about.
+///
+/// # Errors
+///
+/// The refusal of the mail, and `MailParseError::Memory` if it runs out of memory.
+///
+/// # Examples
+///
+/// ```rust
+/// use mail_records::ranges::bounced_id;
+///
+/// assert!(rt; bounced_id(alloc, b"A: 1\n\nHello\n", &())?.is_none());
+/// ```
 #[tactic(auto, unfolding(crate::specs::Ranges::bounced_id))]
 pub fn bounced_id<K: KnownCharsets>(
     alloc: Global,
@@ -108,11 +173,27 @@ pub fn bounced_id<K: KnownCharsets>(
 /// The decoded bytes of a body, or its text, and whether the body is damaged.
 #[derive(Drop)]
 pub struct Decoded {
+    /// The bytes.
     pub bytes: Vec<u8>,
+    /// Whether the body is damaged.
     pub is_damaged: bool,
 }
 
 /// Returns the decoded bytes of a body in the transfer encoding with this number.
+///
+/// # Errors
+///
+/// `MailParseError::Memory` if it runs out of memory.
+///
+/// # Examples
+///
+/// ```rust
+/// use mail_records::ranges::body;
+///
+/// let found = body(alloc, b"SGk=\n", 4)?;
+/// assert_eq!(rt; found.bytes.as_slice(), b"Hi".as_slice());
+/// assert!(rt; !found.is_damaged);
+/// ```
 pub fn body(alloc: Global, raw: &[u8], encoding: u64) -> Result<Decoded, MailParseError>
     ensures { AnswersOrMemory decoded_view result (Ok (body encoding raw.now)) }
 {
@@ -125,7 +206,21 @@ pub fn body(alloc: Global, raw: &[u8], encoding: u64) -> Result<Decoded, MailPar
     Ok(Decoded { bytes, is_damaged })
 }
 
-/// Returns the text of such a body, given the raw value of its type.
+/// Returns the text of a body in the transfer encoding with this number, given the raw value of its
+/// type.
+///
+/// # Errors
+///
+/// `MailParseError::Memory` if it runs out of memory.
+///
+/// # Examples
+///
+/// ```rust
+/// use mail_records::ranges::body_text;
+///
+/// let found = body_text(alloc, b"caf=E9\n", b"text/plain; charset=latin1", 3, &())?;
+/// assert_eq!(rt; found.bytes.as_slice(), "café\n".as_bytes());
+/// ```
 pub fn body_text<K: KnownCharsets>(
     alloc: Global,
     raw: &[u8],
@@ -146,7 +241,20 @@ pub fn body_text<K: KnownCharsets>(
     Ok(Decoded { bytes, is_damaged })
 }
 
-/// Returns the name of the charset in which `body_text` reads such a body.
+/// Returns the name of the charset in which `body_text` reads a body.
+///
+/// # Errors
+///
+/// `MailParseError::Memory` if it runs out of memory.
+///
+/// # Examples
+///
+/// ```rust
+/// use mail_records::ranges::body_charset;
+///
+/// let name = body_charset(alloc, b"Hello\n", b"text/plain; charset=utf-8", 0, &())?;
+/// assert_eq!(rt; name.as_deref(), Some(b"UTF-8".as_slice()));
+/// ```
 pub fn body_charset<K: KnownCharsets>(
     alloc: Global,
     raw: &[u8],
@@ -185,6 +293,20 @@ fn encoding_named(alloc: Global, number: u64) -> Result<Option<String>, AllocErr
 
 /// Writes what was decoded to the front of the buffer, its length to `needed`, and whether the body
 /// is damaged to `is_damaged`. Returns the code.
+///
+/// # Examples
+///
+/// ```rust
+/// use mail_records::codes::DONE;
+/// use mail_records::ranges::body;
+/// use mail_records::ranges::write_decoded;
+///
+/// let mut buffer = [0; 2];
+/// let (mut needed, mut is_damaged) = (0, 0);
+/// let found = body(alloc, b"SGk=\n", 4);
+/// assert_eq!(rt; write_decoded(&mut buffer, &mut needed, &mut is_damaged, found), DONE);
+/// assert!(rt; buffer == *b"Hi" && is_damaged == 0);
+/// ```
 pub fn write_decoded(
     buffer: &mut [u8],
     needed: &mut usize,

@@ -1,19 +1,18 @@
 //! Records of the recipients of a delivery report.
-ghost use Rattle.std.specs.Prelude.{◌≡◌, ◌++◌, [], ◌∷◌, List, Ok, length, map, IfOk, OnOk};
+ghost use Rattle.std.specs.Prelude.{◌≡◌, ◌++◌, [], ◌∷◌, length, map, IfOk, OnOk};
 ghost use Rattle.mailparse.specs.Map.{text_found};
 ghost use Rattle.mailparse.specs.Views.{tree_of};
 ghost use Rattle.mail_data.specs.Bounce as report;
-ghost use Rattle.mail_data.specs.Bounce.{Delivery};
 ghost use Rattle.mail_data.specs.BounceViews.{delivery};
-ghost use Rattle.mail_records.specs.Buffer.{WritesBoth, output, seen};
 ghost use Rattle.mail_records.specs.Codes.{IsCoded};
-ghost use Rattle.mail_records.specs.Recipients.{AreRecipients, bytes_of, deliveries_read, range_of};
-ghost use Rattle.mail_records.specs.Recipients.{recipients_read, recipients_view};
+ghost use Rattle.mail_records.specs.Recipients.{bytes_of, deliveries_read, delivery_record};
+ghost use Rattle.mail_records.specs.Recipients.{delivery_text, range_of, recipients_read};
+ghost use Rattle.mail_records.specs.Rows.{AppendsRows, ListsRows, rows_view};
 
-use crate::buffer::write_both;
 use crate::codes::{NO_MEMORY, code_of};
 use crate::records::NONE;
 use crate::results::NO_LIMIT;
+use crate::rows::Rows;
 use mail_data::bounce;
 use mail_data::bounce::Recipient;
 use mail_read::reading::read_mail;
@@ -47,20 +46,26 @@ pub struct RecipientRecord {
     pub diagnostic_end: u64,
 }
 
-/// The records of recipients, and their strings.
-#[derive(Drop)]
-pub struct RecipientRecords {
-    pub records: Vec<RecipientRecord>,
-    pub strings: Vec<u8>,
-}
-
 /// Returns the records of the recipients that a mail reports, or the code of its refusal.
+///
+/// # Errors
+///
+/// The code of the refusal, or `NO_MEMORY`.
+///
+/// # Examples
+///
+/// ```rust
+/// use mail_records::recipients::recipients;
+///
+/// let found = recipients(alloc, b"A: 1\n\nHello\n", &())?;
+/// assert_eq!(rt; found.records.len(), 0);
+/// ```
 pub fn recipients<K: KnownCharsets>(
     alloc: Global,
     raw: &[u8],
     known: &K,
-) -> Result<RecipientRecords, u32>
-    ensures { IsCoded recipients_view result (recipients_read (K.known known.now) raw.now) }
+) -> Result<Rows<RecipientRecord>, u32>
+    ensures { IsCoded rows_view result (recipients_read (K.known known.now) raw.now) }
 {
     let mail = match read_mail(alloc, raw, NO_LIMIT, known) {
         Ok(mail) => mail,
@@ -77,8 +82,8 @@ fn mail_recipients<K: KnownCharsets>(
     alloc: Global,
     mail: &ParsedMail<'_>,
     known: &K,
-) -> Result<RecipientRecords, MailParseError>
-    ensures { IfOk result (λ found. recipients_view found
+) -> Result<Rows<RecipientRecord>, MailParseError>
+    ensures { IfOk result (λ found. rows_view found
         ≡ deliveries_read (report.recipients (K.known known.now) (tree_of mail.now))) }
 {
     let recipients = bounce::recipients(alloc, mail, known)?;
@@ -86,11 +91,11 @@ fn mail_recipients<K: KnownCharsets>(
 }
 
 /// Returns the records of recipients.
-fn records_of(alloc: Global, recipients: &[Recipient]) -> Result<RecipientRecords, AllocError>
+fn records_of(alloc: Global, recipients: &[Recipient]) -> Result<Rows<RecipientRecord>, AllocError>
     ensures { IfOk result (λ found.
-        recipients_view found ≡ deliveries_read (map delivery recipients.now)) }
+        rows_view found ≡ deliveries_read (map delivery recipients.now)) }
 {
-    let mut found = RecipientRecords {
+    let mut found = Rows {
         records: Vec::new(alloc),
         strings: Vec::new(alloc),
     };
@@ -98,10 +103,14 @@ fn records_of(alloc: Global, recipients: &[Recipient]) -> Result<RecipientRecord
     Ok(found)
 }
 
-/// Appends the records of recipients, if there are none yet.
-fn push_recipients(found: &mut RecipientRecords, recipients: &[Recipient]) -> Result<(), AllocError>
-    ensures { OnOk result (AreRecipients [] found.old →
-        AreRecipients (map delivery recipients.now) found.new) }
+/// Appends the records of recipients.
+fn push_recipients(
+    found: &mut Rows<RecipientRecord>,
+    recipients: &[Recipient],
+) -> Result<(), AllocError>
+    ensures { OnOk result
+        (ListsRows delivery_record delivery_text (map delivery recipients.now)
+        found.old found.new) }
 {
     for recipient in recipients {
         push_recipient(found, recipient)?;
@@ -110,9 +119,12 @@ fn push_recipients(found: &mut RecipientRecords, recipients: &[Recipient]) -> Re
 }
 
 /// Appends the record of a recipient.
-fn push_recipient(found: &mut RecipientRecords, recipient: &Recipient) -> Result<(), AllocError>
-    ensures { OnOk result ((deliveries : List Delivery) → AreRecipients deliveries found.old →
-        AreRecipients (deliveries ++ delivery recipient.now ∷ []) found.new) }
+fn push_recipient(
+    found: &mut Rows<RecipientRecord>,
+    recipient: &Recipient,
+) -> Result<(), AllocError>
+    ensures { OnOk result (AppendsRows delivery_record delivery_text (delivery recipient.now ∷ [])
+        found.old found.new) }
 {
     let last = push_text(&mut found.strings, &recipient.final_recipient)?;
     let original = push_text(&mut found.strings, &recipient.original_recipient)?;
@@ -147,33 +159,4 @@ fn push_text(strings: &mut Vec<u8>, text: &Option<String>) -> Result<(u64, u64),
     let start = strings.len() as u64;
     strings.extend_from_slice(text.as_bytes())?;
     Ok((start, strings.len() as u64))
-}
-
-/// Writes records and strings to the front of two buffers if both fit, and the numbers of both.
-/// Returns the code.
-pub fn write_recipients(
-    recipients: &mut [RecipientRecord],
-    recipients_needed: &mut usize,
-    buffer: &mut [u8],
-    needed: &mut usize,
-    found: Result<RecipientRecords, u32>,
-) -> u32
-    ensures { WritesBoth (output recipients.old recipients.new recipients_needed.old
-        recipients_needed.new) (output buffer.old buffer.new needed.old needed.new) result
-        (seen recipients_view found) }
-{
-    match found {
-        Ok(found) => {
-            let (firsts, seconds) = (found.records.as_slice(), found.strings.as_slice());
-            write_both(
-                recipients,
-                recipients_needed,
-                buffer,
-                needed,
-                firsts,
-                seconds,
-            )
-        }
-        Err(code) => code,
-    }
 }

@@ -17,22 +17,22 @@ ghost use Rattle.mail_records.specs.Records.{bit, disposition_number, encoding_n
 ghost use Rattle.mail_records.specs.Records.{header_block, header_records, item_headers, items_of};
 ghost use Rattle.mail_records.specs.Records.{kind_number, limited, none, part_record, records, records_in};
 ghost use Rattle.mail_records.specs.RecordViews.{family_view, item_view, lists};
-ghost use Rattle.mail_json.specs.Part.{is_attachment};
+ghost use Rattle.mail_parts.specs.Part.{is_attachment};
 
 use crate::codes::{NO_MEMORY, TOO_MANY, code_of};
 use crate::lookup::first_header;
 use crate::nameless::is_nameless_part;
 use crate::places::{bare_key_end, places_of};
+use mail_parts::is_read;
 use mail_read::files::{is_attachment_disposition, is_leaf, is_shown};
 use mail_read::inner_mails::forwards;
 use mail_read::lenient::{LenientBody, lenient_body, lenient_disposition, lenient_file_name};
 use mail_read::reading::read_mail;
-use mail_json::is_read;
-use mailparse::body::Body;
 use mailparse::{
     DispositionType, KnownCharsets, MailHeader, MailParseError, ParsedMail, before_dash_line,
     count_headers, header_places, parse_headers,
 };
+use mailparse::body::Body;
 use std::alloc::{AllocError, Global};
 
 /// The parent of a mail itself.
@@ -85,7 +85,9 @@ pub struct HeaderRecord {
 /// The records of a mail.
 #[derive(Drop)]
 pub struct Records {
+    /// Those of the mail and of its parts, each before its own parts.
     pub parts: Vec<Part>,
+    /// Those of all their headers.
     pub headers: Vec<HeaderRecord>,
 }
 
@@ -99,6 +101,20 @@ struct Node<'m, 'a> {
 
 /// Returns the records of a mail, or the code of its refusal, `TOO_MANY` if there are more than
 /// `limit`.
+///
+/// # Errors
+///
+/// The code of the refusal, or `NO_MEMORY`.
+///
+/// # Examples
+///
+/// ```rust
+/// use mail_records::records::mail_records;
+///
+/// let found = mail_records(alloc, b"Subject: Hi\n\nHello\n", 1000, &())?;
+/// assert!(rt; found.parts.len() == 1 && found.headers.len() == 1);
+/// assert_eq!(rt; found.parts[0].body_start, 13);
+/// ```
 pub fn mail_records<K: KnownCharsets>(
     alloc: Global,
     raw: &[u8],
@@ -131,6 +147,19 @@ fn tree_records<K: KnownCharsets>(
 
 /// Returns the records of the headers of a message, or the code of the refusal of its block,
 /// `TOO_MANY` if there are more than `limit`.
+///
+/// # Errors
+///
+/// The code of the refusal, or `NO_MEMORY`.
+///
+/// # Examples
+///
+/// ```rust
+/// use mail_records::records::headers;
+///
+/// let found = headers(alloc, b"A: 1\nB: 2\n\nHello\n", 1000)?;
+/// assert_eq!(rt; found[1].start, 5);
+/// ```
 pub fn headers(alloc: Global, raw: &[u8], limit: usize) -> Result<Vec<HeaderRecord>, u32>
     ensures { IsCoded (λ found. found.items) result (header_block limit raw.now) }
 {

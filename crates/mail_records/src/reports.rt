@@ -1,19 +1,19 @@
 //! Records of the fields of a report.
-ghost use Rattle.std.specs.Prelude.{◌≡◌, ◌++◌, [], ◌∷◌, List, map, option_map, IfOk, OnOk};
+ghost use Rattle.std.specs.Prelude.{◌≡◌, [], ◌∷◌, map, option_map, IfOk, OnOk};
 ghost use Rattle.mailparse.specs.Mail.{root};
 ghost use Rattle.mailparse.specs.Views.{tree_of};
 ghost use Rattle.mail_data.specs.Reports.{report_blocks};
 ghost use Rattle.mail_data.specs.ReportViews.{block_view, field_view};
-ghost use Rattle.mail_records.specs.Buffer.{WritesBoth, output, seen};
 ghost use Rattle.mail_records.specs.Codes.{IsCoded};
-ghost use Rattle.mail_records.specs.Reports.{AreFields, Entry, block_entries, blocks_read};
-ghost use Rattle.mail_records.specs.Reports.{entries_from, fields_view, report};
+ghost use Rattle.mail_records.specs.Reports.{block_entries, blocks_read, entries_from};
+ghost use Rattle.mail_records.specs.Reports.{entry_record, entry_text, report};
+ghost use Rattle.mail_records.specs.Rows.{AppendsRows, ListsRows, rows_view};
 
-use crate::buffer::write_both;
 use crate::codes::{ABSENT, NO_MEMORY, code_of};
 use crate::results::NO_LIMIT;
-use mail_read::reading::read_mail;
+use crate::rows::Rows;
 use mail_data::reports::{Block, Field, report_blocks};
+use mail_read::reading::read_mail;
 use mailparse::{KnownCharsets, MailParseError, ParsedMail};
 use std::alloc::{AllocError, Global};
 
@@ -33,21 +33,28 @@ pub struct FieldRecord {
     pub value_end: u64,
 }
 
-/// The records of the fields of a report, and their strings.
-#[derive(Drop)]
-pub struct FieldRecords {
-    pub records: Vec<FieldRecord>,
-    pub strings: Vec<u8>,
-}
-
 /// Returns the records of the report that a part is, or the code of its refusal, `ABSENT` if it is
 /// none.
+///
+/// # Errors
+///
+/// The code of the refusal, or `NO_MEMORY`.
+///
+/// # Examples
+///
+/// ```rust
+/// use mail_records::reports::report;
+///
+/// let part = b"Content-Type: message/delivery-status\n\nReporting-MTA: dns; a\n";
+/// let found = report(alloc, part, &())?;
+/// assert_eq!(rt; found.strings.as_slice(), b"Reporting-MTAdns; a".as_slice());
+/// ```
 pub fn report<K: KnownCharsets>(
     alloc: Global,
     raw: &[u8],
     known: &K,
-) -> Result<FieldRecords, u32>
-    ensures { IsCoded fields_view result (report (K.known known.now) raw.now) }
+) -> Result<Rows<FieldRecord>, u32>
+    ensures { IsCoded rows_view result (report (K.known known.now) raw.now) }
 {
     let part = match read_mail(alloc, raw, NO_LIMIT, known) {
         Ok(part) => part,
@@ -65,8 +72,8 @@ fn part_records<K: KnownCharsets>(
     alloc: Global,
     part: &ParsedMail<'_>,
     known: &K,
-) -> Result<Option<FieldRecords>, MailParseError>
-    ensures { IfOk result (λ found. option_map fields_view found
+) -> Result<Option<Rows<FieldRecord>>, MailParseError>
+    ensures { IfOk result (λ found. option_map rows_view found
         ≡ option_map blocks_read (report_blocks (K.known known.now) (root (tree_of part.now)))) }
 {
     match report_blocks(alloc, part, known)? {
@@ -76,11 +83,10 @@ fn part_records<K: KnownCharsets>(
 }
 
 /// Returns the records of the fields of blocks.
-fn block_records(alloc: Global, blocks: &[Block]) -> Result<FieldRecords, AllocError>
-    ensures { IfOk result (λ found. (found.records.items, found.strings.items)
-        ≡ blocks_read (map block_view blocks.now)) }
+fn block_records(alloc: Global, blocks: &[Block]) -> Result<Rows<FieldRecord>, AllocError>
+    ensures { IfOk result (λ found. rows_view found ≡ blocks_read (map block_view blocks.now)) }
 {
-    let mut found = FieldRecords {
+    let mut found = Rows {
         records: Vec::new(alloc),
         strings: Vec::new(alloc),
     };
@@ -88,10 +94,11 @@ fn block_records(alloc: Global, blocks: &[Block]) -> Result<FieldRecords, AllocE
     Ok(found)
 }
 
-/// Appends the records of the fields of blocks, if there are none yet.
-fn push_blocks(found: &mut FieldRecords, blocks: &[Block]) -> Result<(), AllocError>
-    ensures { OnOk result (AreFields [] found.old →
-        AreFields (entries_from 0 (map block_view blocks.now)) found.new) }
+/// Appends the records of the fields of blocks.
+fn push_blocks(found: &mut Rows<FieldRecord>, blocks: &[Block]) -> Result<(), AllocError>
+    ensures { OnOk result
+        (ListsRows entry_record entry_text (entries_from 0 (map block_view blocks.now))
+        found.old found.new) }
 {
     let mut index = 0;
     for block in blocks {
@@ -102,9 +109,14 @@ fn push_blocks(found: &mut FieldRecords, blocks: &[Block]) -> Result<(), AllocEr
 }
 
 /// Appends the records of the fields of the block with this index.
-fn push_fields(found: &mut FieldRecords, fields: &[Field], block: u64) -> Result<(), AllocError>
-    ensures { OnOk result ((entries : List Entry) → AreFields entries found.old →
-        AreFields (entries ++ block_entries block (map field_view fields.now)) found.new) }
+fn push_fields(
+    found: &mut Rows<FieldRecord>,
+    fields: &[Field],
+    block: u64,
+) -> Result<(), AllocError>
+    ensures { OnOk result
+        (AppendsRows entry_record entry_text (block_entries block (map field_view fields.now))
+        found.old found.new) }
 {
     for field in fields {
         push_field(found, field.name.as_bytes(), field.value.as_bytes(), block)?;
@@ -114,17 +126,16 @@ fn push_fields(found: &mut FieldRecords, fields: &[Field], block: u64) -> Result
 
 /// Appends the record of a field.
 fn push_field(
-    found: &mut FieldRecords,
+    found: &mut Rows<FieldRecord>,
     name: &[u8],
     value: &[u8],
     block: u64,
 ) -> Result<(), AllocError>
-    ensures { OnOk result ((entries : List Entry) → AreFields entries found.old →
-        AreFields (entries ++ record {
+    ensures { OnOk result (AppendsRows entry_record entry_text (record {
           block = block;
           name = name.now;
           value = value.now;
-        } ∷ []) found.new) }
+        } ∷ []) found.old found.new) }
 {
     let start = found.strings.len() as u64;
     found.strings.extend_from_slice(name)?;
@@ -139,25 +150,4 @@ fn push_field(
         value_end: end,
     })?;
     Ok(())
-}
-
-/// Writes records and strings to the front of two buffers if both fit, and the numbers of both.
-/// Returns the code.
-pub fn write_report(
-    fields: &mut [FieldRecord],
-    fields_needed: &mut usize,
-    buffer: &mut [u8],
-    needed: &mut usize,
-    found: Result<FieldRecords, u32>,
-) -> u32
-    ensures { WritesBoth (output fields.old fields.new fields_needed.old fields_needed.new)
-        (output buffer.old buffer.new needed.old needed.new) result (seen fields_view found) }
-{
-    match found {
-        Ok(found) => {
-            let (firsts, seconds) = (found.records.as_slice(), found.strings.as_slice());
-            write_both(fields, fields_needed, buffer, needed, firsts, seconds)
-        }
-        Err(code) => code,
-    }
 }

@@ -10,12 +10,12 @@ ghost use Rattle.mail_records.specs.Buffer.{bytes_found};
 ghost use Rattle.mail_records.specs.Results.{bracketed, content, ids, raw_value};
 ghost use Rattle.mail_records.specs.Results.{links_if, readable, text, text_in, text_of_html, value};
 
+use mail_data::readable::readable_text;
+use mail_html::{Links, References, html_text};
 use mail_read::lenient::{
     IdRule, body_text, find_ids, lenient_body, lenient_content, lenient_header_text,
 };
-use mail_data::readable::readable_text;
 use mail_read::reading::read_mail;
-use mail_html::{Links, References, html_text};
 use mailparse::{KnownCharsets, MailHeaderMap, MailParseError, ParsedMail, parse_lenient_headers};
 use std::alloc::{AllocError, Global};
 use std::borrow::{CowSlice, CowStr};
@@ -24,6 +24,19 @@ use std::borrow::{CowSlice, CowStr};
 pub const NO_LIMIT: usize = usize::MAX;
 
 /// Returns the decoded bytes of the body of a message.
+///
+/// # Errors
+///
+/// The refusal of the mail, and `MailParseError::Memory` if it runs out of memory.
+///
+/// # Examples
+///
+/// ```rust
+/// use mail_records::results::content;
+///
+/// let bytes = content(alloc, b"Content-Transfer-Encoding: base64\n\nSGk=\n")?;
+/// assert_eq!(rt; bytes.as_deref(), Some(b"Hi".as_slice()));
+/// ```
 #[tactic(auto, unfolding(crate::specs::Results::content))]
 pub fn content(alloc: Global, raw: &[u8]) -> Result<Option<Vec<u8>>, MailParseError>
     ensures { AnswersOrMemory bytes_found result (content raw.now) }
@@ -46,6 +59,19 @@ fn whole_content<'m>(
 }
 
 /// Returns the text of the body of a message.
+///
+/// # Errors
+///
+/// The refusal of the mail, and `MailParseError::Memory` if it runs out of memory.
+///
+/// # Examples
+///
+/// ```rust
+/// use mail_records::results::text;
+///
+/// let found = text(alloc, b"A: 1\n\nHello\n", &())?;
+/// assert_eq!(rt; found.as_deref(), Some(b"Hello\n".as_slice()));
+/// ```
 #[tactic(auto, unfolding(crate::specs::Results::text))]
 pub fn text<K: KnownCharsets>(
     alloc: Global,
@@ -71,6 +97,21 @@ fn links_if(shows_links: bool) -> Links
 }
 
 /// Returns the text of HTML.
+///
+/// # Errors
+///
+/// `MailParseError::EncodingError` if the bytes are not UTF-8, and `MailParseError::Memory` if it
+/// runs out of memory.
+///
+/// # Examples
+///
+/// ```rust
+/// use mail_html::References;
+/// use mail_records::results::text_of_html;
+///
+/// let text = text_of_html(alloc, b"<p>R&amp;D", false, &References::standard())?;
+/// assert_eq!(rt; text.as_deref(), Some(b"R&D\n".as_slice()));
+/// ```
 #[tactic(auto, unfolding(crate::specs::Results::text_of_html))]
 pub fn text_of_html(
     alloc: Global,
@@ -87,6 +128,20 @@ pub fn text_of_html(
 }
 
 /// Returns the text to be read of a mail, or `None` if it has none.
+///
+/// # Errors
+///
+/// The refusal of the mail, and `MailParseError::Memory` if it runs out of memory.
+///
+/// # Examples
+///
+/// ```rust
+/// use mail_html::References;
+/// use mail_records::results::readable;
+///
+/// let found = readable(alloc, b"A: 1\n\nHello\n", false, &References::standard(), &())?;
+/// assert_eq!(rt; found.as_deref(), Some(b"Hello\n".as_slice()));
+/// ```
 #[tactic(auto, unfolding(crate::specs::Results::readable))]
 pub fn readable<K: KnownCharsets>(
     alloc: Global,
@@ -107,6 +162,20 @@ pub fn readable<K: KnownCharsets>(
 
 /// Returns the raw value of the `number`-th header with this name, counting from 0, or `None` if
 /// there is no such header.
+///
+/// # Errors
+///
+/// `MailParseError::EncodingError` if the name is not UTF-8, the refusal of the block of headers,
+/// and `MailParseError::Memory` if it runs out of memory.
+///
+/// # Examples
+///
+/// ```rust
+/// use mail_records::results::raw_value;
+///
+/// let found = raw_value(alloc, b"A: 1\nB: 2\na: 3\n\n", b"A", 1)?;
+/// assert_eq!(rt; found.as_deref(), Some(b"3".as_slice()));
+/// ```
 #[tactic(auto, unfolding(crate::specs::Results::raw_value))]
 pub fn raw_value(
     alloc: Global,
@@ -125,7 +194,22 @@ pub fn raw_value(
     }
 }
 
-/// Returns the text of that header.
+/// Returns the text of the `number`-th header with this name, counting from 0, or `None` if there is
+/// no such header.
+///
+/// # Errors
+///
+/// `MailParseError::EncodingError` if the name is not UTF-8, the refusal of the block of headers,
+/// and `MailParseError::Memory` if it runs out of memory.
+///
+/// # Examples
+///
+/// ```rust
+/// use mail_records::results::value;
+///
+/// let found = value(alloc, b"Subject: =?UTF-8?Q?caf=C3=A9?=\n\n", b"subject", 0, &())?;
+/// assert_eq!(rt; found.as_deref(), Some("café".as_bytes()));
+/// ```
 #[tactic(auto, unfolding(crate::specs::Results::value))]
 pub fn value<K: KnownCharsets>(
     alloc: Global,
@@ -150,6 +234,20 @@ pub fn value<K: KnownCharsets>(
 }
 
 /// Returns the message ids in a text, each between angle brackets.
+///
+/// # Errors
+///
+/// `MailParseError::EncodingError` if the bytes are not UTF-8, and `MailParseError::Memory` if it
+/// runs out of memory.
+///
+/// # Examples
+///
+/// ```rust
+/// use mail_records::results::ids;
+///
+/// let found = ids(alloc, b"<a@b> (one) <c>", true)?;
+/// assert_eq!(rt; found.as_deref(), Some(b"<a@b>".as_slice()));
+/// ```
 #[tactic(auto, unfolding(crate::specs::Results::ids))]
 pub fn ids(
     alloc: Global,
@@ -198,7 +296,7 @@ fn push_id(bytes: &mut Vec<u8>, id: &[u8]) -> Result<(), AllocError>
 }
 
 /// Returns the bytes as a text, or refuses bytes that are not UTF-8.
-pub fn text_in(bytes: &[u8]) -> Result<&str, MailParseError>
+pub(crate) fn text_in(bytes: &[u8]) -> Result<&str, MailParseError>
     ensures { Answers (λ text. text.now) result (text_in bytes.now) }
 {
     match str::from_utf8(bytes) {

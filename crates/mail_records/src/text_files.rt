@@ -1,15 +1,14 @@
 //! Records of the uuencoded files in a text.
-ghost use Rattle.std.specs.Prelude.{◌≡◌, ◌++◌, [], ◌∷◌, List, length, map, IfOk, OnOk};
+ghost use Rattle.std.specs.Prelude.{◌≡◌, ◌++◌, [], ◌∷◌, Ok, length, map, IfOk, OnOk};
 ghost use Rattle.mail_data.specs.TextFileViews.{text_file_view};
-ghost use Rattle.mail_data.specs.TextFiles as words;
-ghost use Rattle.mail_records.specs.Buffer.{WritesBoth, output};
-ghost use Rattle.mail_records.specs.TextFiles.{AreTextFiles, files_found, files_read, files_view};
+ghost use Rattle.mail_records.specs.Codes.{IsCoded};
+ghost use Rattle.mail_records.specs.Rows.{AppendsRows, ListsRows, rows_view};
+ghost use Rattle.mail_records.specs.TextFiles.{file_record, file_text, files_read};
 ghost use Rattle.mail_records.specs.TextFiles.{number_of, range_at};
 
-use crate::buffer::write_both;
 use crate::codes::NO_MEMORY;
-use mail_data::text_files;
-use mail_data::text_files::TextFile;
+use crate::rows::Rows;
+use mail_data::text_files::{TextFile, text_files};
 use std::alloc::{AllocError, Global};
 
 /// A uuencoded file in a text, as `struct rocktray_text_file`.
@@ -32,23 +31,40 @@ pub struct TextFileRecord {
     pub is_damaged: u64,
 }
 
-/// The records of the files in a text, and their strings.
-#[derive(Drop)]
-pub struct TextFileRecords {
-    pub records: Vec<TextFileRecord>,
-    pub strings: Vec<u8>,
-}
-
-/// Returns the records of the files in a text, of which at most `limit` blocks are read.
-pub fn records_in(
+/// Returns the records of the files in a text, of which at most `limit` blocks are read, or
+/// `NO_MEMORY`.
+///
+/// # Errors
+///
+/// `NO_MEMORY` if it runs out of memory.
+///
+/// # Examples
+///
+/// ```rust
+/// use mail_records::text_files::text_file_records;
+///
+/// let found = text_file_records(alloc, b"begin 644 cat.txt\n#0V%T\n`\nend\n", 1000)?;
+/// assert_eq!(rt; found.strings.as_slice(), b"cat.txtCat".as_slice());
+/// ```
+pub fn text_file_records(
     alloc: Global,
     text: &[u8],
     limit: usize,
-) -> Result<TextFileRecords, AllocError>
-    ensures { IfOk result (λ found. files_view found ≡ files_read limit text.now) }
+) -> Result<Rows<TextFileRecord>, u32>
+    ensures { IsCoded rows_view result (Ok (files_read limit text.now)) }
 {
-    let files = text_files::text_files(alloc, text, limit)?;
-    let mut found = TextFileRecords {
+    match records_in(alloc, text, limit) {
+        Ok(found) => Ok(found),
+        Err(_) => Err(NO_MEMORY),
+    }
+}
+
+/// Returns the records of the files in a text, of which at most `limit` blocks are read.
+fn records_in(alloc: Global, text: &[u8], limit: usize) -> Result<Rows<TextFileRecord>, AllocError>
+    ensures { IfOk result (λ found. rows_view found ≡ files_read limit text.now) }
+{
+    let files = text_files(alloc, text, limit)?;
+    let mut found = Rows {
         records: Vec::new(alloc),
         strings: Vec::new(alloc),
     };
@@ -56,14 +72,14 @@ pub fn records_in(
     Ok(found)
 }
 
-/// Appends the records of files, if there are none yet.
+/// Appends the records of files.
 fn push_files(
     alloc: Global,
-    found: &mut TextFileRecords,
+    found: &mut Rows<TextFileRecord>,
     files: &[TextFile<'_>],
 ) -> Result<(), AllocError>
-    ensures { OnOk result (AreTextFiles [] found.old →
-        AreTextFiles (map text_file_view files.now) found.new) }
+    ensures { OnOk result (ListsRows file_record file_text (map text_file_view files.now)
+        found.old found.new) }
 {
     for file in files {
         push_file(alloc, found, file)?;
@@ -74,11 +90,11 @@ fn push_files(
 /// Appends the record of a file.
 fn push_file(
     alloc: Global,
-    found: &mut TextFileRecords,
+    found: &mut Rows<TextFileRecord>,
     file: &TextFile<'_>,
 ) -> Result<(), AllocError>
-    ensures { OnOk result ((files : List words.TextFile) → AreTextFiles files found.old →
-        AreTextFiles (files ++ text_file_view file.now ∷ []) found.new) }
+    ensures { OnOk result (AppendsRows file_record file_text (text_file_view file.now ∷ [])
+        found.old found.new) }
 {
     let name = file.file_name(alloc)?;
     let content = file.content(alloc)?;
@@ -111,25 +127,4 @@ fn number_of(is: bool) -> u64
     ensures { result ≡ number_of is }
 {
     if is { 1 } else { 0 }
-}
-
-/// Writes records and strings to the front of two buffers if both fit, and the numbers of both.
-/// Returns the code.
-pub fn write_text_files(
-    files: &mut [TextFileRecord],
-    files_needed: &mut usize,
-    buffer: &mut [u8],
-    needed: &mut usize,
-    found: Result<TextFileRecords, AllocError>,
-) -> u32
-    ensures { WritesBoth (output files.old files.new files_needed.old files_needed.new)
-        (output buffer.old buffer.new needed.old needed.new) result (files_found found) }
-{
-    match found {
-        Ok(found) => {
-            let (firsts, seconds) = (found.records.as_slice(), found.strings.as_slice());
-            write_both(files, files_needed, buffer, needed, firsts, seconds)
-        }
-        Err(_) => NO_MEMORY,
-    }
 }

@@ -6,4 +6,4 @@ use Rattle.mail_c.proofs.rocktray_type.Goals as goal
 
 pub returns : goal.returns
 returns c =
-    (c.charsets.result, ends_strings (AreTypeStrings (type_of (all_known c.charsets.result) c.args.raw_value.now)) _ _ _ c.type_strings-found.result c.type_strings-found.ensures c.write_strings.ensures)
+    (c.charsets.result, ends_strings (AreTypeStrings (type_of (all_known c.charsets.result) c.args.raw_value.now)) _ _ _ c.type_strings-found.result c.type_strings-found.ensures c.write_rows.ensures)

@@ -35,7 +35,7 @@ ends Is (Err (Generic text)) old new before needed code is left = refused Is (Ge
 ends Is (Err (Memory e)) old new before needed code is left = inl left
 
 -- a reading gives what its definition gives
-pub gives : (Is : Found → Type 0) (given : Found) (result : Result (Option (Vec ℕ)) MailParseError) → Is given
+gives : (Is : Found → Type 0) (given : Found) (result : Result (Option (Vec ℕ)) MailParseError) → Is given
     → AnswersOrMemory bytes_found result given → Gives Is result
 gives Is given (Ok found) is h = subst Is h is
 gives Is given (Err (QuotedPrintableDecodeError fault)) is h = absurd h
@@ -43,3 +43,9 @@ gives Is given (Err (Base64DecodeError fault)) is h = (base64_fault fault.group,
 gives Is given (Err (EncodingError text)) is h = (encoding (cow_str_bytes text), refl, subst Is h is)
 gives Is given (Err (Generic text)) is h = (generic text.now, refl, subst Is h is)
 gives Is given (Err (Memory e)) is h = tt
+
+-- the result of a reading, which is that of its definition, was written
+pub ends_given : (given : Found) (result : Result (Option (Vec ℕ)) MailParseError) (old new : List ℕ) (before needed code : ℕ)
+    → AnswersOrMemory bytes_found result given → WritesResult old new before needed code result → Ends old new before needed code (λ found. given ≡ found)
+ends_given given result old new before needed code are left =
+    ends (λ (found : Found). given ≡ found) result old new before needed code (gives (λ (found : Found). given ≡ found) given result refl are) left

@@ -7,11 +7,11 @@ use Rattle.mail_check.specs.Findings.{Finding}
 use Rattle.mail_check.specs.Names.{sentence_of, text_of}
 use Rattle.mail_check.specs.Reading.{mail_findings}
 use Rattle.mail_records.specs.Codes.{coded}
-use Rattle.mail_records.specs.Findings.{AreFindings, class_number, finding_record, finding_text, findings_read, found_records, listed, record_of}
+use Rattle.mail_records.specs.Findings.{class_number, finding_record, finding_text, findings_listed, findings_read, found_records, record_of}
 use Rattle.mail_records.specs.Results.{no_limit}
-use Rattle.mail_records.specs.Rows.{rows_from}
+use Rattle.mail_records.specs.Rows.{AreRows, rows_from}
 use Rattle.mail_records.specs.declared.findings.FindingRecord.{FindingRecord}
-use Rattle.mail_records.specs.declared.findings.FindingRecords.{FindingRecords}
+use Rattle.mail_records.specs.declared.rows.Rows.{Rows}
 use Rattle.mail_records.proofs.lemmas.Rows.{row-appended}
 
 -- the length of strings after a text
@@ -20,12 +20,12 @@ length-after at n old new text o is size =
     size ∙ ap (λ (t : List ℕ). length t) is ∙ length-append old text ∙ ap (λ k. k + length text) o
 
 -- a record was appended
-pub next_finding : (old : FindingRecords) (done : List Finding) (f : Finding) (class name path sentence end : ℕ) (s1 s2 s3 : List ℕ) (records : List FindingRecord)
+pub next_finding : (old : Rows FindingRecord) (done : List Finding) (f : Finding) (class name path sentence end : ℕ) (s1 s2 s3 : List ℕ) (records : List FindingRecord)
     → class ≡ class_number f.class
     → name ≡ length old.strings.items → s1 ≡ old.strings.items ++ text_of f.name
     → path ≡ length s1 → s2 ≡ s1 ++ f.path
     → sentence ≡ length s2 → s3 ≡ s2 ++ sentence_of f.name
-    → end ≡ length s3 → records ≡ old.records.items ++ record_of class f.range name path sentence end ∷ [] → AreFindings done old
+    → end ≡ length s3 → records ≡ old.records.items ++ record_of class f.range name path sentence end ∷ [] → AreRows finding_record finding_text done old
     → (records ≡ rows_from finding_record finding_text 0 (done ++ f ∷ [])) × (s3 ≡ flat_map finding_text (done ++ f ∷ []))
 next_finding old done f class name path sentence end s1 s2 s3 records c n e1 p e2 s e3 e is are =
     let at = length old.strings.items in
@@ -38,15 +38,15 @@ next_finding old done f class name path sentence end s1 s2 s3 records c n e1 p e
     ap (λ k. record_of k f.range name path sentence end) c ∙ ap (λ k. record_of (class_number f.class) f.range k path sentence end) n
     ∙ ap (λ k. record_of (class_number f.class) f.range at k sentence end) p1 ∙ ap (λ k. record_of (class_number f.class) f.range at at1 k end) p2
     ∙ ap (λ k. record_of (class_number f.class) f.range at at1 at2 k) p3 in
-    row-appended finding_record finding_text done f old.records.items records old.strings.items s3 (is ∙ ap (λ (r : FindingRecord). old.records.items ++ r ∷ []) made)
+    row-appended finding_record finding_text old done f _ records s3 made is
     (e3 ∙ ap (λ (t : List ℕ). t ++ sentence_of f.name) e2 ∙ append_assoc s1 f.path (sentence_of f.name) ∙ ap (λ (t : List ℕ). t ++ (f.path ++ sentence_of f.name)) e1
-    ∙ append_assoc old.strings.items (text_of f.name) (f.path ++ sentence_of f.name)) are.0 are.1
+    ∙ append_assoc old.strings.items (text_of f.name) (f.path ++ sentence_of f.name)) are
 
 -- ---- the findings of a mail
 
 -- a mail that was read
 pub findings_are : (known : Charsets) (raw : List ℕ) (findings : List Finding) (found : List FindingRecord × List ℕ) → mail_findings known no_limit raw ≡ Ok findings
-    → found ≡ listed findings → findings_read known raw ≡ Ok found
+    → found ≡ findings_listed findings → findings_read known raw ≡ Ok found
 unfolding findings_read
 findings_are known raw findings found read are = ap (λ (r : Reads (List Finding)). found_records (coded r)) read ∙ ap Ok (sym are)
 

@@ -385,19 +385,20 @@ module _ (skips ends : ℕ → Bool) (other : (b : ℕ) → ends b ≡ not (skip
   skip-passed [] some e = absurd (omega arith)
   skip-passed (b ∷ rest) some e = other b ∙ ap not e
 
-  -- such a byte is skipped
-  pub byte-skipped : (raw : List ℕ) (at : ℕ) → begins skips (drop at raw) ≡ true → (at < length raw) × (place_from (begins ends) raw at ≡ place_from (begins ends) raw (at + 1))
-  byte-skipped raw at is =
+  -- the search goes on after such a byte
+  pub skipped : (raw : List ℕ) (at found : ℕ) → begins skips (drop at raw) ≡ true → place_from (begins ends) raw at ≡ found
+      → (at + 1 ≤ length raw) × (place_from (begins ends) raw (at + 1) ≡ found)
+  skipped raw at found is here =
       let below : at < length raw =
       ⊎_elim (λ low. low) (λ past. absurd (false≢true (subst (λ (xs : List ℕ). begins skips xs ≡ true) (drop_of_length-le raw past) is))) (cases_lt at (length raw)) in
-      (below, place_from_next (begins ends) raw at below (skip-failed (drop at raw) is))
+      (omega (arith, below), sym (place_from_next (begins ends) raw at below (skip-failed (drop at raw) is)) ∙ here)
 
-  -- and any other byte ends them
-  pub bytes-end : (raw : List ℕ) (at : ℕ) → at ≤ length raw → begins skips (drop at raw) ≡ false → place_from (begins ends) raw at ≡ at
-  bytes-end raw at within lacks =
+  -- and ends before any other
+  pub not-skipped : (raw : List ℕ) (at found : ℕ) → begins skips (drop at raw) ≡ false → at ≤ length raw → place_from (begins ends) raw at ≡ found → at ≡ found
+  not-skipped raw at found lacks within here =
       let size = length-drop at raw in
-      ⊎_elim (λ low. place_from_here (begins ends) raw at low (skip-passed (drop at raw) (omega arith) lacks))
-      (λ past. ap (λ (xs : List ℕ). at + first_place (begins ends) xs) (drop_of_length-le raw past) ∙ omega arith) (cases_lt at (length raw))
+      sym (⊎_elim (λ low. place_from_here (begins ends) raw at low (skip-passed (drop at raw) (omega arith) lacks))
+      (λ past. ap (λ (xs : List ℕ). at + first_place (begins ends) xs) (drop_of_length-le raw past) ∙ omega arith) (cases_lt at (length raw))) ∙ here
 
 -- the bytes that are skipped up to a LF
 pub not_not : (v : Bool) → v ≡ not (not v)

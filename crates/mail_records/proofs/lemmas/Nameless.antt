@@ -34,7 +34,7 @@ use Rattle.mail_read.specs.lenient.Dispositions.{lenient_disposition, lenient_ki
 use Rattle.mail_read.specs.lenient.Values.{header_text}
 use Rattle.mail_read.specs.lenient.FileNames.{extended_text, lenient_file_name, lenient_name_in, name_among, shown_name, typed_name}
 use Rattle.mail_read.specs.lenient.Guess.{or_guessed}
-use Rattle.mail_json.specs.Part.{is_attachment}
+use Rattle.mail_parts.specs.Part.{is_attachment}
 use Rattle.mailparse.specs.ContentType.{content_type_in}
 use Rattle.mailparse.specs.Disposition.{Kind, disposition_in}
 use Rattle.mailparse.specs.Mail.{Node, Tree, root}

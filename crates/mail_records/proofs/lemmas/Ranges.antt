@@ -9,7 +9,7 @@ use Rattle.mail_records.specs.Buffer.{Found, Output}
 use Rattle.mail_records.specs.Ranges.{Decoded, EndsDecoded, WritesDecoded, WritesDecodedOr, body, body_charset, body_text, decoded_view, kind_numbered, type_of}
 use Rattle.mail_records.specs.declared.ranges.Decoded as made
 
-ok_same : {T E : Type 0} (a b : T) → ◌≡◌ {A = Result T E} (Ok a) (Ok b) → a ≡ b
+pub ok_same : {T E : Type 0} (a b : T) → ◌≡◌ {A = Result T E} (Ok a) (Ok b) → a ≡ b
 ok_same a b e = cc
 
 -- a body was written as it was decoded

@@ -9,11 +9,11 @@ use Rattle.mail_data.specs.Bounce as report
 use Rattle.mail_data.specs.Bounce.{Delivery}
 use Rattle.mail_read.specs.Reading.{mail_reading}
 use Rattle.mail_records.specs.Codes.{coded}
-use Rattle.mail_records.specs.Recipients.{AreRecipients, after, bytes_of, deliveries_read, delivery_record, delivery_text, mail_recipients, range_of, record_of, recipients_read}
+use Rattle.mail_records.specs.Recipients.{after, bytes_of, deliveries_read, delivery_record, delivery_text, mail_recipients, range_of, record_of, recipients_read}
 use Rattle.mail_records.specs.Results.{no_limit}
-use Rattle.mail_records.specs.Rows.{rows_from}
+use Rattle.mail_records.specs.Rows.{AreRows, rows_from}
 use Rattle.mail_records.specs.declared.recipients.RecipientRecord.{RecipientRecord}
-use Rattle.mail_records.specs.declared.recipients.RecipientRecords.{RecipientRecords}
+use Rattle.mail_records.specs.declared.rows.Rows.{Rows}
 use Rattle.mail_records.proofs.lemmas.Rows.{row-appended}
 
 -- the length of strings after a text
@@ -39,13 +39,13 @@ same-record a b c d e a' b' c' d' e' ea eb ec ed ee =
     ∙ ap (λ (r : ℕ × ℕ). record_of a' b' c' r e) ed ∙ ap (λ (r : ℕ × ℕ). record_of a' b' c' d' r) ee
 
 -- a record was appended
-pub next_recipient : (old : RecipientRecords) (done : List Delivery) (d : Delivery) (r1 r2 r3 r4 r5 : ℕ × ℕ) (s1 s2 s3 s4 s5 : List ℕ) (records : List RecipientRecord)
+pub next_recipient : (old : Rows RecipientRecord) (done : List Delivery) (d : Delivery) (r1 r2 r3 r4 r5 : ℕ × ℕ) (s1 s2 s3 s4 s5 : List ℕ) (records : List RecipientRecord)
     → r1 ≡ range_of (length old.strings.items) d.final_recipient → s1 ≡ old.strings.items ++ bytes_of d.final_recipient
     → r2 ≡ range_of (length s1) d.original_recipient → s2 ≡ s1 ++ bytes_of d.original_recipient
     → r3 ≡ range_of (length s2) d.action → s3 ≡ s2 ++ bytes_of d.action
     → r4 ≡ range_of (length s3) d.status → s4 ≡ s3 ++ bytes_of d.status
     → r5 ≡ range_of (length s4) d.diagnostic_code → s5 ≡ s4 ++ bytes_of d.diagnostic_code
-    → records ≡ old.records.items ++ record_of r1 r2 r3 r4 r5 ∷ [] → AreRecipients done old
+    → records ≡ old.records.items ++ record_of r1 r2 r3 r4 r5 ∷ [] → AreRows delivery_record delivery_text done old
     → (records ≡ rows_from delivery_record delivery_text 0 (done ++ d ∷ [])) × (s5 ≡ flat_map delivery_text (done ++ d ∷ []))
 next_recipient old done d r1 r2 r3 r4 r5 s1 s2 s3 s4 s5 records is1 e1 is2 e2 is3 e3 is4 e4 is5 e5 is are =
     let at = length old.strings.items in
@@ -58,8 +58,7 @@ next_recipient old done d r1 r2 r3 r4 r5 s1 s2 s3 s4 s5 records is1 e1 is2 e2 is
     let n4 = length-after at3 s3 s4 d.status n3 e4 in
     let made = same-record r1 r2 r3 r4 r5 _ _ _ _ _ is1 (range-at at1 _ d.original_recipient r2 n1 is2) (range-at at2 _ d.action r3 n2 is3)
     (range-at at3 _ d.status r4 n3 is4) (range-at (after at3 d.status) _ d.diagnostic_code r5 n4 is5) in
-    row-appended delivery_record delivery_text done d old.records.items records old.strings.items s5 (is ∙ ap (λ (r : RecipientRecord). old.records.items ++ r ∷ []) made)
-    (five-texts old.strings.items s1 s2 s3 s4 s5 _ _ _ _ _ e1 e2 e3 e4 e5) are.0 are.1
+    row-appended delivery_record delivery_text old done d _ records s5 made is (five-texts old.strings.items s1 s2 s3 s4 s5 _ _ _ _ _ e1 e2 e3 e4 e5) are
 
 -- ---- the recipients that a mail reports
 

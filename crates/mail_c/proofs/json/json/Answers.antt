@@ -4,7 +4,7 @@ use Rattle.mailparse.specs.Mail.{Tree}
 use Rattle.mailparse.specs.Refusal.{Reads}
 use Rattle.mail_json.specs.JsonLines.{IsLineOf}
 use Rattle.mail_json.specs.Origin.{Origin}
-use Rattle.mail_json.specs.Printed.{text_of}
+use Rattle.mail_json_text.specs.Printed.{text_of}
 use Rattle.mail_c.specs.Json.{plain_options}
 use Rattle.mail_c.proofs.json.json.Goals as goal
 

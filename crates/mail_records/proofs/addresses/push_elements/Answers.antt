@@ -1,7 +1,7 @@
 use Rattle.std.proofs.Common.{ℕ, ◌+◌, List, ◌++◌, length, map, drop, sym, ap, ◌∙◌, arith, append_assoc, length-append}
 use Rattle.mail_address.specs.AddressViews.{element_view}
 use Rattle.mail_address.specs.Addresses.{Element}
-use Rattle.mail_json.proofs.lemmas.JsonText.{drop_next}
+use Rattle.mail_read.proofs.lemmas.InnerMails.{drop_next}
 use Rattle.mail_records.specs.AddressRecords.{element_entries, entries_from}
 use Rattle.mail_records.proofs.addresses.push_elements.Goals as goal
 

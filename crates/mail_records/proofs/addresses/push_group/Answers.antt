@@ -1,6 +1,6 @@
 use Rattle.std.proofs.Common.{◌≡◌, length, map, sym, ap, ◌∙◌, arith}
 use Rattle.mail_address.specs.AddressViews.{member_view}
-use Rattle.mail_json.proofs.lemmas.Fields.{ok_same}
+use Rattle.mail_records.proofs.lemmas.Ranges.{ok_same}
 use Rattle.mail_records.proofs.lemmas.AddressRecords.{group_appended, number-of, on_ok}
 use Rattle.mail_records.proofs.addresses.push_group.Goals as goal
 

@@ -1,21 +1,13 @@
-use Rattle.std.proofs.Common.{◌≡◌, true, false, not, drop, refl, sym, ◌∙◌, arith}
+use Rattle.std.proofs.Common.{not, refl, sym, ◌∙◌}
 use Rattle.mail_codec.specs.Ascii.{is_blank}
-use Rattle.mail_codec.specs.Places.{begins}
-use Rattle.mail_records.proofs.lemmas.HeaderLengths.{byte-skipped, bytes-end}
+use Rattle.mail_records.proofs.lemmas.HeaderLengths.{not-skipped, skipped}
 use Rattle.mail_records.proofs.places.after_blanks.Goals as goal
 
 pub loop-at-preserved : goal.loop-at-preserved
 loop-at-preserved c =
-    let raw = c.args.raw.now in
-    let at = c.loop-at.at in
-    let is : begins is_blank (drop at raw) ≡ true = sym c.is_blank_at.ensures ∙ c.loop-at-test.true in
-    let next = byte-skipped is_blank (λ b. not (is_blank b)) (λ b. refl) raw at is in
-    let low = next.0 in
-    record { within = omega arith; same = sym next.1 ∙ c.loop-at.invariant.same }
+    let next = skipped is_blank (λ b. not (is_blank b)) (λ b. refl) c.args.raw.now c.loop-at.at _ (sym c.is_blank_at.ensures ∙ c.loop-at-test.true) c.loop-at.invariant.same in
+    record { within = next.0; same = next.1 }
 
 pub returns : goal.returns
 returns c =
-    let raw = c.args.raw.now in
-    let at = c.loop-at.at in
-    let lacks : begins is_blank (drop at raw) ≡ false = sym c.is_blank_at.ensures ∙ c.loop-at-test.false in
-    sym (bytes-end is_blank (λ b. not (is_blank b)) (λ b. refl) raw at c.loop-at.invariant.within lacks) ∙ c.loop-at.invariant.same
+    not-skipped is_blank (λ b. not (is_blank b)) (λ b. refl) c.args.raw.now c.loop-at.at _ (sym c.is_blank_at.ensures ∙ c.loop-at-test.false) c.loop-at.invariant.within c.loop-at.invariant.same

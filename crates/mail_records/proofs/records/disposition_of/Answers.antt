@@ -4,7 +4,7 @@ use Rattle.mailparse.specs.Mail.{root}
 use Rattle.mailparse.specs.Views.{kind, tree_of}
 use Rattle.mail_read.specs.lenient.Dispositions.{lenient_disposition}
 use Rattle.mail_read.specs.lenient.FileNames.{lenient_file_name}
-use Rattle.mail_json.proofs.lemmas.Fields.{ok_same}
+use Rattle.mail_records.proofs.lemmas.Ranges.{ok_same}
 use Rattle.mail_records.specs.Records.{disposition_number, flags}
 use Rattle.mail_records.proofs.records.disposition_of.Goals as goal
 

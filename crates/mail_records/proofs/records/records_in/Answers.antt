@@ -1,6 +1,6 @@
 use Rattle.std.proofs.Common.{◌≡◌, ◌+◌, List, length, map, drop, ap, ◌∙◌, arith, length-append}
 use Rattle.std.proofs.lemmas.List.{drop_all}
-use Rattle.mail_json.proofs.lemmas.JsonText.{drop_next}
+use Rattle.mail_read.proofs.lemmas.InnerMails.{drop_next}
 use Rattle.std.specs.Prelude.{vec_len}
 use Rattle.mailparse.specs.Mail.{root}
 use Rattle.mail_records.specs.RecordViews.{item_view}

@@ -1,7 +1,7 @@
 use Rattle.std.proofs.Common.{◌+◌, ◌∷◌, map, drop, sym, ap, ◌∙◌, arith}
 use Rattle.std.proofs.lemmas.List.{drop_all}
 use Rattle.std.specs.String.{string_bytes}
-use Rattle.mail_json.proofs.lemmas.JsonText.{drop_next}
+use Rattle.mail_read.proofs.lemmas.InnerMails.{drop_next}
 use Rattle.mail_records.proofs.lemmas.Ids.{all_made, more}
 use Rattle.mail_records.proofs.results.bracketed.Goals as goal
 

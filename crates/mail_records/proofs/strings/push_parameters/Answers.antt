@@ -2,8 +2,8 @@ use Rattle.std.proofs.Common.{[], ◌∷◌, ◌++◌, map, sym, ap, subst, ◌�
 use Rattle.std.proofs.lemmas.List.{append-nil}
 use Rattle.std.specs.String.{string_bytes}
 use Rattle.mailparse.specs.Pairs.{text_at}
-use Rattle.mail_json.specs.Part.{Lists}
-use Rattle.mail_json.proofs.lemmas.Part.{lists-entries, pair_of}
+use Rattle.mail_parts.specs.Part.{Lists}
+use Rattle.mail_parts.proofs.lemmas.Part.{lists-entries, pair_of}
 use Rattle.mail_records.proofs.lemmas.Strings.{next_parameter, no_parameters}
 use Rattle.mail_records.proofs.strings.push_parameters.Goals as goal
 
