@@ -44,7 +44,8 @@ use mail_records::records::{HeaderRecord, Part};
 use mail_records::reports::FieldRecord;
 use mail_records::text_files::TextFileRecord;
 use mail_records::{
-    addresses, findings, numbers, ranges, recipients, records, reports, results, strings, text_files,
+    addresses, findings, numbers, ranges, recipients, records, reports, results, strings,
+    text_files,
 };
 use mail_version::VERSION_NUMBER;
 use std::alloc::Global;

@@ -188,11 +188,11 @@ fn push_unknown(
     group: u64,
 ) -> Result<(), MailParseError>
     ensures { OnOk result (AppendsRecords (record {
-          kind = 2;
-          group = group;
-          name = [];
-          address = unknown.now.text.now;
-        } ∷ []) found.old found.new) }
+      kind = 2;
+      group = group;
+      name = [];
+      address = unknown.now.text.now;
+    } ∷ []) found.old found.new) }
 {
     push_entry(found, b"", unknown.text, 2, group)
 }
@@ -206,11 +206,11 @@ fn push_entry(
     group: u64,
 ) -> Result<(), MailParseError>
     ensures { OnOk result (AppendsRecords (record {
-          kind = kind;
-          group = group;
-          name = name.now;
-          address = address.now;
-        } ∷ []) found.old found.new) }
+      kind = kind;
+      group = group;
+      name = name.now;
+      address = address.now;
+    } ∷ []) found.old found.new) }
 {
     let start = found.strings.len() as u64;
     found.strings.reserve(name.len() + address.len())?;

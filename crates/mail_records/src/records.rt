@@ -28,11 +28,11 @@ use mail_read::files::{is_attachment_disposition, is_leaf, is_shown};
 use mail_read::inner_mails::forwards;
 use mail_read::lenient::{LenientBody, lenient_body, lenient_disposition, lenient_file_name};
 use mail_read::reading::read_mail;
+use mailparse::body::Body;
 use mailparse::{
     DispositionType, KnownCharsets, MailHeader, MailParseError, ParsedMail, before_dash_line,
     count_headers, header_places, parse_headers,
 };
-use mailparse::body::Body;
 use std::alloc::{AllocError, Global};
 
 /// The parent of a mail itself.

@@ -132,10 +132,10 @@ fn push_field(
     block: u64,
 ) -> Result<(), AllocError>
     ensures { OnOk result (AppendsRows entry_record entry_text (record {
-          block = block;
-          name = name.now;
-          value = value.now;
-        } ∷ []) found.old found.new) }
+      block = block;
+      name = name.now;
+      value = value.now;
+    } ∷ []) found.old found.new) }
 {
     let start = found.strings.len() as u64;
     found.strings.extend_from_slice(name)?;

@@ -249,11 +249,7 @@ pub fn value<K: KnownCharsets>(
 /// assert_eq!(rt; found.as_deref(), Some(b"<a@b>".as_slice()));
 /// ```
 #[tactic(auto, unfolding(crate::specs::Results::ids))]
-pub fn ids(
-    alloc: Global,
-    text: &[u8],
-    needs_at: bool,
-) -> Result<Option<Vec<u8>>, MailParseError>
+pub fn ids(alloc: Global, text: &[u8], needs_at: bool) -> Result<Option<Vec<u8>>, MailParseError>
     ensures { AnswersOrMemory bytes_found result (ids needs_at text.now) }
 {
     let text = text_in(text)?;
