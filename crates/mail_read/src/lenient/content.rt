@@ -231,7 +231,7 @@ fn damaged_uuencode(bytes: CowSlice<'_, u8>, ignored: usize) -> Content<'_>
 /// use mailparse::parse_mail;
 ///
 /// let mail = parse_mail(alloc, b"Content-Transfer-Encoding: base64\n\nSGk=\n")?;
-/// assert_eq!(rt; &*part_content(alloc, &mail)?.bytes, b"Hi");
+/// assert!(rt; part_content(alloc, &mail)?.bytes.as_slice() == b"Hi".as_slice());
 /// ```
 pub fn part_content<'m>(
     alloc: Global,
