@@ -1,7 +1,6 @@
 pub mod LineEnds
-pub mod Others
-pub mod Named
-pub mod Groups
+pub mod Lists
+pub mod Pieces
 pub mod Bytes
 pub mod Headers
 pub mod Comments

@@ -1,13 +1,12 @@
 -- The bodies in which nothing is found are those of the grammar of strict messages.
-use Rattle.std.proofs.Common.{◌≡◌, ◌∙◌, ◌+◌, ◌≤◌, ℕ, zero, suc, Bool, true, false, not, cond, List, [], ◌∷◌, ◌++◌, length, drop, Option, Some, None, refl, sym, ap, subst, inl, inr, arith}
+use Rattle.std.proofs.Common.{◌≡◌, ◌∙◌, ◌+◌, ℕ, zero, suc, Bool, true, false, not, cond, List, [], ◌∷◌, ◌++◌, drop, Option, Some, None, refl, sym, ap, subst, inl, inr, arith}
 use Rattle.std.specs.Prelude.{◌⊎◌, ◌&&◌, ◌||◌, ◌==◌, codes}
 use Rattle.std.specs.List.{list_all}
-use Rattle.std.proofs.lemmas.Bool.{cases_lt, eqb-true, le-ltb, lt-ltb}
+use Rattle.std.proofs.lemmas.Bool.{eqb-true}
 use Rattle.mail_codec.specs.Ascii.{carriage_return, equals_sign, is_blank, line_feed}
-use Rattle.mail_codec.specs.Places.{begins, first_place, has_prefix}
-use Rattle.mail_codec.proofs.lemmas.Places.{first_place-here, first_place-past}
+use Rattle.mail_codec.specs.Places.{begins, has_prefix}
 use Rattle.mail_check.specs.Bodies.{after_byte, after_bytes, is_base64_lines, is_letter, line_end_or_wrong, may_end}
-use Rattle.mail_check.specs.Bytes.{byte_at, earlier, first_byte, has_line_end, is_bad_escape, is_control, is_end_blank, is_escape_digit, is_escaped_end, is_line_left}
+use Rattle.mail_check.specs.Bytes.{byte_at, earlier, has_line_end, is_bad_escape, is_control, is_end_blank, is_escape_digit, is_escaped_end, is_line_left}
 use Rattle.mail_check.specs.Clean.{Nowhere}
 use Rattle.mail_check.specs.declared.bodies.Base64State.{Base64State}
 use Rattle.mail_check.specs.declared.bodies.Base64State.TheVariants.{Start, One, Two, Three, Whole, Return, Pad, Padded, End, EndReturn, Wrong}

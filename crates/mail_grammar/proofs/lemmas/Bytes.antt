@@ -1,19 +1,25 @@
 -- The findings of the bytes of a mail, by their names.
-use Rattle.std.proofs.Common.{◌≡◌, Bool, false, ℕ, List, refl, None, inl, inr}
-use Rattle.std.specs.Prelude.{◌↔◌, ◌⊎◌}
+use Rattle.std.proofs.Common.{◌≡◌, ◌+◌, false, ℕ, suc, List, [], ◌∷◌, length, refl, None, inl, inr}
+use Rattle.std.specs.Prelude.{◌↔◌, ◌⊎◌, Bool}
+use Rattle.std.specs.List.{AllByRecursion}
 use Rattle.mail_codec.specs.Charset.{Charsets}
-use Rattle.mailparse.specs.Mail.{Tree, root}
-use Rattle.mailparse.specs.Placement.{placements}
-use Rattle.mail_read.specs.PartPlaces.{places}
+use Rattle.mailparse.specs.Mail.{Forest, Node, Tree, tree, cut_of_as, root}
+use Rattle.mailparse.specs.Placement.{placements, placements_in_as}
+use Rattle.mailparse.specs.Ranges.{moved}
+use Rattle.mail_read.specs.Files.{parts_with_paths, whole_path}
+use Rattle.mail_read.specs.PartPlaces.{Place, placed}
 use Rattle.mail_check.specs.Bytes.{first_offset, is_bare_line_feed, is_lone_return, is_nul, is_return_feed, mixed_line_end}
-use Rattle.mail_check.specs.Findings.{findings}
-use Rattle.mail_grammar.specs.Named.{Lacks, is_core, is_line_name, is_lone_cr_name, is_mixed_name, is_nul_name}
-use Rattle.mail_grammar.specs.LineEnds.{HasNoLoneReturn, HasNoNul, HasOneLineEnd, IsText}
-use Rattle.mail_check.proofs.lemmas.Clean.{found_nowhere, not_both, not_later, nowhere_found}
-use Rattle.mail_grammar.proofs.lemmas.LineEnds.{bare_named, feed_named, lone_named, nul_named, text_is_plain}
-use Rattle.mail_grammar.proofs.lemmas.Named.{BytesLack, far_free, first_found, found_first, messages_free, senders_free}
+use Rattle.mail_check.specs.Findings.{Spot, byte_findings, findings, first_findings, message_findings, spot_in}
+use Rattle.mail_check.specs.LineTests.{first_line, is_long_line}
+use Rattle.mail_check.specs.Lines.{header_lines}
 use Rattle.mail_check.specs.declared.names.Name.{Name}
 use Rattle.mail_check.specs.declared.names.Name.TheVariants as name
+use Rattle.mail_grammar.specs.LineEnds.{HasNoLoneReturn, HasNoNul, HasOneLineEnd, IsText}
+use Rattle.mail_grammar.specs.Named.{Lacks, is_line_name, is_lone_cr_name, is_mixed_name, is_nul_name}
+use Rattle.mail_check.proofs.lemmas.Clean.{found_nowhere, not_both, not_later, nowhere_found}
+use Rattle.mail_grammar.proofs.lemmas.LineEnds.{bare_named, feed_named, lone_named, nul_named, text_is_plain}
+use Rattle.mail_grammar.proofs.lemmas.Lists.{asked, both_say, chain, first_says, free, lacks_both, second_says}
+use Rattle.mail_grammar.proofs.lemmas.Pieces.{block_free, block_names, first_place_says, frees, later_free, later_names, no_bytes}
 
 -- ---- what each name says of the bytes
 
@@ -43,85 +49,130 @@ none_mixed bytes h =
     ] in
     not_later (first_offset (is_return_feed bytes) bytes) (first_offset (is_bare_line_feed bytes) bytes) either
 
--- all three
-pub text_found : (bytes : List ℕ) → BytesLack is_line_name bytes → IsText bytes
-text_found bytes h = (text_is_plain bytes).0 (record {
-  no_nul = nowhere_found (is_nul bytes) bytes (h.nul refl);
-  no_lone_return = nowhere_found (is_lone_return bytes) bytes (h.lone_cr refl);
-  alike = elim (not_both (first_offset (is_return_feed bytes) bytes) (first_offset (is_bare_line_feed bytes) bytes) (h.mixed refl)) [
-    | inl e ↦ inl (nowhere_found (is_return_feed bytes) bytes e)
-    | inr e ↦ inr (nowhere_found (is_bare_line_feed bytes) bytes e)
-  ];
-})
+-- ---- what a message has of these names
 
-pub found_text : (bytes : List ℕ) → IsText bytes → BytesLack is_line_name bytes
-found_text bytes h =
-    let plain = (text_is_plain bytes).1 h in
-    let either : (first_offset (is_return_feed bytes) bytes ≡ None) ⊎ (first_offset (is_bare_line_feed bytes) bytes ≡ None) = elim plain.alike [
-      | inl e ↦ inl (found_nowhere (is_return_feed bytes) bytes e)
-      | inr e ↦ inr (found_nowhere (is_bare_line_feed bytes) bytes e)
-    ] in
-    record {
-      nul = λ e. found_nowhere (is_nul bytes) bytes plain.no_nul;
-      lone_cr = λ e. found_nowhere (is_lone_return bytes) bytes plain.no_lone_return;
-      mixed = λ e. not_later (first_offset (is_return_feed bytes) bytes) (first_offset (is_bare_line_feed bytes) bytes) either;
-    }
+-- some names of bytes, and no others
+module _ (known : Charsets) (test : Name → Bool) (others : AllByRecursion (λ n. test n ≡ false) (name.LongLine ∷ name.Many ∷ []))
+    (block : AllByRecursion (λ n. test n ≡ false) block_names) (later : AllByRecursion (λ n. test n ≡ false) later_names)
+    (S : List ℕ → Type 0) (says : (spot : Spot) (bytes : List ℕ) → Lacks test (byte_findings spot bytes) ↔ S bytes) where
+  first_named : (place : Place) → Lacks test (message_findings known 0 place) ↔ S (root place.part).bytes
+  first_named place =
+      let spot = spot_in place 0 1 in
+      let bytes = (root place.part).bytes in
+      first_says test _ _ (first_says test _ _ (says spot bytes) (free test spot name.LongLine (first_line is_long_line bytes) others.0))
+      (later_free known test later 0 place (block_free known test block 0 place (header_lines (root place.part))) others.1.0)
+
+  not_first : (number : ℕ) (place : Place) → Lacks test (message_findings known (suc number) place)
+  not_first number place =
+      lacks_both test _ _ (no_bytes known test number (first_findings (spot_in place 0 1) (root place.part).bytes))
+      (later_free known test later (suc number) place (block_free known test block (suc number) place (header_lines (root place.part)))
+      others.1.0)
+
+  named : (t : Tree) → Lacks test (findings known t (placements 0 t)) ↔ S (root t).bytes
+  unfolding findings
+  named (tree node parts) =
+      first_place_says known test (first_place_of node parts) (later_places node parts) (first_named (first_place_of node parts)) not_first
+    where
+      -- the place of a mail itself, and those after it
+      first_place_of : Node → Forest → Place
+      first_place_of node parts = record {
+        path = whole_path (tree node parts);
+        part = tree node parts;
+        placement = record {
+          whole = record { start = 0; end = 0 + length node.bytes };
+          body = moved 0 (cut_of_as false node.ctype node.bytes (length node.block)).body;
+        };
+      }
+
+      later_places : Node → Forest → List Place
+      later_places node parts =
+          placed (parts_with_paths (whole_path (tree node parts)) 1 parts)
+          (placements_in_as false 0 (cut_of_as false node.ctype node.bytes (length node.block)).parts parts)
+
+nul_says : (spot : Spot) (bytes : List ℕ) → Lacks is_nul_name (byte_findings spot bytes) ↔ HasNoNul bytes
+nul_says spot bytes =
+    let T = is_nul_name in
+    chain (first_says T _ _ (asked T spot name.Nul (first_offset (is_nul bytes) bytes) refl)
+    (lacks_both T _ _ (free T spot name.LoneCr (first_offset (is_lone_return bytes) bytes) refl)
+    (free T spot name.MixedLineEnds (mixed_line_end bytes) refl))) (nul_none bytes, none_nul bytes)
+
+lone_says : (spot : Spot) (bytes : List ℕ) → Lacks is_lone_cr_name (byte_findings spot bytes) ↔ HasNoLoneReturn bytes
+lone_says spot bytes =
+    let T = is_lone_cr_name in
+    chain (second_says T _ _ (free T spot name.Nul (first_offset (is_nul bytes) bytes) refl)
+    (first_says T _ _ (asked T spot name.LoneCr (first_offset (is_lone_return bytes) bytes) refl)
+    (free T spot name.MixedLineEnds (mixed_line_end bytes) refl))) (lone_none bytes, none_lone bytes)
+
+mixed_says : (spot : Spot) (bytes : List ℕ) → Lacks is_mixed_name (byte_findings spot bytes) ↔ HasOneLineEnd bytes
+mixed_says spot bytes =
+    let T = is_mixed_name in
+    chain (second_says T _ _ (free T spot name.Nul (first_offset (is_nul bytes) bytes) refl)
+    (second_says T _ _ (free T spot name.LoneCr (first_offset (is_lone_return bytes) bytes) refl)
+    (asked T spot name.MixedLineEnds (mixed_line_end bytes) refl))) (mixed_none bytes, none_mixed bytes)
+
+-- all three
+text_says : (spot : Spot) (bytes : List ℕ) → Lacks is_line_name (byte_findings spot bytes) ↔ IsText bytes
+text_says spot bytes =
+    let T = is_line_name in
+    chain (both_say T _ _ (asked T spot name.Nul (first_offset (is_nul bytes) bytes) refl)
+    (both_say T _ _ (asked T spot name.LoneCr (first_offset (is_lone_return bytes) bytes) refl)
+    (asked T spot name.MixedLineEnds (mixed_line_end bytes) refl))) (
+      λ h. (text_is_plain bytes).0 (record {
+        no_nul = nowhere_found (is_nul bytes) bytes h.0;
+        no_lone_return = nowhere_found (is_lone_return bytes) bytes h.1.0;
+        alike = elim (not_both (first_offset (is_return_feed bytes) bytes) (first_offset (is_bare_line_feed bytes) bytes) h.1.1) [
+          | inl e ↦ inl (nowhere_found (is_return_feed bytes) bytes e)
+          | inr e ↦ inr (nowhere_found (is_bare_line_feed bytes) bytes e)
+        ];
+      }),
+      λ is.
+          let plain = (text_is_plain bytes).1 is in
+          let either : (first_offset (is_return_feed bytes) bytes ≡ None) ⊎ (first_offset (is_bare_line_feed bytes) bytes ≡ None) = elim plain.alike [
+            | inl e ↦ inl (found_nowhere (is_return_feed bytes) bytes e)
+            | inr e ↦ inr (found_nowhere (is_bare_line_feed bytes) bytes e)
+          ] in
+          (found_nowhere (is_nul bytes) bytes plain.no_nul, (found_nowhere (is_lone_return bytes) bytes plain.no_lone_return,
+          not_later (first_offset (is_return_feed bytes) bytes) (first_offset (is_bare_line_feed bytes) bytes) either)),
+    )
 
 -- ---- of a mail
 
--- names of lines are no notes
-covers : (n : Name) → is_core n ≡ false → is_line_name n ≡ false
-covers name.Nul h = absurd (cc)
-covers name.LoneCr h = absurd (cc)
-covers name.MixedLineEnds h = absurd (cc)
-covers _ h = refl
-
-nul_only : (n : Name) → is_line_name n ≡ false → is_nul_name n ≡ false
-nul_only name.Nul h = absurd (cc)
-nul_only _ h = refl
-
-lone_only : (n : Name) → is_line_name n ≡ false → is_lone_cr_name n ≡ false
-lone_only name.LoneCr h = absurd (cc)
-lone_only _ h = refl
-
-mixed_only : (n : Name) → is_line_name n ≡ false → is_mixed_name n ≡ false
-mixed_only name.MixedLineEnds h = absurd (cc)
-mixed_only _ h = refl
-
--- some of them
-module _ (known : Charsets) (test : Name → Bool) (only : (n : Name) → is_line_name n ≡ false → test n ≡ false) where
-  bytes_named : (t : Tree) → Lacks test (findings known t (placements 0 t)) → BytesLack test (root t).bytes
-  bytes_named t h = (found_first known test (λ n e. only n (covers n e)) t h).0.bytes
-
-  named_bytes : (t : Tree) → BytesLack test (root t).bytes → Lacks test (findings known t (placements 0 t))
-  named_bytes t h = first_found known test (λ n e. only n (covers n e)) t
-      (record { bytes = h; senders = senders_free test (only name.FromSyntax refl) (root t) })
-      (messages_free known test only (places t (placements 0 t)))
-      (far_free test (only name.Many refl) 0 (places t (placements 0 t)))
-
 pub nul_strict : (known : Charsets) (t : Tree) → Lacks is_nul_name (findings known t (placements 0 t)) ↔ HasNoNul (root t).bytes
-nul_strict known t = (
-  λ h. nul_none (root t).bytes ((bytes_named known is_nul_name nul_only t h).nul refl),
-  λ h. named_bytes known is_nul_name nul_only t (record { nul = λ e. none_nul (root t).bytes h; lone_cr = λ e. absurd (cc); mixed = λ e. absurd (cc) }),
-)
+nul_strict known =
+    let T = is_nul_name in
+    named known T (frees known T (name.LongLine ∷ name.Many ∷ []) refl) (frees known T block_names refl)
+    (frees known T later_names refl) HasNoNul nul_says
 
 pub lone_cr_strict : (known : Charsets) (t : Tree) → Lacks is_lone_cr_name (findings known t (placements 0 t)) ↔ HasNoLoneReturn (root t).bytes
-lone_cr_strict known t = (
-  λ h. lone_none (root t).bytes ((bytes_named known is_lone_cr_name lone_only t h).lone_cr refl),
-  λ h. named_bytes known is_lone_cr_name lone_only t (record { nul = λ e. absurd (cc); lone_cr = λ e. none_lone (root t).bytes h; mixed = λ e. absurd (cc) }),
-)
+lone_cr_strict known =
+    let T = is_lone_cr_name in
+    named known T (frees known T (name.LongLine ∷ name.Many ∷ []) refl) (frees known T block_names refl)
+    (frees known T later_names refl) HasNoLoneReturn lone_says
 
 pub mixed_strict : (known : Charsets) (t : Tree) → Lacks is_mixed_name (findings known t (placements 0 t)) ↔ HasOneLineEnd (root t).bytes
-mixed_strict known t = (
-  λ h. mixed_none (root t).bytes ((bytes_named known is_mixed_name mixed_only t h).mixed refl),
-  λ h. named_bytes known is_mixed_name mixed_only t (record { nul = λ e. absurd (cc); lone_cr = λ e. absurd (cc); mixed = λ e. none_mixed (root t).bytes h }),
-)
+mixed_strict known =
+    let T = is_mixed_name in
+    named known T (frees known T (name.LongLine ∷ name.Many ∷ []) refl) (frees known T block_names refl)
+    (frees known T later_names refl) HasOneLineEnd mixed_says
 
-pub lines_strict : (known : Charsets) (t : Tree) → Lacks is_line_name (findings known t (placements 0 t)) ↔ IsText (root t).bytes
-lines_strict known t = (
-  λ h. text_found (root t).bytes (bytes_named known is_line_name (λ n e. e) t h),
-  λ h. named_bytes known is_line_name (λ n e. e) t (found_text (root t).bytes h),
-)
+module _ (known : Charsets) where
+  abbrev T : Name → Bool
+  T = is_line_name
+
+  pub text_named : (place : Place) → Lacks is_line_name (message_findings known 0 place) ↔ IsText (root place.part).bytes
+  text_named =
+      first_named known T (frees known T (name.LongLine ∷ name.Many ∷ []) refl) (frees known T block_names refl)
+      (frees known T later_names refl) IsText text_says
+
+  pub no_text_named : (number : ℕ) (place : Place) → Lacks is_line_name (message_findings known (suc number) place)
+  no_text_named =
+      not_first known T (frees known T (name.LongLine ∷ name.Many ∷ []) refl) (frees known T block_names refl)
+      (frees known T later_names refl) IsText text_says
+
+  pub lines_strict : (t : Tree) → Lacks is_line_name (findings known t (placements 0 t)) ↔ IsText (root t).bytes
+  lines_strict =
+      named known T (frees known T (name.LongLine ∷ name.Many ∷ []) refl) (frees known T block_names refl)
+      (frees known T later_names refl) IsText text_says
 
 -- what each of these names says, and all of them
 pub ruleset line_names = (nul_strict, lone_cr_strict, mixed_strict, lines_strict)

@@ -15,8 +15,7 @@ use Rattle.mail_grammar.specs.Named.{Lacks, is_core}
 use Rattle.mail_grammar.proofs.lemmas.Levels.{few_near, near_few}
 use Rattle.mail_grammar.proofs.lemmas.Mails.{mail_strict}
 use Rattle.mail_grammar.proofs.lemmas.Messages.{messages_strict}
-use Rattle.mail_grammar.proofs.lemmas.Named.{all_map}
-use Rattle.mail_grammar.proofs.lemmas.Others.{each_lacks, lacks_both, lacks_each, lacks_left, lacks_right}
+use Rattle.mail_grammar.proofs.lemmas.Lists.{all_map, each_lacks, lacks_both, lacks_each, lacks_left, lacks_right}
 use Rattle.mail_grammar.proofs.lemmas.Reading.{AreThere, placed-there}
 use Rattle.mail_check.specs.declared.names.Name.TheVariants as name
 
@@ -66,9 +65,9 @@ module _ (known : Charsets) where
       let both = messages_strict known raw mail (places_in place mail) (inner_there known place raw mail e) in (
         λ h.
             let strict = both.0 h in
-            let near = near_few is_core refl (places_in place mail) strict.1 in
+            let near = near_few (places_in place mail) strict.1 in
             record { messages = strict.0; near = near.0; few = near.1 },
-        λ h. both.1 (h.messages, few_near is_core (places_in place mail) h.near h.few),
+        λ h. both.1 (h.messages, few_near (places_in place mail) h.near h.few),
       )
 
   inside_clean : (most : ℕ) (place : Place) → Lacks is_core (inside_findings known most place) → IsStrictInside known most place

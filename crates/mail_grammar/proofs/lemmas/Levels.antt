@@ -1,6 +1,6 @@
 -- No message of a mail is too far from its start or too deep exactly if the mail is small.
 use Rattle.std.proofs.Common.{◌≡◌, ◌∙◌, ◌+◌, ◌<◌, ◌≤◌, ◌/◌, ◌%◌, ℕ, zero, suc, Bool, true, false, cond, List, [], ◌∷◌, ◌++◌, length, map, Ok, refl, sym, ap, subst, inl, inr, arith, decimal}
-use Rattle.std.specs.Prelude.{◌⊎◌, ◌==◌, filter, nat_lt, codes}
+use Rattle.std.specs.Prelude.{◌⊎◌, ◌==◌, ⊤, filter, nat_lt, codes}
 use Rattle.std.specs.Fmt.{digit_glyph, digits, digits_onto}
 use Rattle.std.specs.List.{AllByRecursion}
 use Rattle.std.proofs.lemmas.Bool.{eqb-true, eq-eqb, ne_eqb}
@@ -12,11 +12,10 @@ use Rattle.mailparse.specs.Placement.{Placement, placements}
 use Rattle.mail_read.specs.Files.{parts_with_paths, path_under, whole_path, with_paths}
 use Rattle.mail_read.specs.InnerMails.{dot_count}
 use Rattle.mail_read.specs.PartPlaces.{Place, placed, places}
-use Rattle.mail_check.specs.declared.names.Name.{Name}
-use Rattle.mail_check.specs.declared.names.Name.TheVariants as name
+use Rattle.mail_check.specs.Findings.{is_far}
 use Rattle.mail_grammar.specs.Levels.{HasLevels, HaveLevels, IsSmall}
 use Rattle.mail_check.proofs.lemmas.Booleans.{cases_Bool, neither, nor}
-use Rattle.mail_grammar.proofs.lemmas.Named.{FarLacks}
+use Rattle.mail_grammar.proofs.lemmas.Pieces.{all_left, all_right}
 use Rattle.mail_grammar.proofs.lemmas.Reading.{all_joined, all_of_map, map_of_all, mail-there, paths-counted}
 
 -- ---- dots in paths
@@ -103,14 +102,6 @@ IsNear path = (dot_count path == 9) ≡ false
 near : (path : List ℕ) (d : ℕ) → dot_count path ≡ d → d < 9 → IsNear path
 near path d is low = ne_eqb (dot_count path) 9 (λ e. omega (arith, e, is, low))
 
-all_left : {X : Type 0} (P : X → Type 0) (xs ys : List X) → AllByRecursion P (xs ++ ys) → AllByRecursion P xs
-all_left P [] ys h = tt
-all_left P (x ∷ xs) ys h = (h.0, all_left P xs ys h.1)
-
-all_right : {X : Type 0} (P : X → Type 0) (xs ys : List X) → AllByRecursion P (xs ++ ys) → AllByRecursion P ys
-all_right P [] ys h = h
-all_right P (x ∷ xs) ys h = all_right P xs ys h.1
-
 abbrev Near : List (List ℕ × Tree) → Type 0
 Near messages = AllByRecursion (λ (m : List ℕ × Tree). IsNear m.0) messages
 
@@ -164,62 +155,66 @@ paths-placed [] found e = refl
 paths-placed (m ∷ messages) [] e = absurd (omega (arith, e))
 paths-placed (m ∷ messages) (p ∷ found) e = ap (λ (ps : List (List ℕ)). m.0 ∷ ps) (paths-placed messages found (omega (arith, e)))
 
-module _ (test : Name → Bool) where
-  -- what is found of the number of a message and of its path
-  far_paths : test name.Many ≡ true → (number : ℕ) (found : List Place) → FarLacks test number found → AllByRecursion (λ (p : Place). IsNear p.path) found
-  far_paths asked number [] h = tt
-  far_paths asked number (p ∷ found) h = ((neither (number == 100) (dot_count p.path == 9) (h.0 asked)).1, far_paths asked (suc number) found h.1)
+-- no message is too far from the start of the mail or too deep in it
+abbrev pub AreNear : ℕ → List Place → Type 0
+AreNear number [] = ⊤
+AreNear number (place ∷ found) = (is_far number place ≡ false) × AreNear (suc number) found
 
-  far_count : test name.Many ≡ true → (number : ℕ) (found : List Place) → number ≤ 100 → FarLacks test number found → number + length found ≤ 100
-  far_count asked number [] low h = omega (arith, low)
-  far_count asked number (p ∷ found) low h =
-      let other = (neither (number == 100) (dot_count p.path == 9) (h.0 asked)).0 in
-      let less : number < 100 = elim (cases_below number low) [
-        | inl l ↦ l
-        | inr e ↦ let yes = eq-eqb number 100 e in absurd (cc)
-      ] in
-      let more = far_count asked (suc number) found (omega (arith, less)) h.1 in
-      omega (arith, more)
-    where
-      cases_below : (n : ℕ) → n ≤ 100 → (n < 100) ⊎ (n ≡ 100)
-      cases_below n low = elim (cases_Bool (n == 100)) [
-        | inl e ↦ inr (eqb-true n 100 e)
-        | inr e ↦ inl (let differs : n ≡ 100 → ⊥ = λ same. let yes = eq-eqb n 100 same in cc in omega (arith, low, differs))
-      ]
+-- what is found of the number of a message and of its path
+far_paths : (number : ℕ) (found : List Place) → AreNear number found → AllByRecursion (λ (p : Place). IsNear p.path) found
+far_paths number [] h = tt
+far_paths number (p ∷ found) h = ((neither (number == 100) (dot_count p.path == 9) h.0).1, far_paths (suc number) found h.1)
 
-  near_far : (number : ℕ) (found : List Place) → number + length found ≤ 100 → AllByRecursion (λ (p : Place). IsNear p.path) found → FarLacks test number found
-  near_far number [] low h = tt
-  near_far number (p ∷ found) low h =
-      (λ e. nor (number == 100) (dot_count p.path == 9) (ne_eqb number 100 (λ same. omega (arith, same, low))) h.0, near_far (suc number) found (omega (arith, low)) h.1)
+far_count : (number : ℕ) (found : List Place) → number ≤ 100 → AreNear number found → number + length found ≤ 100
+far_count number [] low h = omega (arith, low)
+far_count number (p ∷ found) low h =
+    let other = (neither (number == 100) (dot_count p.path == 9) h.0).0 in
+    let less : number < 100 = elim (cases_below number low) [
+      | inl l ↦ l
+      | inr e ↦ let yes = eq-eqb number 100 e in absurd (cc)
+    ] in
+    let more = far_count (suc number) found (omega (arith, less)) h.1 in
+    omega (arith, more)
+  where
+    cases_below : (n : ℕ) → n ≤ 100 → (n < 100) ⊎ (n ≡ 100)
+    cases_below n low = elim (cases_Bool (n == 100)) [
+      | inl e ↦ inr (eqb-true n 100 e)
+      | inr e ↦ inl (let differs : n ≡ 100 → ⊥ = λ same. let yes = eq-eqb n 100 same in cc in omega (arith, low, differs))
+    ]
 
-  -- of messages whose paths have other numbers of numbers than ten, and that are at most 100
-  pub near_few : test name.Many ≡ true → (found : List Place) → FarLacks test 0 found
-      → AllByRecursion (λ (p : Place). IsNear p.path) found × (length found ≤ 100)
-  near_few asked found h = (far_paths asked 0 found h, let most = far_count asked 0 found (omega arith) h in omega (arith, most))
+near_far : (number : ℕ) (found : List Place) → number + length found ≤ 100 → AllByRecursion (λ (p : Place). IsNear p.path) found → AreNear number found
+near_far number [] low h = tt
+near_far number (p ∷ found) low h =
+    (nor (number == 100) (dot_count p.path == 9) (ne_eqb number 100 (λ same. omega (arith, same, low))) h.0, near_far (suc number) found (omega (arith, low)) h.1)
 
-  pub few_near : (found : List Place) → AllByRecursion (λ (p : Place). IsNear p.path) found → length found ≤ 100
-      → FarLacks test 0 found
-  few_near found near few = near_far 0 found (omega (arith, few)) near
+-- of messages whose paths have other numbers of numbers than ten, and that are at most 100
+pub near_few : (found : List Place) → AreNear 0 found
+    → AllByRecursion (λ (p : Place). IsNear p.path) found × (length found ≤ 100)
+near_few found h = (far_paths 0 found h, let most = far_count 0 found (omega arith) h in omega (arith, most))
 
-  module _ (known : Charsets) (greatest : ℕ) (bytes : List ℕ) (t : Tree) (read : read_mail_in known greatest bytes ≡ Ok t) where
-    same_paths : map (λ (p : Place). p.path) (places t (placements 0 t)) ≡ map (λ (m : List ℕ × Tree). m.0) (with_paths (whole_path t) t)
-    same_paths = paths-placed (with_paths (whole_path t) t) (placements 0 t) (paths-counted known greatest bytes t read (whole_path t))
+pub few_near : (found : List Place) → AllByRecursion (λ (p : Place). IsNear p.path) found → length found ≤ 100
+    → AreNear 0 found
+few_near found near few = near_far 0 found (omega (arith, few)) near
 
-    same_count : length (places t (placements 0 t)) ≡ length (trees_within t)
-    same_count =
-        sym (length-map (places t (placements 0 t)) (λ (p : Place). p.part)) ∙ ap length (mail-there known greatest bytes t read).parts
+module _ (known : Charsets) (greatest : ℕ) (bytes : List ℕ) (t : Tree) (read : read_mail_in known greatest bytes ≡ Ok t) where
+  same_paths : map (λ (p : Place). p.path) (places t (placements 0 t)) ≡ map (λ (m : List ℕ × Tree). m.0) (with_paths (whole_path t) t)
+  same_paths = paths-placed (with_paths (whole_path t) t) (placements 0 t) (paths-counted known greatest bytes t read (whole_path t))
 
-    pub small_found : test name.Many ≡ true → FarLacks test 0 (places t (placements 0 t)) → IsSmall t
-    small_found asked h = record {
-      levels = near_levels t (all_of_map (λ (m : List ℕ × Tree). m.0) IsNear (with_paths (whole_path t) t) (subst (AllByRecursion IsNear) same_paths
-          (map_of_all (λ (p : Place). p.path) IsNear (places t (placements 0 t)) (far_paths asked 0 (places t (placements 0 t)) h))));
-      messages = let most = far_count asked 0 (places t (placements 0 t)) (omega arith) h in let same = same_count in omega (arith, most, same);
-    }
+  same_count : length (places t (placements 0 t)) ≡ length (trees_within t)
+  same_count =
+      sym (length-map (places t (placements 0 t)) (λ (p : Place). p.part)) ∙ ap length (mail-there known greatest bytes t read).parts
 
-    pub found_small : IsSmall t → FarLacks test 0 (places t (placements 0 t))
-    found_small h =
-        let most = h.messages in
-        let same = same_count in
-        near_far 0 (places t (placements 0 t)) (omega (arith, most, same))
-        (all_of_map (λ (p : Place). p.path) IsNear (places t (placements 0 t)) (subst (AllByRecursion IsNear) (sym same_paths)
-        (map_of_all (λ (m : List ℕ × Tree). m.0) IsNear (with_paths (whole_path t) t) (levels_near t h.levels))))
+  pub small_found : AreNear 0 (places t (placements 0 t)) → IsSmall t
+  small_found h = record {
+    levels = near_levels t (all_of_map (λ (m : List ℕ × Tree). m.0) IsNear (with_paths (whole_path t) t) (subst (AllByRecursion IsNear) same_paths
+        (map_of_all (λ (p : Place). p.path) IsNear (places t (placements 0 t)) (far_paths 0 (places t (placements 0 t)) h))));
+    messages = let most = far_count 0 (places t (placements 0 t)) (omega arith) h in let same = same_count in omega (arith, most, same);
+  }
+
+  pub found_small : IsSmall t → AreNear 0 (places t (placements 0 t))
+  found_small h =
+      let most = h.messages in
+      let same = same_count in
+      near_far 0 (places t (placements 0 t)) (omega (arith, most, same))
+      (all_of_map (λ (p : Place). p.path) IsNear (places t (placements 0 t)) (subst (AllByRecursion IsNear) (sym same_paths)
+      (map_of_all (λ (m : List ℕ × Tree). m.0) IsNear (with_paths (whole_path t) t) (levels_near t h.levels))))

@@ -1,6 +1,5 @@
 -- A mail and its parts have no findings of some names exactly if they are of the grammar of strict mails.
 use Rattle.std.specs.Prelude.{◌≡◌, ◌↔◌, ℕ, List, Ok}
-use Rattle.std.proofs.Common.{refl}
 use Rattle.mail_codec.specs.Charset.{Charsets}
 use Rattle.mailparse.specs.Mail.{Tree, read_mail_in}
 use Rattle.mailparse.specs.Placement.{placements}
@@ -62,8 +61,8 @@ module _ (known : Charsets) (greatest : ℕ) (bytes : List ℕ) (t : Tree) (read
   unfolding findings
   many_of_grammar =
       let both = messages.many_of_grammar known bytes t found are in (
-        λ h. small_found is_many_name known greatest bytes t read refl (both.0 h),
-        λ h. both.1 (found_small is_many_name known greatest bytes t read h),
+        λ h. small_found known greatest bytes t read (both.0 h),
+        λ h. both.1 (found_small known greatest bytes t read h),
       )
 
   pub mail_strict : Lacks is_core (findings known t (placements 0 t)) ↔ IsStrict known bytes t
@@ -72,6 +71,6 @@ module _ (known : Charsets) (greatest : ℕ) (bytes : List ℕ) (t : Tree) (read
       let both = messages.messages_strict known bytes t found are in (
         λ h.
             let strict = both.0 h in
-            record { messages = strict.0; small = small_found is_core known greatest bytes t read refl strict.1 },
-        λ h. both.1 (h.messages, found_small is_core known greatest bytes t read h.small),
+            record { messages = strict.0; small = small_found known greatest bytes t read strict.1 },
+        λ h. both.1 (h.messages, found_small known greatest bytes t read h.small),
       )

@@ -1,11 +1,10 @@
 -- The parameters of a type or a disposition have no step at which programs differ, and no name twice, exactly if they are plain.
 use Rattle.std.proofs.Common.{◌≡◌, ◌∙◌, ◌<◌, ◌≤◌, ℕ, suc, Bool, true, false, not, cond, List, [], ◌∷◌, ◌++◌, length, Option, Some, None, refl, sym, ap, subst, inl, inr, arith, append_assoc, append-nil}
-use Rattle.std.specs.Prelude.{◌⊎◌, ◌&&◌, ◌||◌, ◌==◌, nat_le, nat_lt, is_some, codes, encode_utf8}
+use Rattle.std.specs.Prelude.{◌⊎◌, ◌&&◌, ◌||◌, ◌==◌, nat_lt, is_some, codes, encode_utf8}
 use Rattle.std.specs.Char.{is_ascii_alphanumeric, to_ascii_lowercase}
-use Rattle.std.specs.Int.{is_in_range}
 use Rattle.std.specs.List.{AllByRecursion, list_all, list_any}
 use Rattle.std.specs.Str.{bytes_eq, str_to_ascii_lowercase}
-use Rattle.std.proofs.lemmas.Bool.{cases_lt, eqb-true, leb-true, le-ltb, lt-ltb}
+use Rattle.std.proofs.lemmas.Bool.{cases_lt, eqb-true, le-ltb, lt-ltb}
 use Rattle.std.proofs.lemmas.Str.{encode_ascii}
 use Rattle.mail_codec.specs.Ascii.{asterisk, backslash, carriage_return, equals_sign, is_blank, line_feed, quote, semicolon, space, tab}
 use Rattle.mail_codec.specs.Places.{byte_place, first_place, has_prefix}
@@ -19,7 +18,7 @@ use Rattle.mail_check.specs.declared.parameters.ValueState.TheVariants.{Start, T
 use Rattle.mail_grammar.specs.Parameters.{IsGap, no_gap, gap_blank, gap_fold, IsSection, no_asterisk, asterisk_and, IsQuotedText, end_quote, text_byte, quoted_pair, IsParameterValue, token_value, quoted_value, AreParameters, no_parameter, last_semicolon, parameter, IsTokenWithParameters}
 use Rattle.mail_grammar.specs.PlainParameters.{is_plain_byte, IsPlainText, last_byte, more_bytes, IsPlainValue, plain_token, empty_quotes, plain_quotes, ArePlain, no_plain, plain_semicolon, plain_parameter, HasNoWord, no_word, no_word_here, IsPlain}
 use Rattle.mail_check.proofs.lemmas.Attributes.{attribute_low, miss, pass, text_keeps, token_keeps}
-use Rattle.mail_check.proofs.lemmas.Booleans.{all_head, all_tail, are_true, both_true, cases_Bool, is_not, left_false, neither, nor, not_true}
+use Rattle.mail_check.proofs.lemmas.Booleans.{all_head, all_tail, are_true, cases_Bool, is_not, left_false, neither, nor, not_true}
 use Rattle.mail_check.proofs.lemmas.Searched.{first_none, none_first}
 use Rattle.mail_grammar.proofs.lemmas.Fields.{blanks}
 use Rattle.mail_grammar.proofs.lemmas.Parameters.{attribute_keeps, blank_after, blank_folds}

@@ -1,10 +1,10 @@
 -- The encoded words of a value have the syntax that all programs know exactly if they are of the grammar of strict messages.
-use Rattle.std.proofs.Common.{◌≡◌, ◌∙◌, ℕ, suc, Bool, true, false, not, cond, List, [], ◌∷◌, ◌++◌, length, refl, sym, ap, subst, inl, inr, arith, append_assoc}
-use Rattle.std.specs.Prelude.{◌↔◌, ◌&&◌, ◌||◌, ◌==◌, nat_lt, is_some, Some, None, codes}
+use Rattle.std.proofs.Common.{◌≡◌, ◌∙◌, ℕ, Bool, true, false, not, cond, List, [], ◌∷◌, ◌++◌, length, refl, sym, ap, subst, inl, inr, append_assoc}
+use Rattle.std.specs.Prelude.{◌↔◌, ◌&&◌, ◌||◌, ◌==◌, nat_lt, is_some, codes}
 use Rattle.std.specs.List.{AllByRecursion, list_all, list_any, onto_first}
-use Rattle.std.proofs.lemmas.Bool.{cases_lt, eqb-true, le-ltb, lt-ltb}
+use Rattle.std.proofs.lemmas.Bool.{eqb-true}
 use Rattle.mail_codec.specs.Ascii.{equals_sign, question_mark}
-use Rattle.mail_codec.specs.Places.{begins, byte_place, first_place, has_prefix, is_empty, place}
+use Rattle.mail_codec.specs.Places.{begins, byte_place, has_prefix, is_empty, place}
 use Rattle.mail_check.specs.Bodies.{is_letter}
 use Rattle.mail_check.specs.Bytes.{is_escape_digit}
 use Rattle.mail_check.specs.Lines.{is_visible}
