@@ -8,4 +8,4 @@ use Rattle.mail_parts.proofs.decoded.decoded_parts.Given as goal
 abbrev pub invariant-loop-place : goal.invariant-loop-place
 invariant-loop-place l =
     (map decoded_place l.parts.items ++ map place_view (drop l.place-index l.places) ≡ map place_view l.places)
-    × AllByRecursion (IsDecoded l.options.decodes_bodies) l.parts.items
+    × AllByRecursion (IsDecoded l.decodes_bodies) l.parts.items
