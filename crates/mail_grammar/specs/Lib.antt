@@ -1,5 +1,3 @@
--- Words of the grammar of strict mails.
-pub mod Named
 pub mod LineEnds
 pub mod Headers
 pub mod Parameters
@@ -8,13 +6,6 @@ pub mod FileNames
 pub mod Fields
 pub mod Delimiters
 pub mod Bodies
-pub mod Senders
 pub mod Words
-pub mod SenderNames
-pub mod Charsets
-pub mod Texts
-pub mod WordBytes
-pub mod Worded
 pub mod Levels
-pub mod Mail
-pub mod Inside
+pub mod PlainValues

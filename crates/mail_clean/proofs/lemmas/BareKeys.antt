@@ -5,6 +5,7 @@ use Rattle.std.specs.Prelude.{◌||◌, ◌==◌, Result, nat_lt}
 use Rattle.std.specs.List.{list_all, suffix_len}
 use Rattle.std.specs.Str.{bytes_eq}
 use Rattle.std.proofs.lemmas.Bool.{eqb-true}
+use Rattle.std.proofs.lemmas.Bool.{and_from, cases_Bool}
 use Rattle.std.proofs.lemmas.List.{take_all}
 use Rattle.std.proofs.lemmas.List.Sums.{suffix_len_is}
 use Rattle.std.proofs.lemmas.Slice.Eq.{bytes_eq-Decides}
@@ -13,11 +14,11 @@ use Rattle.mailparse.specs.Block.{HeaderList, bare_key, read_headers}
 use Rattle.mailparse.specs.Header.{Header}
 use Rattle.mailparse.specs.Refusal.{Reads}
 use Rattle.mail_grammar.specs.Headers.{IsBlock, is_name_byte}
-use Rattle.mail_check.proofs.lemmas.Booleans.{all_head, all_tail, are_true, cases_Bool}
-use Rattle.mail_grammar.proofs.lemmas.Headers.{name_parts}
+use Rattle.mail_clean.proofs.lemmas.Headers.{name_parts}
 use Rattle.mail_laws.specs.LenientAgreement.{has_bare_keys}
 use Rattle.mail_clean.specs.StrictMails.{AreHeaders, last_of_all, before_more, IsHeaderOf}
 use Rattle.mail_clean.proofs.lemmas.StrictHeaderLists.{headers_read, headers_there}
+use Rattle.mail_grammar.proofs.lemmas.Boundaries.{all_head, all_tail}
 
 -- a byte of a name is no blank
 unblank : (b : ℕ) → is_name_byte b ≡ true → is_blank b ≡ false
@@ -52,9 +53,9 @@ header_bare header part of =
 
 headers_bare : (headers : List Header) (part : List ℕ) → AreHeaders headers part → has_bare_keys headers ≡ true
 headers_bare headers part (last_of_all {header = header} {part = own} of ends made) =
-    are_true (bytes_eq (bare_key header.key) header.key) true (header_bare header own of) refl
+    and_from (bytes_eq (bare_key header.key) header.key) true (header_bare header own of) refl
 headers_bare headers part (before_more {header = header} {headers = others} {part = own} {rest = rest} of more made) =
-    are_true (bytes_eq (bare_key header.key) header.key) (has_bare_keys others) (header_bare header own of)
+    and_from (bytes_eq (bare_key header.key) header.key) (has_bare_keys others) (header_bare header own of)
     (headers_bare others rest more)
 
 -- the headers that are read from bytes which begin with such a block

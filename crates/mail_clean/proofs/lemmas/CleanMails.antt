@@ -7,6 +7,7 @@ use Rattle.std.specs.List.{AllByRecursion, list_all}
 use Rattle.std.specs.Option.{option_map_or}
 use Rattle.std.specs.Str.{str_eq_ignore_ascii_case}
 use Rattle.std.proofs.lemmas.Bool.{lt-ltb, ltb-false}
+use Rattle.std.proofs.lemmas.Bool.{and_from, and_parts, not_from_false}
 use Rattle.std.proofs.lemmas.Slice.Eq.{bytes_eq-Decides}
 use Rattle.std.proofs.lemmas.Str.{encodes-IsAscii}
 use Rattle.mail_codec.specs.Ascii.{colon, line_feed, tilde}
@@ -33,23 +34,23 @@ use Rattle.mail_grammar.specs.Delimiters.{HasParts, HasStrictParts}
 use Rattle.mail_grammar.specs.Fields.{HasBoundary, of_multipart, of_other, HasStrictFields, IsBoundary, IsField}
 use Rattle.mail_grammar.specs.Headers.{is_name_byte, IsValue, value_ends, value_byte, value_folds, IsHeader}
 use Rattle.mail_grammar.specs.Headers.{IsBlock, last_header, next_header}
-use Rattle.mail_grammar.specs.Mail.{IsStrict}
-use Rattle.mail_grammar.specs.Named.{Lacks, is_core}
+use Rattle.mail_clean.specs.Mail.{IsStrict}
+use Rattle.mail_clean.specs.Named.{Lacks, is_core}
 use Rattle.mail_grammar.specs.PlainParameters.{HasPlainValue}
-use Rattle.mail_check.proofs.lemmas.Booleans.{all_head, all_tail, are_true, both_true, is_not}
-use Rattle.mail_grammar.proofs.lemmas.Headers.{name_parts}
-use Rattle.mail_grammar.proofs.lemmas.Keys.{lines_are_headers, of_line}
-use Rattle.mail_grammar.proofs.lemmas.Mails.{mail_strict}
-use Rattle.mail_grammar.proofs.lemmas.Reading.{IsRead, all_joined, all_of_map, all_with, mail-there, map_of_all}
+use Rattle.mail_clean.proofs.lemmas.Headers.{name_parts}
+use Rattle.mail_clean.proofs.lemmas.Keys.{lines_are_headers, of_line}
+use Rattle.mail_clean.proofs.lemmas.Mails.{mail_strict}
+use Rattle.mail_clean.proofs.lemmas.Reading.{IsRead, all_joined, all_of_map, all_with, mail-there, map_of_all}
 use Rattle.mail_laws.specs.LenientAgreement.{are_strict, has_bare_keys, has_no_dash_line, has_strict_headers, has_strict_type}
 use Rattle.mail_laws.specs.LenientAgreement.{has_whole_delimiters, is_strict_mail, is_strict_message, offsets}
-use Rattle.mail_clean.proofs.lemmas.FlatPairs.{all_both, is_low, low_ascii}
-use Rattle.mail_clean.proofs.lemmas.FoldedTypes.{plain_type_strict}
+use Rattle.mail_grammar.proofs.lemmas.FlatPairs.{all_both, is_low, low_ascii}
+use Rattle.mail_grammar.proofs.lemmas.FoldedTypes.{plain_type_strict}
 use Rattle.mail_clean.proofs.lemmas.BareKeys.{block_bare}
 use Rattle.mail_clean.proofs.lemmas.HeaderLines.{block_undashed}
 use Rattle.mail_laws.proofs.lemmas.LenientAgreement.{strict-mails-agree}
 use Rattle.mail_clean.proofs.lemmas.PlainValues.{type_meant}
 use Rattle.mail_clean.proofs.lemmas.WholeLines.{cuts_alike}
+use Rattle.mail_grammar.proofs.lemmas.Boundaries.{all_head, all_tail}
 
 -- ---- header blocks are ASCII
 
@@ -57,13 +58,13 @@ name_low : (name : List ℕ) → list_all is_name_byte name ≡ true → list_al
 name_low [] all = refl
 name_low (b ∷ name) all =
     let most = ltb-false tilde b (name_parts b (all_head is_name_byte b name all)).1 in
-    are_true (is_low b) (list_all is_low name) (lt-ltb b 128 (omega (arith, most)))
+    and_from (is_low b) (list_all is_low name) (lt-ltb b 128 (omega (arith, most)))
     (name_low name (all_tail is_name_byte b name all))
 
 value_low : (value : List ℕ) → IsValue value → list_all is_low value ≡ true
 value_low value value_ends = refl
 value_low value (value_byte {b = b} {rest = more} is left) =
-    are_true (is_low b) (list_all is_low more) (both_true (is_low b) (not (b == line_feed)) is).0 (value_low more left)
+    and_from (is_low b) (list_all is_low more) (and_parts (is_low b) (not (b == line_feed)) is).0 (value_low more left)
 value_low value (value_folds {rest = more} blank text left made) =
     subst (λ (xs : List ℕ). list_all is_low xs ≡ true) (sym made) (value_low more left)
 
@@ -89,7 +90,7 @@ take_low : (n : ℕ) (xs : List ℕ) → list_all is_low xs ≡ true → list_al
 take_low zero xs h = refl
 take_low (suc n) [] h = refl
 take_low (suc n) (b ∷ xs) h =
-    are_true (is_low b) (list_all is_low (take n xs)) (all_head is_low b xs h) (take_low n xs (all_tail is_low b xs h))
+    and_from (is_low b) (list_all is_low (take n xs)) (all_head is_low b xs h) (take_low n xs (all_tail is_low b xs h))
 
 drop_low : (n : ℕ) (xs : List ℕ) → list_all is_low xs ≡ true → list_all is_low (drop n xs) ≡ true
 drop_low zero xs h = h
@@ -304,16 +305,16 @@ module _ (known : Charsets) where
   no_dash_line t is =
       let node = root t in
       let whole = whole_bytes t is in
-      is_not (is_dash_line (drop (header_lines_end node.bytes) node.bytes))
+      not_from_false (is_dash_line (drop (header_lines_end node.bytes) node.bytes))
       (subst (λ (xs : List ℕ). is_dash_line (drop (header_lines_end xs) xs) ≡ false) whole
       (block_undashed node.block (drop is.read.index node.bytes) is.block))
 
   message_strict : (t : Tree) → IsClean t → is_strict_message known (root t) ≡ true
   message_strict t is =
-      are_true (has_strict_type known (root t).headers) (has_whole_delimiters (root t) && has_strict_headers (root t))
+      and_from (has_strict_type known (root t).headers) (has_whole_delimiters (root t) && has_strict_headers (root t))
       (type_is_strict t is)
-      (are_true (has_whole_delimiters (root t)) (has_strict_headers (root t)) (whole_delimiters t is)
-      (are_true (has_bare_keys (root t).headers) (has_no_dash_line (root t)) (bare_keys t is) (no_dash_line t is)))
+      (and_from (has_whole_delimiters (root t)) (has_strict_headers (root t)) (whole_delimiters t is)
+      (and_from (has_bare_keys (root t).headers) (has_no_dash_line (root t)) (bare_keys t is) (no_dash_line t is)))
 
   -- ---- all messages
 
@@ -324,14 +325,14 @@ module _ (known : Charsets) where
   mutual
     tree_strict : (t : Tree) → AllByRecursion IsClean (trees_within t) → is_strict_mail known t ≡ true
     tree_strict (tree node parts) h =
-        are_true (is_strict_message known node) (are_strict known parts) (message_strict (tree node parts) h.0)
+        and_from (is_strict_message known node) (are_strict known parts) (message_strict (tree node parts) h.0)
         (forest_strict parts h.1)
 
     forest_strict : (parts : Forest) → AllByRecursion IsClean (trees_in parts) → are_strict known parts ≡ true
     forest_strict no_parts h = refl
     forest_strict (part_and t ts) h =
         let both = all_split (trees_within t) (trees_in ts) h in
-        are_true (is_strict_mail known t) (are_strict known ts) (tree_strict t both.0) (forest_strict ts both.1)
+        and_from (is_strict_mail known t) (are_strict known ts) (tree_strict t both.0) (forest_strict ts both.1)
 
   abbrev ReadTyped : Tree → Type 0
   ReadTyped t = IsRead (root t) × IsTyped known (root t)

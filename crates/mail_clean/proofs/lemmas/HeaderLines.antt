@@ -4,6 +4,7 @@ use Rattle.std.proofs.Common.{inr, append_assoc}
 use Rattle.std.specs.Prelude.{◌||◌, ◌==◌, nat_lt, codes}
 use Rattle.std.specs.List.{list_all}
 use Rattle.std.proofs.lemmas.Bool.{eqb-true}
+use Rattle.std.proofs.lemmas.Bool.{and_left, and_parts, and_right, cases_Bool, not-true}
 use Rattle.mail_codec.specs.Ascii.{colon, is_blank, line_feed}
 use Rattle.mail_codec.specs.Places.{begins, first_place, has_prefix}
 use Rattle.mail_codec.proofs.lemmas.Places.{first_place-here, first_place-past}
@@ -11,9 +12,9 @@ use Rattle.mailparse.specs.Block.{blank_line, ends_header_lines, header_lines_en
 use Rattle.mailparse.specs.Header.{has_colon, key_end, ends_key}
 use Rattle.mail_grammar.specs.Headers.{is_name_byte, IsValue, value_ends, value_byte, value_folds, IsHeader}
 use Rattle.mail_grammar.specs.Headers.{IsBlock, last_header, next_header}
-use Rattle.mail_check.proofs.lemmas.Booleans.{all_head, all_tail, both_true, cases_Bool, left_false, not_true, right_false}
-use Rattle.mail_grammar.proofs.lemmas.Headers.{name_parts}
-use Rattle.mail_grammar.proofs.lemmas.Headers.{no_feed}
+use Rattle.mail_clean.proofs.lemmas.Headers.{name_parts}
+use Rattle.mail_clean.proofs.lemmas.Headers.{no_feed}
+use Rattle.mail_grammar.proofs.lemmas.Boundaries.{all_head, all_tail}
 
 -- the line after the headers looks like no delimiter
 abbrev Undashed : List ℕ → Type 0
@@ -25,7 +26,7 @@ unfolding header_lines_end
 step b rest f more = elim (cases_Bool (ends_header_lines (b ∷ rest))) [
   | inl e ↦
       ap (λ (n : ℕ). is_dash_line (drop (suc n) (b ∷ rest))) (first_place-here ends_header_lines (b ∷ rest) e)
-      ∙ f (both_true (b == line_feed) (headers_end rest || is_dash_line rest) e).0
+      ∙ f (and_parts (b == line_feed) (headers_end rest || is_dash_line rest) e).0
   | inr e ↦ ap (λ (n : ℕ). is_dash_line (drop (suc n) (b ∷ rest))) (first_place-past ends_header_lines b rest e) ∙ more
 ]
 
@@ -54,15 +55,15 @@ after_feed rest follows = elim follows.more [
 blank_look : (more rest : List ℕ) → begins is_blank more ≡ true → is_dash_line (more ++ rest) ≡ false
 unfolding is_dash_line
 blank_look [] rest h = absurd (cc)
-blank_look (b ∷ more) rest h = left_false (has_prefix (codes "--") (b ∷ (more ++ rest))) _ (elim (cases_Bool (45 == b)) [
-  | inr e ↦ left_false (45 == b) (has_prefix (codes "-") (more ++ rest)) e
+blank_look (b ∷ more) rest h = and_left (has_prefix (codes "--") (b ∷ (more ++ rest))) _ (elim (cases_Bool (45 == b)) [
+  | inr e ↦ and_left (45 == b) (has_prefix (codes "-") (more ++ rest)) e
   | inl e ↦ let no : is_blank 45 ≡ true = subst (λ (x : ℕ). is_blank x ≡ true) (sym (eqb-true 45 b e)) h in absurd (cc)
 ])
 
 value_undashed : (value rest : List ℕ) → IsValue value → Follows rest → Undashed (value ++ rest)
 value_undashed value rest value_ends follows = after_feed rest follows
 value_undashed value rest (value_byte {b = b} {rest = more} is left) follows =
-    other b (more ++ rest) (not_true (b == line_feed) (both_true (nat_lt b 128) (not (b == line_feed)) is).1)
+    other b (more ++ rest) (not-true (b == line_feed) (and_parts (nat_lt b 128) (not (b == line_feed)) is).1)
     (value_undashed more rest left follows)
 value_undashed value rest (value_folds {rest = more} blank text left made) follows =
     subst (λ (xs : List ℕ). Undashed (xs ++ rest)) (sym made)
@@ -88,7 +89,7 @@ key_there (b ∷ name) rest all =
 
 colon_look : (name rest : List ℕ) → list_all is_name_byte name ≡ true → is_dash_line (name ++ colon ∷ rest) ≡ false
 unfolding is_dash_line has_colon key_end
-colon_look name rest all = right_false (has_prefix (codes "--") (name ++ colon ∷ rest)) _ (ap not (key_there name rest all))
+colon_look name rest all = and_right (has_prefix (codes "--") (name ++ colon ∷ rest)) _ (ap not (key_there name rest all))
 
 header_undashed : (header rest : List ℕ) → IsHeader header → Follows rest → Undashed (header ++ rest)
 header_undashed header rest is follows =

@@ -4,6 +4,7 @@ use Rattle.std.specs.Prelude.{◌&&◌, ◌==◌, codes}
 use Rattle.std.specs.List.{AllByRecursion, list_all}
 use Rattle.std.specs.Str.{is_utf8}
 use Rattle.std.proofs.lemmas.Bool.{and_parts, cond_both, cond-true, eqb-true, false≢true}
+use Rattle.std.proofs.lemmas.Bool.{and_from, cases_Bool}
 use Rattle.std.proofs.lemmas.Bool.Decides.{nat_tests}
 use Rattle.mail_codec.specs.Ascii.{colon, closing_parenthesis, equals_sign, is_blank, question_mark}
 use Rattle.mail_codec.specs.Charset.{Charsets}
@@ -14,15 +15,15 @@ use Rattle.mail_address.specs.Encode.{is_plain_byte, is_plain_value, written_val
 use Rattle.mail_check.specs.Words.{pieces}
 use Rattle.mail_grammar.specs.Headers.{is_name_byte, is_value_byte, is_text_byte, IsValue, value_ends, value_byte, HasNoColonFirst, colon_later, other_first, HasNoFold, fold_later, other_byte, return_feed_only, HasNoCommentFold, no_comment, no_parenthesis, parenthesis, IsHeader, IsBlock, last_header, next_header}
 use Rattle.mail_grammar.specs.LineEnds.{is_line_byte, AreLines, no_line, in_line, end_of_line}
-use Rattle.mail_grammar.specs.SenderNames.{HidesNothing}
-use Rattle.mail_grammar.specs.Worded.{HasWordedValue}
-use Rattle.mail_grammar.specs.WordBytes.{IsReadablePiece}
+use Rattle.mail_clean.specs.SenderNames.{HidesNothing}
+use Rattle.mail_clean.specs.Worded.{HasWordedValue}
+use Rattle.mail_clean.specs.WordBytes.{IsReadablePiece}
 use Rattle.mail_grammar.specs.Words.{HasNoPair, no_pair, not_first, first_alone, HasNoWordEnd, IsStrictPiece, IsWord, ArePieces, one_piece, piece_and_more, IsPaddedWord, AreApart, no_more_pieces, empty_piece, apart_piece}
-use Rattle.mail_check.proofs.lemmas.Booleans.{all_head, all_tail, are_true, cases_Bool}
-use Rattle.mail_grammar.proofs.lemmas.Words.{pieces_are}
+use Rattle.mail_clean.proofs.lemmas.Words.{pieces_are}
 use Rattle.mail_clean.specs.PlainOutlines.{IsPlainHeader}
 use Rattle.mail_laws.specs.Render.{header_line, header_block, is_key_byte, is_key, written_bytes, written_headers}
-use Rattle.mail_clean.proofs.lemmas.FlatPairs.{all_both}
+use Rattle.mail_grammar.proofs.lemmas.FlatPairs.{all_both}
+use Rattle.mail_grammar.proofs.lemmas.Boundaries.{all_head, all_tail}
 
 -- ---- plain values are written as they are
 
@@ -45,7 +46,7 @@ same_written (h ∷ headers) plain =
 
 pub all_so : (p q : ℕ → Bool) → ((b : ℕ) → p b ≡ true → q b ≡ true) → (xs : List ℕ) → list_all p xs ≡ true → list_all q xs ≡ true
 all_so p q f [] h = refl
-all_so p q f (b ∷ xs) h = are_true (q b) (list_all q xs) (f b (all_head p b xs h)) (all_so p q f xs (all_tail p b xs h))
+all_so p q f (b ∷ xs) h = and_from (q b) (list_all q xs) (f b (all_head p b xs h)) (all_so p q f xs (all_tail p b xs h))
 
 key_name : (b : ℕ) → is_key_byte b ≡ true → is_name_byte b ≡ true
 key_name b h = grind (arith, nat_tests)

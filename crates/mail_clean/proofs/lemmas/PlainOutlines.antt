@@ -4,6 +4,7 @@ use Rattle.std.specs.Prelude.{◌&&◌}
 use Rattle.std.specs.Char.{is_ascii_alphanumeric}
 use Rattle.std.specs.List.{AllByRecursion, list_all}
 use Rattle.std.proofs.lemmas.Bool.{and_parts, cases_lt, false≢true}
+use Rattle.std.proofs.lemmas.Bool.{and_from}
 use Rattle.std.proofs.lemmas.Bool.Decides.{nat_tests}
 use Rattle.std.proofs.lemmas.List.{drop_at}
 use Rattle.mail_codec.specs.Charset.{Charsets}
@@ -22,14 +23,13 @@ use Rattle.mail_grammar.specs.Fields.{IsType, IsField, HasStrictFields}
 use Rattle.mail_grammar.specs.FileNames.{HasStrictFileName}
 use Rattle.mail_grammar.specs.Headers.{IsBlock}
 use Rattle.mail_grammar.specs.LineEnds.{AreLines}
-use Rattle.mail_grammar.specs.Mail.{IsStrict}
-use Rattle.mail_grammar.specs.Named.{Lacks, is_core}
+use Rattle.mail_clean.specs.Mail.{IsStrict}
+use Rattle.mail_clean.specs.Named.{Lacks, is_core}
 use Rattle.mail_grammar.specs.PlainParameters.{HasPlainValue}
-use Rattle.mail_grammar.specs.Texts.{HasStrictText, IsReadableText}
-use Rattle.mail_grammar.specs.Worded.{HasSenderValue, HasWordedValue}
-use Rattle.mail_check.proofs.lemmas.Booleans.{are_true}
-use Rattle.mail_grammar.proofs.lemmas.Mails.{mail_strict}
-use Rattle.mail_grammar.proofs.lemmas.Reading.{all_joined, all_with, map_of_all}
+use Rattle.mail_clean.specs.Texts.{HasStrictText, IsReadableText}
+use Rattle.mail_clean.specs.Worded.{HasSenderValue, HasWordedValue}
+use Rattle.mail_clean.proofs.lemmas.Mails.{mail_strict}
+use Rattle.mail_clean.proofs.lemmas.Reading.{all_joined, all_with, map_of_all}
 use Rattle.mail_laws.specs.Boundaries.{boundary_type}
 use Rattle.mail_clean.specs.PlainOutlines.{IsPlainHeader, ArePlainHeaders, IsPlainLeaf, IsPlainBranch, IsPlainWithin, ArePlainParts, IsPlainOutline, IsTextOf, in_ascii, in_unicode}
 use Rattle.mail_laws.specs.Render.{OutlineTree, OutlineForest, leaf, branch, no_outlines, outline_and, dash_boundary, depth, has_plain_values, header_block, is_key, is_plain_within, are_plain_within, is_well_formed_here, is_well_formed_within, are_well_formed_within, is_within_levels, IsWellFormed, rendered, rendered_parts, stands_for, stand_for, type_of, written_headers}
@@ -274,14 +274,14 @@ module _ (known : Charsets) where
       → list_all (λ h. is_plain_value h.value) headers ≡ true
   values_plain [] plain = refl
   values_plain (h ∷ headers) plain =
-      are_true (is_plain_value h.value) (list_all (λ x. is_plain_value x.value) headers) plain.0.value
+      and_from (is_plain_value h.value) (list_all (λ x. is_plain_value x.value) headers) plain.0.value
       (values_plain headers plain.1)
 
   mutual
     words_plain : (outline : OutlineTree) → IsPlainWithin outline → is_plain_within outline ≡ true
     words_plain (leaf headers body) plain = values_plain headers plain.headed.each
     words_plain (branch headers boundary parts) plain =
-        are_true (has_plain_values (branch headers boundary parts)) (are_plain_within parts)
+        and_from (has_plain_values (branch headers boundary parts)) (are_plain_within parts)
         (values_plain headers plain.0.headed.each)
         (words_of_parts_plain boundary parts plain.1)
 
@@ -289,7 +289,7 @@ module _ (known : Charsets) where
         → are_plain_within parts ≡ true
     words_of_parts_plain boundary no_outlines plain = refl
     words_of_parts_plain boundary (outline_and part parts) plain =
-        are_true (is_plain_within part) (are_plain_within parts) (words_plain part plain.1.0)
+        and_from (is_plain_within part) (are_plain_within parts) (words_plain part plain.1.0)
         (words_of_parts_plain boundary parts plain.1.1)
 
   pub plain_is_clean : (greatest : ℕ) (outline : OutlineTree) (t : Tree) → IsWellFormed outline → IsPlainOutline outline

@@ -4,17 +4,18 @@ use Rattle.std.specs.Prelude.{◌==◌}
 use Rattle.std.specs.Char.{is_ascii_alphanumeric}
 use Rattle.std.specs.List.{list_all}
 use Rattle.std.proofs.lemmas.Bool.Decides.{nat_tests}
+use Rattle.std.proofs.lemmas.Bool.{and_from, and_left}
 use Rattle.mail_codec.specs.Charset.{Charsets}
 use Rattle.mail_codec.specs.Places.{has_prefix}
 use Rattle.mail_codec.specs.QuotedPrintable.{cr_lf}
 use Rattle.mailparse.specs.Mail.{trees_in, trees_within}
 use Rattle.mail_grammar.specs.Delimiters.{line_ends, HasNoDash, no_dash, no_dash_here, HasClose, part_byte, delimiter, close_delimiter, HasParts, first_delimiter}
 use Rattle.mail_grammar.specs.Levels.{HasLevels, HaveLevels, IsSmall}
-use Rattle.mail_check.proofs.lemmas.Booleans.{all_head, all_tail, are_true, left_false}
 use Rattle.mail_clean.specs.PlainOutlines.{ArePlainParts}
 use Rattle.mail_laws.specs.Render.{OutlineTree, OutlineForest, leaf, branch, no_outlines, outline_and, depth, depth_of_parts, headers_in, headers_within, rendered, rendered_parts, stands_for, stand_for}
 use Rattle.mail_laws.proofs.lemmas.RenderParts.{has_prefix-before, no_return}
 use Rattle.mail_laws.proofs.lemmas.RenderReadings.{no_return-alphanumeric}
+use Rattle.mail_grammar.proofs.lemmas.Boundaries.{all_head, all_tail}
 
 -- ---- delimiters
 
@@ -27,7 +28,7 @@ no_end b h = grind (arith, nat_tests)
 returnless : (xs : List ℕ) → list_all is_ascii_alphanumeric xs ≡ true → list_all no_return xs ≡ true
 returnless [] all = refl
 returnless (b ∷ xs) all =
-    are_true (no_return b) (list_all no_return xs) (no_return-alphanumeric b (all_head is_ascii_alphanumeric b xs all))
+    and_from (no_return b) (list_all no_return xs) (no_return-alphanumeric b (all_head is_ascii_alphanumeric b xs all))
     (returnless xs (all_tail is_ascii_alphanumeric b xs all))
 
 -- a boundary of letters and digits
@@ -38,16 +39,16 @@ module _ (b : ℕ) (bs : List ℕ) (all : list_all is_ascii_alphanumeric (b ∷ 
   dashless : (xs rest : List ℕ) → list_all is_ascii_alphanumeric xs ≡ true → HasNoDash dash rest → HasNoDash dash (xs ++ rest)
   dashless [] rest free more = more
   dashless (x ∷ xs) rest free more =
-      no_dash_here (left_false (45 == x) (has_prefix (45 ∷ b ∷ bs) (xs ++ rest))
+      no_dash_here (and_left (45 == x) (has_prefix (45 ∷ b ∷ bs) (xs ++ rest))
       (no_hyphen x (all_head is_ascii_alphanumeric x xs free)))
       (dashless xs rest (all_tail is_ascii_alphanumeric x xs free) more)
 
   alone : HasNoDash dash (45 ∷ ((b ∷ bs) ++ 45 ∷ 45 ∷ 13 ∷ 10 ∷ []))
   alone =
-      no_dash_here (left_false (45 == b) (has_prefix (b ∷ bs) (bs ++ 45 ∷ 45 ∷ 13 ∷ 10 ∷ []))
+      no_dash_here (and_left (45 == b) (has_prefix (b ∷ bs) (bs ++ 45 ∷ 45 ∷ 13 ∷ 10 ∷ []))
       (no_hyphen b (all_head is_ascii_alphanumeric b bs all)))
       (dashless (b ∷ bs) (45 ∷ 45 ∷ 13 ∷ 10 ∷ []) all
-      (no_dash_here (left_false (b == 13) (has_prefix bs (10 ∷ [])) (no_end b (all_head is_ascii_alphanumeric b bs all)))
+      (no_dash_here (and_left (b == 13) (has_prefix bs (10 ∷ [])) (no_end b (all_head is_ascii_alphanumeric b bs all)))
       (no_dash_here refl (no_dash_here refl (no_dash_here refl no_dash)))))
 
   free : list_all no_return dash ≡ true

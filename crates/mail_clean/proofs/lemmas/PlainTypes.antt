@@ -6,6 +6,7 @@ use Rattle.std.specs.List.{AllByRecursion, list_all, list_any}
 use Rattle.std.specs.Option.{option_map_or}
 use Rattle.std.specs.Str.{bytes_eq, str_eq_ignore_ascii_case, str_to_ascii_lowercase}
 use Rattle.std.proofs.lemmas.Bool.{and_parts, false≢true}
+use Rattle.std.proofs.lemmas.Bool.{and_from, and_left, cases_Bool}
 use Rattle.std.proofs.lemmas.Bool.Decides.{nat_tests}
 use Rattle.std.proofs.lemmas.Str.{encodes-IsAscii}
 use lib.Pointwise.{bytes_decides}
@@ -26,16 +27,15 @@ use Rattle.mail_read.specs.lenient.Content.{lenient_content, message_content}
 use Rattle.mail_read.specs.lenient.Encoding.{name_at, lenient_kind, lenient_kind_named}
 use Rattle.mail_check.specs.Parameters.{parameter_names}
 use Rattle.mail_grammar.specs.Bodies.{HasStrictBody, IsEncoded}
-use Rattle.mail_grammar.specs.Charsets.{is_ascii_byte, this_label, HasNoMark, in_us_ascii, in_utf_8}
+use Rattle.mail_clean.specs.Charsets.{is_ascii_byte, this_label, HasNoMark, in_us_ascii, in_utf_8}
 use Rattle.mail_grammar.specs.Fields.{HasNone, another, HasAtMostOne, other_name, the_one, is_boundary_character, IsBoundary, last_character, more_characters, of_multipart, IsType, IsField, is_of_messages, encoding_names, IsOneOf, name_here}
 use Rattle.mail_grammar.specs.FileNames.{names_of_disposition, names_of_type, HasOwnNames, HasStrictFileName}
 use Rattle.mail_grammar.specs.LineEnds.{is_line_byte, AreLines, in_line, end_of_line, no_line}
 use Rattle.mail_grammar.specs.Parameters.{no_gap, gap_blank, is_name_character, is_token_character}
 use Rattle.mail_grammar.specs.PlainParameters.{IsPlainType, plain_type, plain_token, plain_parameter, no_plain, HasNoWord, no_word, no_word_here, HasPlainValue, IsPlainDisposition, plain_disposition}
-use Rattle.mail_grammar.specs.Texts.{HasStrictText, IsReadableText}
-use Rattle.mail_check.proofs.lemmas.Booleans.{all_head, all_tail, are_true, cases_Bool, left_false}
-use Rattle.mail_grammar.proofs.lemmas.Reading.{all_with}
-use Rattle.mail_grammar.proofs.lemmas.Values.{plain_type_text, plain_disposition_text}
+use Rattle.mail_clean.specs.Texts.{HasStrictText, IsReadableText}
+use Rattle.mail_clean.proofs.lemmas.Reading.{all_with}
+use Rattle.mail_clean.proofs.lemmas.Values.{plain_type_text, plain_disposition_text}
 use Rattle.mail_laws.specs.Boundaries.{boundary_type, one_text}
 use Rattle.mail_address.specs.Encode.{is_plain_value}
 use Rattle.mail_address.proofs.lemmas.EncodeRead.{plain_reads}
@@ -43,6 +43,7 @@ use Rattle.mail_clean.specs.PlainOutlines.{IsBareDisposition, is_inline, is_atta
 use Rattle.mail_laws.specs.Render.{is_key, type_header, type_of}
 use Rattle.mail_laws.proofs.lemmas.Boundaries.{boundary_content_type}
 use Rattle.mail_laws.proofs.lemmas.RenderTypes.{IsAlphanumeric-from, key_ascii}
+use Rattle.mail_grammar.proofs.lemmas.Boundaries.{all_head, all_tail}
 
 -- ---- headers without a name
 
@@ -139,20 +140,20 @@ is_boundary (suc n) b (c ∷ bs) all short =
 alphanumeric_name : (xs : List ℕ) → list_all is_ascii_alphanumeric xs ≡ true → list_all is_name_character xs ≡ true
 alphanumeric_name [] all = refl
 alphanumeric_name (b ∷ xs) all =
-    are_true (is_name_character b) (list_all is_name_character xs)
+    and_from (is_name_character b) (list_all is_name_character xs)
     (or_true (is_token_character b) _ (or_true (is_ascii_alphanumeric b) _ (all_head is_ascii_alphanumeric b xs all)))
     (alphanumeric_name xs (all_tail is_ascii_alphanumeric b xs all))
 
 alphanumeric_wordless : (xs : List ℕ) → list_all is_ascii_alphanumeric xs ≡ true → HasNoWord xs
 alphanumeric_wordless [] all = no_word
 alphanumeric_wordless (b ∷ xs) all =
-    no_word_here (left_false (61 == b) (has_prefix (codes "?") xs) (no_question b (all_head is_ascii_alphanumeric b xs all)))
+    no_word_here (and_left (61 == b) (has_prefix (codes "?") xs) (no_question b (all_head is_ascii_alphanumeric b xs all)))
     (alphanumeric_wordless xs (all_tail is_ascii_alphanumeric b xs all))
 
 pub wordless_before : (xs rest : List ℕ) → list_all (λ b. not (61 == b)) xs ≡ true → HasNoWord rest → HasNoWord (xs ++ rest)
 wordless_before [] rest all more = more
 wordless_before (b ∷ xs) rest all more =
-    no_word_here (left_false (61 == b) (has_prefix (codes "?") (xs ++ rest))
+    no_word_here (and_left (61 == b) (has_prefix (codes "?") (xs ++ rest))
     (is_false (61 == b) (all_head (λ b. not (61 == b)) b xs all)))
     (wordless_before xs rest (all_tail (λ b. not (61 == b)) b xs all) more)
   where
@@ -164,7 +165,7 @@ type_wordless : (b : ℕ) (bs : List ℕ) → list_all is_ascii_alphanumeric (b 
     → HasNoWord (codes "mixed; boundary=" ++ (b ∷ bs))
 type_wordless b bs all =
     wordless_before (codes "mixed; boundary") (61 ∷ b ∷ bs) refl
-    (no_word_here (left_false (63 == b) true (no_mark b (all_head is_ascii_alphanumeric b bs all)))
+    (no_word_here (and_left (63 == b) true (no_mark b (all_head is_ascii_alphanumeric b bs all)))
     (alphanumeric_wordless (b ∷ bs) all))
 
 pub boundary_plain : (b : ℕ) (bs : List ℕ) → list_all is_ascii_alphanumeric (b ∷ bs) ≡ true → IsPlainType (boundary_type (b ∷ bs))
@@ -470,7 +471,7 @@ line_no_nul b h = grind (arith, nat_tests)
 lines_no_nul : (xs : List ℕ) → AreLines (codes "\r\n") xs → list_all (λ b. not (b == 0)) xs ≡ true
 lines_no_nul xs no_line = refl
 lines_no_nul xs (in_line {b = b} {rest = rest} is lines) =
-    are_true (not (b == 0)) (list_all (λ b. not (b == 0)) rest) (line_no_nul b is) (lines_no_nul rest lines)
+    and_from (not (b == 0)) (list_all (λ b. not (b == 0)) rest) (line_no_nul b is) (lines_no_nul rest lines)
 lines_no_nul xs (end_of_line {rest = rest} lines made) =
     subst (λ (ys : List ℕ). list_all (λ b. not (b == 0)) ys ≡ true) (sym made) (lines_no_nul rest lines)
 
@@ -482,9 +483,9 @@ ascii_unmarked [] all = record { utf_8 = refl; utf_16_be = refl; utf_16_le = ref
 ascii_unmarked (b ∷ xs) all =
     let low = all_head is_ascii_byte b xs all in
     record {
-      utf_8 = left_false (0xEF == b) _ (low_mark b 0xEF (omega arith) low);
-      utf_16_be = left_false (0xFE == b) _ (low_mark b 0xFE (omega arith) low);
-      utf_16_le = left_false (0xFF == b) _ (low_mark b 0xFF (omega arith) low);
+      utf_8 = and_left (0xEF == b) _ (low_mark b 0xEF (omega arith) low);
+      utf_16_be = and_left (0xFE == b) _ (low_mark b 0xFE (omega arith) low);
+      utf_16_le = and_left (0xFF == b) _ (low_mark b 0xFF (omega arith) low);
     }
 
 pub ascii_readable : (known : Charsets) (xs : List ℕ) → list_all is_ascii_byte xs ≡ true → AreLines (codes "\r\n") xs

@@ -5,6 +5,7 @@ use Rattle.std.specs.List.{list_all, list_any}
 use Rattle.std.specs.Map.{update, update_all}
 use Rattle.std.specs.Str.{bytes_eq, str_to_ascii_lowercase}
 use Rattle.std.proofs.lemmas.Bool.{cond-false, false≢true}
+use Rattle.std.proofs.lemmas.Bool.{and_parts, cases_Bool, not-true, or_parts}
 use Rattle.std.proofs.lemmas.Slice.Eq.{bytes_eq-Decides}
 use Rattle.mail_codec.specs.Ascii.{slash}
 use Rattle.mail_codec.specs.Charset.{Charsets, four_charsets}
@@ -19,14 +20,13 @@ use Rattle.mail_grammar.specs.PlainParameters.{IsPlainValue, plain_token, empty_
 use Rattle.mail_grammar.specs.PlainParameters.{plain_semicolon, plain_parameter, IsPlain, IsPlainType}
 use Rattle.mail_grammar.specs.PlainParameters.{blank_before_plain_type, plain_type, IsPlainDisposition}
 use Rattle.mail_grammar.specs.PlainParameters.{blank_before_plain_disposition, plain_disposition}
-use Rattle.mail_check.proofs.lemmas.Booleans.{both_true, cases_Bool, neither, not_true}
-use Rattle.mail_clean.specs.PlainValues.{Parameters, text_named, IsValueOf, token_of, empty_of, quotes_of, AreParametersOf, none_of}
-use Rattle.mail_clean.specs.PlainValues.{semicolon_of, parameter_of, IsPlainOf, IsTypeOf, blank_before_type_of, type_of}
-use Rattle.mail_clean.specs.PlainValues.{IsDispositionOf, blank_before_disposition_of, disposition_of, meant_type}
-use Rattle.mail_clean.specs.PlainValues.{meant_disposition}
+use Rattle.mail_grammar.specs.PlainValues.{Parameters, text_named, IsValueOf, token_of, empty_of, quotes_of, AreParametersOf, none_of}
+use Rattle.mail_grammar.specs.PlainValues.{semicolon_of, parameter_of, IsPlainOf, IsTypeOf, blank_before_type_of, type_of}
+use Rattle.mail_grammar.specs.PlainValues.{IsDispositionOf, blank_before_disposition_of, disposition_of, meant_type}
+use Rattle.mail_grammar.specs.PlainValues.{meant_disposition}
 use Rattle.mail_laws.specs.StarFree.{AreStarFree}
-use Rattle.mail_clean.proofs.lemmas.FlatPairs.{all_both, flat_free, head_read, is_head, is_low, token_head}
-use Rattle.mail_clean.proofs.lemmas.FoldedTypes.{AreApart, IsShown, disposition_shown, type_shown, value_shown}
+use Rattle.mail_grammar.proofs.lemmas.FlatPairs.{all_both, flat_free, head_read, is_head, is_low, token_head}
+use Rattle.mail_grammar.proofs.lemmas.FoldedTypes.{AreApart, IsShown, disposition_shown, type_shown, value_shown}
 use Rattle.mail_laws.proofs.lemmas.StarFree.{star_free_pairs_are_parameters}
 
 -- ---- each plain value has a meaning
@@ -159,7 +159,7 @@ absent : (key name : List ℕ) (parameters : Parameters) → list_any (bytes_eq 
     → bytes_eq key name ≡ true → text_named parameters name ≡ None
 absent key name [] none same = refl
 absent key name (p ∷ ps) none same =
-    let both = neither (bytes_eq key p.0) (list_any (bytes_eq key) (map (λ p. p.0) ps)) none in
+    let both = or_parts (bytes_eq key p.0) (list_any (bytes_eq key) (map (λ p. p.0) ps)) none in
     cond-false (bytes_eq p.0 name) (Some p.1) (text_named ps name) (other both.0) ∙ absent key name ps both.1 same
   where
     other : bytes_eq key p.0 ≡ false → bytes_eq p.0 name ≡ false
@@ -196,9 +196,9 @@ given_none (Some text) = refl
 
 star_free : (parameters : Parameters) → is_star_free parameters ≡ true → AreStarFree parameters
 star_free [] h i d low = absurd (omega (arith, low))
-star_free (p ∷ ps) h zero d low = not_true (list_any is_star p.0) (both_true (not (list_any is_star p.0)) (is_star_free ps) h).0
+star_free (p ∷ ps) h zero d low = not-true (list_any is_star p.0) (and_parts (not (list_any is_star p.0)) (is_star_free ps) h).0
 star_free (p ∷ ps) h (suc i) d low =
-    star_free ps (both_true (not (list_any is_star p.0)) (is_star_free ps) h).1 i d (omega (arith, low))
+    star_free ps (and_parts (not (list_any is_star p.0)) (is_star_free ps) h).1 i d (omega (arith, low))
 
 texts_read : (known : Charsets) (parameters : Parameters) → is_star_free parameters ≡ true → AreApart parameters
     → parameters_in known parameters ≡ text_named parameters

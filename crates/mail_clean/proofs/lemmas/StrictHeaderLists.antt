@@ -4,6 +4,7 @@ use Rattle.std.proofs.Common.{Ok, Err, eqb, refl, sym, ap, subst, inl, inr, arit
 use Rattle.std.specs.Prelude.{◌==◌, slice_range}
 use Rattle.std.specs.List.{list_all}
 use Rattle.std.proofs.lemmas.Bool.{eqb-true}
+use Rattle.std.proofs.lemmas.Bool.{and_from, and_left, and_parts, and_right, cases_Bool}
 use Rattle.std.proofs.lemmas.List.{drop-drop}
 use Rattle.mail_codec.specs.Ascii.{colon, is_blank, line_feed, space}
 use Rattle.mail_codec.specs.Places.{begins, first_place}
@@ -16,13 +17,13 @@ use Rattle.mailparse.proofs.lemmas.Header.{header_of-value}
 use Rattle.mail_grammar.specs.Headers.{IsBlock, last_header, next_header, IsHeader, IsValue, value_byte, value_ends}
 use Rattle.mail_grammar.specs.Headers.{value_folds}
 use Rattle.mail_grammar.specs.LineEnds.{IsLineEnd}
-use Rattle.mail_check.proofs.lemmas.Booleans.{all_head, all_tail, are_true, both_true, cases_Bool, left_false, right_false}
-use Rattle.mail_grammar.proofs.lemmas.Blocks.{block_start, header_size, line_start, no_header, starts}
-use Rattle.mail_grammar.proofs.lemmas.Headers as strict_headers
-use Rattle.mail_grammar.proofs.lemmas.Headers.{front}
-use Rattle.mail_grammar.proofs.lemmas.Headers.{past_name}
+use Rattle.mail_clean.proofs.lemmas.Blocks.{block_start, header_size, line_start, no_header, starts}
+use Rattle.mail_clean.proofs.lemmas.Headers as strict_headers
+use Rattle.mail_clean.proofs.lemmas.Headers.{front}
+use Rattle.mail_clean.proofs.lemmas.Headers.{past_name}
 use Rattle.mail_clean.specs.StrictMails.{AreHeaders, last_of_all, before_more, EndsInOther, no_last, last_other, before_others}
 use Rattle.mail_clean.specs.StrictMails.{IsHeaderOf}
+use Rattle.mail_grammar.proofs.lemmas.Boundaries.{all_head, all_tail}
 
 -- ---- values
 
@@ -32,7 +33,7 @@ value_size : (value rest : List ℕ) → IsValue value → begins is_blank rest 
 value_size value rest value_ends after = ap suc (first_place-here ends_header (line_feed ∷ rest) (ap not after))
 value_size value rest (value_byte {b = b} {rest = more} is left) after =
     ap suc (first_place-past ends_header b (more ++ rest)
-    (left_false (b == line_feed) _ (other (b == line_feed) (both_true _ (not (b == line_feed)) is).1))
+    (and_left (b == line_feed) _ (other (b == line_feed) (and_parts _ (not (b == line_feed)) is).1))
     ∙ value_size more rest left after)
   where
     other : (t : Bool) → not t ≡ true → t ≡ false
@@ -58,19 +59,19 @@ spaces_passed (s ∷ spaces) xs all other =
 
 -- bytes of line ends are left
 not_all : (b : ℕ) (value ends : List ℕ) → EndsInOther is_line_end (b ∷ value) → list_all is_line_end ((b ∷ value) ++ ends) ≡ false
-not_all b value ends (last_other fails) = left_false (is_line_end b) (list_all is_line_end ends) fails
+not_all b value ends (last_other fails) = and_left (is_line_end b) (list_all is_line_end ends) fails
 not_all b value ends (before_others {c = c} {rest = rest} more) =
-    right_false (is_line_end b) (list_all is_line_end ((c ∷ rest) ++ ends)) (not_all c rest ends more)
+    and_right (is_line_end b) (list_all is_line_end ((c ∷ rest) ++ ends)) (not_all c rest ends more)
 
 ends_left : (value ends : List ℕ) → EndsInOther is_line_end value → list_all is_line_end ends ≡ true
     → first_place (list_all is_line_end) (value ++ ends) ≡ length value
 ends_left value ends no_last all = first_place-here (list_all is_line_end) ends all
 ends_left value ends (last_other {b = b} fails) all =
-    first_place-past (list_all is_line_end) b ends (left_false (is_line_end b) (list_all is_line_end ends) fails)
+    first_place-past (list_all is_line_end) b ends (and_left (is_line_end b) (list_all is_line_end ends) fails)
     ∙ ap suc (first_place-here (list_all is_line_end) ends all)
 ends_left value ends (before_others {b = b} {c = c} {rest = rest} more) all =
     first_place-past (list_all is_line_end) b ((c ∷ rest) ++ ends)
-    (right_false (is_line_end b) (list_all is_line_end ((c ∷ rest) ++ ends)) (not_all c rest ends more))
+    (and_right (is_line_end b) (list_all is_line_end ((c ∷ rest) ++ ends)) (not_all c rest ends more))
     ∙ ap suc (ends_left (c ∷ rest) ends more all)
 
 spaceless : (value ends : List ℕ) → begins (λ b. b == space) value ≡ false → list_all is_line_end ends ≡ true
@@ -226,7 +227,7 @@ spaces_of (b ∷ xs) = elim (cases_Bool (b == space)) [
         spaces = b ∷ more.spaces;
         left = more.left;
         made = ap (λ (ys : List ℕ). b ∷ ys) more.made;
-        all = are_true (b == space) (list_all (λ b. b == space) more.spaces) e more.all;
+        all = and_from (b == space) (list_all (λ b. b == space) more.spaces) e more.all;
         other = more.other;
       }
 ]
@@ -259,7 +260,7 @@ ends_of (b ∷ xs) = let more = ends_of xs in by_kept more.kept more.ends more.m
         kept = [];
         ends = b ∷ ends;
         made = ap (λ (ys : List ℕ). b ∷ ys) made;
-        all = are_true (is_line_end b)
+        all = and_from (is_line_end b)
             (list_all is_line_end ends) e all;
         other = no_last;
       }

@@ -7,6 +7,7 @@ use Rattle.std.specs.Prelude.{◌⊎◌, ◌&&◌, ◌||◌, ◌==◌, codes, na
 use Rattle.std.specs.List.{list_all}
 use Rattle.std.specs.Option.{option_map_or}
 use Rattle.std.proofs.lemmas.Bool.{cases_lt, cond-false, cond-true, eq-eqb, eqb-true, false≢true, le-ltb, lt-ltb}
+use Rattle.std.proofs.lemmas.Bool.{and_from, and_left, and_right, cases_Bool}
 use Rattle.std.proofs.lemmas.List.{drop-drop}
 use Rattle.mail_codec.specs.Ascii.{carriage_return, line_feed}
 use Rattle.mail_codec.specs.Places.{begins, byte_place, has_prefix}
@@ -18,14 +19,13 @@ use Rattle.mailparse.proofs.lemmas.Delimiters.{NoDelimiter, delimiter_from-some,
 use Rattle.mail_grammar.specs.Delimiters.{HasNoDash, no_dash, no_dash_here, IsClosed, HasClose, part_byte, delimiter}
 use Rattle.mail_grammar.specs.Delimiters.{close_delimiter, HasParts, preamble_byte, first_delimiter}
 use Rattle.mail_grammar.specs.LineEnds.{IsLineEnd}
-use Rattle.mail_grammar.proofs.lemmas.Delimiters.{is_inner}
-use Rattle.mail_grammar.proofs.lemmas.Headers.{front, past_name}
-use Rattle.mail_check.proofs.lemmas.Booleans.{all_head, all_tail, are_true, cases_Bool, left_false, right_false}
+use Rattle.mail_clean.proofs.lemmas.Headers.{front, past_name}
 use Rattle.mail_clean.specs.StrictMails.{EndsInOther, no_last, last_other, before_others, IsBreak, no_break, feed_break}
 use Rattle.mail_clean.specs.StrictMails.{return_break, IsPiece, HasPieces, last_piece, next_piece, IsSplitInto}
 use Rattle.mail_laws.proofs.lemmas.DelimiterPlaces.{before_byte-one, before_byte-start, before_line_end-start}
 use Rattle.mail_laws.proofs.lemmas.DelimiterPlaces.{before_line_end-crlf}
 use Rattle.mail_laws.proofs.lemmas.RenderParts.{further, has_prefix-self}
+use Rattle.mail_grammar.proofs.lemmas.Boundaries.{all_head, all_tail, is_inner}
 
 -- ---- texts at the front
 
@@ -39,7 +39,7 @@ differ x c h bad = elim (cases_Bool (x == c)) [
 pub prefix_before : (d front : List ℕ) (c : ℕ) (rest : List ℕ) → list_all is_inner d ≡ true → is_inner c ≡ false
     → has_prefix d (front ++ c ∷ rest) ≡ has_prefix d front
 prefix_before [] front c rest all bad = refl
-prefix_before (x ∷ d) [] c rest all bad = left_false (x == c) (has_prefix d rest) (differ x c (all_head is_inner x d all) bad)
+prefix_before (x ∷ d) [] c rest all bad = and_left (x == c) (has_prefix d rest) (differ x c (all_head is_inner x d all) bad)
 prefix_before (x ∷ d) (b ∷ front) c rest all bad =
     ap (λ t. (x == b) && t) (prefix_before d front c rest (all_tail is_inner x d all) bad)
 
@@ -48,9 +48,9 @@ pub prefix_less : (d front rest : List ℕ) → has_prefix d (front ++ rest) ≡
 prefix_less [] front rest h = h
 prefix_less (x ∷ d) [] rest h = refl
 prefix_less (x ∷ d) (b ∷ front) rest h = elim (cases_Bool (x == b)) [
-  | inr e ↦ left_false (x == b) (has_prefix d front) e
+  | inr e ↦ and_left (x == b) (has_prefix d front) e
   | inl e ↦
-      right_false (x == b) (has_prefix d front)
+      and_right (x == b) (has_prefix d front)
       (prefix_less d front rest (sym (ap (λ t. t && has_prefix d (front ++ rest)) e) ∙ h))
 ]
 
@@ -64,7 +64,7 @@ module _ (x : ℕ) (text : List ℕ) (plain : list_all is_inner (x ∷ text) ≡
   no_line : (line rest : List ℕ) → list_all (λ b. not (is_inner b)) line ≡ true → (k : ℕ) → k < length line
       → has_prefix dash (drop k (line ++ rest)) ≡ false
   no_line [] rest all k low = absurd (omega (arith, low))
-  no_line (c ∷ line) rest all zero low = left_false (x == c) (has_prefix text (line ++ rest))
+  no_line (c ∷ line) rest all zero low = and_left (x == c) (has_prefix text (line ++ rest))
       (differ x c (all_head is_inner x text plain) (is_outer c (all_head (λ b. not (is_inner b)) c line all)))
     where
       is_outer : (c : ℕ) → not (is_inner c) ≡ true → is_inner c ≡ false
@@ -135,7 +135,7 @@ module _ (x : ℕ) (text : List ℕ) (plain : list_all is_inner (x ∷ text) ≡
 
     nowhere : NoDelimiter dash bytes s next
     nowhere k low high =
-        right_false (starts_line bytes s k) (has_prefix dash (drop k bytes))
+        and_right (starts_line bytes s k) (has_prefix dash (drop k bytes))
         (ap (has_prefix dash) (further bytes (part ++ (is.line ++ after)) s (k - s) k is.made (omega (arith, low)))
         ∙ no_both part is.line after is.no_dash is.break (k - s) (omega (arith, low, high)))
 
@@ -183,7 +183,7 @@ module _ (x : ℕ) (text : List ℕ) (plain : list_all is_inner (x ∷ text) ≡
         by_part : (0 < length part) ⊎ (length part ≤ 0) → before_byte carriage_return bytes s end ≡ end
         by_part (inl some) =
             cond-false (nat_lt s end && begins (λ x. x == carriage_return) (drop (end - 1) bytes)) (end - 1) end
-            (right_false (nat_lt s end) (begins (λ x. x == carriage_return) (drop (end - 1) bytes))
+            (and_right (nat_lt s end) (begins (λ x. x == carriage_return) (drop (end - 1) bytes))
             (no_return_before part (is.line ++ after) other is.made some))
         by_part (inr none) = before_byte-start carriage_return bytes s end (omega (arith, none))
 
@@ -221,7 +221,7 @@ module _ (x : ℕ) (text : List ℕ) (plain : list_all is_inner (x ∷ text) ≡
     found =
         let size = fits in
         sym (delimiter_from-some dash bytes s next (omega arith) (omega (arith, size))
-        (are_true (starts_line bytes s next) (has_prefix dash (drop next bytes)) ends.0
+        (and_from (starts_line bytes s next) (has_prefix dash (drop next bytes)) ends.0
         (ap (has_prefix dash) (at_next next refl) ∙ has_prefix-self dash more)) nowhere)
 
     part_end : (otherwise : ℕ) → end_from dash bytes s otherwise ≡ end

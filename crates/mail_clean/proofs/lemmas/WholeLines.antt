@@ -5,6 +5,7 @@ use Rattle.std.specs.Prelude.{◌⊎◌, ◌&&◌, ◌||◌, ◌==◌, codes, fi
 use Rattle.std.specs.List.{cons_option, list_all}
 use Rattle.std.specs.Option.{option_map_or}
 use Rattle.std.proofs.lemmas.Bool.{cases_lt, cond-false, cond-true, eq-eqb, false≢true, le-ltb, lt-ltb}
+use Rattle.std.proofs.lemmas.Bool.{and_from, and_parts, cases_Bool, not-true, or_parts}
 use Rattle.std.proofs.lemmas.List.{drop-drop}
 use Rattle.mail_codec.specs.Ascii.{carriage_return, line_feed}
 use Rattle.mail_codec.specs.Places.{begins, byte_place, first_place, has_prefix, least, values_below}
@@ -25,10 +26,9 @@ use Rattle.mail_check.specs.Bytes.{is_line_left}
 use Rattle.mail_check.specs.Multiparts.{without_dashes}
 use Rattle.mail_grammar.specs.Delimiters.{EndsLine, no_more_bytes, line_ends, HasParts}
 use Rattle.mail_grammar.specs.Fields.{IsBoundary}
-use Rattle.mail_grammar.proofs.lemmas.Delimiters.{Opened, ends_there, is_inner, parts_found, starts}
-use Rattle.mail_grammar.proofs.lemmas.Delimiters as strict_lines
-use Rattle.mail_check.proofs.lemmas.Booleans.{are_true, both_true, cases_Bool, neither, not_true}
-use Rattle.mail_grammar.proofs.lemmas.Parts.{boundary_inner}
+use Rattle.mail_clean.proofs.lemmas.Delimiters.{Opened, ends_there, parts_found, starts}
+use Rattle.mail_clean.proofs.lemmas.Delimiters as strict_lines
+use Rattle.mail_grammar.proofs.lemmas.Boundaries.{boundary_inner, is_inner}
 
 -- ---- ends of lines
 
@@ -89,7 +89,7 @@ module _ (dash bytes : List ℕ) (i : ℕ) (some : 0 < length dash) (is : HasPar
     | inr e ↦ ap (λ (t : Bool). t && ends_line (drop (p + length dash) bytes)) e ∙ sym e
     | inl e ↦
         ap (λ (t : Bool). is_delimiter dash bytes start p && t)
-        (whole_at p low (both_true (starts_line bytes start p) (has_prefix dash (drop p bytes)) e).1)
+        (whole_at p low (and_parts (starts_line bytes start p) (has_prefix dash (drop p bytes)) e).1)
         ∙ and_true (is_delimiter dash bytes start p)
   ]
     where
@@ -182,7 +182,7 @@ module _ (dash bytes : List ℕ) (i : ℕ) (some : 0 < length dash) (is : HasPar
   opening : (o : ℕ) → starts true (drop i bytes) o ≡ true → has_prefix dash (drop o (drop i bytes)) ≡ true
       → is_delimiter dash bytes i (i + o) ≡ true
   opening o line h =
-      are_true (starts_line bytes i (i + o)) (has_prefix dash (drop (i + o) bytes)) (by_offset o line)
+      and_from (starts_line bytes i (i + o)) (has_prefix dash (drop (i + o) bytes)) (by_offset o line)
       (subst (λ (xs : List ℕ). has_prefix dash xs ≡ true) (drop-drop o i bytes) h)
     where
       by_offset : (o : ℕ) → starts true (drop i bytes) o ≡ true → starts_line bytes i (i + o) ≡ true
@@ -238,8 +238,8 @@ module _ (dash bytes : List ℕ) (i : ℕ) (some : 0 < length dash) (is : HasPar
 unfed : (dash : List ℕ) → list_all is_inner dash ≡ true → first_place (begins (λ b. b == line_feed)) dash ≡ length dash
 unfed [] all = refl
 unfed (b ∷ rest) all =
-    let parts = both_true (is_inner b) (list_all is_inner rest) all in
-    let lines = neither (b == carriage_return) (b == line_feed) (not_true (b == carriage_return || b == line_feed) parts.0) in
+    let parts = and_parts (is_inner b) (list_all is_inner rest) all in
+    let lines = or_parts (b == carriage_return) (b == line_feed) (not-true (b == carriage_return || b == line_feed) parts.0) in
     first_place-past (begins (λ b. b == line_feed)) b rest lines.1 ∙ ap suc (unfed rest parts.1)
 
 whole_for : (dash : List ℕ) → list_all is_inner dash ≡ true → whole_lines_for true dash ≡ true

@@ -6,6 +6,7 @@ use Rattle.std.specs.Prelude.{◌↔◌, ◌⊎◌, ◌&&◌, ◌==◌, codes, o
 use Rattle.std.specs.List.{AllByRecursion}
 use Rattle.std.specs.Option.{option_map_or}
 use Rattle.std.proofs.lemmas.List.{take_all}
+use Rattle.std.proofs.lemmas.Bool.{and_parts}
 use Rattle.mail_codec.specs.Charset.{Charsets}
 use Rattle.mail_codec.specs.Places.{has_prefix}
 use Rattle.mailparse.specs.Block.{HeaderList, read_headers}
@@ -23,24 +24,23 @@ use Rattle.mail_check.specs.Findings.{findings}
 use Rattle.mail_grammar.specs.Delimiters.{HasParts, HasStrictParts}
 use Rattle.mail_grammar.specs.Fields.{HasBoundary, of_multipart, of_other, IsBoundary}
 use Rattle.mail_grammar.specs.Levels.{HasLevels, HaveLevels}
-use Rattle.mail_grammar.specs.Mail.{IsStrict}
-use Rattle.mail_grammar.specs.Named.{Lacks, is_core}
-use Rattle.mail_check.proofs.lemmas.Booleans.{both_true}
-use Rattle.mail_grammar.proofs.lemmas.Headers.{front, past_name}
-use Rattle.mail_grammar.proofs.lemmas.Mails.{mail_strict}
-use Rattle.mail_grammar.proofs.lemmas.Parts.{boundary_inner}
+use Rattle.mail_clean.specs.Mail.{IsStrict}
+use Rattle.mail_clean.specs.Named.{Lacks, is_core}
+use Rattle.mail_clean.proofs.lemmas.Headers.{front, past_name}
+use Rattle.mail_clean.proofs.lemmas.Mails.{mail_strict}
 use Rattle.mail_clean.specs.StrictMails.{AreHeaders, IsSplitInto, message_of, IsMessage, single, multipart, AreMessages}
 use Rattle.mail_clean.specs.StrictMails.{no_messages, message_and, IsMail}
 use Rattle.mail_clean.proofs.lemmas.CleanMails.{IsClean, all_clean, all_split, default_single, no_header, type_header}
 use Rattle.mail_clean.proofs.lemmas.StrictHeaderLists.{headers_read, headers_there}
 use Rattle.mail_clean.proofs.lemmas.StrictPieces.{pieces_there, split_cut}
+use Rattle.mail_grammar.proofs.lemmas.Boundaries.{boundary_inner}
 
 -- a multipart by its whole prefix is one
 less_prefix : (one two text : List ℕ) → has_prefix (one ++ two) text ≡ true → has_prefix one text ≡ true
 less_prefix [] two text h = refl
 less_prefix (x ∷ one) two [] h = h
 less_prefix (x ∷ one) two (b ∷ text) h =
-    let both = both_true (x == b) (has_prefix (one ++ two) text) h in
+    let both = and_parts (x == b) (has_prefix (one ++ two) text) h in
     ap (λ (t : Bool). t && has_prefix one text) both.0 ∙ less_prefix one two text both.1
 
 -- the cut of a message without a dash-boundary

@@ -5,10 +5,10 @@ ghost use Rattle.mail_codec.specs.Charset.{Charsets};
 ghost use Rattle.mailparse.specs.ContentType.{content_type_in};
 ghost use Rattle.mailparse.specs.Disposition.{disposition_in};
 ghost use Rattle.mailparse.specs.Value.{lenient_value_in};
-ghost use Rattle.mail_grammar.specs.Charsets.{is_ascii_byte};
+ghost use Rattle.mail_clean.specs.Charsets.{is_ascii_byte};
 ghost use Rattle.mail_grammar.specs.PlainParameters.{IsPlainDisposition, IsPlainType};
-ghost use Rattle.mail_clean.specs.PlainValues.{IsDispositionOf, IsTypeOf, Parameters};
-ghost use Rattle.mail_clean.specs.PlainValues.{meant_disposition, meant_type};
+ghost use Rattle.mail_grammar.specs.PlainValues.{IsDispositionOf, IsTypeOf, Parameters};
+ghost use Rattle.mail_grammar.specs.PlainValues.{meant_disposition, meant_type};
 
 /// The value of a `Content-Type` that is ASCII and of the grammar of plain values, folded or not, is
 /// read as the type that it means, whatever charsets are known: the name is in lower case, each name

@@ -1,7 +1,7 @@
 use Rattle.std.proofs.Common.{◌∷◌}
-use Rattle.mail_grammar.proofs.lemmas.Parts.{boundary_inner}
 use Rattle.mail_clean.proofs.lemmas.StrictPieces.{one_split, pieces_there, split_cut}
 use Rattle.mail_clean.proofs.laws.strict_mails.strict_texts_have_parts.Goals as goal
+use Rattle.mail_grammar.proofs.lemmas.Boundaries.{boundary_inner}
 
 pub returns : goal.returns
 returns c = record {
