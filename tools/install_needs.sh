@@ -60,11 +60,14 @@ END
 # look: sets `missing` to the packages that are missing
 look() {
     missing=
+    absent=$(needs "$@" | /usr/bin/python3 -c 'import importlib.util, sys
+rows = [line.split() for line in sys.stdin]
+print(*(name for _, kind, name in rows if kind == "module" and not importlib.util.find_spec(name)))')
     while read -r package kind name; do
         case $kind in
             command) command -v "$name" > /dev/null || missing="$missing $package" ;;
             file) ls $name > /dev/null 2>&1 || missing="$missing $package" ;;
-            module) /usr/bin/python3 -c "import $name" 2> /dev/null || missing="$missing $package" ;;
+            module) case " $absent " in *" $name "*) missing="$missing $package" ;; esac ;;
         esac
     done << END
 $(needs "$@")

@@ -38,12 +38,14 @@ CLAUSE = re.compile(r"\b(ensures|requires)\*? ?(\w*) ?\{ ?(.*?) ?\}(?= (?:ensure
 GHOST_TRAITS = {"Model"}
 
 
+@functools.cache
 def text_of(path):
     """The text of a file of the repository."""
     with open(os.path.join(TOP, path), encoding="utf-8") as file:
         return file.read()
 
 
+@functools.cache
 def crates():
     """The crates, lowest first, with the dependencies of each."""
     lines = re.findall(r"^(\w+)[^:#\n]*:(.*)", text_of("crates.txt"), re.MULTILINE)
@@ -61,6 +63,7 @@ def is_static(crate):
     return re.search(rf"^{crate} staticlib:", text_of("crates.txt"), re.MULTILINE) is not None
 
 
+@functools.cache
 def libraries():
     """The crates that are libraries, lowest first, without static ones."""
     return [name for name in crates() if root_of(name) and not is_static(name)]
@@ -84,12 +87,13 @@ def after_parameters(text):
     return text
 
 
-def defines(kinds, name, crate):
-    """Whether a crate defines an item of that name, public or not."""
-    return any(re.search(rf"^(?:pub(?:\(\w+\))? )?(?:{kinds}) {name}\b", text, re.MULTILINE) for text in sources(crate))
+@functools.cache
+def defined(kinds, crate):
+    """The names of the items of these kinds that a crate defines, public or not."""
+    return {name for text in sources(crate) for name in found(rf"^(?:pub(?:\(\w+\))? )?(?:{kinds}) (\w+)", text)}
 
 
-@functools.lru_cache(maxsize=None)
+@functools.cache
 def implementations(crate):
     """The implementations of traits in a crate: trait and type, as the sources write them."""
     pairs = []
@@ -112,13 +116,13 @@ def implemented(item, crate, public):
     kinds = "trait" if is_trait else "struct|enum"
     names = []
     for other in libraries():
-        if other != crate and (crate not in crates()[other] or defines(kinds, item.name, other)):
+        if other != crate and (crate not in crates()[other] or item.name in defined(kinds, other)):
             continue
         for trait, implementer in implementations(other):
             if base(trait if is_trait else implementer) != item.name or base(trait) in GHOST_TRAITS:
                 continue
             own = [("trait", base(trait)), ("struct|enum", base(implementer))]
-            is_private = any(name not in public and defines(kind, name or "-", other) for kind, name in own)
+            is_private = any(name not in public and name in defined(kind, other) for kind, name in own)
             names += [] if is_private else [implementer if is_trait else trait]
     return list(dict.fromkeys(item.traits + names))
 
@@ -222,9 +226,10 @@ def public_modules(path, name):
         yield from public_modules(module.inner(inner), f"{name}::{inner}")
 
 
+@functools.cache
 def crate_modules(crate):
     """The public modules of a crate."""
-    return public_modules(os.path.join(TOP, "crates", crate, "src", "lib.rt"), crate)
+    return list(public_modules(os.path.join(TOP, "crates", crate, "src", "lib.rt"), crate))
 
 
 def wrapped(text, indent=""):
