@@ -2,8 +2,10 @@
 
 import os
 import random
+import shutil
 import subprocess
 import sys
+from pathlib import Path
 
 import pytest
 
@@ -52,6 +54,13 @@ def seed(request):
 def chance(seed, request):
     """Random numbers of a test, the same for the same seed."""
     return random.Random(f"{seed} {request.node.name}")
+
+
+@pytest.fixture
+def copy(tmp_path):
+    """A copy of the repository in which nothing is built, without definitions, proofs, edits and rows, which no script reads."""
+    unread = shutil.ignore_patterns("out", ".git", "data", "specs", "proofs", "edits")
+    return Path(shutil.copytree(TOP, tmp_path / "copy", ignore=unread, symlinks=True))
 
 
 def path_given(request, option, what):

@@ -404,10 +404,9 @@ def test_example():
 @pytest.mark.quick
 @pytest.mark.parametrize("where", ["PATH", "unpacked"])
 @pytest.mark.parametrize("name", ["rocktray", "mail_show"])
-def test_released_program(where, name, tmp_path):
+def test_released_program(where, name, copy, tmp_path):
     """Without the kit the scripts of a checkout run a program of a release, on the PATH or unpacked beside them."""
-    copy, path = tmp_path / "copy", tmp_path / "path"
-    shutil.copytree(TOP, copy, ignore=shutil.ignore_patterns("out", ".git", "data"), symlinks=True)
+    path = tmp_path / "path"
     binaries = path if where == "PATH" else copy / TREE / "bin"
     binaries.mkdir(parents=True)
     script(binaries / name, f"echo {name} of a release: $*\n")
@@ -418,10 +417,9 @@ def test_released_program(where, name, tmp_path):
 
 
 @pytest.mark.quick
-def test_released_library(tmp_path):
+def test_released_library(copy, tmp_path):
     """Without the kit the C library, which pip builds the module over, is that of a release unpacked in the checkout."""
-    copy, prefix = tmp_path / "copy", tmp_path / "prefix"
-    shutil.copytree(TOP, copy, ignore=shutil.ignore_patterns("out", ".git", "data"), symlinks=True)
+    prefix = tmp_path / "prefix"
     names = ("lib/librocktray.so", "lib/librocktray.a", "lib/pkgconfig/rocktray.pc", "include/rocktray.h")
     for name in names:
         (copy / TREE / name).parent.mkdir(parents=True, exist_ok=True)
@@ -433,10 +431,9 @@ def test_released_library(tmp_path):
 
 @pytest.mark.quick
 @pytest.mark.parametrize("command", [["tools/program.sh", "rocktray"], ["tools/make_c_library.sh", "/tmp/rocktray"]])
-def test_built_only(command, tmp_path):
+def test_built_only(command, copy, tmp_path):
     """With BUILT=only nothing is proved: here rt is a script that would leave a file."""
-    copy, path = tmp_path / "copy", tmp_path / "path"
-    shutil.copytree(TOP, copy, ignore=shutil.ignore_patterns("out", ".git", "data"), symlinks=True)
+    path = tmp_path / "path"
     path.mkdir()
     script(path / "rt", f"touch {tmp_path}/called\nexit 1\n")
     ended = run(command, cwd=copy, env={"PATH": f"{path}:/usr/bin:/bin", "BUILT": "only"})
@@ -444,10 +441,8 @@ def test_built_only(command, tmp_path):
 
 
 @pytest.mark.quick
-def test_script_on_the_path(tmp_path):
+def test_script_on_the_path(copy):
     """A script of the checkout that is itself on the PATH is no program of a release."""
-    copy = tmp_path / "copy"
-    shutil.copytree(TOP, copy, ignore=shutil.ignore_patterns("out", ".git", "data"), symlinks=True)
     ended = run(["rocktray", "json", "samples/plain.eml"], cwd=copy, env={"PATH": f"{copy}:/usr/bin:/bin"}, timeout=20)
     assert ended.returncode == 2 and b"the program is not built" in ended.stderr
 

@@ -6,7 +6,6 @@ error alone and ends with status 2.
 
 import os
 import re
-import shutil
 import subprocess
 
 import pytest
@@ -92,10 +91,8 @@ def test_launcher(link):
     ["tools/make_c_library.sh", "/tmp/rocktray"], ["tools/make_wheel.py", "/tmp/wheels"], ["./test"], [".ci/run"],
     ["tools/make_release.py", "/tmp/release"], ["tools/try_edits.py"], ["tools/proved_objects.py"],
 ])
-def test_without_the_kit(command, tmp_path):
+def test_without_the_kit(command, copy):
     """Without the kit, and in a copy where nothing is built, one line says what is needed."""
-    copy = tmp_path / "copy"
-    shutil.copytree(TOP, copy, ignore=shutil.ignore_patterns("out", ".git", "data"), symlinks=True)
     ended = subprocess.run(command, stdin=subprocess.DEVNULL, capture_output=True, text=True, timeout=20, cwd=copy,
                            env={"PATH": "/usr/bin:/bin"})
     assert (ended.returncode, ended.stdout) == (2, "")
@@ -103,10 +100,8 @@ def test_without_the_kit(command, tmp_path):
 
 
 @pytest.mark.quick
-def test_rocktray_is_not_built(tmp_path):
+def test_rocktray_is_not_built(copy):
     """Without the program ./rocktray prints the help of the program, or one line that says how to build it."""
-    copy = tmp_path / "copy"
-    shutil.copytree(TOP, copy, ignore=shutil.ignore_patterns("out", ".git", "data"), symlinks=True)
     for arguments in (["--help"], ["-h"], ["help"]):
         ended = run(["./rocktray", *arguments], cwd=copy)
         assert (ended.returncode, ended.stdout.decode(), ended.stderr) == (0, text_of("docs/usage.txt"), b"")
@@ -122,10 +117,9 @@ def test_rocktray_is_not_built(tmp_path):
 @pytest.mark.parametrize("last, status, said", [
     ("run=ended status=3 runners=1", 3, "a warning\n"), ("run=none", 2, "a warning\nrun=none\nrocktray: rt try has not"),
 ], ids=["ended", "none"])
-def test_show_before_the_program_is_built(arguments, last, status, said, tmp_path):
+def test_show_before_the_program_is_built(arguments, last, status, said, copy, tmp_path):
     """Until the program is built, ./rocktray show runs rt try on the mail: here another rt, which prints the mail."""
-    copy, path = tmp_path / "copy", tmp_path / "path"
-    shutil.copytree(TOP, copy, ignore=shutil.ignore_patterns("out", ".git", "data"), symlinks=True)
+    path = tmp_path / "path"
     path.mkdir()
     (path / "rt").write_text(f"#!/bin/sh\necho $PWD $*\ncat\necho a warning >&2\necho '{last}' >&2\nexit 3\n")
     (path / "rt").chmod(0o755)
@@ -137,10 +131,9 @@ def test_show_before_the_program_is_built(arguments, last, status, said, tmp_pat
 
 
 @pytest.mark.quick
-def test_show_says_that_it_runs(tmp_path):
+def test_show_says_that_it_runs(copy, tmp_path):
     """While rt try takes its time, ./rocktray show says every ten seconds that it runs."""
-    copy, path = tmp_path / "copy", tmp_path / "path"
-    shutil.copytree(TOP, copy, ignore=shutil.ignore_patterns("out", ".git", "data"), symlinks=True)
+    path = tmp_path / "path"
     path.mkdir()
     (path / "rt").write_text("#!/bin/sh\nsleep 12\necho run=ended >&2\necho 'run=ended status=0' >&2\n")
     (path / "rt").chmod(0o755)
