@@ -652,16 +652,22 @@ def test_shard_that_cannot_be_loaded(tmp_path):
     assert rows_of(tmp_path, "select message_id from mails") == [("0@x",), ("1@x",), ("2@x",)]
 
 
+@pytest.fixture(scope="module")
+def latest(tmp_path_factory):
+    """A directory with a database of 2000 mails, and the words in them."""
+    directory = tmp_path_factory.mktemp("latest")
+    words = write_index(str(directory / "out"), 2000)
+    loader = [sys.executable, os.path.join(EXAMPLES, "load_sqlite.py"), "out", "db", "--slices", "3"]
+    subprocess.run(loader, cwd=directory, capture_output=True, check=True)
+    return directory, words
+
+
 @pytest.mark.quick
 @pytest.mark.parametrize("common", [0, 10**9])
 @pytest.mark.parametrize("cost", [0, 10**9])
-def test_latest(tmp_path_factory, monkeypatch, common, cost):
+def test_latest(latest, monkeypatch, common, cost):
     """The latest mails and their number, in whichever way they are looked for, are those whose lines have the words."""
-    directory = tmp_path_factory.getbasetemp() / "latest"
-    words = write_index(str(directory / "out"), 2000)
-    if not (directory / "db").exists():
-        loader = [sys.executable, os.path.join(EXAMPLES, "load_sqlite.py"), "out", "db", "--slices", "3"]
-        assert subprocess.run(loader, cwd=directory, capture_output=True, check=False).returncode == 0
+    directory, words = latest
     with open(directory / "out" / f"{0:032x}.jsonl", encoding="utf-8") as file:
         mails = sorted(map(json.loads, file), key=lambda line: -line["date"])
     monkeypatch.setattr(search, "COMMON", common)

@@ -7,7 +7,7 @@ downloads. The browser is Chromium without a window; screenshots go to the direc
 import base64
 import contextlib
 import html
-import importlib
+import importlib.util
 import json
 import os
 import re
@@ -47,7 +47,7 @@ MAILS = (
 
 def need_flask():
     """Ends a test without the modules that pages need."""
-    if subprocess.run([sys.executable, "-c", "import flask, pygal"], stderr=subprocess.DEVNULL, check=False).returncode:
+    if not all(map(importlib.util.find_spec, ("flask", "pygal"))):
         missing("Flask or pygal is missing (Debian: python3-flask, python3-pygal)")
 
 
