@@ -2,14 +2,12 @@
 
 import os
 import random
-import shutil
 import subprocess
 import sys
-from pathlib import Path
 
 import pytest
 
-from support import TOP, compiled, missing, program
+from support import TOP, compiled, copied, missing, program
 
 
 def pytest_addoption(parser):
@@ -58,9 +56,8 @@ def chance(seed, request):
 
 @pytest.fixture
 def copy(tmp_path):
-    """A copy of the repository in which nothing is built, without definitions, proofs, edits and rows, which no script reads."""
-    unread = shutil.ignore_patterns("out", ".git", "data", "specs", "proofs", "edits")
-    return Path(shutil.copytree(TOP, tmp_path / "copy", ignore=unread, symlinks=True))
+    """A copy of the repository in which nothing is built."""
+    return copied(tmp_path / "copy")
 
 
 def path_given(request, option, what):

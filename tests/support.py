@@ -4,6 +4,7 @@ import binascii
 import functools
 import os
 import re
+import shutil
 import subprocess
 import sys
 import unicodedata
@@ -65,6 +66,13 @@ def run(command, data=b"", **options):
     """Runs a command on the bytes, for a minute at most."""
     options = {"capture_output": True, "timeout": 60, **options}
     return subprocess.run([os.fspath(argument) for argument in command], input=data, **options)
+
+
+def copied(target):
+    """Copies the repository without what is built, and without definitions, proofs, edits and rows, which neither a script
+    nor `rt try` needs; returns the target."""
+    unread = shutil.ignore_patterns("out", ".git", "data", "specs", "proofs", "edits")
+    return Path(shutil.copytree(TOP, target, ignore=unread, symlinks=True))
 
 
 def compiled(source, target, *arguments):
