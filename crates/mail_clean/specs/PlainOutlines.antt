@@ -7,13 +7,13 @@ use Rattle.mail_codec.specs.Ascii.{colon}
 use Rattle.mail_codec.specs.Places.{begins}
 use Rattle.mailparse.specs.Header.{Header}
 use Rattle.mail_address.specs.Encode.{is_plain_value}
-use Rattle.mail_clean.specs.Charsets.{is_ascii_byte, HasNoMark}
+use Rattle.mail_check_laws.specs.Charsets.{is_ascii_byte, HasNoMark}
 use Rattle.mail_grammar.specs.Delimiters.{HasNoDash}
 use Rattle.mail_grammar.specs.Fields.{HasAtMostOne, HasNone, once_names}
 use Rattle.mail_grammar.specs.LineEnds.{AreLines}
-use Rattle.mail_clean.specs.SenderNames.{HasNoEarlyAt}
-use Rattle.mail_clean.specs.Senders.{IsSenderValue}
-use Rattle.mail_clean.specs.Worded.{is_worded_key}
+use Rattle.mail_check_laws.specs.SenderNames.{HasNoEarlyAt}
+use Rattle.mail_check_laws.specs.Senders.{IsSenderValue}
+use Rattle.mail_check_laws.specs.Worded.{is_worded_key}
 use Rattle.mail_grammar.specs.Words.{HasNoWordEnd}
 use Rattle.mail_laws.specs.Render.{OutlineTree, OutlineForest, leaf, branch, no_outlines, outline_and, dash_boundary, depth, headers_within, rendered, type_header}
 

@@ -11,7 +11,7 @@ use Rattle.mail_grammar.specs.Delimiters.{HasNoDash, IsClosed}
 use Rattle.mail_grammar.specs.Fields.{IsBoundary}
 use Rattle.mail_grammar.specs.Headers.{IsHeader}
 use Rattle.mail_grammar.specs.LineEnds.{IsLineEnd}
-use Rattle.mail_clean.specs.Mail.{IsStrict}
+use Rattle.mail_check_laws.specs.Mail.{IsStrict}
 
 -- The last byte, if there is one, fails a test. The cases:
 pub data EndsInOther (test : ℕ → Bool) : List ℕ → Type 0 where

@@ -1,9 +1,7 @@
 //! The laws. Each function does nothing; its contract is the law.
 mod manners;
 mod parameters;
-pub mod strict;
 mod strict_mails;
-pub mod strict_values;
 mod writing;
 
 pub use manners::clean_mails_are_read_alike;

@@ -1,5 +1,5 @@
-//! Laws of clean mails: those that have no finding of `mail_check` but notes. They are exactly the mails
-//! of the grammar, and all readings give such a mail one tree.
+//! Laws of clean mails: those that have no finding of `mail_check` but notes. All readings give such a
+//! mail one tree, and a grammar of whole mails makes it from the bytes.
 #![tactic(auto)]
 
 pub mod laws;

@@ -14,7 +14,7 @@ use Rattle.mailparse.specs.Block.{HeaderList, bare_key, read_headers}
 use Rattle.mailparse.specs.Header.{Header}
 use Rattle.mailparse.specs.Refusal.{Reads}
 use Rattle.mail_grammar.specs.Headers.{IsBlock, is_name_byte}
-use Rattle.mail_clean.proofs.lemmas.Headers.{name_parts}
+use Rattle.mail_check_laws.proofs.lemmas.Headers.{name_parts}
 use Rattle.mail_laws.specs.LenientAgreement.{has_bare_keys}
 use Rattle.mail_clean.specs.StrictMails.{AreHeaders, last_of_all, before_more, IsHeaderOf}
 use Rattle.mail_clean.proofs.lemmas.StrictHeaderLists.{headers_read, headers_there}

@@ -34,13 +34,13 @@ use Rattle.mail_grammar.specs.Delimiters.{HasParts, HasStrictParts}
 use Rattle.mail_grammar.specs.Fields.{HasBoundary, of_multipart, of_other, HasStrictFields, IsBoundary, IsField}
 use Rattle.mail_grammar.specs.Headers.{is_name_byte, IsValue, value_ends, value_byte, value_folds, IsHeader}
 use Rattle.mail_grammar.specs.Headers.{IsBlock, last_header, next_header}
-use Rattle.mail_clean.specs.Mail.{IsStrict}
-use Rattle.mail_clean.specs.Named.{Lacks, is_core}
+use Rattle.mail_check_laws.specs.Mail.{IsStrict}
+use Rattle.mail_check_laws.specs.Named.{Lacks, is_core}
 use Rattle.mail_grammar.specs.PlainParameters.{HasPlainValue}
-use Rattle.mail_clean.proofs.lemmas.Headers.{name_parts}
-use Rattle.mail_clean.proofs.lemmas.Keys.{lines_are_headers, of_line}
-use Rattle.mail_clean.proofs.lemmas.Mails.{mail_strict}
-use Rattle.mail_clean.proofs.lemmas.Reading.{IsRead, all_joined, all_of_map, all_with, mail-there, map_of_all}
+use Rattle.mail_check_laws.proofs.lemmas.Headers.{name_parts}
+use Rattle.mail_check_laws.proofs.lemmas.Keys.{lines_are_headers, of_line}
+use Rattle.mail_check_laws.proofs.lemmas.Mails.{mail_strict}
+use Rattle.mail_check_laws.proofs.lemmas.Reading.{IsRead, all_joined, all_of_map, all_with, mail-there, map_of_all}
 use Rattle.mail_laws.specs.LenientAgreement.{are_strict, has_bare_keys, has_no_dash_line, has_strict_headers, has_strict_type}
 use Rattle.mail_laws.specs.LenientAgreement.{has_whole_delimiters, is_strict_mail, is_strict_message, offsets}
 use Rattle.mail_grammar.proofs.lemmas.FlatPairs.{all_both, is_low, low_ascii}

@@ -12,8 +12,8 @@ use Rattle.mailparse.specs.Block.{blank_line, ends_header_lines, header_lines_en
 use Rattle.mailparse.specs.Header.{has_colon, key_end, ends_key}
 use Rattle.mail_grammar.specs.Headers.{is_name_byte, IsValue, value_ends, value_byte, value_folds, IsHeader}
 use Rattle.mail_grammar.specs.Headers.{IsBlock, last_header, next_header}
-use Rattle.mail_clean.proofs.lemmas.Headers.{name_parts}
-use Rattle.mail_clean.proofs.lemmas.Headers.{no_feed}
+use Rattle.mail_check_laws.proofs.lemmas.Headers.{name_parts}
+use Rattle.mail_check_laws.proofs.lemmas.Headers.{no_feed}
 use Rattle.mail_grammar.proofs.lemmas.Boundaries.{all_head, all_tail}
 
 -- the line after the headers looks like no delimiter

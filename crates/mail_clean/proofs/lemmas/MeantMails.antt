@@ -15,7 +15,7 @@ use Rattle.mailparse.specs.Map.{first_with_key}
 use Rattle.mailparse.specs.Value.{lenient_value_in}
 use Rattle.mail_grammar.specs.Fields.{HasNone, another, HasAtMostOne, other_name, the_one}
 use Rattle.mail_grammar.specs.PlainParameters.{HasPlainValue}
-use Rattle.mail_clean.proofs.lemmas.Reading.{all_with}
+use Rattle.mail_check_laws.proofs.lemmas.Reading.{all_with}
 use Rattle.mail_grammar.specs.PlainValues.{MeansDisposition, MeansType, HasMeantValues, IsMeant, AreMeant}
 use Rattle.mail_clean.specs.StrictMails.{message_of, IsMessage, single, multipart, AreMessages, no_messages, message_and, IsMail}
 use Rattle.mail_clean.proofs.lemmas.CleanMails.{IsClean, IsLow, all_clean, all_split, headers_low, no_header, type_found}

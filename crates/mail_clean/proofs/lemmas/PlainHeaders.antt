@@ -15,11 +15,11 @@ use Rattle.mail_address.specs.Encode.{is_plain_byte, is_plain_value, written_val
 use Rattle.mail_check.specs.Words.{pieces}
 use Rattle.mail_grammar.specs.Headers.{is_name_byte, is_value_byte, is_text_byte, IsValue, value_ends, value_byte, HasNoColonFirst, colon_later, other_first, HasNoFold, fold_later, other_byte, return_feed_only, HasNoCommentFold, no_comment, no_parenthesis, parenthesis, IsHeader, IsBlock, last_header, next_header}
 use Rattle.mail_grammar.specs.LineEnds.{is_line_byte, AreLines, no_line, in_line, end_of_line}
-use Rattle.mail_clean.specs.SenderNames.{HidesNothing}
-use Rattle.mail_clean.specs.Worded.{HasWordedValue}
-use Rattle.mail_clean.specs.WordBytes.{IsReadablePiece}
+use Rattle.mail_check_laws.specs.SenderNames.{HidesNothing}
+use Rattle.mail_check_laws.specs.Worded.{HasWordedValue}
+use Rattle.mail_check_laws.specs.WordBytes.{IsReadablePiece}
 use Rattle.mail_grammar.specs.Words.{HasNoPair, no_pair, not_first, first_alone, HasNoWordEnd, IsStrictPiece, IsWord, ArePieces, one_piece, piece_and_more, IsPaddedWord, AreApart, no_more_pieces, empty_piece, apart_piece}
-use Rattle.mail_clean.proofs.lemmas.Words.{pieces_are}
+use Rattle.mail_check_laws.proofs.lemmas.Words.{pieces_are}
 use Rattle.mail_clean.specs.PlainOutlines.{IsPlainHeader}
 use Rattle.mail_laws.specs.Render.{header_line, header_block, is_key_byte, is_key, written_bytes, written_headers}
 use Rattle.mail_grammar.proofs.lemmas.FlatPairs.{all_both}

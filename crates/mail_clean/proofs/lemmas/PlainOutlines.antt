@@ -23,13 +23,13 @@ use Rattle.mail_grammar.specs.Fields.{IsType, IsField, HasStrictFields}
 use Rattle.mail_grammar.specs.FileNames.{HasStrictFileName}
 use Rattle.mail_grammar.specs.Headers.{IsBlock}
 use Rattle.mail_grammar.specs.LineEnds.{AreLines}
-use Rattle.mail_clean.specs.Mail.{IsStrict}
-use Rattle.mail_clean.specs.Named.{Lacks, is_core}
+use Rattle.mail_check_laws.specs.Mail.{IsStrict}
+use Rattle.mail_check_laws.specs.Named.{Lacks, is_core}
 use Rattle.mail_grammar.specs.PlainParameters.{HasPlainValue}
-use Rattle.mail_clean.specs.Texts.{HasStrictText, IsReadableText}
-use Rattle.mail_clean.specs.Worded.{HasSenderValue, HasWordedValue}
-use Rattle.mail_clean.proofs.lemmas.Mails.{mail_strict}
-use Rattle.mail_clean.proofs.lemmas.Reading.{all_joined, all_with, map_of_all}
+use Rattle.mail_check_laws.specs.Texts.{HasStrictText, IsReadableText}
+use Rattle.mail_check_laws.specs.Worded.{HasSenderValue, HasWordedValue}
+use Rattle.mail_check_laws.proofs.lemmas.Mails.{mail_strict}
+use Rattle.mail_check_laws.proofs.lemmas.Reading.{all_joined, all_with, map_of_all}
 use Rattle.mail_laws.specs.Boundaries.{boundary_type}
 use Rattle.mail_clean.specs.PlainOutlines.{IsPlainHeader, ArePlainHeaders, IsPlainLeaf, IsPlainBranch, IsPlainWithin, ArePlainParts, IsPlainOutline, IsTextOf, in_ascii, in_unicode}
 use Rattle.mail_laws.specs.Render.{OutlineTree, OutlineForest, leaf, branch, no_outlines, outline_and, dash_boundary, depth, has_plain_values, header_block, is_key, is_plain_within, are_plain_within, is_well_formed_here, is_well_formed_within, are_well_formed_within, is_within_levels, IsWellFormed, rendered, rendered_parts, stands_for, stand_for, type_of, written_headers}

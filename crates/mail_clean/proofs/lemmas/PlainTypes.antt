@@ -27,15 +27,15 @@ use Rattle.mail_read.specs.lenient.Content.{lenient_content, message_content}
 use Rattle.mail_read.specs.lenient.Encoding.{name_at, lenient_kind, lenient_kind_named}
 use Rattle.mail_check.specs.Parameters.{parameter_names}
 use Rattle.mail_grammar.specs.Bodies.{HasStrictBody, IsEncoded}
-use Rattle.mail_clean.specs.Charsets.{is_ascii_byte, this_label, HasNoMark, in_us_ascii, in_utf_8}
+use Rattle.mail_check_laws.specs.Charsets.{is_ascii_byte, this_label, HasNoMark, in_us_ascii, in_utf_8}
 use Rattle.mail_grammar.specs.Fields.{HasNone, another, HasAtMostOne, other_name, the_one, is_boundary_character, IsBoundary, last_character, more_characters, of_multipart, IsType, IsField, is_of_messages, encoding_names, IsOneOf, name_here}
 use Rattle.mail_grammar.specs.FileNames.{names_of_disposition, names_of_type, HasOwnNames, HasStrictFileName}
 use Rattle.mail_grammar.specs.LineEnds.{is_line_byte, AreLines, in_line, end_of_line, no_line}
 use Rattle.mail_grammar.specs.Parameters.{no_gap, gap_blank, is_name_character, is_token_character}
 use Rattle.mail_grammar.specs.PlainParameters.{IsPlainType, plain_type, plain_token, plain_parameter, no_plain, HasNoWord, no_word, no_word_here, HasPlainValue, IsPlainDisposition, plain_disposition}
-use Rattle.mail_clean.specs.Texts.{HasStrictText, IsReadableText}
-use Rattle.mail_clean.proofs.lemmas.Reading.{all_with}
-use Rattle.mail_clean.proofs.lemmas.Values.{plain_type_text, plain_disposition_text}
+use Rattle.mail_check_laws.specs.Texts.{HasStrictText, IsReadableText}
+use Rattle.mail_check_laws.proofs.lemmas.Reading.{all_with}
+use Rattle.mail_check_laws.proofs.lemmas.Values.{plain_type_text, plain_disposition_text}
 use Rattle.mail_laws.specs.Boundaries.{boundary_type, one_text}
 use Rattle.mail_address.specs.Encode.{is_plain_value}
 use Rattle.mail_address.proofs.lemmas.EncodeRead.{plain_reads}

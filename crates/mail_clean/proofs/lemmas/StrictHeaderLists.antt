@@ -17,10 +17,10 @@ use Rattle.mailparse.proofs.lemmas.Header.{header_of-value}
 use Rattle.mail_grammar.specs.Headers.{IsBlock, last_header, next_header, IsHeader, IsValue, value_byte, value_ends}
 use Rattle.mail_grammar.specs.Headers.{value_folds}
 use Rattle.mail_grammar.specs.LineEnds.{IsLineEnd}
-use Rattle.mail_clean.proofs.lemmas.Blocks.{block_start, header_size, line_start, no_header, starts}
-use Rattle.mail_clean.proofs.lemmas.Headers as strict_headers
-use Rattle.mail_clean.proofs.lemmas.Headers.{front}
-use Rattle.mail_clean.proofs.lemmas.Headers.{past_name}
+use Rattle.mail_check_laws.proofs.lemmas.Blocks.{block_start, header_size, line_start, no_header, starts}
+use Rattle.mail_check_laws.proofs.lemmas.Headers as strict_headers
+use Rattle.mail_check_laws.proofs.lemmas.Headers.{front}
+use Rattle.mail_check_laws.proofs.lemmas.Headers.{past_name}
 use Rattle.mail_clean.specs.StrictMails.{AreHeaders, last_of_all, before_more, EndsInOther, no_last, last_other, before_others}
 use Rattle.mail_clean.specs.StrictMails.{IsHeaderOf}
 use Rattle.mail_grammar.proofs.lemmas.Boundaries.{all_head, all_tail}

@@ -19,7 +19,7 @@ use Rattle.mailparse.proofs.lemmas.Delimiters.{NoDelimiter, delimiter_from-some,
 use Rattle.mail_grammar.specs.Delimiters.{HasNoDash, no_dash, no_dash_here, IsClosed, HasClose, part_byte, delimiter}
 use Rattle.mail_grammar.specs.Delimiters.{close_delimiter, HasParts, preamble_byte, first_delimiter}
 use Rattle.mail_grammar.specs.LineEnds.{IsLineEnd}
-use Rattle.mail_clean.proofs.lemmas.Headers.{front, past_name}
+use Rattle.mail_check_laws.proofs.lemmas.Headers.{front, past_name}
 use Rattle.mail_clean.specs.StrictMails.{EndsInOther, no_last, last_other, before_others, IsBreak, no_break, feed_break}
 use Rattle.mail_clean.specs.StrictMails.{return_break, IsPiece, HasPieces, last_piece, next_piece, IsSplitInto}
 use Rattle.mail_laws.proofs.lemmas.DelimiterPlaces.{before_byte-one, before_byte-start, before_line_end-start}

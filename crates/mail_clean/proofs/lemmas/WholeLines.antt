@@ -26,8 +26,8 @@ use Rattle.mail_check.specs.Bytes.{is_line_left}
 use Rattle.mail_check.specs.Multiparts.{without_dashes}
 use Rattle.mail_grammar.specs.Delimiters.{EndsLine, no_more_bytes, line_ends, HasParts}
 use Rattle.mail_grammar.specs.Fields.{IsBoundary}
-use Rattle.mail_clean.proofs.lemmas.Delimiters.{Opened, ends_there, parts_found, starts}
-use Rattle.mail_clean.proofs.lemmas.Delimiters as strict_lines
+use Rattle.mail_check_laws.proofs.lemmas.Delimiters.{Opened, ends_there, parts_found, starts}
+use Rattle.mail_check_laws.proofs.lemmas.Delimiters as strict_lines
 use Rattle.mail_grammar.proofs.lemmas.Boundaries.{boundary_inner, is_inner}
 
 -- ---- ends of lines

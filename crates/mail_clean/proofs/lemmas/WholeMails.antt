@@ -24,10 +24,10 @@ use Rattle.mail_check.specs.Findings.{findings}
 use Rattle.mail_grammar.specs.Delimiters.{HasParts, HasStrictParts}
 use Rattle.mail_grammar.specs.Fields.{HasBoundary, of_multipart, of_other, IsBoundary}
 use Rattle.mail_grammar.specs.Levels.{HasLevels, HaveLevels}
-use Rattle.mail_clean.specs.Mail.{IsStrict}
-use Rattle.mail_clean.specs.Named.{Lacks, is_core}
-use Rattle.mail_clean.proofs.lemmas.Headers.{front, past_name}
-use Rattle.mail_clean.proofs.lemmas.Mails.{mail_strict}
+use Rattle.mail_check_laws.specs.Mail.{IsStrict}
+use Rattle.mail_check_laws.specs.Named.{Lacks, is_core}
+use Rattle.mail_check_laws.proofs.lemmas.Headers.{front, past_name}
+use Rattle.mail_check_laws.proofs.lemmas.Mails.{mail_strict}
 use Rattle.mail_clean.specs.StrictMails.{AreHeaders, IsSplitInto, message_of, IsMessage, single, multipart, AreMessages}
 use Rattle.mail_clean.specs.StrictMails.{no_messages, message_and, IsMail}
 use Rattle.mail_clean.proofs.lemmas.CleanMails.{IsClean, all_clean, all_split, default_single, no_header, type_header}

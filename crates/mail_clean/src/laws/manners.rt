@@ -5,7 +5,7 @@ ghost use Rattle.mailparse.specs.Mail.{Tree, read_mail_as, read_mail_in};
 ghost use Rattle.mailparse.specs.Placement.{placements};
 ghost use Rattle.mail_read.specs.lenient.Manner.{lenient};
 ghost use Rattle.mail_check.specs.Findings.{findings};
-ghost use Rattle.mail_clean.specs.Named.{Lacks, is_core};
+ghost use Rattle.mail_check_laws.specs.Named.{Lacks, is_core};
 
 /// A mail that the port reads and that has no finding but notes is read leniently as the same tree.
 ///

@@ -5,7 +5,7 @@ ghost use Rattle.mail_codec.specs.Charset.{Charsets};
 ghost use Rattle.mailparse.specs.ContentType.{content_type_in};
 ghost use Rattle.mailparse.specs.Disposition.{disposition_in};
 ghost use Rattle.mailparse.specs.Value.{lenient_value_in};
-ghost use Rattle.mail_clean.specs.Charsets.{is_ascii_byte};
+ghost use Rattle.mail_check_laws.specs.Charsets.{is_ascii_byte};
 ghost use Rattle.mail_grammar.specs.PlainParameters.{IsPlainDisposition, IsPlainType};
 ghost use Rattle.mail_grammar.specs.PlainValues.{IsDispositionOf, IsTypeOf, Parameters};
 ghost use Rattle.mail_grammar.specs.PlainValues.{meant_disposition, meant_type};

@@ -16,7 +16,7 @@ ghost use Rattle.mail_grammar.specs.Delimiters.{HasParts};
 ghost use Rattle.mail_grammar.specs.Fields.{IsBoundary};
 ghost use Rattle.mail_grammar.specs.Headers.{IsBlock};
 ghost use Rattle.mail_grammar.specs.Levels.{HasLevels};
-ghost use Rattle.mail_clean.specs.Named.{Lacks, is_core};
+ghost use Rattle.mail_check_laws.specs.Named.{Lacks, is_core};
 ghost use Rattle.mail_clean.specs.PlainOutlines.{IsPlainOutline};
 ghost use Rattle.mail_grammar.specs.PlainValues.{IsMeant};
 ghost use Rattle.mail_laws.specs.Render.{IsWellFormed, OutlineTree, rendered, stands_for};

@@ -4,8 +4,8 @@ ghost use Rattle.mail_codec.specs.Charset.{Charsets};
 ghost use Rattle.mailparse.specs.Mail.{Tree, read_mail_in};
 ghost use Rattle.mailparse.specs.Placement.{placements};
 ghost use Rattle.mail_check.specs.Findings.{findings};
-ghost use Rattle.mail_clean.specs.Mail.{IsStrict};
-ghost use Rattle.mail_clean.specs.Named.{Lacks, is_core};
+ghost use Rattle.mail_check_laws.specs.Mail.{IsStrict};
+ghost use Rattle.mail_check_laws.specs.Named.{Lacks, is_core};
 ghost use Rattle.mail_clean.specs.PlainOutlines.{IsPlainOutline};
 ghost use Rattle.mail_laws.specs.Render.{IsWellFormed, OutlineTree, rendered, stands_for};
 

@@ -1,0 +1,9 @@
+pub mod Named
+pub mod Senders
+pub mod SenderNames
+pub mod Charsets
+pub mod Texts
+pub mod WordBytes
+pub mod Worded
+pub mod Mail
+pub mod Inside
