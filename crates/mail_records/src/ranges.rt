@@ -109,7 +109,7 @@ pub fn file_name<K: KnownCharsets>(
 /// use mail_records::ranges::safe_name;
 ///
 /// let name = safe_name(alloc, b"a/b.txt")?;
-/// assert_eq!(rt; name.as_deref(), Some(b"b.txt".as_slice()));
+/// assert_eq!(rt; name.as_deref(), Some(b"a_b.txt".as_slice()));
 /// ```
 #[tactic(auto, unfolding(crate::specs::Ranges::safe_name))]
 pub fn safe_name(alloc: Global, name: &[u8]) -> Result<Option<Vec<u8>>, MailParseError>
@@ -253,7 +253,7 @@ pub fn body_text<K: KnownCharsets>(
 /// use mail_records::ranges::body_charset;
 ///
 /// let name = body_charset(alloc, b"Hello\n", b"text/plain; charset=utf-8", 0, &())?;
-/// assert_eq!(rt; name.as_deref(), Some(b"UTF-8".as_slice()));
+/// assert_eq!(rt; name.as_deref(), Some(b"utf-8".as_slice()));
 /// ```
 pub fn body_charset<K: KnownCharsets>(
     alloc: Global,

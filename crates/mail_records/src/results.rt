@@ -110,7 +110,7 @@ fn links_if(shows_links: bool) -> Links
 /// use mail_records::results::text_of_html;
 ///
 /// let text = text_of_html(alloc, b"<p>R&amp;D", false, &References::standard())?;
-/// assert_eq!(rt; text.as_deref(), Some(b"R&D\n".as_slice()));
+/// assert_eq!(rt; text.as_deref(), Some(b"R&D".as_slice()));
 /// ```
 #[tactic(auto, unfolding(crate::specs::Results::text_of_html))]
 pub fn text_of_html(
