@@ -1,10 +1,14 @@
 -- Lemmas on records whose texts are one after another.
-use Rattle.std.proofs.Common.{◌≡◌, ℕ, suc, ◌+◌, List, [], ◌∷◌, ◌++◌, length, refl, sym, ap, subst, ◌∙◌, arith, append_assoc, length-append}
+use Rattle.std.proofs.Common.{◌≡◌, ℕ, suc, ◌+◌, ◌<◌, List, [], ◌∷◌, ◌++◌, length, drop, get_or, refl, sym, ap, subst, ◌∙◌, arith, append_assoc, drop-cons, length-append}
 use Rattle.std.proofs.lemmas.List.{append-nil}
 use Rattle.std.proofs.lemmas.List.Concat.{flat_map-append}
 use Rattle.std.specs.List.{flat_map}
 use Rattle.mail_records.specs.Rows.{AppendsRows, AreRows, rows_from}
 use Rattle.mail_records.specs.declared.rows.Rows.{Rows}
+
+-- the items from one on are it and those after it
+pub next-at : {A : Type 0} (xs : List A) (i : ℕ) (d : A) → i < length xs → drop i xs ≡ get_or xs i d ∷ drop (i + 1) xs
+next-at xs i d low = drop-cons xs i d low ∙ ap (λ (n : ℕ). get_or xs i d ∷ drop n xs) {x = suc i} {y = i + 1} (omega arith)
 
 -- two texts were appended to a buffer
 pub two-texts : (old mid new first second : List ℕ) → mid ≡ old ++ first → new ≡ mid ++ second
