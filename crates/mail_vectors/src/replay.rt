@@ -1,7 +1,7 @@
 //! A replay of the rows of a file.
 
 use crate::calls;
-use crate::notation::{Answer, FORM, Row};
+use crate::notation::{Answer, Row};
 use mailparse::MailParseError;
 use std::alloc::{AllocError, Global};
 
@@ -22,7 +22,6 @@ pub struct Tally {
 }
 
 impl Tally {
-    /// Returns a replay without rows.
     pub fn new(alloc: Global) -> Tally {
         Tally {
             passed: 0,
@@ -83,47 +82,36 @@ impl Tally {
                 return self.fail(row.name.as_str(), "takes memory");
             }
         }
-        self.judge(row, returned(row))
+        self.judge(row, returned(row)?)
     }
 
     /// Makes the call of a row, and counts the row unless memory ran out.
     fn has_returned(&mut self, row: &Row) -> Result<bool, AllocError> {
         match returned(row) {
-            Err(MailParseError::Memory(_e)) => {
+            Err(AllocError) => {
                 self.refused = self.refused.saturating_add(1);
                 Ok(false)
             }
-            outcome => {
-                self.judge(row, outcome)?;
+            Ok(found) => {
+                self.judge(row, found)?;
                 Ok(true)
             }
         }
     }
 
-    /// Counts a row whose call returned.
-    fn judge(
-        &mut self,
-        row: &Row,
-        found: Result<Answer, MailParseError>,
-    ) -> Result<(), AllocError> {
-        match found {
-            Ok(answer) => self.compare(row, answer.as_bytes()),
-            Err(MailParseError::Memory(e)) => Err(e),
-            Err(fault) => {
-                let what = format!(in row.alloc; "{fault}")?;
-                self.fail(row.name.as_str(), what.as_str())
-            }
-        }
-    }
-
     /// Counts a row whose call returned this result.
-    fn compare(&mut self, row: &Row, found: &[u8]) -> Result<(), AllocError> {
-        let wanted = row.wanted.as_bytes();
-        if found == wanted {
+    fn judge(&mut self, row: &Row, found: Option<Answer>) -> Result<(), AllocError> {
+        let Some(found) = found else {
+            return self.fail(row.name.as_str(), "not a row of the suite");
+        };
+        if found.as_bytes() == row.wanted.as_bytes() {
             self.passed = self.passed.saturating_add(1);
             return Ok(());
         }
-        let (wanted, found) = (wanted.escape_ascii(), found.escape_ascii());
+        let (wanted, found) = (
+            row.wanted.as_bytes().escape_ascii(),
+            found.as_bytes().escape_ascii(),
+        );
         let what = format!(in row.alloc; "wants {wanted}\n    finds {found}")?;
         self.fail(row.name.as_str(), what.as_str())
     }
@@ -139,13 +127,10 @@ impl Tally {
     }
 }
 
-/// Returns the result of a row's call, unless memory runs out or there is no such call with such
-/// inputs.
-fn returned(row: &Row) -> Result<Answer, MailParseError> {
+/// Returns the result of a row's call, or `None` if there is no such call with such inputs.
+fn returned(row: &Row) -> Result<Option<Answer>, AllocError> {
     let mut answer = Answer::new(row)?;
-    if !calls::make(&mut answer, row) || !row.fits() {
-        answer.refusal(FORM);
-    }
+    calls::make(&mut answer, row);
     answer.outcome()?;
-    Ok(answer)
+    Ok(row.fits().then_some(answer))
 }

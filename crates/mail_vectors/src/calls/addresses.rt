@@ -16,153 +16,111 @@
 //! rewrite VALUE => BYTES..                 each mailbox of a list that was read, written again
 //! ```
 
-use crate::calls::tables::all_tables;
-use crate::notation::{Answer, Decision, Outcome, Row};
+use crate::calls::under::all_tables;
+use crate::notation::{Answer, Decision, Outcome, Refusal, Row, Show, Word, calls, put};
 use mail_address::{
-    Address, AddressList, Group, Mailbox, Member, NewAddress, NewGroup, NewMailbox, WriteError,
+    Address, AddressList, Mailbox, Member, NewAddress, NewGroup, NewMailbox, Unknown, WriteError,
     addresses_of, lenient_addresses, lenient_addresses_of, lenient_sender_of, read_addresses,
     sender_of, write_addresses,
 };
-use mailparse::{KnownCharsets, MailParseError, parse_mail};
+use mailparse::KnownCharsets;
 use std::alloc::{AllocError, Global};
 
-/// Makes the call of a row, if it is one of these.
 pub fn make(answer: &mut Answer, row: &Row) -> Decision {
-    match row.call.as_str() {
-        "addresses" => list_addresses(answer, row, &())?,
-        "addresses_with" => list_addresses(answer, row, &all_tables())?,
-        "addresses_of" => list_named(answer, row)?,
-        "sender_of" => find_sender(answer, row)?,
-        "lenient_addresses" => list_leniently(answer, row)?,
-        "lenient_addresses_of" => list_named_leniently(answer, row)?,
-        "lenient_sender_of" => find_lenient_sender(answer, row)?,
-        "shown_names" => list_shown_names(answer, row)?,
-        "write_mailboxes" => answer.put(written(row)),
-        "write_group" => answer.put(written_group(row)),
-        "read_written" => read_written(answer, row)?,
-        "rewrite" => rewrite(answer, row)?,
-        _ => return Ok(false),
-    }
-    Ok(true)
+    Ok(make_of_values(answer, row)? || make_of_mails(answer, row)?)
 }
 
-/// Writes the elements of a list of addresses.
-fn list_addresses<K: KnownCharsets>(answer: &mut Answer, row: &Row, known: &K) -> Outcome {
-    write_list(answer, &read_addresses(row.alloc, row.bytes(0))?, known);
-    Ok(())
-}
-
-fn write_list<K: KnownCharsets>(answer: &mut Answer, list: &AddressList<'_>, known: &K) {
-    for address in list {
-        write_address(answer, address, known);
+fn make_of_values(answer: &mut Answer, row: &Row) -> Decision {
+    let alloc = row.alloc;
+    calls! { answer, row.call.as_str();
+        "addresses" => put_list(answer, read_addresses(alloc, row.bytes(0)), &()),
+        "addresses_with" => put_list(answer, read_addresses(alloc, row.bytes(0)), &all_tables()),
+        "lenient_addresses" => put_list(answer, lenient_addresses(alloc, row.bytes(0)), &()),
+        "shown_names" => put_shown(answer, row),
+        "write_mailboxes" => written(row),
+        "write_group" => write_group(row),
+        "read_written" => read_written(answer, row),
+        "rewrite" => rewrite(answer, row),
     }
 }
 
-/// Writes the elements of all headers with a name.
-fn list_named(answer: &mut Answer, row: &Row) -> Outcome {
-    let mail = parse_mail(row.alloc, row.bytes(0))?;
-    write_list(
-        answer,
-        &addresses_of(row.alloc, &mail.headers, row.text(1))?,
-        &(),
-    );
-    Ok(())
+fn make_of_mails(answer: &mut Answer, row: &Row) -> Decision {
+    let alloc = row.alloc;
+    calls! { answer, row.call.as_str(), mail = row.mail()?;
+        "addresses_of" => put_list(answer, addresses_of(alloc, &mail.headers, row.text(1)), &()),
+        "sender_of" => sender_of(alloc, &mail.get_headers()),
+        "lenient_addresses_of" =>
+            put_list(answer, lenient_addresses_of(alloc, &mail.headers, row.text(1)), &()),
+        "lenient_sender_of" => lenient_sender_of(alloc, &mail.get_headers()),
+    }
 }
 
-/// Writes the elements of a list of addresses, read leniently.
-fn list_leniently(answer: &mut Answer, row: &Row) -> Outcome {
-    write_list(answer, &lenient_addresses(row.alloc, row.bytes(0))?, &());
-    Ok(())
-}
-
-/// Writes the elements of all headers with a name, read leniently.
-fn list_named_leniently(answer: &mut Answer, row: &Row) -> Outcome {
-    let mail = parse_mail(row.alloc, row.bytes(0))?;
-    let list = lenient_addresses_of(row.alloc, &mail.headers, row.text(1))?;
-    write_list(answer, &list, &());
-    Ok(())
-}
-
-/// Writes the sender of a mail, read leniently.
-fn find_lenient_sender(answer: &mut Answer, row: &Row) -> Outcome {
-    let mail = parse_mail(row.alloc, row.bytes(0))?;
-    match lenient_sender_of(row.alloc, &mail.get_headers())? {
-        Some(mailbox) => write_mailbox(answer, &mailbox, &()),
-        None => answer.word("none"),
+fn put_list<E: Refusal + Drop, K: KnownCharsets>(
+    answer: &mut Answer,
+    list: Result<AddressList<'_>, E>,
+    known: &K,
+) -> Result<(), E> {
+    for address in &list? {
+        put_address(answer, address, known);
     }
     Ok(())
 }
 
-/// Writes the names of a list that is read leniently, as people see them.
-fn list_shown_names(answer: &mut Answer, row: &Row) -> Outcome {
-    for address in &lenient_addresses(row.alloc, row.bytes(0))? {
-        write_shown_names(answer, address);
-    }
-    Ok(())
-}
-
-/// Writes the names of an element, as people see them.
-fn write_shown_names(answer: &mut Answer, address: &Address<'_>) {
+/// Writes an element of a list, a group with its members.
+fn put_address<K: KnownCharsets>(answer: &mut Answer, address: &Address<'_>, known: &K) {
     match address {
-        Address::Mailbox(mailbox) => answer.put(mailbox.get_shown_name(answer.alloc, &())),
-        Address::Group(group) => write_group_names(answer, group),
-        Address::Unknown(_) => {}
-    }
-}
-
-/// Writes the names of a group and of its mailboxes, as people see them.
-fn write_group_names(answer: &mut Answer, group: &Group<'_>) {
-    answer.put(group.get_shown_name(answer.alloc, &()));
-    for member in &group.members {
-        if let Member::Mailbox(mailbox) = member {
-            answer.put(mailbox.get_shown_name(answer.alloc, &()));
+        Address::Mailbox(mailbox) => put_mailbox(answer, mailbox, known),
+        Address::Group(group) => {
+            put!(answer; Word("group"), group.get_display_name(answer.alloc, known));
+            answer.put(group.members.len());
+            for member in &group.members {
+                match member {
+                    Member::Mailbox(mailbox) => put_mailbox(answer, mailbox, known),
+                    Member::Unknown(unknown) => answer.put(unknown),
+                }
+            }
         }
+        Address::Unknown(unknown) => answer.put(unknown),
     }
 }
 
-/// Writes the sender of a mail.
-fn find_sender(answer: &mut Answer, row: &Row) -> Outcome {
-    let mail = parse_mail(row.alloc, row.bytes(0))?;
-    match sender_of(row.alloc, &mail.get_headers())? {
-        Some(mailbox) => write_mailbox(answer, &mailbox, &()),
-        None => answer.word("none"),
-    }
-    Ok(())
-}
-
-/// Writes an element of the list.
-fn write_address<K: KnownCharsets>(answer: &mut Answer, address: &Address<'_>, known: &K) {
-    match address {
-        Address::Mailbox(mailbox) => write_mailbox(answer, mailbox, known),
-        Address::Group(group) => write_group(answer, group, known),
-        Address::Unknown(unknown) => write_unknown(answer, unknown.text),
-    }
-}
-
-/// Writes a group and its members.
-fn write_group<K: KnownCharsets>(answer: &mut Answer, group: &Group<'_>, known: &K) {
-    answer.word("group");
-    answer.put(group.get_display_name(answer.alloc, known));
-    answer.put(group.members.len());
-    for member in &group.members {
-        match member {
-            Member::Mailbox(mailbox) => write_mailbox(answer, mailbox, known),
-            Member::Unknown(unknown) => write_unknown(answer, unknown.text),
-        }
-    }
-}
-
-/// Writes a mailbox.
-fn write_mailbox<K: KnownCharsets>(answer: &mut Answer, mailbox: &Mailbox<'_>, known: &K) {
-    answer.word("mailbox");
-    answer.put(mailbox.get_display_name(answer.alloc, known));
+fn put_mailbox<K: KnownCharsets>(answer: &mut Answer, mailbox: &Mailbox<'_>, known: &K) {
+    put!(answer; Word("mailbox"), mailbox.get_display_name(answer.alloc, known));
     answer.put(mailbox.get_address(answer.alloc));
 }
 
-/// Writes an element that is not an address.
-fn write_unknown(answer: &mut Answer, text: &[u8]) {
-    answer.word("unknown");
-    answer.put(text);
+impl Show for Mailbox<'_> {
+    fn show(&self, answer: &mut Answer) {
+        put_mailbox(answer, self, &());
+    }
+}
+
+impl Show for Unknown<'_> {
+    fn show(&self, answer: &mut Answer) {
+        put!(answer; Word("unknown"), self.text);
+    }
+}
+
+fn put_shown(answer: &mut Answer, row: &Row) -> Outcome {
+    for address in &lenient_addresses(row.alloc, row.bytes(0))? {
+        put_shown_names(answer, address);
+    }
+    Ok(())
+}
+
+fn put_shown_names(answer: &mut Answer, address: &Address<'_>) {
+    match address {
+        Address::Mailbox(mailbox) => answer.put(mailbox.get_shown_name(answer.alloc, &())),
+        Address::Group(group) => {
+            answer.put(group.get_shown_name(answer.alloc, &()));
+            for member in &group.members {
+                if let Member::Mailbox(mailbox) = member {
+                    answer.put(mailbox.get_shown_name(answer.alloc, &()));
+                }
+            }
+        }
+        Address::Unknown(_) => {}
+    }
 }
 
 /// Returns the mailboxes of the inputs from `from` onwards, three inputs each.
@@ -189,51 +147,36 @@ fn new_addresses(row: &Row) -> Result<Vec<NewAddress<'_>>, AllocError> {
 }
 
 /// Returns the written list of the mailboxes of the inputs.
-fn written(row: &Row) -> Result<Vec<u8>, MailParseError> {
-    write(row.alloc, new_addresses(row)?.as_slice())
+fn written(row: &Row) -> Result<Vec<u8>, WriteError> {
+    write_addresses(row.alloc, new_addresses(row)?.as_slice())
 }
 
-/// Returns the written list of one group.
-fn written_group(row: &Row) -> Result<Vec<u8>, MailParseError> {
+fn write_group(row: &Row) -> Result<Vec<u8>, WriteError> {
     let members = new_mailboxes(row, 1)?;
     let group = NewGroup {
         display_name: row.text(0),
         members: members.as_slice(),
     };
-    write(row.alloc, &[NewAddress::Group(group)])
+    write_addresses(row.alloc, &[NewAddress::Group(group)])
 }
 
-/// Returns a written list, or why it was not written.
-fn write(alloc: Global, addresses: &[NewAddress<'_>]) -> Result<Vec<u8>, MailParseError> {
-    match write_addresses(alloc, addresses) {
-        Ok(value) => Ok(value),
-        Err(WriteError::Address) => Err(MailParseError::Generic(NO_ADDRESS)),
-        Err(WriteError::Memory(e)) => Err(MailParseError::Memory(e)),
-    }
-}
-
-/// The text of a refusal to write an address.
-const NO_ADDRESS: &str = "no address has such a local part or domain";
-
-/// Writes the elements of the written list of mailboxes.
-fn read_written(answer: &mut Answer, row: &Row) -> Outcome {
+fn read_written(answer: &mut Answer, row: &Row) -> Result<(), WriteError> {
     let value = written(row)?;
-    write_list(answer, &read_addresses(row.alloc, value.as_slice())?, &());
-    Ok(())
+    Ok(put_list(answer, read_addresses(row.alloc, value.as_slice()), &())?)
 }
 
-/// Writes each mailbox of a list that was read.
 fn rewrite(answer: &mut Answer, row: &Row) -> Outcome {
     for address in &read_addresses(row.alloc, row.bytes(0))? {
         if let Address::Mailbox(mailbox) = address {
-            answer.put(rewritten(row.alloc, mailbox));
+            let outcome = put_again(answer, mailbox);
+            answer.put(outcome);
         }
     }
     Ok(())
 }
 
-/// Returns the written list of a mailbox that was read.
-fn rewritten(alloc: Global, mailbox: &Mailbox<'_>) -> Result<Vec<u8>, MailParseError> {
+fn put_again(answer: &mut Answer, mailbox: &Mailbox<'_>) -> Outcome {
+    let alloc = answer.alloc;
     let display_name = mailbox.get_display_name(alloc, &())?;
     let local_part = mailbox.get_local_part(alloc)?;
     let domain = mailbox.get_domain(alloc)?;
@@ -242,5 +185,6 @@ fn rewritten(alloc: Global, mailbox: &Mailbox<'_>) -> Result<Vec<u8>, MailParseE
         local_part: local_part.as_str(),
         domain: domain.as_str(),
     };
-    write(alloc, &[NewAddress::Mailbox(new)])
+    answer.put(write_addresses(alloc, &[NewAddress::Mailbox(new)]));
+    Ok(())
 }

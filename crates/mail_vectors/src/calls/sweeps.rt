@@ -3,11 +3,17 @@
 //! The results are written as runs: `2 none x 3` is 2 and then three times `none`.
 //!
 //! ```text
+//! find_each_byte KIND MOST => OFFSET..
+//! find_each_pair PAIR MOST => OFFSET..
 //! places CALL LEAD BEFORE BYTES AFTER TRAIL FEWEST MOST NEEDLE => OFFSET..
 //! places CALL LEAD BEFORE BYTES AFTER TRAIL FEWEST MOST READ => BYTES..
 //! around CALL BEFORE AFTER FRONT BACK => BYTES.. | error GROUP..
 //! fronts CALL TEXT FROM => WHOLE, FEWER.. | error GROUP.. | other FEWER..
 //! ```
+//!
+//! `find_each_byte` tries each byte and each other byte, at each offset up to MOST, from which the
+//! results are counted: the byte `among` the other, `between` two of the other, or `nowhere` beside
+//! it. `find_each_pair` tries each byte as the first of the pair, as the second, and as both.
 //!
 //! `places` makes texts of repeated LEAD, BEFORE, one of BYTES, AFTER, and repeated TRAIL, where
 //! LEAD and TRAIL occur at least FEWEST and at most MOST times in all: first all texts without
@@ -23,55 +29,49 @@
 //! and so on. Each gives a front of WHOLE, and FEWER is how many bytes it has fewer than its text,
 //! or `other` bytes.
 
-use super::searches::offset;
-use super::transfer::push_invalid;
-use crate::notation::{Answer, Decision, FORM, Outcome, Row};
-use mail_codec::bytescan::strip_ascii_whitespace;
+use super::codecs::offset;
+use crate::notation::{Answer, Decision, FORM, Outcome, Row, Word, calls, push_times, put};
+use mail_codec::bytescan::{find_byte, find_pair, strip_ascii_whitespace};
 use mail_codec::charset::{Charset, decode_ascii, decode_latin1};
 use mail_codec::transfer::{decode_base64, decode_base64_body, decode_quoted_printable};
 use mailparse::MailParseError;
 use std::alloc::{AllocError, Global};
 use std::borrow::CowStr;
 
-/// Makes the call of a row, if it is one of these.
 pub fn make(answer: &mut Answer, row: &Row) -> Decision {
-    match row.call.as_str() {
-        "places" => go_over_places(answer, row)?,
-        "around" => go_around(answer, row)?,
-        "fronts" => go_on(answer, row)?,
-        _ => return Ok(false),
+    calls! { answer, row.call.as_str();
+        "find_each_byte" => Sweep::new(row).find_each_byte(answer),
+        "find_each_pair" => Sweep::new(row).find_each_pair(answer),
+        "places" => Sweep::new(row).go_over_places(answer),
+        "around" => Sweep::new(row).go_around(answer),
+        "fronts" => Sweep::new(row).go_on(answer),
     }
-    Ok(true)
 }
 
-/// The run of equal items at the end of an answer.
-#[derive(Clone, Copy)]
-pub struct Runs {
-    /// The range of its item in the answer, and how often the item occurred.
+/// A sweep of a row.
+#[derive(Drop)]
+struct Sweep<'r> {
+    row: &'r Row,
+    /// The text that a call is made on.
+    text: Vec<u8>,
+    /// The decoded bytes at one offset.
+    joined: Vec<u8>,
+    /// The range in the answer of the last item, and how often it occurred in a row.
     start: usize,
     end: usize,
     times: usize,
 }
 
-impl Runs {
-    /// Returns an empty run.
-    pub fn new() -> Runs {
-        Runs {
+impl<'r> Sweep<'r> {
+    fn new(row: &'r Row) -> Sweep<'r> {
+        Sweep {
+            row,
+            text: Vec::new(row.alloc),
+            joined: Vec::new(row.alloc),
             start: 0,
             end: 0,
             times: 0,
         }
-    }
-
-    /// Writes an offset, counted from `start`, or `none`.
-    pub fn offset(&mut self, answer: &mut Answer, found: Option<usize>, start: usize) {
-        let from = answer.len();
-        match found {
-            Some(offset) if offset < start => answer.negative(start.saturating_sub(offset)),
-            Some(offset) => answer.put(offset.saturating_sub(start)),
-            None => answer.word("none"),
-        }
-        self.take(answer, from);
     }
 
     /// Takes the item that was written from `from` onwards. An item that equals the last one is
@@ -80,109 +80,140 @@ impl Runs {
         if self.times > 0 && answer.repeats(self.start, self.end, from) {
             answer.cut(self.end);
             self.times = self.times.saturating_add(1);
-            answer.word("x");
-            answer.put(self.times);
+            put!(answer; Word("x"), self.times);
         } else {
             self.start = from;
             self.end = answer.len();
             self.times = 1;
         }
     }
-}
 
-/// Appends a piece `times` times.
-pub fn push_times(bytes: &mut Vec<u8>, piece: &[u8], times: usize) -> Result<(), AllocError> {
-    for _turn in 0..times {
-        bytes.extend_from_slice(piece)?;
+    /// Writes an offset, counted from `start`, or `none`.
+    fn put_offset(&mut self, answer: &mut Answer, found: Option<usize>, start: usize) {
+        let from = answer.len();
+        match found {
+            Some(offset) => {
+                let offset = i64::try_from(offset).unwrap_or(i64::MAX);
+                answer.put(offset.saturating_sub(i64::try_from(start).unwrap_or(i64::MAX)));
+            }
+            None => answer.put(Word("none")),
+        }
+        self.take(answer, from);
     }
-    Ok(())
-}
 
-/// Appends a byte between two texts.
-fn push_between(
-    bytes: &mut Vec<u8>,
-    before: &[u8],
-    byte: u8,
-    after: &[u8],
-) -> Result<(), AllocError> {
-    bytes.extend_from_slice(before)?;
-    bytes.push(byte)?;
-    bytes.extend_from_slice(after)
-}
-
-/// Tries the bytes at all offsets.
-fn go_over_places(answer: &mut Answer, row: &Row) -> Outcome {
-    let mut sweep = Sweep {
-        text: Vec::new(row.alloc),
-        joined: Vec::new(row.alloc),
-        runs: Runs::new(),
-    };
-    let (fewest, most) = (row.number(6), row.number(7));
-    for trail in 0..=most {
-        let leads = (fewest.saturating_sub(trail), most.saturating_sub(trail));
-        sweep.try_places(answer, row, leads, trail)?;
+    /// Looks for each byte beside each other byte.
+    fn find_each_byte(&mut self, answer: &mut Answer) -> Result<(), AllocError> {
+        for number in 0..=u16::MAX {
+            let [byte, other] = number.to_be_bytes();
+            self.find_beside(answer, byte, other)?;
+        }
+        Ok(())
     }
-    Ok(())
-}
 
-/// A sweep over offsets.
-#[derive(Drop)]
-struct Sweep {
-    /// The text that a call is made on.
-    text: Vec<u8>,
-    /// The decoded bytes at one offset.
-    joined: Vec<u8>,
-    runs: Runs,
-}
+    fn find_beside(&mut self, answer: &mut Answer, byte: u8, other: u8) -> Result<(), AllocError> {
+        let filler = byte ^ 0x55;
+        match self.row.text(0) {
+            _ if byte == other => Ok(()),
+            "among" => self.find_at_offsets(answer, &[byte], &[byte], [other, other]),
+            "between" => {
+                self.find_at_offsets(answer, &[byte], &[other, byte, other], [filler, filler])
+            }
+            _ => self.find_at_offsets(answer, &[byte], &[other], [other, other]),
+        }
+    }
 
-impl Sweep {
+    /// Looks for each pair that has a byte of this pair, and for each byte twice, among other bytes.
+    fn find_each_pair(&mut self, answer: &mut Answer) -> Result<(), AllocError> {
+        let [first, second] = self.row.bytes(0) else {
+            self.row.reject();
+            return Ok(());
+        };
+        for byte in 0..=255u8 {
+            self.find_one_pair(answer, [byte, *second])?;
+            self.find_one_pair(answer, [*first, byte])?;
+            self.find_one_pair(answer, [byte, byte])?;
+        }
+        Ok(())
+    }
+
+    fn find_one_pair(&mut self, answer: &mut Answer, pair: [u8; 2]) -> Result<(), AllocError> {
+        let [first, second] = pair;
+        self.find_at_offsets(answer, &pair, &pair, [second ^ 0x2A, first ^ 0x55])
+    }
+
+    /// Looks for a byte or a pair at each offset of texts of one length, which are a middle between
+    /// repetitions of one byte and repetitions of another.
+    fn find_at_offsets(
+        &mut self,
+        answer: &mut Answer,
+        needle: &[u8],
+        middle: &[u8],
+        [before, after]: [u8; 2],
+    ) -> Result<(), AllocError> {
+        let most = self.row.number(1);
+        for lead in 0..=most {
+            self.text.clear();
+            push_times(&mut self.text, &[before], lead)?;
+            self.text.extend_from_slice(middle)?;
+            push_times(&mut self.text, &[after], most.saturating_sub(lead))?;
+            let found = match needle {
+                [first, second] => find_pair(self.text.as_slice(), *first, *second),
+                _ => find_byte(self.text.as_slice(), needle.first().copied().unwrap_or(0)),
+            };
+            self.put_offset(answer, found, lead);
+        }
+        Ok(())
+    }
+
+    fn go_over_places(&mut self, answer: &mut Answer) -> Outcome {
+        let (fewest, most) = (self.row.number(6), self.row.number(7));
+        for trail in 0..=most {
+            let leads = (fewest.saturating_sub(trail), most.saturating_sub(trail));
+            self.try_places(answer, leads, trail)?;
+        }
+        Ok(())
+    }
+
     /// Makes the call with each number of LEAD from the first to the last of two, before one number
     /// of TRAIL.
     fn try_places(
         &mut self,
         answer: &mut Answer,
-        row: &Row,
         (fewest, most): (usize, usize),
         trail: usize,
     ) -> Outcome {
         for lead in fewest..=most {
-            self.try_place(answer, row, (lead, trail))?;
+            self.try_place(answer, lead, trail)?;
         }
         Ok(())
     }
 
     /// Tries the bytes at an offset, with these numbers of pieces before and after.
-    fn try_place(&mut self, answer: &mut Answer, row: &Row, pieces: (usize, usize)) -> Outcome {
+    fn try_place(&mut self, answer: &mut Answer, lead: usize, trail: usize) -> Outcome {
         self.joined.clear();
         for byte in 0..=255u8 {
-            if row.bytes(3) == b"any".as_slice() || row.bytes(3) == [byte].as_slice() {
-                self.try_byte(answer, row, byte, pieces)?;
+            let bytes = self.row.bytes(3);
+            if bytes == b"any".as_slice() || bytes == [byte].as_slice() {
+                self.try_byte(answer, byte, lead, trail)?;
             }
         }
-        if !row.text(0).starts_with("find") {
+        if !self.row.text(0).starts_with("find") {
             let from = answer.len();
             answer.put(self.joined.as_slice());
-            self.runs.take(answer, from);
+            self.take(answer, from);
         }
         Ok(())
     }
 
-    /// Tries a byte at an offset.
-    fn try_byte(
-        &mut self,
-        answer: &mut Answer,
-        row: &Row,
-        byte: u8,
-        (lead, trail): (usize, usize),
-    ) -> Outcome {
+    fn try_byte(&mut self, answer: &mut Answer, byte: u8, lead: usize, trail: usize) -> Outcome {
+        let row = self.row;
         self.text.clear();
         push_times(&mut self.text, row.bytes(1), lead)?;
-        push_between(&mut self.text, row.bytes(2), byte, row.bytes(4))?;
+        self.push_between(row.bytes(2), byte, row.bytes(4))?;
         push_times(&mut self.text, row.bytes(5), trail)?;
         if row.text(0).starts_with("find") {
             let found = offset(row, row.text(0), self.text.as_slice(), row.bytes(8));
-            let start = lead.saturating_mul(row.bytes(1).len());
-            self.runs.offset(answer, found, start);
+            self.put_offset(answer, found, lead.saturating_mul(row.bytes(1).len()));
             return Ok(());
         }
         match decode(row, self.text.as_slice())? {
@@ -191,6 +222,40 @@ impl Sweep {
                 self.joined.extend_from_slice(middle)?;
             }
             Err(_group) => self.joined.push(b'!')?,
+        }
+        Ok(())
+    }
+
+    /// Appends a byte between two pieces to the text.
+    fn push_between(&mut self, before: &[u8], byte: u8, after: &[u8]) -> Result<(), AllocError> {
+        self.text.extend_from_slice(before)?;
+        self.text.push(byte)?;
+        self.text.extend_from_slice(after)
+    }
+
+    /// Decodes two texts with each byte between them.
+    fn go_around(&mut self, answer: &mut Answer) -> Outcome {
+        let row = self.row;
+        for byte in 0..=255u8 {
+            self.text.clear();
+            self.push_between(row.bytes(1), byte, row.bytes(2))?;
+            let from = answer.len();
+            put_between(answer, row, decode(row, self.text.as_slice())?);
+            self.take(answer, from);
+        }
+        Ok(())
+    }
+
+    /// Decodes a text, and then its fronts one after another.
+    fn go_on(&mut self, answer: &mut Answer) -> Outcome {
+        let (row, text) = (self.row, self.row.bytes(1));
+        self.joined = decode(row, text)?.unwrap_or(Vec::new(row.alloc));
+        answer.put(self.joined.as_slice());
+        for length in row.number(2)..=text.len() {
+            let from = answer.len();
+            let front = text.get(..length).unwrap_or(text);
+            put_front(answer, self.joined.as_slice(), length, decode(row, front)?);
+            self.take(answer, from);
         }
         Ok(())
     }
@@ -248,60 +313,26 @@ fn bytes_of(
     }
 }
 
-/// Decodes two texts with each byte between them.
-fn go_around(answer: &mut Answer, row: &Row) -> Outcome {
-    let mut text = Vec::new(row.alloc);
-    let mut runs = Runs::new();
-    for byte in 0..=255u8 {
-        text.clear();
-        push_between(&mut text, row.bytes(1), byte, row.bytes(2))?;
-        let from = answer.len();
-        write_between(answer, row, decode(row, text.as_slice())?);
-        runs.take(answer, from);
-    }
-    Ok(())
+/// Writes the decoded bytes between a front and a back, all of them if they have others, or the
+/// refused group.
+fn put_between(answer: &mut Answer, row: &Row, read: Result<Vec<u8>, usize>) {
+    let Ok(bytes) = &read else {
+        return answer.put(read);
+    };
+    let bytes = bytes.as_slice();
+    let inner = bytes
+        .strip_prefix(row.bytes(3))
+        .and_then(|rest| rest.strip_suffix(row.bytes(4)));
+    answer.put(inner.unwrap_or(bytes));
 }
 
-/// Appends the decoded bytes between two sides, or the refused group.
-fn write_between(answer: &mut Answer, row: &Row, read: Result<Vec<u8>, usize>) {
-    match read {
-        Ok(bytes) => answer.put(between(bytes.as_slice(), row.bytes(3), row.bytes(4))),
-        Err(group) => push_invalid(answer, group),
+/// Writes how many bytes the front of a text with this length gives fewer, or the refused group.
+fn put_front(answer: &mut Answer, whole: &[u8], length: usize, read: Result<Vec<u8>, usize>) {
+    let Ok(bytes) = &read else {
+        return answer.put(read);
+    };
+    if !whole.starts_with(bytes.as_slice()) {
+        answer.put(Word("other"));
     }
-}
-
-/// Returns the bytes without a front and a back, or all of them if they have others.
-fn between<'b>(bytes: &'b [u8], front: &[u8], back: &[u8]) -> &'b [u8] {
-    match bytes.strip_prefix(front) {
-        Some(rest) => rest.strip_suffix(back).unwrap_or(bytes),
-        None => bytes,
-    }
-}
-
-/// Decodes a text, and then its fronts one after another.
-fn go_on(answer: &mut Answer, row: &Row) -> Outcome {
-    let text = row.bytes(1);
-    let whole = decode(row, text)?.unwrap_or(Vec::new(row.alloc));
-    answer.put(whole.as_slice());
-    let mut runs = Runs::new();
-    for length in row.number(2)..=text.len() {
-        let front = text.get(..length).unwrap_or(text);
-        let from = answer.len();
-        write_front(answer, whole.as_slice(), length, decode(row, front)?);
-        runs.take(answer, from);
-    }
-    Ok(())
-}
-
-/// Appends the decoded bytes of the front of a text with this length.
-fn write_front(answer: &mut Answer, whole: &[u8], length: usize, read: Result<Vec<u8>, usize>) {
-    match read {
-        Ok(read) => {
-            if !whole.starts_with(read.as_slice()) {
-                answer.word("other");
-            }
-            answer.put(length.saturating_sub(read.len()));
-        }
-        Err(group) => push_invalid(answer, group),
-    }
+    answer.put(length.saturating_sub(bytes.len()));
 }
